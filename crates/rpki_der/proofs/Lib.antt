@@ -1,0 +1,12 @@
+pub mod Uniqueness
+pub mod Heads
+pub mod Parts
+pub mod Walks
+pub mod Cursors
+pub mod Reading
+pub mod Joining
+pub mod Decoding
+pub mod Counting
+pub mod CountedWalks
+pub mod OnwardWalks
+pub mod ExactWalks

@@ -1,0 +1,218 @@
+-- Going through the levels of one value.
+use Rattle.std.proofs.Common.{◌≡◌, ℕ, ◌+◌, ◌-◌, ◌<◌, ◌≤◌, Some, List, [], ◌∷◌, ◌++◌, length, take, map, reverse, refl, sym, ap, subst, ◌∙◌, append_assoc, arith, length-append}
+use Rattle.std.specs.Prelude.{slice_get}
+use Rattle.std.proofs.lemmas.List.{reverse-append, map-append, take_more, take_all}
+use Rattle.std.proofs.lemmas.Option.{slice_get_within, get_or_from_slice_get}
+use Rattle.rpki_der.specs.declared.mode.Mode.{Mode}
+use Rattle.rpki_der.specs.declared.mode.Mode.TheVariants.{Ber, Der}
+use Rattle.rpki_der.specs.declared.part.Open.{Open}
+use Rattle.rpki_der.specs.Identifier.{IsIdentifier}
+use Rattle.rpki_der.specs.Lengths.{IsLength}
+use Rattle.rpki_der.specs.Value.{Form, Definite, Indefinite, Value, Primitive, Constructed, Values, End, ◌▸◌, end_mark, spelling, spellings, Begins}
+use Rattle.rpki_der.specs.Level.{mark_of, Level, Sized, Marked, Holds, Ends, Opens}
+use Rattle.rpki_der.specs.Part.{level_of, NoValue}
+use Rattle.rpki_der.specs.Walk.{levels_of, Completes, OneFirst, Descends, left_in}
+use Rattle.rpki_der.proofs.Uniqueness.{same_cut, same_identifier, same_length, not_indefinite, three_parts, four_parts, begins_no_end, mixed, IsEnd, tail_of}
+use Rattle.rpki_der.proofs.Parts.{at_most_one}
+
+-- ---- one level
+
+pub holds_cons : (mode : Mode) (level : Level) (here here' : List ℕ) (v : Value) (vs : Values) (next : List ℕ) → Begins mode here v here' → Holds mode level here' vs next → Holds mode level here (v ▸ vs) next
+holds_cons mode (Sized after) here here' v vs next b h = ((b.lawful, h.0), b.parts ∙ ap (λ r. spelling v ++ r) h.1, h.2)
+holds_cons mode Marked here here' v vs next b h =
+    ((b.lawful, h.0), b.parts ∙ ap (λ r. spelling v ++ r) h.1 ∙ sym (append_assoc (spelling v) (spellings vs) (0 ∷ 0 ∷ next)))
+
+pub record HoldsMore (mode : Mode) (level : Level) (here : List ℕ) (v : Value) (vs : Values) (next : List ℕ) : Type 0 where
+  pub here' : List ℕ
+  pub begins : Begins mode here v here'
+  pub holds : Holds mode level here' vs next
+
+pub holds_more : (mode : Mode) (level : Level) (here : List ℕ) (v : Value) (vs : Values) (next : List ℕ) → Holds mode level here (v ▸ vs) next → HoldsMore mode level here v vs next
+holds_more mode (Sized after) here v vs next h = record {
+  here' = spellings vs;
+  begins = record { lawful = h.0.0; parts = h.1 };
+  holds = (h.0.1, refl, h.2);
+}
+holds_more mode Marked here v vs next h = record {
+  here' = spellings vs ++ (0 ∷ 0 ∷ next);
+  begins = record { lawful = h.0.0; parts = h.1 ∙ append_assoc (spelling v) (spellings vs) (0 ∷ 0 ∷ next) };
+  holds = (h.0.1, refl);
+}
+
+pub holds_end : (mode : Mode) (level : Level) (here next : List ℕ) → Ends level here next → Holds mode level here End next
+holds_end mode (Sized after) here next e = (tt, e.0, e.1)
+holds_end mode Marked here next e = (tt, e)
+
+pub end_holds : (mode : Mode) (level : Level) (here next : List ℕ) → Holds mode level here End next → Ends level here next
+end_holds mode (Sized after) here next h = (h.1, h.2)
+end_holds mode Marked here next h = h.1
+
+pub ends_is_end : (level : Level) (here next : List ℕ) → Ends level here next → IsEnd here
+ends_is_end (Sized after) here next e = rw e.0 tt
+ends_is_end Marked here next e = rw e refl
+
+pub ends_no_value : (mode : Mode) (level : Level) (here next : List ℕ) → Ends level here next → NoValue mode here
+ends_no_value mode level here next e v rest b = begins_no_end mode v rest b.lawful (subst IsEnd b.parts (ends_is_end level here next e))
+
+pub ends_once : (level : Level) (here x y : List ℕ) → Ends level here x → Ends level here y → x ≡ y
+ends_once (Sized after) here x y p q = sym p.1 ∙ q.1
+ends_once Marked here x y p q = tail_of 0 0 x y (tail_of 0 0 _ _ (sym p ∙ q))
+
+-- ---- into a constructed value
+
+pub record Back (mode : Mode) (here identifier : List ℕ) (level : Level) (vs : Values) (next : List ℕ) : Type 0 where
+  pub form : Form
+  pub fits : end_mark form ≡ mark_of level
+  pub begins : Begins mode here (Constructed identifier form vs) next
+
+pub opens_back : (mode : Mode) (here i : List ℕ) (level : Level) (inner : List ℕ) (vs : Values) (next : List ℕ) → Opens mode here i level inner → Holds mode level inner vs next → Back mode here i level vs next
+opens_back mode here i (Sized after) inner vs next o h = record {
+  form = Definite o.2;
+  fits = refl;
+  begins = record {
+    lawful = (o.0, o.1, subst (λ t. IsLength mode o.2 (length t)) h.1 o.3, h.0);
+    parts = o.4 ∙ ap (λ t. i ++ (o.2 ++ (t ++ after))) h.1 ∙ ap (λ t. i ++ (o.2 ++ (spellings vs ++ t))) h.2 ∙ sym (four_parts i o.2 (spellings vs) [] next);
+  };
+}
+opens_back Ber here i Marked inner vs next o h = record {
+  form = Indefinite;
+  fits = refl;
+  begins = record {
+    lawful = (o.0, o.1, tt, h.0);
+    parts = o.3 ∙ ap (λ t. i ++ (128 ∷ t)) h.1 ∙ sym (four_parts i (128 ∷ []) (spellings vs) (0 ∷ 0 ∷ []) next);
+  };
+}
+opens_back Der here i Marked inner vs next o h = let no : Der ≡ Ber = o.2 in absurd cc
+
+-- what a value is that stands where a constructed one opens
+pub record Inside (mode : Mode) (level : Level) (inner identifier : List ℕ) (v : Value) (next : List ℕ) : Type 0 where
+  pub form : Form
+  pub fits : end_mark form ≡ mark_of level
+  pub values : Values
+  pub is : v ≡ Constructed identifier form values
+  pub holds : Holds mode level inner values next
+
+pub opens_forth : (mode : Mode) (here i : List ℕ) (level : Level) (inner : List ℕ) (v : Value) (next : List ℕ) → Opens mode here i level inner → Begins mode here v next → Inside mode level inner i v next
+opens_forth mode here i (Sized after) inner (Primitive j m d) next o b = absurd (mixed j i _ _ b.lawful.0 o.0 b.lawful.1 o.1 (sym (b.parts ∙ three_parts j m d next) ∙ o.4))
+opens_forth mode here i Marked inner (Primitive j m d) next o b = absurd (mixed j i _ _ b.lawful.0 o.0 b.lawful.1 o.1 (sym (b.parts ∙ three_parts j m d next) ∙ o.3))
+opens_forth mode here i (Sized after) inner (Constructed j (Definite m) vs) next o b =
+    let s = same_identifier i j _ _ o.0 b.lawful.0 (sym o.4 ∙ b.parts ∙ four_parts j m (spellings vs) [] next) in
+    let t = same_length mode o.2 m _ _ _ _ o.3 b.lawful.2 s.rest in
+    let u = same_cut inner (spellings vs) after next t.count t.cut.rest in
+    record { form = Definite m; fits = refl; values = vs; is = ap (λ k. Constructed k (Definite m) vs) (sym s.front); holds = (b.lawful.3, u.front, u.rest) }
+opens_forth mode here i (Sized after) inner (Constructed j Indefinite vs) next o b =
+    let s = same_identifier i j _ _ o.0 b.lawful.0 (sym o.4 ∙ b.parts ∙ four_parts j (128 ∷ []) (spellings vs) (0 ∷ 0 ∷ []) next) in
+    absurd (not_indefinite mode o.2 _ _ _ o.3 s.rest)
+opens_forth mode here i Marked inner (Constructed j (Definite m) vs) next o b =
+    let s = same_identifier j i _ _ b.lawful.0 o.0 (sym (b.parts ∙ four_parts j m (spellings vs) [] next) ∙ o.3) in
+    absurd (not_indefinite mode m _ _ _ b.lawful.2 s.rest)
+opens_forth mode here i Marked inner (Constructed j Indefinite vs) next o b =
+    let s = same_identifier i j _ _ o.0 b.lawful.0 (sym o.3 ∙ b.parts ∙ four_parts j (128 ∷ []) (spellings vs) (0 ∷ 0 ∷ []) next) in
+    record { form = Indefinite; fits = refl; values = vs; is = ap (λ k. Constructed k Indefinite vs) (sym s.front); holds = (b.lawful.3, tail_of 128 128 _ _ s.rest) }
+
+-- ---- all levels
+
+pub descends_over : (mode : Mode) (here : List ℕ) (v : Value) (rest : List ℕ) (levels : List Level) → Begins mode here v rest → Descends mode here levels rest levels
+descends_over mode here v rest levels b = record {
+  forth = λ final p. subst (λ (r : List ℕ). Completes mode r levels final) (sym (at_most_one mode here v p.0 rest p.1 b p.2).rest) p.3;
+  back = λ final k. (v, rest, b, k);
+}
+
+pub descends_into : (mode : Mode) (here i : List ℕ) (level : Level) (inner : List ℕ) (levels : List Level) → Opens mode here i level inner → Descends mode here levels inner (level ∷ levels)
+descends_into mode here i level inner levels o = record {
+  forth = λ final p. let w = opens_forth mode here i level inner p.0 p.1 o p.2 in (w.values, p.1, w.holds, p.3);
+  back = λ final k. let w = opens_back mode here i level inner k.0 k.1 o k.2 in (Constructed i w.form k.0, k.1, w.begins, k.3);
+}
+
+pub levels_of-push : (opened : List Open) (open' : Open) → levels_of (opened ++ open' ∷ []) ≡ level_of open' ∷ levels_of opened
+levels_of-push opened open' = ap reverse (map-append level_of opened (open' ∷ [])) ∙ reverse-append (map level_of opened) (level_of open' ∷ [])
+
+pub descends_push : (mode : Mode) (here i inner : List ℕ) (opened opened' : List Open) (open' : Open) → Opens mode here i (level_of open') inner → opened' ≡ opened ++ open' ∷ [] → Descends mode here (levels_of opened) inner (levels_of opened')
+descends_push mode here i inner opened opened' open' o e =
+    subst (λ (ls : List Level). Descends mode here (levels_of opened) inner ls) (sym (ap levels_of e ∙ levels_of-push opened open')) (descends_into mode here i (level_of open') inner (levels_of opened) o)
+
+not_empty : (i : List ℕ) → IsIdentifier i → 0 < length i
+not_empty [] p = absurd p
+not_empty (a ∷ i) p = omega arith
+
+some_lengths : (mode : Mode) (l : List ℕ) (n : ℕ) → IsLength mode l n → 0 < length l
+some_lengths mode [] n p = absurd p
+some_lengths mode (a ∷ l) n p = omega arith
+
+pub smaller_over : (mode : Mode) (here : List ℕ) (v : Value) (rest : List ℕ) → Begins mode here v rest → length rest < length here
+smaller_over mode here (Primitive i l c) rest b = omega (arith, not_empty i b.lawful.0, simp length-append at (ap length b.parts))
+smaller_over mode here (Constructed i f vs) rest b = omega (arith, not_empty i b.lawful.0, simp length-append at (ap length b.parts))
+
+pub smaller_into : (mode : Mode) (here i : List ℕ) (level : Level) (inner : List ℕ) (levels : List Level) → Opens mode here i level inner → length inner + left_in (level ∷ levels) < length here + left_in levels
+smaller_into mode here i (Sized after) inner levels o = omega (arith, not_empty i o.0, some_lengths mode o.2 (length inner) o.3, simp length-append at (ap length o.4))
+smaller_into mode here i Marked inner levels o = omega (arith, not_empty i o.0, simp length-append at (ap length o.3))
+
+pub smaller_push : (mode : Mode) (here i inner : List ℕ) (opened opened' : List Open) (open' : Open) → Opens mode here i (level_of open') inner → opened' ≡ opened ++ open' ∷ [] → length inner + left_in (levels_of opened') < length here + left_in (levels_of opened)
+smaller_push mode here i inner opened opened' open' o e =
+    subst (λ (ls : List Level). length inner + left_in ls < length here + left_in (levels_of opened)) (sym (ap levels_of e ∙ levels_of-push opened open')) (smaller_into mode here i (level_of open') inner (levels_of opened) o)
+
+pub levels_of-last : (opened : List Open) (open' : Open) → slice_get opened (length opened - 1) ≡ Some open' → levels_of opened ≡ level_of open' ∷ levels_of (take (length opened - 1) opened)
+levels_of-last opened open' e =
+    let n = length opened - 1 in
+    let lt : n < length opened = slice_get_within opened n open' e in
+    let whole : take (n + 1) opened ≡ opened = take_all (n + 1) opened (omega arith) in
+    let front : take (n + 1) opened ≡ take n opened ++ open' ∷ [] = take_more opened n open' lt ∙ ap (λ (o : Open). take n opened ++ o ∷ []) (get_or_from_slice_get opened n open' open' e) in
+    ap levels_of (sym whole ∙ front) ∙ levels_of-push (take n opened) open'
+
+-- where the level ends, it holds no value
+pub at_end : (mode : Mode) (level : Level) (here rest : List ℕ) (vs : Values) (next : List ℕ) → Ends level here rest → Holds mode level here vs next → rest ≡ next
+at_end mode level here rest End next e h = ends_once level here rest next e (end_holds mode level here next h)
+at_end mode level here rest (v ▸ vs) next e h = let m = holds_more mode level here v vs next h in absurd (ends_no_value mode level here rest e v m.here' m.begins)
+
+-- elsewhere it holds a first value
+pub first_of : (mode : Mode) (level : Level) (levels : List Level) (here : List ℕ) (final : List ℕ) → ((rest : List ℕ) → Ends level here rest → ⊥) → Completes mode here (level ∷ levels) final → OneFirst mode here (level ∷ levels) final
+first_of mode level levels here final none (End, next, h, k) = absurd (none next (end_holds mode level here next h))
+first_of mode level levels here final none (v ▸ vs, next, h, k) = let m = holds_more mode level here v vs next h in (v, m.here', m.begins, (vs, next, m.holds, k))
+
+pub ended : (mode : Mode) (octets : List ℕ) (level : Level) (levels : List Level) (here rest : List ℕ) → Descends mode octets [] here (level ∷ levels) → Ends level here rest → Descends mode octets [] rest levels
+ended mode octets level levels here rest d e = record {
+  forth = λ final p. let k = d.forth final p in subst (λ (r : List ℕ). Completes mode r levels final) (sym (at_end mode level here rest k.0 k.1 e k.2)) k.3;
+  back = λ final k. d.back final (End, rest, holds_end mode level here rest e, k);
+}
+
+pub went_on : (mode : Mode) (octets : List ℕ) (level : Level) (levels : List Level) (here new : List ℕ) (news : List Level) → Descends mode octets [] here (level ∷ levels) → ((rest : List ℕ) → Ends level here rest → ⊥) → Descends mode here (level ∷ levels) new news → Descends mode octets [] new news
+went_on mode octets level levels here new news d none g = record {
+  forth = λ final p. g.forth final (first_of mode level levels here final none (d.forth final p));
+  back = λ final k. let o = g.back final k in let m = o.3 in d.back final (o.0 ▸ m.0, m.1, holds_cons mode level here o.1 o.0 m.0 m.1 o.2 m.2, m.3);
+}
+
+pub refused : (mode : Mode) (octets : List ℕ) (level : Level) (levels : List Level) (here : List ℕ) → Descends mode octets [] here (level ∷ levels) → ((rest : List ℕ) → Ends level here rest → ⊥) → NoValue mode here → NoValue mode octets
+refused mode octets level levels here d none empty v rest b =
+    let o = first_of mode level levels here rest none (d.forth rest (v, rest, b, refl)) in empty o.0 o.1 o.2
+
+pub finished : (mode : Mode) (octets here : List ℕ) → Descends mode octets [] here [] → (v : Value) × Begins mode octets v here
+finished mode octets here d = let o = d.back here refl in (o.0, subst (Begins mode octets o.0) o.3 o.2)
+
+pub smaller_end : (level : Level) (levels : List Level) (here rest : List ℕ) → Ends level here rest → length rest + left_in levels < length here + left_in (level ∷ levels)
+smaller_end (Sized after) levels here rest e = let a = ap length e.0 in let b = ap length e.1 in omega arith
+smaller_end Marked levels here rest e = let a = ap length e in omega arith
+
+-- ---- the same on the stack of the code
+
+abbrev pub front : List Open → List Open
+front opened = take (length opened - 1) opened
+
+pub ended_last : (mode : Mode) (octets : List ℕ) (opened : List Open) (open' : Open) (here rest : List ℕ) → slice_get opened (length opened - 1) ≡ Some open' → Descends mode octets [] here (levels_of opened) → Ends (level_of open') here rest → Descends mode octets [] rest (levels_of (front opened))
+ended_last mode octets opened open' here rest e d h =
+    ended mode octets (level_of open') (levels_of (front opened)) here rest (subst (λ (ls : List Level). Descends mode octets [] here ls) (levels_of-last opened open' e) d) h
+
+pub smaller_end_last : (opened : List Open) (open' : Open) (here rest : List ℕ) → slice_get opened (length opened - 1) ≡ Some open' → Ends (level_of open') here rest → length rest + left_in (levels_of (front opened)) < length here + left_in (levels_of opened)
+smaller_end_last opened open' here rest e h = rw (levels_of-last opened open' e) (smaller_end (level_of open') (levels_of (front opened)) here rest h)
+
+pub went_on_last : (mode : Mode) (octets : List ℕ) (opened : List Open) (open' : Open) (here new : List ℕ) (news : List Level) → slice_get opened (length opened - 1) ≡ Some open' → Descends mode octets [] here (levels_of opened) → ((rest : List ℕ) → Ends (level_of open') here rest → ⊥) → Descends mode here (levels_of opened) new news → Descends mode octets [] new news
+went_on_last mode octets opened open' here new news e d none g =
+    let is = levels_of-last opened open' e in
+    went_on mode octets (level_of open') (levels_of (front opened)) here new news (subst (λ (ls : List Level). Descends mode octets [] here ls) is d) none (subst (λ (ls : List Level). Descends mode here ls new news) is g)
+
+pub refused_last : (mode : Mode) (octets : List ℕ) (opened : List Open) (open' : Open) (here : List ℕ) → slice_get opened (length opened - 1) ≡ Some open' → Descends mode octets [] here (levels_of opened) → ((rest : List ℕ) → Ends (level_of open') here rest → ⊥) → NoValue mode here → NoValue mode octets
+refused_last mode octets opened open' here e d none empty =
+    refused mode octets (level_of open') (levels_of (front opened)) here (subst (λ (ls : List Level). Descends mode octets [] here ls) (levels_of-last opened open' e) d) none empty
+
+pub finished_last : (mode : Mode) (octets here : List ℕ) (opened : List Open) → length opened ≤ 0 → Descends mode octets [] here (levels_of opened) → (v : Value) × Begins mode octets v here
+finished_last mode octets here [] le d = finished mode octets here d
+finished_last mode octets here (open' ∷ opened) le d = absurd (omega arith)

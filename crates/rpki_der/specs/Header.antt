@@ -1,0 +1,22 @@
+-- The header that stands at the beginning of octets.
+use Rattle.std.specs.Prelude.{◌≡◌, ℕ, List, [], ◌∷◌, ◌++◌}
+use Rattle.rpki_der.specs.declared.header.Length.{Length}
+use Rattle.rpki_der.specs.declared.header.Length.TheVariants as length_is
+use Rattle.rpki_der.specs.declared.mode.Mode.{Mode}
+use Rattle.rpki_der.specs.declared.mode.Mode.TheVariants.{Ber}
+use Rattle.rpki_der.specs.Identifier.{IsIdentifier}
+use Rattle.rpki_der.specs.Lengths.{IsLength}
+
+-- the length octets say so
+abbrev pub Says : Mode → List ℕ → Length → Type 0
+Says mode lengths (length_is.Definite n) = IsLength mode lengths n
+Says mode lengths length_is.Indefinite = (mode ≡ Ber) × (lengths ≡ 128 ∷ [])
+
+pub record HeaderFirst (mode : Mode) (octets identifier : List ℕ) (length : Length) (rest : List ℕ) : Type 0 where
+  pub lengths : List ℕ
+  pub is_identifier : IsIdentifier identifier
+  pub says : Says mode lengths length
+  pub parts : octets ≡ identifier ++ (lengths ++ rest)
+
+abbrev pub NoHeader : Mode → List ℕ → Type 0
+NoHeader mode octets = (identifier : List ℕ) (length : Length) (rest : List ℕ) → HeaderFirst mode octets identifier length rest → ⊥

@@ -1,0 +1,38 @@
+-- Where a reader stands inside constructed values.
+use Rattle.std.specs.Prelude.{◌≡◌, ℕ, true, List, [], ◌∷◌, ◌++◌, length}
+use Rattle.rpki_der.specs.declared.mode.Mode.{Mode}
+use Rattle.rpki_der.specs.declared.mode.Mode.TheVariants.{Ber}
+use Rattle.rpki_der.specs.Identifier.{IsIdentifier, is_constructed}
+use Rattle.rpki_der.specs.Lengths.{IsLength}
+use Rattle.rpki_der.specs.Value.{Values, spellings, AreValues}
+
+-- A level ends where its octets end, and after stands behind it; or it ends at 00 00.
+pub data Level : Type 0 where
+  Sized : (after : List ℕ) → Level
+  Marked : Level
+
+-- what ends the level, and how many octets are known to stand behind it
+abbrev pub mark_of : Level → List ℕ
+mark_of (Sized after) = []
+mark_of Marked = 0 ∷ 0 ∷ []
+
+abbrev pub behind_level : Level → ℕ
+behind_level (Sized after) = length after
+behind_level Marked = 0
+
+-- the level's octets from here on are these values, and rest stands behind the level
+abbrev pub Holds : Mode → Level → List ℕ → Values → List ℕ → Type 0
+Holds mode (Sized after) here vs rest = AreValues mode vs × (here ≡ spellings vs) × (after ≡ rest)
+Holds mode Marked here vs rest = AreValues mode vs × (here ≡ spellings vs ++ 0 ∷ 0 ∷ rest)
+
+-- the level ends here, and rest stands behind it
+abbrev pub Ends : Level → List ℕ → List ℕ → Type 0
+Ends (Sized after) here rest = (here ≡ []) × (after ≡ rest)
+Ends Marked here rest = here ≡ 0 ∷ 0 ∷ rest
+
+-- a constructed value with this identifier stands at the beginning of the octets, by its header; inner are the octets from its contents on
+abbrev pub Opens : Mode → List ℕ → List ℕ → Level → List ℕ → Type 0
+Opens mode octets identifier (Sized after) inner =
+    IsIdentifier identifier × (is_constructed identifier ≡ true) × (lengths : List ℕ) × IsLength mode lengths (length inner) × (octets ≡ identifier ++ (lengths ++ (inner ++ after)))
+Opens mode octets identifier Marked inner =
+    IsIdentifier identifier × (is_constructed identifier ≡ true) × (mode ≡ Ber) × (octets ≡ identifier ++ 128 ∷ inner)

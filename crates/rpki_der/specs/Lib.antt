@@ -1,0 +1,17 @@
+pub mod Identifier
+pub mod Padding
+pub mod Tags
+pub mod Lengths
+pub mod Header
+pub mod Value
+pub mod Level
+pub mod Part
+pub mod Walk
+pub mod Position
+pub mod Grammar
+pub mod OctetString
+pub mod Segments
+pub mod Reader
+pub mod Ticks
+pub mod CountedWalk
+pub mod ExactWalk

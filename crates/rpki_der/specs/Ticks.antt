@@ -1,0 +1,102 @@
+-- Ticks: one for each header and each end mark that was read.
+use Rattle.std.specs.Prelude.{◌≡◌, ℕ, ◌+◌, ◌*◌, ◌≤◌, Option, Some, Result, List, [], ◌∷◌, length, MatchResult}
+use Rattle.rpki_der.specs.declared.error.DecodeError.{DecodeError}
+use Rattle.rpki_der.specs.Value.{Form, Definite, Indefinite, Value, Primitive, Constructed, Values, End, ◌▸◌, Begins}
+use Rattle.rpki_der.specs.Level.{Level, Sized, Marked, behind_level, Holds}
+use Rattle.rpki_der.specs.Position.{Position, top}
+use Rattle.rpki_der.specs.Grammar.{Refuses, RefusesFields, RefusesOctets}
+use Rattle.rpki_der.specs.declared.mode.Mode.{Mode}
+
+-- how many values a value is, itself and those inside it
+abbrev mutual
+  pub nodes : Value → ℕ
+  nodes (Primitive identifier lengths contents) = 1
+  nodes (Constructed identifier form inner) = 1 + all_nodes inner
+
+  pub all_nodes : Values → ℕ
+  all_nodes End = 0
+  all_nodes (v ▸ vs) = nodes v + all_nodes vs
+
+-- how many headers and end marks a value has, with those inside it
+abbrev pub form_marks : Form → ℕ
+form_marks (Definite octets) = 0
+form_marks Indefinite = 1
+
+abbrev mutual
+  pub counts : Value → ℕ
+  counts (Primitive identifier lengths contents) = 1
+  counts (Constructed identifier form inner) = 1 + (all_counts inner + form_marks form)
+
+  pub all_counts : Values → ℕ
+  all_counts End = 0
+  all_counts (v ▸ vs) = counts v + all_counts vs
+
+abbrev pub behind : List Level → ℕ
+behind [] = 0
+behind (level ∷ levels) = behind_level level + behind levels
+
+-- how many octets are still to be read, on all levels
+abbrev pub left : Position → ℕ
+left p = length p.here + behind p.levels
+
+-- how many end marks end the level
+abbrev pub marks : Level → ℕ
+marks (Sized after) = 0
+marks Marked = 1
+
+-- A value that the grammar reads as x stands here, and behind it the cursor stands afterwards.
+-- Each value in it ticked, and there were at most c ticks for each octet that was passed.
+pub record CountedOne {X : Type 0} (c : ℕ) (grammar : Value → Option X) (old new : Position) (before after : ℕ) (x : X) : Type 0 where
+  pub value : Value
+  pub begins : Begins old.mode old.here value new.here
+  pub reads : grammar value ≡ Some x
+  pub levels : new.levels ≡ old.levels
+  pub mode : new.mode ≡ old.mode
+  pub least : before + nodes value ≤ after
+  pub most : after + c * left new ≤ before + c * left old
+
+-- The grammar reads no value that stands here, or memory ran out, after at most c ticks for each octet that was left, and 8.
+pub record CountedRefuses {X : Type 0} (c : ℕ) (grammar : Value → Option X) (old : Position) (before after : ℕ) (error : DecodeError) : Type 0 where
+  pub refuses : Refuses grammar old error
+  pub most : after ≤ before + c * left old + 8
+
+-- Takes, and c ticks an octet at most.
+abbrev pub TakesCounted : {X Y : Type 0} → ℕ → (Value → Option X) → (Y → X) → Position → Position → ℕ → ℕ → Result Y DecodeError → Type 0
+TakesCounted c grammar view old new before after result =
+    MatchResult result (λ y. CountedOne c grammar old new before after (view y)) (λ e. CountedRefuses c grammar old before after e)
+
+-- Fields that stand next at this level are read as x, and the cursor stands behind them afterwards.
+-- Each value in them ticked, and there were at most c ticks for each octet that was passed, and k.
+pub record CountedFields {X : Type 0} (c k : ℕ) (fields : Values → Option (X × Values)) (old new : Position) (before after : ℕ) (x : X) : Type 0 where
+  pub reads : (vs : Values) (rest : List ℕ) → Holds new.mode (top new.levels) new.here vs rest → (all : Values) × Holds old.mode (top old.levels) old.here all rest × (fields all ≡ Some (x, vs)) × (before + all_nodes all ≤ after + all_nodes vs)
+  pub only : (all : Values) (rest : List ℕ) → Holds old.mode (top old.levels) old.here all rest → (vs : Values) × Holds new.mode (top new.levels) new.here vs rest × (fields all ≡ Some (x, vs))
+  pub levels : new.levels ≡ old.levels
+  pub mode : new.mode ≡ old.mode
+  pub on : left new ≤ left old
+  pub most : after + c * left new ≤ before + c * left old + k
+
+pub record CountedRefusesFields {X : Type 0} (c k : ℕ) (fields : Values → Option (X × Values)) (old : Position) (before after : ℕ) (error : DecodeError) : Type 0 where
+  pub refuses : RefusesFields fields old error
+  pub most : after ≤ before + c * left old + k + 8
+
+abbrev pub TakesPartCounted : {X Y : Type 0} → ℕ → ℕ → (Values → Option (X × Values)) → (Y → X) → Position → Position → ℕ → ℕ → Result Y DecodeError → Type 0
+TakesPartCounted c k fields view old new before after result =
+    MatchResult result (λ y. CountedFields c k fields old new before after (view y)) (λ e. CountedRefusesFields c k fields old before after e)
+
+-- A value that the grammar reads as x begins the octets. Each value in it ticked, and there were at most c ticks for each octet that was passed.
+pub record CountedBegins {X : Type 0} (c : ℕ) (grammar : Value → Option X) (mode : Mode) (octets : List ℕ) (before after : ℕ) (x : X) : Type 0 where
+  pub value : Value
+  pub rest : List ℕ
+  pub begins : Begins mode octets value rest
+  pub reads : grammar value ≡ Some x
+  pub least : before + nodes value ≤ after
+  pub most : after + c * length rest ≤ before + c * length octets
+
+pub record CountedRefusesOctets {X : Type 0} (c : ℕ) (grammar : Value → Option X) (mode : Mode) (octets : List ℕ) (before after : ℕ) (error : DecodeError) : Type 0 where
+  pub refuses : RefusesOctets grammar mode octets error
+  pub most : after ≤ before + c * length octets + 8
+
+-- Decodes, and c ticks an octet at most.
+abbrev pub DecodesCounted : {X Y : Type 0} → ℕ → (Value → Option X) → (Y → X) → Mode → List ℕ → ℕ → ℕ → Result Y DecodeError → Type 0
+DecodesCounted c grammar view mode octets before after result =
+    MatchResult result (λ y. CountedBegins c grammar mode octets before after (view y)) (λ e. CountedRefusesOctets c grammar mode octets before after e)

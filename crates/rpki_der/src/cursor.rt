@@ -1,0 +1,300 @@
+//! A reader over borrowed octets.
+
+ghost use Rattle.std.specs.Prelude.{◌≡◌, ◌≢◌, false, ◌<◌, ◌≤◌, ◌+◌, ◌↔◌, ℕ, List, [], ◌∷◌, length, IsTrue, IfSome, IfNone, OnOk, OnErr, Err};
+ghost use Rattle.rpki_der.specs.Value.{Value, Begins};
+ghost use Rattle.rpki_der.specs.Level.{Ends};
+ghost use Rattle.rpki_der.specs.Position.{Position, top, AtEnd};
+ghost use Rattle.rpki_der.specs.Grammar.{Takes, primitive, any, Enters, GoesOut, identifier_of};
+ghost use Rattle.rpki_der.specs.Identifier.{has_tag};
+ghost use Rattle.rpki_der.specs.Ticks.{TakesCounted, counts, marks};
+
+use crate::error::DecodeError;
+use crate::header::take_header;
+use crate::mode::Mode;
+use crate::part::{Open, Part, take_part};
+use crate::steps::Steps;
+use crate::tag::{Tag, tag_is};
+use crate::walk::{level_end, skip_value};
+use std::alloc::Global;
+use std::marker::{Brand, Model};
+use std::sync::ledger::{Blank, Ledger};
+
+/// A place in the values that octets spell.
+#[derive(Drop)]
+pub struct Cursor<'a> {
+    alloc: Global,
+    mode: Mode,
+    here: &'a [u8],
+    opened: Vec<Open<'a>>,
+}
+
+impl<'a> Model for Cursor<'a> {
+    ghost use Rattle.rpki_der.specs.Position.{Position};
+    ghost use Rattle.rpki_der.specs.Walk.{levels_of};
+
+    ghost Value = { Position };
+
+    ghost view = { λ c. record { mode = c.mode; here = c.here.now; levels = levels_of c.opened.items } };
+}
+
+impl<'a> Cursor<'a> {
+    /// A cursor before the first value.
+    pub fn new(alloc: Global, mode: Mode, octets: &'a [u8]) -> Cursor<'a>
+        ensures { result ≡ record { mode = mode; here = octets.now; levels = [] } }
+    {
+        Cursor {
+            alloc,
+            mode,
+            here: octets,
+            opened: Vec::new(alloc),
+        }
+    }
+
+    /// Goes into the constructed value with this tag that stands next. It ticks once.
+    #[tactic(auto, using(crate::proofs::Cursors::none_opens, crate::proofs::Cursors::none_opens_primitive, crate::proofs::Cursors::none_opens_other))]
+    pub fn enter_counted<L: Ledger>(
+        &mut self,
+        tag: Tag,
+        steps: &mut Steps<L>,
+    ) -> Result<(), DecodeError>
+        ensures place { Enters tag self.old self.new result }
+        ensures err { OnErr result (self.new ≡ self.old) }
+        ensures ticks { steps.new ≡ steps.old + 1 }
+    {
+        steps.tick();
+        match take_part(self.mode, self.here) {
+            Some(
+                Part::Constructed {
+                    identifier,
+                    open,
+                    inner,
+                },
+            ) if tag_is(identifier, tag) => {
+                self.opened.push(open)?;
+                self.here = inner;
+                Ok(())
+            }
+            _ => Err(DecodeError::Malformed),
+        }
+    }
+
+    fn enter_within<L: Ledger>(&mut self, tag: Tag, blank: Blank) -> Result<(), DecodeError>
+        requires name { blank.name ≡ L.name }
+        requires parts { blank.parts ≡ L.parts }
+        requires some { 0 < blank.parts }
+        ensures place { Enters tag self.old self.new result }
+        ensures err { OnErr result (self.new ≡ self.old) }
+    {
+        let mut steps = Steps::<L>::new(blank);
+        self.enter_counted(tag, &mut steps)
+    }
+
+    /// Goes into the constructed value with this tag that stands next.
+    pub fn enter(&mut self, tag: Tag) -> Result<(), DecodeError>
+        ensures place { Enters tag self.old self.new result }
+        ensures err { OnErr result (self.new ≡ self.old) }
+    {
+        self.enter_within::<Brand>(tag, Blank::new(1))
+    }
+
+    /// Goes out of the innermost constructed value, behind it. It ticks once where it passes an end mark.
+    pub fn leave_counted<L: Ledger>(&mut self, steps: &mut Steps<L>) -> Result<(), DecodeError>
+        requires inside { self.old.levels ≢ [] }
+        ensures place { GoesOut self.old self.new result }
+        ensures err { OnErr result (self.new ≡ self.old) }
+        ensures ticks { OnOk result (steps.new ≡ steps.old + marks (top self.old.levels)) }
+        ensures refused { OnErr result (steps.new ≡ steps.old) }
+    {
+        match self.level_end() {
+            Some(rest) => {
+                if self.is_marked() {
+                    steps.tick();
+                }
+                self.opened.pop();
+                self.here = rest;
+                Ok(())
+            }
+            None => Err(DecodeError::Malformed),
+        }
+    }
+
+    fn leave_within<L: Ledger>(&mut self, blank: Blank) -> Result<(), DecodeError>
+        requires name { blank.name ≡ L.name }
+        requires parts { blank.parts ≡ L.parts }
+        requires some { 0 < blank.parts }
+        requires inside { self.old.levels ≢ [] }
+        ensures place { GoesOut self.old self.new result }
+        ensures err { OnErr result (self.new ≡ self.old) }
+    {
+        let mut steps = Steps::<L>::new(blank);
+        self.leave_counted(&mut steps)
+    }
+
+    /// Goes out of the innermost constructed value, behind it.
+    pub fn leave(&mut self) -> Result<(), DecodeError>
+        requires inside { self.old.levels ≢ [] }
+        ensures place { GoesOut self.old self.new result }
+        ensures err { OnErr result (self.new ≡ self.old) }
+    {
+        self.leave_within::<Brand>(Blank::new(1))
+    }
+
+    // Whether 00 00 ends the level.
+    fn is_marked(&self) -> bool
+        ensures { IsTrue result ↔ (marks (top self.now.levels) ≡ 1) }
+    {
+        match self.opened.last() {
+            Some(Open::Indefinite) => true,
+            _ => false,
+        }
+    }
+
+    /// How many constructed values the cursor is in.
+    pub fn depth(&self) -> usize
+        ensures { result ≡ length self.now.levels }
+    {
+        self.opened.len()
+    }
+
+    fn level_end(&self) -> Option<&'a [u8]>
+        ensures found { IfSome result (λ r. Ends (top self.now.levels) self.now.here r.now) }
+        ensures none { IfNone result (AtEnd self.now → ⊥) }
+    {
+        match self.opened.last() {
+            Some(open) => level_end(*open, self.here),
+            None => {
+                if self.here.is_empty() {
+                    Some(self.here)
+                } else {
+                    None
+                }
+            }
+        }
+    }
+
+    /// Whether no value is left at this level.
+    pub fn end(&self) -> bool
+        ensures { IsTrue result ↔ AtEnd self.now }
+    {
+        self.level_end().is_some()
+    }
+
+    /// Whether a value with this tag stands next, if any does. It ticks once.
+    #[tactic(auto, using(crate::proofs::Cursors::no_header_value, crate::proofs::Cursors::header_no_end))]
+    pub fn next_is_counted<L: Ledger>(&self, tag: Tag, steps: &mut Steps<L>) -> bool
+        ensures value { (v : Value) (rest : List ℕ) → Begins self.now.mode self.now.here v rest → has_tag tag (identifier_of v) ≡ result }
+        ensures end { AtEnd self.now → result ≡ false }
+        ensures ticks { steps.new ≡ steps.old + 1 }
+    {
+        steps.tick();
+        match take_header(self.mode, self.here) {
+            Some(header) => tag_is(header.identifier, tag),
+            None => false,
+        }
+    }
+
+    fn next_is_within<L: Ledger>(&self, tag: Tag, blank: Blank) -> bool
+        requires name { blank.name ≡ L.name }
+        requires parts { blank.parts ≡ L.parts }
+        requires some { 0 < blank.parts }
+        ensures value { (v : Value) (rest : List ℕ) → Begins self.now.mode self.now.here v rest → has_tag tag (identifier_of v) ≡ result }
+        ensures end { AtEnd self.now → result ≡ false }
+    {
+        let mut steps = Steps::<L>::new(blank);
+        self.next_is_counted(tag, &mut steps)
+    }
+
+    /// Whether a value with this tag stands next, if any does.
+    pub fn next_is(&self, tag: Tag) -> bool
+        ensures value { (v : Value) (rest : List ℕ) → Begins self.now.mode self.now.here v rest → has_tag tag (identifier_of v) ≡ result }
+        ensures end { AtEnd self.now → result ≡ false }
+    {
+        self.next_is_within::<Brand>(tag, Blank::new(1))
+    }
+
+    /// The contents of the primitive value with this tag that stands next. It ticks once.
+    #[tactic(auto, using(crate::proofs::Cursors::takes_primitive, crate::proofs::Cursors::none_primitive, crate::proofs::Cursors::none_primitive_other, crate::proofs::Cursors::none_primitive_opens), unfolding(crate::specs::Grammar::Refuses))]
+    pub fn take_primitive_counted<L: Ledger>(
+        &mut self,
+        tag: Tag,
+        steps: &mut Steps<L>,
+    ) -> Result<&'a [u8], DecodeError>
+        ensures value { TakesCounted 1 (primitive tag) (λ x. x.now) self.old self.new steps.old steps.new result }
+        ensures err { OnErr result (self.new ≡ self.old) }
+        ensures ticks { steps.new ≡ steps.old + 1 }
+    {
+        steps.tick();
+        match take_part(self.mode, self.here) {
+            Some(
+                Part::Primitive {
+                    identifier,
+                    content,
+                    rest,
+                },
+            ) if tag_is(identifier, tag) => {
+                self.here = rest;
+                Ok(content)
+            }
+            _ => Err(DecodeError::Malformed),
+        }
+    }
+
+    fn take_primitive_within<L: Ledger>(
+        &mut self,
+        tag: Tag,
+        blank: Blank,
+    ) -> Result<&'a [u8], DecodeError>
+        requires name { blank.name ≡ L.name }
+        requires parts { blank.parts ≡ L.parts }
+        requires some { 0 < blank.parts }
+        ensures value { Takes (primitive tag) (λ x. x.now) self.old self.new result }
+        ensures err { OnErr result (self.new ≡ self.old) }
+    {
+        let mut steps = Steps::<L>::new(blank);
+        self.take_primitive_counted(tag, &mut steps)
+    }
+
+    /// The contents of the primitive value with this tag that stands next.
+    pub fn take_primitive(&mut self, tag: Tag) -> Result<&'a [u8], DecodeError>
+        ensures value { Takes (primitive tag) (λ x. x.now) self.old self.new result }
+        ensures err { OnErr result (self.new ≡ self.old) }
+    {
+        self.take_primitive_within::<Brand>(tag, Blank::new(1))
+    }
+
+    /// The octets of the value that stands next. It ticks once for each header and each end mark in it.
+    #[tactic(auto, using(crate::proofs::Cursors::none_any), unfolding(crate::specs::Grammar::Refuses))]
+    pub fn capture_counted<L: Ledger>(
+        &mut self,
+        steps: &mut Steps<L>,
+    ) -> Result<&'a [u8], DecodeError>
+        ensures value { TakesCounted 1 any (λ x. x.now) self.old self.new steps.old steps.new result }
+        ensures err { OnErr result (self.new ≡ self.old) }
+        ensures ticks { OnOk result ((v : Value) × Begins self.old.mode self.old.here v self.new.here × (steps.new ≡ steps.old + counts v)) }
+        ensures refused { OnErr result (steps.new ≤ steps.old + length self.old.here + 1) }
+    {
+        let rest = skip_value(self.alloc, self.mode, self.here, steps)?;
+        let value = &self.here[..self.here.len() - rest.len()];
+        self.here = rest;
+        Ok(value)
+    }
+
+    fn capture_within<L: Ledger>(&mut self, blank: Blank) -> Result<&'a [u8], DecodeError>
+        requires name { blank.name ≡ L.name }
+        requires parts { blank.parts ≡ L.parts }
+        requires some { 0 < blank.parts }
+        ensures value { Takes any (λ x. x.now) self.old self.new result }
+        ensures err { OnErr result (self.new ≡ self.old) }
+    {
+        let mut steps = Steps::<L>::new(blank);
+        self.capture_counted(&mut steps)
+    }
+
+    /// The octets of the value that stands next.
+    pub fn capture(&mut self) -> Result<&'a [u8], DecodeError>
+        ensures value { Takes any (λ x. x.now) self.old self.new result }
+        ensures err { OnErr result (self.new ≡ self.old) }
+    {
+        self.capture_within::<Brand>(Blank::new(1))
+    }
+}

@@ -1,0 +1,63 @@
+//! Octet strings, of one segment or many.
+
+ghost use Rattle.std.specs.Prelude.{◌≡◌, ◌+◌, ◌<◌, ◌≤◌, length, OnOk, OnErr, MatchResult};
+ghost use Rattle.rpki_der.specs.Grammar.{Takes, Refuses};
+ghost use Rattle.rpki_der.specs.Walk.{left_in};
+ghost use Rattle.rpki_der.specs.OctetString.{joined};
+ghost use Rattle.rpki_der.specs.Segments.{Segment};
+ghost use Rattle.rpki_der.specs.Ticks.{TakesCounted, left};
+ghost use Rattle.rpki_der.specs.CountedWalk.{Onward};
+
+use crate::cursor::Cursor;
+use crate::error::DecodeError;
+use crate::steps::Steps;
+use crate::tag::Tag;
+use std::alloc::Global;
+use std::marker::Brand;
+use std::sync::ledger::{Blank, Ledger};
+
+// Passes a primitive segment with this tag, or goes into a constructed one.
+fn segment<L: Ledger>(
+    cursor: &mut Cursor<'_>,
+    tag: Tag,
+    octets: &mut Vec<u8>,
+    steps: &mut Steps<L>,
+) -> Result<(), DecodeError>
+    ensures place { MatchResult result (λ _. Segment tag cursor.old octets.old.items cursor.new octets.new.items) (Refuses (joined tag) cursor.old) }
+    ensures smaller { OnOk result (length cursor.new.here + left_in cursor.new.levels < length cursor.old.here + left_in cursor.old.levels) }
+    ensures counted { OnOk result (Onward cursor.old steps.old cursor.new steps.new) }
+    ensures most { OnOk result (steps.new + left cursor.new ≤ steps.old + left cursor.old) }
+    ensures refused { OnErr result (steps.new ≤ steps.old + 2) }
+{
+    match cursor.enter_counted(tag, steps) {
+        Ok(()) => Ok(()),
+        Err(DecodeError::OutOfMemory) => Err(DecodeError::OutOfMemory),
+        Err(DecodeError::Malformed) => {
+            let contents = cursor.take_primitive_counted(tag, steps)?;
+            octets.extend_from_slice(contents)?;
+            Ok(())
+        }
+    }
+}
+
+/// The octets of the octet string that stands next, its segments joined.
+pub fn take_octets_counted<L: Ledger>(
+    alloc: Global,
+    cursor: &mut Cursor<'_>,
+    tag: Tag,
+    steps: &mut Steps<L>,
+) -> Result<Vec<u8>, DecodeError>
+    ensures { TakesCounted 1 (joined tag) (λ x. x.items) cursor.old cursor.new steps.old steps.new result }
+{
+    let mut octets: Vec<u8> = Vec::new(alloc);
+    let base = cursor.depth();
+    segment(cursor, tag, &mut octets, steps)?;
+    'segments: while cursor.depth() > base {
+        if cursor.end() {
+            cursor.leave_counted(steps)?;
+        } else {
+            segment(cursor, Tag::OCTET_STRING, &mut octets, steps)?;
+        }
+    }
+    Ok(octets)
+}
