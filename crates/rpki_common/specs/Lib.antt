@@ -1,1 +1,4 @@
 pub mod Causes
+pub mod Chaining
+pub mod Items
+pub mod Collecting

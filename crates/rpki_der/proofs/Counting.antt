@@ -11,14 +11,16 @@ use Rattle.rpki_der.specs.Lengths.{IsLength}
 use Rattle.rpki_der.specs.Value.{Definite, Indefinite, Value, Primitive, Constructed, Values, End, ◌▸◌, spelling, Begins}
 use Rattle.rpki_der.specs.Level.{Level, Sized, Marked, behind_level, Ends, Holds, Opens}
 use Rattle.rpki_der.specs.Position.{Position, top, AtEnd, Leaves}
-use Rattle.rpki_der.specs.Grammar.{◌>>=◌, any, so, within, first, done, every, optional, gather, TakesOne, TakesFields, Refuses, Takes, Goes, RefusesToEnter, RefusesToLeave, BeginsAs, RefusesOctets}
-use Rattle.rpki_der.specs.Ticks.{nodes, all_nodes, behind, left, marks, CountedOne, CountedRefuses, TakesCounted, CountedFields, CountedRefusesFields, TakesPartCounted, DecodesCounted}
+use Rattle.rpki_common.specs.Chaining.{◌>>=◌}
+use Rattle.rpki_der.specs.Grammar.{any, so, within, first, done, every, optional, gather}
+use Rattle.rpki_der.specs.Takes.{TakesOne, TakesFields, Refuses, Takes, Goes, RefusesToEnter, RefusesToLeave, BeginsAs, RefusesOctets, Reads, Stops}
+use Rattle.rpki_der.specs.Ticks.{nodes, all_nodes, behind, left, marks, CountedOne, CountedRefuses, TakesCounted, CountedFields, CountedRefusesFields, TakesPartCounted, DecodesCounted, CountedReads, CountedStops}
 use Rattle.rpki_der.specs.Reader.{decoded}
 use Rattle.rpki_der.proofs.Walks.{opens_back, holds_cons, holds_end, smaller_over}
 use Rattle.rpki_der.proofs.Cursors.{slice_of}
 use Rattle.rpki_der.proofs.Decoding.{decoded_ok, decoded_none}
+use Rattle.rpki_der.proofs.Reading.{Next, Continues}
 use Rattle.rpki_der.proofs.Reading as reading
-use Rattle.rpki_der.proofs.Reading.{Reads, Stops, Next, Continues}
 
 -- ---- numbers
 
@@ -112,22 +114,6 @@ takes_err c g view old new before after error (Err e) h n = subst (CountedRefuse
 pub takes_part_err : {X Y : Type 0} (c k : ℕ) (fields : Values → Option (X × Values)) (view : Y → X) (old new : Position) (before after : ℕ) (error : DecodeError) (r : Result Y DecodeError) → IsErrAnd r (λ e. e ≡ error) → CountedRefusesFields c k fields old before after error → TakesPartCounted c k fields view old new before after r
 takes_part_err c k f view old new before after error (Ok y) h n = absurd h
 takes_part_err c k f view old new before after error (Err e) h n = subst (CountedRefusesFields c k f old before after) (sym h) n
-
--- ---- the rest of a level
-
--- What is left of the level at p, fields reads as y, and q is behind the level; k ticks are paid by the header in front.
-pub record CountedReads {Y : Type 0} (c k : ℕ) (fields : Values → Option Y) (p q : Position) (before after : ℕ) (y : Y) : Type 0 where
-  pub values : Values
-  pub holds : Holds p.mode (top p.levels) p.here values q.here
-  pub reads : fields values ≡ Some y
-  pub levels : q.levels ≡ drop 1 p.levels
-  pub mode : q.mode ≡ p.mode
-  pub least : before + all_nodes values ≤ after
-  pub most : after + c * left q ≤ before + c * left p + k
-
-pub record CountedStops {Y : Type 0} (c k : ℕ) (fields : Values → Option Y) (p : Position) (before after : ℕ) (error : DecodeError) : Type 0 where
-  pub stops : Stops fields p error
-  pub most : after ≤ before + c * left p + k + 8
 
 -- ---- a constructed value
 
@@ -310,9 +296,10 @@ pub record CountedContinues {Y : Type 0} (c : ℕ) (fields : Values → Option Y
   pub reads : (k : ℕ) (q : Position) (a : ℕ) (y : Y) → CountedReads c k fields' p' q m a y → CountedReads c k fields p q b a y
   pub stops : (k a : ℕ) (e : DecodeError) → CountedStops c k fields' p' m a e → CountedStops c k fields p b a e
   pub levels : p'.levels ≡ p.levels
+  pub mode : p'.mode ≡ p.mode
 
 pub continues_here : {Y : Type 0} (c : ℕ) (fields : Values → Option Y) (p : Position) (b : ℕ) → CountedContinues c fields p b fields p b
-continues_here c fields p b = record { reads = λ k q a y r. r; stops = λ k a e n. n; levels = refl }
+continues_here c fields p b = record { reads = λ k q a y r. r; stops = λ k a e n. n; levels = refl; mode = refl }
 
 reads_item : {X Y : Type 0} (c d k : ℕ) (field : Value → Option X) (next : List X → Option Y) (p p' q : Position) (b m a : ℕ) (x : X) (y : Y) → nat_lt c d ≡ false → CountedOne d field p p' b m x → CountedReads c k (λ vs. every field vs >>= λ xs. next (x ∷ xs)) p' q m a y → CountedReads c k (λ vs. every field vs >>= next) p q b a y
 reads_item c d k field next p p' q b m a x y fits t r = record {
@@ -336,6 +323,7 @@ continues_item c d fields p b field next p' p'' m n x fits s t = record {
   reads = λ k q a y r. s.reads k q a y (reads_item c d k field next p' p'' q m n a x y fits t r);
   stops = λ k a e w. s.stops k a e (stops_after c d k field next p' p'' m n a x e fits t w);
   levels = t.levels ∙ s.levels;
+  mode = t.mode ∙ s.mode;
 }
 
 pub reads_end : {X Y : Type 0} (c : ℕ) (field : Value → Option X) (next : List X → Option Y) (p q : Position) (b a : ℕ) (y : Y) → nat_lt 0 c ≡ true → Leaves p q → a ≡ b + marks (top p.levels) → next [] ≡ Some y → CountedReads c 0 (λ vs. every field vs >>= next) p q b a y
@@ -381,6 +369,7 @@ continues_step c d fields p b step next s t p' p'' m n fits w h = record {
   reads = λ k q a y r. w.reads k q a y (reads_step c d k step next s t p' p'' q m n a y fits h r);
   stops = λ k a e u. w.stops k a e (stops_step_on c d k step next s t p' p'' m n a e fits h u);
   levels = h.levels ∙ w.levels;
+  mode = h.mode ∙ w.mode;
 }
 
 pub reads_gathered : {S Y : Type 0} (c : ℕ) (step : S → Value → Option S) (next : S → Option Y) (s : S) (p q : Position) (b a : ℕ) (y : Y) → nat_lt 0 c ≡ true → Leaves p q → a ≡ b + marks (top p.levels) → next s ≡ Some y → CountedReads c 0 (λ vs. gather step s vs >>= next) p q b a y

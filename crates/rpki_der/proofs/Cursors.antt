@@ -11,7 +11,8 @@ use Rattle.rpki_der.specs.Header.{HeaderFirst, NoHeader}
 use Rattle.rpki_der.specs.Part.{NoValue, NoPart, level_of}
 use Rattle.rpki_der.specs.Position.{Position, top, AtEnd}
 use Rattle.rpki_der.specs.Identifier.{has_tag}
-use Rattle.rpki_der.specs.Grammar.{identifier_of, primitive, any, TakesOne, NoneStands, NoneOpens}
+use Rattle.rpki_der.specs.Grammar.{identifier_of, primitive, any}
+use Rattle.rpki_der.specs.Takes.{TakesOne, NoneStands, NoneOpens}
 use Rattle.rpki_der.specs.Walk.{levels_of}
 use Rattle.rpki_der.proofs.Uniqueness.{IsEnd, not_zero, three_parts, four_parts}
 use Rattle.rpki_der.proofs.Parts.{at_most_one, same_header}

@@ -10,11 +10,12 @@ use Rattle.rpki_der.specs.Identifier.{IsIdentifier, is_constructed, identifier_s
 use Rattle.rpki_der.specs.Lengths.{IsLength, length_at}
 use Rattle.rpki_der.specs.Header.{Says}
 use Rattle.rpki_der.specs.Value.{Form, Definite, Indefinite, Value, Primitive, Constructed, Values, End, ◌▸◌, lengths_of, end_mark, spelling, spellings, IsForm, IsValue, AreValues, Begins}
-use Rattle.rpki_der.specs.Grammar.{◌>>=◌, BeginsAs, RefusesOctets}
+use Rattle.rpki_common.specs.Chaining.{◌>>=◌}
+use Rattle.rpki_der.specs.Takes.{BeginsAs, RefusesOctets}
 use Rattle.rpki_der.specs.Reader.{Headed, head_at, primitive_of, sized_of, marked_of, read_value, read_contents, read_values, value_at, decoded}
-use Rattle.rpki_der.specs.declared.error.DecodeError.TheVariants.{Malformed}
 use Rattle.rpki_der.proofs.Uniqueness.{three_parts, four_parts, IsEnd, begins_no_end}
 use Rattle.rpki_der.proofs.Heads.{identifier_found, identifier_spelled, length_found, length_spelled}
+use Rattle.rpki_der.specs.declared.error.DecodeError.TheVariants.{Malformed}
 
 none_some : {X : Type 0} (x : X) → None ≡ Some x → ⊥
 none_some x e = cc

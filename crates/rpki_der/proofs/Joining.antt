@@ -1,16 +1,21 @@
 -- Joining the segments of an octet string.
-use Rattle.std.proofs.Common.{◌≡◌, ℕ, suc, ◌+◌, ◌-◌, ◌<◌, ◌≤◌, true, false, Option, None, Some, List, [], ◌∷◌, ◌++◌, length, drop, refl, sym, ap, subst, ◌∙◌, append_assoc, arith}
+use Rattle.std.proofs.Common.{◌≡◌, ℕ, suc, ◌+◌, ◌-◌, ◌<◌, ◌≤◌, true, false, Option, None, Some, List, [], ◌∷◌, ◌++◌, length, drop, refl, sym, ap, subst, ◌∙◌, append_assoc, arith, Result}
 use Rattle.std.proofs.lemmas.List.{append-nil, length-drop}
 use Rattle.rpki_der.specs.declared.error.DecodeError.{DecodeError}
 use Rattle.rpki_der.specs.declared.error.DecodeError.TheVariants.{Malformed, OutOfMemory}
 use Rattle.rpki_der.specs.Value.{Form, Value, Primitive, Constructed, Values, End, ◌▸◌, Begins}
 use Rattle.rpki_der.specs.Level.{Level, Holds, Ends}
 use Rattle.rpki_der.specs.Position.{Position, top, AtEnd, Leaves}
-use Rattle.rpki_der.specs.Grammar.{◌>>=◌, primitive, TakesOne, NoneStands, Refuses, Goes, NoneOpens}
+use Rattle.rpki_common.specs.Chaining.{◌>>=◌}
+use Rattle.rpki_der.specs.Grammar.{primitive}
+use Rattle.rpki_der.specs.Takes.{TakesOne, NoneStands, Refuses, Goes, NoneOpens}
 use Rattle.rpki_der.specs.Identifier.{has_tag}
 use Rattle.rpki_der.specs.Walk.{left_in}
 use Rattle.rpki_der.specs.Tags.{octet_string_tag}
-use Rattle.rpki_der.specs.OctetString.{joined, joined_all}
+use Rattle.rpki_der.specs.OctetString.{joined, joined_all, octets_under}
+use Rattle.rpki_der.specs.Ticks.{TakesCounted}
+use Rattle.rpki_der.specs.declared.mode.Mode.{Mode}
+use Rattle.rpki_der.specs.declared.mode.Mode.TheVariants.{Ber, Der}
 use Rattle.rpki_der.specs.Segments.{JoinsUp, OneJoin, Segments, Segment, Joins}
 use Rattle.rpki_der.proofs.Reading.{value_opens}
 use Rattle.rpki_der.proofs.Parts.{at_most_one}
@@ -240,3 +245,13 @@ pub refused_both : (tag : List ℕ) (p : Position) (e : DecodeError) → NoneOpe
 unfolding Refuses
 refused_both tag p Malformed n m = segment_refused tag p n m
 refused_both tag p OutOfMemory n m = tt
+
+-- ---- by the mode
+
+pub octets_in_ber : {Y : Type 0} (tag : List ℕ) (mode : Mode) (view : Y → List ℕ) (p q : Position) (b a : ℕ) (r : Result Y DecodeError) → mode ≡ Ber → TakesCounted 1 (joined tag) view p q b a r → TakesCounted 1 (octets_under tag mode) view p q b a r
+unfolding octets_under
+octets_in_ber tag mode view p q b a r e t = subst (λ (m : Mode). TakesCounted 1 (octets_under tag m) view p q b a r) (sym e) t
+
+pub octets_in_der : {Y : Type 0} (tag : List ℕ) (mode : Mode) (view : Y → List ℕ) (p q : Position) (b a : ℕ) (r : Result Y DecodeError) → mode ≡ Der → TakesCounted 1 (primitive tag) view p q b a r → TakesCounted 1 (octets_under tag mode) view p q b a r
+unfolding octets_under
+octets_in_der tag mode view p q b a r e t = subst (λ (m : Mode). TakesCounted 1 (octets_under tag m) view p q b a r) (sym e) t

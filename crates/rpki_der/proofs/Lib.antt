@@ -10,3 +10,5 @@ pub mod Counting
 pub mod CountedWalks
 pub mod OnwardWalks
 pub mod ExactWalks
+pub mod Modes
+pub mod Leftovers

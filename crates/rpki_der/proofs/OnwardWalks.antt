@@ -4,7 +4,7 @@ use Rattle.rpki_der.specs.declared.mode.Mode.{Mode}
 use Rattle.rpki_der.specs.Value.{Value}
 use Rattle.rpki_der.specs.Level.{Level, Ends}
 use Rattle.rpki_der.specs.Position.{Position, top, Leaves}
-use Rattle.rpki_der.specs.Grammar.{Goes, TakesOne}
+use Rattle.rpki_der.specs.Takes.{Goes, TakesOne}
 use Rattle.rpki_der.specs.Ticks.{nodes, left, marks, CountedOne}
 use Rattle.rpki_der.specs.CountedWalk.{CountedBack, Onward}
 use Rattle.rpki_der.proofs.Parts.{at_most_one}

@@ -8,27 +8,13 @@ use Rattle.rpki_der.specs.declared.mode.Mode.TheVariants.{Ber, Der}
 use Rattle.rpki_der.specs.Value.{Form, Definite, Indefinite, Value, Primitive, Constructed, Values, End, ◌▸◌, spellings, IsForm, Begins}
 use Rattle.rpki_der.specs.Level.{Ends, Level, Sized, Marked, Holds, Opens}
 use Rattle.rpki_der.specs.Position.{Position, top, AtEnd, Leaves}
-use Rattle.rpki_der.specs.Grammar.{◌>>=◌, identifier_of, so, within, first, done, every, optional, gather, TakesOne, TakesFields, RefusesFields, TakesPart, RefusesOctets, Decodes, NoneStands, Refuses, Takes, Goes, NoneOpens, RefusesToEnter, RefusesToLeave}
+use Rattle.rpki_common.specs.Chaining.{◌>>=◌}
+use Rattle.rpki_der.specs.Grammar.{identifier_of, so, within, first, done, every, optional, gather}
+use Rattle.rpki_der.specs.Takes.{TakesOne, TakesFields, RefusesFields, TakesPart, RefusesOctets, Decodes, NoneStands, Refuses, Takes, Goes, NoneOpens, RefusesToEnter, RefusesToLeave, Reads, ReadsNone, Stops}
 use Rattle.rpki_der.specs.Identifier.{has_tag}
 use Rattle.rpki_der.proofs.Uniqueness.{four_parts}
 use Rattle.rpki_der.proofs.Parts.{at_most_one}
 use Rattle.rpki_der.proofs.Walks.{opens_forth, opens_back, holds_cons, holds_more, holds_end, end_holds, ends_no_value, smaller_over}
-
--- What is left of the level at p, fields reads as y, and q is behind the level.
-pub record Reads {Y : Type 0} (fields : Values → Option Y) (p q : Position) (y : Y) : Type 0 where
-  pub values : Values
-  pub holds : Holds p.mode (top p.levels) p.here values q.here
-  pub reads : fields values ≡ Some y
-  pub levels : q.levels ≡ drop 1 p.levels
-  pub mode : q.mode ≡ p.mode
-
--- What is left of the level at p is nothing that fields reads.
-pub record ReadsNone {Y : Type 0} (fields : Values → Option Y) (p : Position) : Type 0 where
-  pub none : (vs : Values) (rest : List ℕ) → Holds p.mode (top p.levels) p.here vs rest → fields vs ≡ None
-
-unfoldable pub Stops : {Y : Type 0} → (Values → Option Y) → Position → DecodeError → Type 0
-Stops fields p Malformed = ReadsNone fields p
-Stops fields p OutOfMemory = Unit {0}
 
 -- ---- the exit of a `?`
 

@@ -9,7 +9,11 @@ pub mod Part
 pub mod Walk
 pub mod Position
 pub mod Grammar
+pub mod Takes
 pub mod OctetString
+pub mod Oid
+pub mod Integer
+pub mod Entry
 pub mod Segments
 pub mod Reader
 pub mod Ticks

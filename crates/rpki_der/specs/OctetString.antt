@@ -5,7 +5,8 @@ use Rattle.rpki_der.specs.declared.mode.Mode.TheVariants.{Ber, Der}
 use Rattle.rpki_der.specs.Identifier.{has_tag}
 use Rattle.rpki_der.specs.Tags.{octet_string_tag}
 use Rattle.rpki_der.specs.Value.{Value, Primitive, Constructed, Values, End, ◌▸◌}
-use Rattle.rpki_der.specs.Grammar.{◌>>=◌, primitive}
+use Rattle.rpki_common.specs.Chaining.{◌>>=◌}
+use Rattle.rpki_der.specs.Grammar.{primitive}
 
 -- the octets of a value with this tag: its contents, or those of the octet strings inside it, joined in their order
 unfoldable mutual

@@ -6,7 +6,7 @@ use Rattle.rpki_der.specs.declared.mode.Mode.{Mode}
 use Rattle.rpki_der.specs.Identifier.{is_constructed, identifier_size}
 use Rattle.rpki_der.specs.Lengths.{length_at}
 use Rattle.rpki_der.specs.Value.{Definite, Indefinite, Value, Primitive, Constructed, Values, End, ◌▸◌}
-use Rattle.rpki_der.specs.Grammar.{◌>>=◌}
+use Rattle.rpki_common.specs.Chaining.{◌>>=◌}
 
 -- the header at the beginning
 pub record Headed : Type 0 where

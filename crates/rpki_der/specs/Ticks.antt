@@ -1,10 +1,10 @@
 -- Ticks: one for each header and each end mark that was read.
-use Rattle.std.specs.Prelude.{◌≡◌, ℕ, ◌+◌, ◌*◌, ◌≤◌, Option, Some, Result, List, [], ◌∷◌, length, MatchResult}
+use Rattle.std.specs.Prelude.{◌≡◌, ℕ, ◌+◌, ◌*◌, ◌≤◌, Option, Some, Result, List, [], ◌∷◌, length, drop, MatchResult}
 use Rattle.rpki_der.specs.declared.error.DecodeError.{DecodeError}
 use Rattle.rpki_der.specs.Value.{Form, Definite, Indefinite, Value, Primitive, Constructed, Values, End, ◌▸◌, Begins}
 use Rattle.rpki_der.specs.Level.{Level, Sized, Marked, behind_level, Holds}
 use Rattle.rpki_der.specs.Position.{Position, top}
-use Rattle.rpki_der.specs.Grammar.{Refuses, RefusesFields, RefusesOctets}
+use Rattle.rpki_der.specs.Takes.{Refuses, RefusesFields, RefusesOctets, Stops}
 use Rattle.rpki_der.specs.declared.mode.Mode.{Mode}
 
 -- how many values a value is, itself and those inside it
@@ -100,3 +100,24 @@ pub record CountedRefusesOctets {X : Type 0} (c : ℕ) (grammar : Value → Opti
 abbrev pub DecodesCounted : {X Y : Type 0} → ℕ → (Value → Option X) → (Y → X) → Mode → List ℕ → ℕ → ℕ → Result Y DecodeError → Type 0
 DecodesCounted c grammar view mode octets before after result =
     MatchResult result (λ y. CountedBegins c grammar mode octets before after (view y)) (λ e. CountedRefusesOctets c grammar mode octets before after e)
+
+-- ---- what is left of a level, up to its end
+
+-- What is left of the level at p, fields reads as y, and q is behind the level; k ticks are paid by the header in front.
+pub record CountedReads {Y : Type 0} (c k : ℕ) (fields : Values → Option Y) (p q : Position) (before after : ℕ) (y : Y) : Type 0 where
+  pub values : Values
+  pub holds : Holds p.mode (top p.levels) p.here values q.here
+  pub reads : fields values ≡ Some y
+  pub levels : q.levels ≡ drop 1 p.levels
+  pub mode : q.mode ≡ p.mode
+  pub least : before + all_nodes values ≤ after
+  pub most : after + c * left q ≤ before + c * left p + k
+
+pub record CountedStops {Y : Type 0} (c k : ℕ) (fields : Values → Option Y) (p : Position) (before after : ℕ) (error : DecodeError) : Type 0 where
+  pub stops : Stops fields p error
+  pub most : after ≤ before + c * left p + k + 8
+
+-- TakesRest, and c ticks an octet at most; k ticks more are paid by the header in front.
+abbrev pub TakesRestCounted : {X Y : Type 0} → ℕ → ℕ → (Values → Option X) → (Y → X) → Position → Position → ℕ → ℕ → Result Y DecodeError → Type 0
+TakesRestCounted c k fields view old new before after result =
+    MatchResult result (λ y. CountedReads c k fields old new before after (view y)) (λ e. CountedStops c k fields old before after e)

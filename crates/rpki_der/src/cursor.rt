@@ -4,7 +4,8 @@ ghost use Rattle.std.specs.Prelude.{◌≡◌, ◌≢◌, false, ◌<◌, ◌≤
 ghost use Rattle.rpki_der.specs.Value.{Value, Begins};
 ghost use Rattle.rpki_der.specs.Level.{Ends};
 ghost use Rattle.rpki_der.specs.Position.{Position, top, AtEnd};
-ghost use Rattle.rpki_der.specs.Grammar.{Takes, primitive, any, Enters, GoesOut, identifier_of};
+ghost use Rattle.rpki_der.specs.Takes.{Takes, Enters, GoesOut};
+ghost use Rattle.rpki_der.specs.Grammar.{primitive, any, identifier_of};
 ghost use Rattle.rpki_der.specs.Identifier.{has_tag};
 ghost use Rattle.rpki_der.specs.Ticks.{TakesCounted, counts, marks};
 
@@ -48,6 +49,13 @@ impl<'a> Cursor<'a> {
             here: octets,
             opened: Vec::new(alloc),
         }
+    }
+
+    /// The rules that the octets are read by.
+    pub fn mode(&self) -> Mode
+        ensures { result ≡ self.now.mode }
+    {
+        self.mode
     }
 
     /// Goes into the constructed value with this tag that stands next. It ticks once.
@@ -213,7 +221,7 @@ impl<'a> Cursor<'a> {
     }
 
     /// The contents of the primitive value with this tag that stands next. It ticks once.
-    #[tactic(auto, using(crate::proofs::Cursors::takes_primitive, crate::proofs::Cursors::none_primitive, crate::proofs::Cursors::none_primitive_other, crate::proofs::Cursors::none_primitive_opens), unfolding(crate::specs::Grammar::Refuses))]
+    #[tactic(auto, using(crate::proofs::Cursors::takes_primitive, crate::proofs::Cursors::none_primitive, crate::proofs::Cursors::none_primitive_other, crate::proofs::Cursors::none_primitive_opens), unfolding(crate::specs::Takes::Refuses))]
     pub fn take_primitive_counted<L: Ledger>(
         &mut self,
         tag: Tag,
@@ -263,7 +271,7 @@ impl<'a> Cursor<'a> {
     }
 
     /// The octets of the value that stands next. It ticks once for each header and each end mark in it.
-    #[tactic(auto, using(crate::proofs::Cursors::none_any), unfolding(crate::specs::Grammar::Refuses))]
+    #[tactic(auto, using(crate::proofs::Cursors::none_any), unfolding(crate::specs::Takes::Refuses))]
     pub fn capture_counted<L: Ledger>(
         &mut self,
         steps: &mut Steps<L>,

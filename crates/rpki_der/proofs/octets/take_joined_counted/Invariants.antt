@@ -2,7 +2,7 @@ use Rattle.std.proofs.Common.{◌+◌, ◌-◌, ◌≤◌, length}
 use Rattle.rpki_der.specs.Walk.{left_in}
 use Rattle.rpki_der.specs.Segments.{Joins}
 use Rattle.rpki_der.proofs.OnwardWalks.{Below}
-use Rattle.rpki_der.proofs.octets.take_octets_counted.Given as goal
+use Rattle.rpki_der.proofs.octets.take_joined_counted.Given as goal
 
 -- an octet string stands where the cursor began exactly where what is left of the open levels can be joined to the octets so far
 abbrev pub invariant-segments : goal.invariant-segments
