@@ -10,7 +10,7 @@ use Rattle.rpki_der.specs.Identifier.{has_tag}
 use Rattle.rpki_der.specs.Tags.{set, sequence}
 use Rattle.rpki_der.specs.Value.{Value, Primitive, Constructed, Values, End, ◌▸◌, spelling}
 use Rattle.rpki_der.specs.Position.{Position, top, AtEnd, Leaves}
-use Rattle.rpki_der.specs.Grammar.{any, within, first, every, gather, anything}
+use Rattle.rpki_der.specs.Grammar.{any, within, first, every, gather, anything, wrapped}
 use Rattle.rpki_der.specs.Entry.{entry, set_of}
 use Rattle.rpki_der.specs.Oid.{oid}
 use Rattle.rpki_der.specs.Takes.{Goes, GoesOut, RefusesToEnter, RefusesToLeave, Stops}
@@ -75,23 +75,23 @@ rest_left p p' q b m a (Err OutOfMemory) c e l t = absurd l
 -- ---- a SET of one value, and nothing behind it
 
 pub reads_set : {X : Type 0} (leaf : Value → Option X) (p p1 p2 p3 q : Position) (b b1 b2 b3 a : ℕ) (x : X) → Goes set p p1 → b1 ≡ b + 1 → CountedOne 1 leaf p1 p2 b1 b2 x → Leaves p2 p3 → b3 ≡ b2 + marks (top p2.levels) → Leaves p3 q → a ≡ b3 + marks (top p3.levels) → CountedReads 1 0 (set_of leaf) p q b a x
-unfolding set_of
+unfolding set_of wrapped
 reads_set leaf p p1 p2 p3 q b b1 b2 b3 a x g n t l m l' m' = reads_first _ _ _ _ _ _ _ _ _ _ _ _ _ refl (takes_within 1 _ _ _ _ _ _ _ _ _ _ refl g n (reads_first _ _ _ _ _ _ _ _ _ _ _ _ _ refl t (reads_done _ _ _ _ _ _ refl l m))) (reads_done _ _ _ _ _ _ refl l' m')
 
 pub stops_set_enter : {X : Type 0} (leaf : Value → Option X) (p : Position) (b a : ℕ) (e : DecodeError) → RefusesToEnter set p e → a ≡ b + 1 → CountedStops 1 0 (set_of leaf) p b a e
-unfolding set_of
+unfolding set_of wrapped
 stops_set_enter leaf p b a e n t = stops_first _ _ _ _ _ _ _ _ refl (refuses_within 1 _ _ p _ _ _ n t)
 
 pub stops_set_leaf : {X : Type 0} (leaf : Value → Option X) (p p1 : Position) (b b1 a : ℕ) (e : DecodeError) → Goes set p p1 → b1 ≡ b + 1 → CountedRefuses 1 leaf p1 b1 a e → CountedStops 1 0 (set_of leaf) p b a e
-unfolding set_of
+unfolding set_of wrapped
 stops_set_leaf leaf p p1 b b1 a e g t n = stops_first _ _ _ _ _ _ _ _ refl (refuses_inside 1 _ _ _ _ _ _ _ _ _ refl g t (stops_first _ _ _ _ _ _ _ _ refl n))
 
 pub stops_set_more : {X : Type 0} (leaf : Value → Option X) (p p1 p2 : Position) (b b1 b2 a : ℕ) (x : X) (e : DecodeError) → Goes set p p1 → b1 ≡ b + 1 → CountedOne 1 leaf p1 p2 b1 b2 x → RefusesToLeave p2 e → a ≡ b2 → CountedStops 1 0 (set_of leaf) p b a e
-unfolding set_of
+unfolding set_of wrapped
 stops_set_more leaf p p1 p2 b b1 b2 a x e g n t l m = stops_first _ _ _ _ _ _ _ _ refl (refuses_inside 1 _ _ _ _ _ _ _ _ _ refl g n (stops_later _ _ _ _ _ _ _ _ _ _ _ _ refl t (stops_done _ _ _ _ _ _ l m)))
 
 pub stops_set_behind : {X : Type 0} (leaf : Value → Option X) (p p1 p2 p3 : Position) (b b1 b2 b3 a : ℕ) (x : X) (e : DecodeError) → Goes set p p1 → b1 ≡ b + 1 → CountedOne 1 leaf p1 p2 b1 b2 x → Leaves p2 p3 → b3 ≡ b2 + marks (top p2.levels) → RefusesToLeave p3 e → a ≡ b3 → CountedStops 1 0 (set_of leaf) p b a e
-unfolding set_of
+unfolding set_of wrapped
 stops_set_behind leaf p p1 p2 p3 b b1 b2 b3 a x e g n t l m l' m' = stops_later _ _ _ _ _ _ _ _ _ _ _ _ refl (takes_within 1 _ _ _ _ _ _ _ _ _ _ refl g n (reads_first _ _ _ _ _ _ _ _ _ _ _ _ _ refl t (reads_done _ _ _ _ _ _ refl l m))) (stops_done _ _ _ _ _ _ l' m')
 
 -- ---- the second is refused
@@ -119,6 +119,10 @@ first_stops c k (Some y) f p b a e n s = cc
 pub takes_within_rest : {X Y Z : Type 0} (c d k : ℕ) (tag : List ℕ) (field : Value → Option X) (next : X × Values → Option Y) (view : Z → Y) (s p p' q : Position) (b b1 b2 a : ℕ) (x : X) (r : Result Z DecodeError) → nat_lt k (2 * c) ≡ true → nat_lt c d ≡ false → Goes tag s p → b1 ≡ b + 1 → CountedOne d field p p' b1 b2 x → TakesRestCounted c k (λ vs. next (x, vs)) view p' q b2 a r → TakesCounted c (within tag (λ vs. first field vs >>= next)) view s q b a r
 takes_within_rest c d k tag field next view s p p' q b b1 b2 a x (Ok z) h h' g n t r = takes_within _ _ _ _ _ _ _ _ _ _ _ h g n (reads_first _ _ _ _ _ _ _ _ _ _ _ _ _ h' t r)
 takes_within_rest c d k tag field next view s p p' q b b1 b2 a x (Err e) h h' g n t r = refuses_inside _ _ _ _ _ _ _ _ _ _ h g n (stops_later _ _ _ _ _ _ _ _ _ _ _ _ h' t r)
+
+pub takes_all_rest : {Y Z : Type 0} (c k : ℕ) (tag : List ℕ) (fields : Values → Option Y) (view : Z → Y) (s p q : Position) (b m a : ℕ) (r : Result Z DecodeError) → nat_lt k (2 * c) ≡ true → Goes tag s p → m ≡ b + 1 → TakesRestCounted c k fields view p q m a r → TakesCounted c (within tag fields) view s q b a r
+takes_all_rest c k tag fields view s p q b m a (Ok z) h g n r = takes_within _ _ _ _ _ _ _ _ _ _ _ h g n r
+takes_all_rest c k tag fields view s p q b m a (Err e) h g n r = refuses_inside _ _ _ _ _ _ _ _ _ _ h g n r
 
 -- a level is still entered
 pub still_in : {Y : Type 0} (c : ℕ) (f g : Values → Option Y) (p p' : Position) (b m : ℕ) → CountedContinues c f p b g p' m → (p.levels ≡ [] → ⊥) → p'.levels ≡ [] → ⊥

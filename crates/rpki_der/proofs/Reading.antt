@@ -384,6 +384,11 @@ can_leave tag s p q g e n = let no' : g.level ∷ s.levels ≡ [] = sym g.levels
 pub not_ended : {P : Type 0} → (IsTrue false ↔ P) → P → ⊥
 not_ended w p = let e : false ≡ true = w.1 p in cc
 
+-- a level at its end can be left
+pub never_refused : {A : Type 0} (p : Position) (e : DecodeError) → AtEnd p → RefusesToLeave p e → A
+never_refused p Malformed a n = absurd (n a)
+never_refused p OutOfMemory a n = absurd n
+
 -- ---- a cursor before the first value
 
 pub decodes : {X Y : Type 0} (grammar : Value → Option X) (view : Y → X) (mode : Mode) (octets : List ℕ) (old new : Position) (r : Result Y DecodeError) → old ≡ record { mode = mode; here = octets; levels = [] } → Takes grammar view old new r → Decodes grammar view mode octets r

@@ -60,3 +60,9 @@ exactly wanted octets = if bytes_eq octets wanted then Some tt else None
 -- values of any kind, unread
 abbrev pub anything : Values → Option (Unit {0})
 anything vs = Some tt
+
+-- a constructed value with exactly one value in it
+unfoldable pub wrapped : {X : Type 0} → List ℕ → (Value → Option X) → Value → Option X
+wrapped tag field = within tag (λ vs. do
+  x ← first field vs
+  done x.0 x.1)

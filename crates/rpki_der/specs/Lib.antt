@@ -12,6 +12,7 @@ pub mod Grammar
 pub mod Takes
 pub mod OctetString
 pub mod Oid
+pub mod Null
 pub mod Integer
 pub mod Entry
 pub mod Segments

@@ -1,0 +1,39 @@
+use Rattle.std.proofs.Common.{rules, ◌≡◌, true, false, refl}
+use Rattle.std.specs.Prelude.{bytes_eq}
+use Rattle.rpki_sigmsg.specs.Names.{content_type, message_digest}
+use Rattle.rpki_sigmsg.specs.Attributes.{shown}
+use Rattle.rpki_der.proofs.Leftovers.{takes_rest_err, reads_as, stops_as, reads_bind, stops_bind}
+use Rattle.rpki_sigmsg.proofs.Adding.{add_content_type, add_digest, add_other}
+use Rattle.rpki_sigmsg.proofs.attributes.finish_attribute.Goals as goal
+
+pub returns-in_err-content_type : goal.returns-in_err-content_type
+returns-in_err-content_type g c =
+    let t0 : bytes_eq c.args.kind.now content_type ≡ true = search rules in
+    takes_rest_err _ _ _ _ _ _ _ _ _ _ c.from_residual.ensures.1 (stops_as _ _ _ _ _ _ _ _ (λ vs. add_content_type _ (shown c.args.found) _ vs t0) (stops_bind _ _ _ _ _ _ _ _ c.in_err-content_type.ensures))
+
+pub returns-in_ok-content_type : goal.returns-in_ok-content_type
+returns-in_ok-content_type g c =
+    let t0 : bytes_eq c.args.kind.now content_type ≡ true = search rules in
+    reads_as _ _ _ _ _ _ _ _ _ (λ vs. add_content_type _ (shown c.args.found) _ vs t0) (reads_bind _ _ _ _ _ _ _ _ _ _ c.in_ok-content_type.ensures refl)
+
+pub returns-in_err-digest : goal.returns-in_err-digest
+returns-in_err-digest g c =
+    let t0 : bytes_eq c.args.kind.now message_digest ≡ true = search rules in
+    takes_rest_err _ _ _ _ _ _ _ _ _ _ c.from_residual-in_err-digest.ensures.1 (stops_as _ _ _ _ _ _ _ _ (λ vs. add_digest _ (shown c.args.found) _ vs t0) (stops_bind _ _ _ _ _ _ _ _ c.in_err-digest.ensures))
+
+pub returns-in_ok-digest : goal.returns-in_ok-digest
+returns-in_ok-digest g c =
+    let t0 : bytes_eq c.args.kind.now message_digest ≡ true = search rules in
+    reads_as _ _ _ _ _ _ _ _ _ (λ vs. add_digest _ (shown c.args.found) _ vs t0) (reads_bind _ _ _ _ _ _ _ _ _ _ c.in_ok-digest.ensures refl)
+
+pub returns-in_err-pass_rest_counted : goal.returns-in_err-pass_rest_counted
+returns-in_err-pass_rest_counted g c =
+    let t0 : bytes_eq c.args.kind.now content_type ≡ false = search rules in
+    let t1 : bytes_eq c.args.kind.now message_digest ≡ false = search rules in
+    takes_rest_err _ _ _ _ _ _ _ _ _ _ c.from_residual-in_err-pass_rest_counted.ensures.1 (stops_as _ _ _ _ _ _ _ _ (λ vs. add_other _ (shown c.args.found) _ vs t0 t1) (stops_bind _ _ _ _ _ _ _ _ c.in_err-pass_rest_counted.ensures))
+
+pub returns-in_ok-pass_rest_counted : goal.returns-in_ok-pass_rest_counted
+returns-in_ok-pass_rest_counted g c =
+    let t0 : bytes_eq c.args.kind.now content_type ≡ false = search rules in
+    let t1 : bytes_eq c.args.kind.now message_digest ≡ false = search rules in
+    reads_as _ _ _ _ _ _ _ _ _ (λ vs. add_other _ (shown c.args.found) _ vs t0 t1) (reads_bind _ _ _ _ _ _ _ _ _ _ c.in_ok-pass_rest_counted.ensures refl)

@@ -1,0 +1,4 @@
+pub mod Names
+pub mod Algorithm
+pub mod Attributes
+pub mod Message

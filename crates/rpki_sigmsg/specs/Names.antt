@@ -1,0 +1,22 @@
+-- The object identifiers of signed messages, by their contents octets (RFC 5652, 5.1, 11.1 and 11.2; RFC 5754, 2.2; RFC 6492, 3.1.1.3).
+use Rattle.std.specs.Prelude.{ℕ, List, [], ◌∷◌}
+
+-- 1.2.840.113549.1.7.2
+abbrev pub signed_data : List ℕ
+signed_data = 42 ∷ 134 ∷ 72 ∷ 134 ∷ 247 ∷ 13 ∷ 1 ∷ 7 ∷ 2 ∷ []
+
+-- 1.2.840.113549.1.9.3
+abbrev pub content_type : List ℕ
+content_type = 42 ∷ 134 ∷ 72 ∷ 134 ∷ 247 ∷ 13 ∷ 1 ∷ 9 ∷ 3 ∷ []
+
+-- 1.2.840.113549.1.9.4
+abbrev pub message_digest : List ℕ
+message_digest = 42 ∷ 134 ∷ 72 ∷ 134 ∷ 247 ∷ 13 ∷ 1 ∷ 9 ∷ 4 ∷ []
+
+-- id-ct-xml, 1.2.840.113549.1.9.16.1.28
+abbrev pub xml_content : List ℕ
+xml_content = 42 ∷ 134 ∷ 72 ∷ 134 ∷ 247 ∷ 13 ∷ 1 ∷ 9 ∷ 16 ∷ 1 ∷ 28 ∷ []
+
+-- 2.16.840.1.101.3.4.2.1
+abbrev pub sha256_name : List ℕ
+sha256_name = 96 ∷ 134 ∷ 72 ∷ 1 ∷ 101 ∷ 3 ∷ 4 ∷ 2 ∷ 1 ∷ []

@@ -1,0 +1,20 @@
+//! Signed messages: XML inside signed CMS data (RFC 5652), as RFC 6492 and RFC 8181 profile it.
+//!
+//! [`SignedMessage::decode`] reads a message and gives its content and the digest of it that was signed;
+//! [`SignedMessage::digest_holds`] compares the two. For now the certificate, the CRL and the signer's algorithm are any
+//! SEQUENCE, unread, and nothing says who signed.
+//!
+//! What a message is stands in specs/Message.antt and specs/Attributes.antt, as grammars over the values of X.690.
+#![tactic(auto)]
+
+mod algorithm;
+mod attributes;
+mod message;
+mod names;
+mod parts;
+
+pub use message::SignedMessage;
+pub use rpki_der::{DecodeError, OutOfMemory};
+
+#[cfg(test)]
+mod tests;
