@@ -51,9 +51,11 @@ fn append(out: &mut Vec<u8>, octets: &[u8]) -> Result<(), AllocError>
     out.extend_from_slice(octets)
 }
 
-/// Reads `source` to the end of input, to its first fault, or until one octet more than `limit` was read.
+/// Reads `source` to the end of input, to its first fault, or until one octet more than `limit` was read. `limit` counts
+/// octets, and every number is allowed.
 ///
-/// What was read before an error is gone. The octet past the limit takes no memory, nor does the end of input.
+/// What was read before an error is gone. The octet past the limit takes no memory, nor does the end of input. While it
+/// reads, the result takes at most 2.25 times the memory of the octets read, and a block.
 pub fn read_all<I: Source>(
     alloc: Global,
     source: &mut I,

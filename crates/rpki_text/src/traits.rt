@@ -9,7 +9,8 @@ ghost use Rattle.rpki_common.specs.Causes.{HasCause};
 #[derive(Clone, Copy, Debug, PartialEq, Eq)]
 pub struct Failed;
 
-/// Where octets come from.
+/// Where octets come from, in pieces of any length. Two values that no code holds give a source its meaning: `rest` and
+/// `faults`.
 pub trait Source {
     /// The octets still to come, where the source tells them.
     ghost rest: { Self → Option (List ℕ) };
@@ -17,8 +18,8 @@ pub trait Source {
     /// How often the source has failed. The count may stop at 2^64 - 1.
     ghost faults: { Self → ℕ };
 
-    /// Reads the next octets into the front of `into`, and answers how many there were. For an `into` that isn't empty,
-    /// 0 is the end of input. After `Failed` nothing was taken.
+    /// Reads the next octets into the front of `into`, and answers how many there were; what stands behind them is left
+    /// open. For an `into` that isn't empty, 0 is the end of input. After `Failed` nothing was taken.
     fn read(&mut self, into: &mut [u8]) -> Result<usize, Failed>
         ensures bound { ReadsAtMost result into.new }
         ensures next { IfOk result (λ k. Consumes (rest self.old) (rest self.new) (take k into.new)) }
@@ -27,7 +28,8 @@ pub trait Source {
         ensures cause { HasCause (faults self.old) (faults self.new) result };
 }
 
-/// Where octets go to.
+/// Where octets go to, in pieces of any length. Two values that no code holds give a sink its meaning: `written` and
+/// `faults`.
 pub trait Sink {
     /// The octets written so far, where the sink tells them.
     ghost written: { Self → Option (List ℕ) };
