@@ -1,0 +1,7 @@
+pub mod Counts
+pub mod MemorySink
+pub mod MemorySource
+pub mod Sink
+pub mod Source
+pub mod StdSink
+pub mod StdSource

@@ -1,0 +1,8 @@
+-- A source over a reader of std, as clauses see it.
+use Rattle.std.specs.Prelude.{ℕ}
+
+pub record SourceOver (R : Type 0) : Type 0 where
+  -- what is read from
+  pub reader : R
+  -- how many calls failed
+  pub faults : ℕ
