@@ -4,6 +4,8 @@
 //! - [`Text`] and [`Sequence`]: fields of public values. In a clause such a field is its content, a list of octets or of
 //!   items, so that `≡` between two values says that they have the same content.
 //! - The words `Rose` and `HasCause` (specs/Causes.antt): when a call may answer that something outside failed.
+//! - The words for lists of items of which each says what it is (specs/Items.antt): exactly one, at most one, the last,
+//!   no others.
 //!
 //! Every crate stands on this one, so it stays small and changes rarely.
 #![tactic(auto)]

@@ -1,6 +1,7 @@
 //! Want of memory.
 
 use std::alloc::{AllocError, AllocFailed};
+use std::error::Error;
 use std::fmt;
 
 /// Memory ran out. No clause says when: each "exactly where" of a contract yields to this answer.
@@ -28,3 +29,5 @@ impl fmt::Display for OutOfMemory {
         f.write_str("out of memory")
     }
 }
+
+impl Error for OutOfMemory {}

@@ -15,7 +15,7 @@ fn words_of<R: std::rt::Env + AllocGlobal>(rt: &R) -> Result<Words, Refusal> {
         Err(error) if error.kind() == ErrorKind::InvalidData => return Err(Refusal::Usage),
         Err(_) => return Err(Refusal::OutOfMemory),
     };
-    for word in all {
+    for word in all.skip(1) {
         if words.push(word.as_str()).is_err() {
             return Err(Refusal::OutOfMemory);
         }
