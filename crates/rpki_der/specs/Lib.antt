@@ -15,3 +15,4 @@ pub mod Reader
 pub mod Ticks
 pub mod CountedWalk
 pub mod ExactWalk
+pub mod Item

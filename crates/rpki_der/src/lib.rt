@@ -4,6 +4,7 @@
 mod cursor;
 mod error;
 mod header;
+mod item;
 mod law;
 mod mode;
 mod octets;
@@ -14,6 +15,7 @@ mod walk;
 
 pub use cursor::Cursor;
 pub use error::DecodeError;
+pub use item::Item;
 pub use law::{at_most_one_value, value_at_is};
 pub use mode::Mode;
 pub use octets::take_octets_counted;
