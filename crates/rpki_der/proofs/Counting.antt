@@ -50,7 +50,7 @@ some_lengths : (mode : Mode) (l : List ℕ) (n : ℕ) → IsLength mode l n → 
 some_lengths mode [] n p = absurd p
 some_lengths mode (a ∷ l) n p = omega arith
 
-some_identifier : (i : List ℕ) → IsIdentifier i → 1 ≤ length i
+pub some_identifier : (i : List ℕ) → IsIdentifier i → 1 ≤ length i
 some_identifier [] p = absurd p
 some_identifier (a ∷ i) p = omega arith
 

@@ -10,3 +10,4 @@ pub mod Counting
 pub mod CountedWalks
 pub mod OnwardWalks
 pub mod ExactWalks
+pub mod Items

@@ -16,3 +16,4 @@ pub mod Ticks
 pub mod CountedWalk
 pub mod ExactWalk
 pub mod Item
+pub mod Null

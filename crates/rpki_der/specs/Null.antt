@@ -1,0 +1,15 @@
+-- NULL: a primitive value with no contents octets (X.690, 8.8).
+use Rattle.std.specs.Prelude.{ℕ, Bool, true, false, if◌then◌else◌, Option, None, Some, List, [], ◌∷◌}
+use Rattle.rpki_der.specs.Identifier.{has_tag}
+use Rattle.rpki_der.specs.Tags.{null_tag}
+use Rattle.rpki_der.specs.Value.{Value, Primitive, Constructed}
+
+unfoldable pub null : Value → Option (Unit {0})
+null (Primitive identifier lengths []) = if has_tag null_tag identifier then Some tt else None
+null (Primitive identifier lengths (a ∷ more)) = None
+null (Constructed identifier form inner) = None
+
+-- whether it stands there
+abbrev pub present : Bool → Option (Unit {0})
+present true = Some tt
+present false = None

@@ -1,0 +1,53 @@
+//! NULL.
+
+ghost use Rattle.std.specs.Prelude.{◌≡◌, ◌<◌};
+ghost use Rattle.rpki_der.specs.Grammar.{optional, TakesPart};
+ghost use Rattle.rpki_der.specs.Tags.{null_tag};
+ghost use Rattle.rpki_der.specs.Null.{null, present};
+ghost use Rattle.rpki_der.specs.Ticks.{TakesPartCounted};
+
+use crate::cursor::Cursor;
+use crate::error::DecodeError;
+use crate::steps::Steps;
+use crate::tag::Tag;
+use std::marker::Brand;
+use std::sync::ledger::{Blank, Ledger};
+
+/// Whether NULL stands next, which is then passed. A value with its tag that isn't NULL is malformed.
+pub fn take_opt_null_counted<L: Ledger>(
+    cursor: &mut Cursor<'_>,
+    steps: &mut Steps<L>,
+) -> Result<bool, DecodeError>
+    ensures { TakesPartCounted 1 1 (optional null_tag null) present cursor.old cursor.new steps.old steps.new result }
+{
+    match cursor.take_opt_if_counted(Tag::NULL, steps) {
+        Ok(None) => Ok(false),
+        Ok(Some(item)) => {
+            if item.constructed || !item.content.is_empty() {
+                return Err(DecodeError::Malformed);
+            }
+            Ok(true)
+        }
+        Err(error) => Err(error),
+    }
+}
+
+fn take_opt_null_within<L: Ledger>(
+    cursor: &mut Cursor<'_>,
+    blank: Blank,
+) -> Result<bool, DecodeError>
+    requires name { blank.name ≡ L.name }
+    requires parts { blank.parts ≡ L.parts }
+    requires some { 0 < blank.parts }
+    ensures { TakesPart (optional null_tag null) present cursor.old cursor.new result }
+{
+    let mut steps = Steps::<L>::new(blank);
+    take_opt_null_counted(cursor, &mut steps)
+}
+
+/// Whether NULL stands next, which is then passed. A value with its tag that isn't NULL is malformed.
+pub fn take_opt_null(cursor: &mut Cursor<'_>) -> Result<bool, DecodeError>
+    ensures { TakesPart (optional null_tag null) present cursor.old cursor.new result }
+{
+    take_opt_null_within::<Brand>(cursor, Blank::new(1))
+}
