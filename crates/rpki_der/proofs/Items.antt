@@ -199,8 +199,9 @@ takes_optional_absent c tag field p q b a w =
 
 -- ---- a field is what a conversion makes of the value
 
-abbrev pub Converts : {X : Type 0} → List ℕ → (Value → Option X) → (ItemFields → Option X) → Type 0
-Converts tag field convert = (v : Value) → has_tag tag (identifier_of v) ≡ true → field v ≡ convert (item v)
+-- of every value with this tag, field reads what convert makes of what it shows
+pub record Converts {X : Type 0} (tag : List ℕ) (field : Value → Option X) (convert : ItemFields → Option X) : Type 0 where
+  pub is : (v : Value) → has_tag tag (identifier_of v) ≡ true → field v ≡ convert (item v)
 
 pub record HasItem (tag : List ℕ) (v : Value) (x : ItemFields) : Type 0 where
   pub tagged : has_tag tag (identifier_of v) ≡ true
@@ -221,7 +222,7 @@ item_next c tag p q b a y t v rest h =
 pub takes_optional : {X : Type 0} (c : ℕ) (tag : List ℕ) (field : Value → Option X) (convert : ItemFields → Option X) (p q : Position) (b a : ℕ) (y : ItemFields) (x : X) → Converts tag field convert → CountedOne c (item_with tag) p q b a y → convert y ≡ Some x → CountedFields c 1 (optional tag field) p q b a (Some x)
 takes_optional c tag field convert p q b a y x is t e =
     let h = has_item tag t.value y t.reads in
-    let reads : field t.value ≡ Some x = is t.value h.tagged ∙ ap convert h.is ∙ e in
+    let reads : field t.value ≡ Some x = is.is t.value h.tagged ∙ ap convert h.is ∙ e in
     let n = item_next c tag p q b a y t in
     let u = reading.takes_optional tag field p q x n (record { value = t.value; begins = t.begins; reads = reads; levels = t.levels; mode = t.mode }) in
     record {
@@ -237,7 +238,7 @@ pub refuses_converted : {X : Type 0} (c : ℕ) (tag : List ℕ) (field : Value �
 unfolding Refuses
 refuses_converted c tag field convert p q b a y is t e =
     let h = has_item tag t.value y t.reads in
-    let reads : field t.value ≡ None = is t.value h.tagged ∙ ap convert h.is ∙ e in
+    let reads : field t.value ≡ None = is.is t.value h.tagged ∙ ap convert h.is ∙ e in
     let none : NoneStands field p = λ v rest k. ap field (at_most_one p.mode p.here v t.value rest q.here k t.begins).value ∙ reads in
     let more : AtEnd p → ⊥ = λ s. ends_no_value p.mode (top p.levels) p.here s.0 s.1 t.value q.here t.begins in
     record { refuses = reading.refuses_optional tag field p Malformed (item_next c tag p q b a y t) more none; most = omega (arith, t.most) }

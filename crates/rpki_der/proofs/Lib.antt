@@ -11,3 +11,4 @@ pub mod CountedWalks
 pub mod OnwardWalks
 pub mod ExactWalks
 pub mod Items
+pub mod Nulls

@@ -3,11 +3,20 @@ use Rattle.std.specs.Prelude.{ℕ, Bool, true, false, if◌then◌else◌, Optio
 use Rattle.rpki_der.specs.Identifier.{has_tag}
 use Rattle.rpki_der.specs.Tags.{null_tag}
 use Rattle.rpki_der.specs.Value.{Value, Primitive, Constructed}
+use Rattle.rpki_der.specs.Item.{ItemFields}
 
 unfoldable pub null : Value → Option (Unit {0})
 null (Primitive identifier lengths []) = if has_tag null_tag identifier then Some tt else None
 null (Primitive identifier lengths (a ∷ more)) = None
 null (Constructed identifier form inner) = None
+
+-- the same of a value that has the tag, by what it shows
+abbrev pub no_octets : List ℕ → Option (Unit {0})
+no_octets [] = Some tt
+no_octets (a ∷ more) = None
+
+abbrev pub null_shown : ItemFields → Option (Unit {0})
+null_shown i = if i.constructed then None else no_octets i.content
 
 -- whether it stands there
 abbrev pub present : Bool → Option (Unit {0})

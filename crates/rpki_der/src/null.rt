@@ -3,15 +3,24 @@
 ghost use Rattle.std.specs.Prelude.{◌≡◌, ◌<◌};
 ghost use Rattle.rpki_der.specs.Grammar.{optional, TakesPart};
 ghost use Rattle.rpki_der.specs.Tags.{null_tag};
-ghost use Rattle.rpki_der.specs.Null.{null, present};
+ghost use Rattle.rpki_der.specs.Item.{shown};
+ghost use Rattle.rpki_der.specs.Null.{null, null_shown, present};
 ghost use Rattle.rpki_der.specs.Ticks.{TakesPartCounted};
 
 use crate::cursor::Cursor;
 use crate::error::DecodeError;
+use crate::item::Item;
 use crate::steps::Steps;
 use crate::tag::Tag;
 use std::marker::Brand;
 use std::sync::ledger::{Blank, Ledger};
+
+// Whether a value with the tag of NULL is NULL.
+fn is_null(item: &Item<'_>) -> bool
+    ensures { present result ≡ null_shown (shown item.now) }
+{
+    !item.constructed && item.content.is_empty()
+}
 
 /// Whether NULL stands next, which is then passed. A value with its tag that isn't NULL is malformed.
 pub fn take_opt_null_counted<L: Ledger>(
@@ -23,10 +32,11 @@ pub fn take_opt_null_counted<L: Ledger>(
     match cursor.take_opt_if_counted(Tag::NULL, steps) {
         Ok(None) => Ok(false),
         Ok(Some(item)) => {
-            if item.constructed || !item.content.is_empty() {
-                return Err(DecodeError::Malformed);
+            if is_null(&item) {
+                Ok(true)
+            } else {
+                Err(DecodeError::Malformed)
             }
-            Ok(true)
         }
         Err(error) => Err(error),
     }
