@@ -1,21 +1,19 @@
 -- What one call of a cursor says of the values that stand there.
-use Rattle.std.proofs.Common.{◌≡◌, ℕ, ◌-◌, Bool, true, false, Option, None, Some, List, [], ◌∷◌, ◌++◌, length, take, refl, sym, ap, subst, ◌∙◌, arith, length-append}
+use Rattle.std.proofs.Common.{◌≡◌, ℕ, ◌-◌, true, false, Option, None, Some, List, [], ◌∷◌, ◌++◌, length, take, refl, sym, ap, subst, ◌∙◌, arith, length-append}
 use Rattle.std.proofs.lemmas.List.{take_at}
 use Rattle.rpki_der.specs.declared.header.Length.{Length}
 use Rattle.rpki_der.specs.declared.header.Length.TheVariants as length_is
 use Rattle.rpki_der.specs.declared.mode.Mode.{Mode}
-use Rattle.rpki_der.specs.declared.mode.Mode.TheVariants.{Ber, Der}
-use Rattle.rpki_der.specs.Value.{Definite, Indefinite, spellings, Value, Primitive, Constructed, spelling, Begins}
+use Rattle.rpki_der.specs.Value.{Value, Primitive, Constructed, spelling, Begins}
 use Rattle.rpki_der.specs.Level.{Level, Sized, Marked, Ends, Opens}
-use Rattle.rpki_der.specs.Header.{HeaderFirst, NoHeader}
+use Rattle.rpki_der.specs.Header.{HeaderFirst}
 use Rattle.rpki_der.specs.Part.{NoValue, NoPart, level_of}
-use Rattle.rpki_der.specs.Position.{Position, top, AtEnd}
+use Rattle.rpki_der.specs.Position.{Position, top}
 use Rattle.rpki_der.specs.Identifier.{has_tag}
-use Rattle.rpki_der.specs.Grammar.{identifier_of, primitive, any, TakesOne, NoneStands, NoneOpens}
+use Rattle.rpki_der.specs.Grammar.{primitive, any, TakesOne, NoneStands, NoneOpens}
 use Rattle.rpki_der.specs.Walk.{levels_of}
-use Rattle.rpki_der.proofs.Uniqueness.{IsEnd, not_zero, three_parts, four_parts}
 use Rattle.rpki_der.proofs.Parts.{at_most_one, same_header}
-use Rattle.rpki_der.proofs.Walks.{opens_forth, levels_of-last, ends_is_end}
+use Rattle.rpki_der.proofs.Walks.{opens_forth, levels_of-last}
 use Rattle.std.specs.Prelude.{slice_get, IfNone}
 use Rattle.std.proofs.Common.{Bor}
 use Rattle.rpki_der.specs.declared.part.Open.{Open}

@@ -1,5 +1,5 @@
 -- What the calls that give whole values say of the values that stand there.
-use Rattle.std.proofs.Common.{◌≡◌, ℕ, ◌+◌, ◌-◌, ◌≤◌, ◌⊎◌, inl, inr, Bool, true, false, Option, None, Some, Result, Ok, Err, List, [], ◌∷◌, ◌++◌, length, take, refl, sym, ap, subst, ◌∙◌, arith, length-append}
+use Rattle.std.proofs.Common.{◌≡◌, ℕ, ◌+◌, ◌-◌, ◌*◌, ◌≤◌, inl, inr, Bool, true, false, Option, None, Some, Result, Ok, Err, List, [], ◌∷◌, ◌++◌, length, take, refl, sym, ap, subst, ◌∙◌, arith, length-append}
 use Rattle.std.specs.Prelude.{IfOk, OnOk, OnErr}
 use Rattle.std.proofs.lemmas.List.{take_at}
 use Rattle.rpki_der.specs.declared.item.Item.{Item}
@@ -15,17 +15,17 @@ use Rattle.rpki_der.specs.Part.{level_of, NoValue}
 use Rattle.rpki_der.specs.Walk.{levels_of, Completes}
 use Rattle.rpki_der.specs.ExactWalk.{CompletesExactly}
 use Rattle.rpki_der.specs.Position.{Position, top, AtEnd}
-use Rattle.rpki_der.specs.Grammar.{identifier_of, any, optional, NoneStands, Refuses, RefusesFields}
-use Rattle.rpki_der.specs.Ticks.{counts, all_counts, nodes, left, CountedOne, CountedRefuses, TakesCounted, CountedFields, CountedRefusesFields}
+use Rattle.rpki_der.specs.Grammar.{identifier_of, optional, NoneStands, Refuses, RefusesFields}
+use Rattle.rpki_der.specs.Ticks.{counts, all_counts, left, CountedOne, CountedRefuses, TakesCounted, CountedFields, CountedRefusesFields}
 use Rattle.rpki_der.specs.Item.{ItemFields, item, shown, any_item, item_with, content_in, ShowsWhole, OtherFirst, Absent, CountedAbsent, RefusesNext, CountedRefusesNext, RefusesOptional, CountedRefusesOptional}
 use Rattle.rpki_der.proofs.Uniqueness.{same_identifier, three_parts, four_parts}
 use Rattle.rpki_der.proofs.Parts.{at_most_one}
-use Rattle.rpki_der.proofs.Walks.{levels_of-push, opens_back, opens_forth, ends_no_value, end_holds, holds_more, holds_cons}
+use Rattle.rpki_der.proofs.Walks.{levels_of-push, opens_back, opens_forth, ends_no_value, end_holds, holds_more}
 use Rattle.rpki_der.proofs.ExactWalks.{same_marks, nodes_counts}
 use Rattle.rpki_der.proofs.Cursors.{slice_of}
-use Rattle.rpki_der.proofs.Counting.{some_identifier, begins_left, value_left, refuses_at_once}
-use Rattle.rpki_der.proofs.Reading as reading
-use Rattle.rpki_der.proofs.Reading.{Next, optional_none_reads, optional_some_reads}
+use Rattle.rpki_der.proofs.Counting.{some_identifier, begins_left, refuses_at_once}
+use Rattle.rpki_der.proofs.Reading.{Next}
+use Rattle.rpki_der.proofs.Counting as counting
 
 pub same_error : {X : Type 0} (e f : DecodeError) → ◌≡◌ {A = Result X DecodeError} (Err e) (Err f) → e ≡ f
 same_error e f is = cc
@@ -180,22 +180,17 @@ absent_next : (tag : List ℕ) (p : Position) (b a : ℕ) → CountedAbsent tag 
 absent_next tag p b a (inl e) v rest h = absurd (ends_no_value p.mode (top p.levels) p.here e.0.0 e.0.1 v rest h)
 absent_next tag p b a (inr o) v rest h = next_tagged tag p.mode p.here o.0.0 o.0.1 v rest o.0.2 h ∙ o.0.3
 
-absent_ticks : (tag : List ℕ) (p : Position) (b a : ℕ) → CountedAbsent tag p b a → (b ≤ a) × (a ≤ b + 1)
-absent_ticks tag p b a (inl e) = (omega (arith, e.1), omega (arith, e.1))
-absent_ticks tag p b a (inr o) = (omega (arith, o.1), omega (arith, o.1))
+absent_least : (tag : List ℕ) (p : Position) (b a : ℕ) → CountedAbsent tag p b a → b ≤ a
+absent_least tag p b a (inl e) = omega (arith, e.1)
+absent_least tag p b a (inr o) = omega (arith, o.1)
+
+absent_most : (tag : List ℕ) (p : Position) (b a : ℕ) → CountedAbsent tag p b a → a ≤ b + 1
+absent_most tag p b a (inl e) = omega (arith, e.1)
+absent_most tag p b a (inr o) = omega (arith, o.1)
 
 pub takes_optional_absent : {X : Type 0} (c : ℕ) (tag : List ℕ) (field : Value → Option X) (p q : Position) (b a : ℕ) → CountedAbsent tag p b a × (q ≡ p) → CountedFields c 1 (optional tag field) p q b a None
 takes_optional_absent c tag field p q b a w =
-    let n = absent_next tag p b a w.0 in
-    let t = absent_ticks tag p b a w.0 in
-    subst (λ (r : Position). CountedFields c 1 (optional tag field) p r b a None) (sym w.1) (record {
-      reads = λ vs rest h. (vs, h, optional_none_reads tag field p n vs rest h, omega (arith, t.0));
-      only = λ vs rest h. (vs, h, optional_none_reads tag field p n vs rest h);
-      levels = refl;
-      mode = refl;
-      on = omega arith;
-      most = omega (arith, t.1);
-    })
+    subst (λ (r : Position). CountedFields c 1 (optional tag field) p r b a None) (sym w.1) (counting.takes_optional_none c tag field p b a (absent_least tag p b a w.0) (absent_most tag p b a w.0) (absent_next tag p b a w.0))
 
 -- ---- a field is what a conversion makes of the value
 
@@ -214,34 +209,37 @@ with_found tag v x false t e = let w : None ≡ Some x = rw t at e in absurd cc
 pub has_item : (tag : List ℕ) (v : Value) (x : ItemFields) → item_with tag v ≡ Some x → HasItem tag v x
 has_item tag v x e = with_found tag v x (has_tag tag (identifier_of v)) refl e
 
-item_next : (c : ℕ) (tag : List ℕ) (p q : Position) (b a : ℕ) (y : ItemFields) → CountedOne c (item_with tag) p q b a y → Next tag p true
+-- a value with this tag stands next, and its level isn't at its end
+pub item_next : (c : ℕ) (tag : List ℕ) (p q : Position) (b a : ℕ) (y : ItemFields) → CountedOne c (item_with tag) p q b a y → Next tag p true
 item_next c tag p q b a y t v rest h =
     let s = at_most_one p.mode p.here v t.value rest q.here h t.begins in
     ap (λ (w : Value). has_tag tag (identifier_of w)) s.value ∙ (has_item tag t.value y t.reads).tagged
 
+pub item_more : (c : ℕ) (tag : List ℕ) (p q : Position) (b a : ℕ) (y : ItemFields) → CountedOne c (item_with tag) p q b a y → AtEnd p → ⊥
+item_more c tag p q b a y t s = ends_no_value p.mode (top p.levels) p.here s.0 s.1 t.value q.here t.begins
+
 pub takes_optional : {X : Type 0} (c : ℕ) (tag : List ℕ) (field : Value → Option X) (convert : ItemFields → Option X) (p q : Position) (b a : ℕ) (y : ItemFields) (x : X) → Converts tag field convert → CountedOne c (item_with tag) p q b a y → convert y ≡ Some x → CountedFields c 1 (optional tag field) p q b a (Some x)
 takes_optional c tag field convert p q b a y x is t e =
     let h = has_item tag t.value y t.reads in
-    let reads : field t.value ≡ Some x = is.is t.value h.tagged ∙ ap convert h.is ∙ e in
-    let n = item_next c tag p q b a y t in
-    let u = reading.takes_optional tag field p q x n (record { value = t.value; begins = t.begins; reads = reads; levels = t.levels; mode = t.mode }) in
-    record {
-      reads = λ vs rest k. (t.value ▸ vs, holds_cons p.mode (top p.levels) p.here q.here t.value vs rest t.begins (rw (t.mode, t.levels) at k), optional_some_reads tag field t.value vs x h.tagged reads, omega (arith, t.least));
-      only = u.only;
+    counting.takes_optional c tag field p q b a x (item_next c tag p q b a y t) (record {
+      value = t.value;
+      begins = t.begins;
+      reads = is.is t.value h.tagged ∙ ap convert h.is ∙ e;
       levels = t.levels;
       mode = t.mode;
-      on = omega (arith, value_left p q t.value t.begins t.levels);
-      most = omega (arith, t.most);
-    }
+      least = t.least;
+      most = t.most;
+    })
 
 pub refuses_converted : {X : Type 0} (c : ℕ) (tag : List ℕ) (field : Value → Option X) (convert : ItemFields → Option X) (p q : Position) (b a : ℕ) (y : ItemFields) → Converts tag field convert → CountedOne c (item_with tag) p q b a y → convert y ≡ None → CountedRefusesFields c 1 (optional tag field) p b a Malformed
 unfolding Refuses
 refuses_converted c tag field convert p q b a y is t e =
     let h = has_item tag t.value y t.reads in
     let reads : field t.value ≡ None = is.is t.value h.tagged ∙ ap convert h.is ∙ e in
-    let none : NoneStands field p = λ v rest k. ap field (at_most_one p.mode p.here v t.value rest q.here k t.begins).value ∙ reads in
-    let more : AtEnd p → ⊥ = λ s. ends_no_value p.mode (top p.levels) p.here s.0 s.1 t.value q.here t.begins in
-    record { refuses = reading.refuses_optional tag field p Malformed (item_next c tag p q b a y t) more none; most = omega (arith, t.most) }
+    counting.refuses_optional c tag field p b a Malformed (item_next c tag p q b a y t) (item_more c tag p q b a y t) (record {
+      refuses = λ v rest k. ap field (at_most_one p.mode p.here v t.value rest q.here k t.begins).value ∙ reads;
+      most = let w : a + c * left q ≤ b + c * left p = t.most in omega (arith, w);
+    })
 
 refused_all : {X : Type 0} (tag : List ℕ) (field : Value → Option X) (p : Position) → (AtEnd p → ⊥) → NoValue p.mode p.here → (all : Values) (rest : List ℕ) → Holds p.mode (top p.levels) p.here all rest → optional tag field all ≡ None
 refused_all tag field p more none End rest h = absurd (more (rest, end_holds p.mode (top p.levels) p.here rest h))

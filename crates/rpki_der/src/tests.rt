@@ -68,6 +68,7 @@ fn null_may_be_left_out(rt: HostRuntime) -> Result<(), Fail> {
     let mut cursor = Cursor::new(alloc, Mode::Ber, &[0x05, 0x00, 0x25, 0x00]);
     assert!(rt; matches!(take_opt_null(&mut cursor), Ok(true)));
     assert!(rt; matches!(take_opt_null(&mut cursor), Err(DecodeError::Malformed)));
+    let mut cursor = Cursor::new(alloc, Mode::Ber, &[0x02, 0x01, 0x00]);
     assert!(rt; matches!(take_opt_null(&mut cursor), Ok(false)));
     Ok(())
 }

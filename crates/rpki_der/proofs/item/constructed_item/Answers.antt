@@ -1,4 +1,4 @@
-use Rattle.std.proofs.Common.{◌≡◌, length, sym, ap, refl, ◌∙◌, Err, arith}
+use Rattle.std.proofs.Common.{sym, ap, ◌∙◌, Err}
 use Rattle.std.proofs.lemmas.Result.{err_from_is_err_and}
 use Rattle.rpki_der.proofs.Items.{same_error, one_level, none_constructed, whole_constructed, passed_constructed}
 use Rattle.rpki_der.proofs.item.constructed_item.Goals as goal

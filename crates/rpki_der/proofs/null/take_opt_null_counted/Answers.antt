@@ -1,4 +1,4 @@
-use Rattle.std.proofs.Common.{◌≡◌, sym}
+use Rattle.std.proofs.Common.{sym}
 use Rattle.rpki_der.proofs.Items.{takes_optional_absent, takes_optional, refuses_converted, refuses_optional_field}
 use Rattle.rpki_der.proofs.Nulls.{null_converts}
 use Rattle.rpki_der.proofs.null.take_opt_null_counted.Goals as goal

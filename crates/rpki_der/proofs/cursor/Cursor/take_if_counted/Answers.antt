@@ -1,4 +1,4 @@
-use Rattle.std.proofs.Common.{◌≡◌, sym, subst}
+use Rattle.std.proofs.Common.{sym, subst}
 use Rattle.rpki_der.specs.Position.{Position}
 use Rattle.rpki_der.specs.Header.{IdentifierFirst, NoIdentifier}
 use Rattle.rpki_der.proofs.Items.{takes_with, refuses_other, refuses_unidentified}

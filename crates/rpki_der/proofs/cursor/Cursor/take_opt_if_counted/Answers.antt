@@ -1,4 +1,4 @@
-use Rattle.std.proofs.Common.{◌≡◌, refl, ap, sym, subst, Err, arith}
+use Rattle.std.proofs.Common.{ap, sym, subst, Err, arith}
 use Rattle.rpki_der.specs.Position.{Position}
 use Rattle.rpki_der.specs.Header.{IdentifierFirst, NoIdentifier}
 use Rattle.rpki_der.proofs.Reading.{not_ended}
