@@ -2,7 +2,6 @@
 use Rattle.std.proofs.Common.{◌≡◌, ℕ, ◌+◌, ◌-◌, ◌*◌, ◌≤◌, inl, inr, Bool, true, false, Option, None, Some, Result, Ok, Err, List, [], ◌∷◌, ◌++◌, length, take, refl, sym, ap, subst, ◌∙◌, arith, length-append}
 use Rattle.std.specs.Prelude.{IfOk, OnOk, OnErr}
 use Rattle.std.proofs.lemmas.List.{take_at}
-use Rattle.rpki_der.specs.declared.item.Item.{Item}
 use Rattle.rpki_der.specs.declared.error.DecodeError.{DecodeError}
 use Rattle.rpki_der.specs.declared.error.DecodeError.TheVariants.{Malformed, OutOfMemory}
 use Rattle.rpki_der.specs.declared.mode.Mode.{Mode}
@@ -17,7 +16,7 @@ use Rattle.rpki_der.specs.ExactWalk.{CompletesExactly}
 use Rattle.rpki_der.specs.Position.{Position, top, AtEnd}
 use Rattle.rpki_der.specs.Grammar.{identifier_of, optional, NoneStands, Refuses, RefusesFields}
 use Rattle.rpki_der.specs.Ticks.{counts, all_counts, left, CountedOne, CountedRefuses, TakesCounted, CountedFields, CountedRefusesFields}
-use Rattle.rpki_der.specs.Item.{ItemFields, item, shown, any_item, item_with, content_in, ShowsWhole, OtherFirst, Absent, CountedAbsent, RefusesNext, CountedRefusesNext, RefusesOptional, CountedRefusesOptional}
+use Rattle.rpki_der.specs.Item.{ItemFields, item, any_item, item_with, content_in, ShowsWhole, OtherFirst, Absent, CountedAbsent, RefusesNext, CountedRefusesNext, RefusesOptional, CountedRefusesOptional}
 use Rattle.rpki_der.proofs.Uniqueness.{same_identifier, three_parts, four_parts}
 use Rattle.rpki_der.proofs.Parts.{at_most_one}
 use Rattle.rpki_der.proofs.Walks.{levels_of-push, opens_back, opens_forth, ends_no_value, end_holds, holds_more}
@@ -151,8 +150,8 @@ unfolding Refuses
 refuses_with tag p b a Malformed none t = record { refuses = with_none tag p (none refl); most = omega (arith, t) }
 refuses_with tag p b a OutOfMemory none t = record { refuses = tt; most = omega (arith, t) }
 
-pub takes_with : (tag : List ℕ) (p q : Position) (i r : List ℕ) (b m a : ℕ) (result : Result Item DecodeError) → IdentifierFirst p.here i r → has_tag tag i ≡ true → IfOk result (λ x. ShowsWhole p.mode p.here q.here m a (shown x)) → OnOk result ((q.levels ≡ p.levels) × (q.mode ≡ p.mode)) → (result ≡ Err Malformed → NoValue p.mode p.here) → OnErr result (a ≤ m + length p.here) → m ≡ b + 1 → TakesCounted 1 (item_with tag) shown p q b a result
-takes_with tag p q i r b m a (Ok x) f tagged w e none l t = whole_with tag p q i r b m a (shown x) f tagged w e t
+pub takes_with : (tag : List ℕ) (p q : Position) (i r : List ℕ) (b m a : ℕ) (result : Result ItemFields DecodeError) → IdentifierFirst p.here i r → has_tag tag i ≡ true → IfOk result (λ x. ShowsWhole p.mode p.here q.here m a x) → OnOk result ((q.levels ≡ p.levels) × (q.mode ≡ p.mode)) → (result ≡ Err Malformed → NoValue p.mode p.here) → OnErr result (a ≤ m + length p.here) → m ≡ b + 1 → TakesCounted 1 (item_with tag) (λ i. i) p q b a result
+takes_with tag p q i r b m a (Ok x) f tagged w e none l t = whole_with tag p q i r b m a x f tagged w e t
 takes_with tag p q i r b m a (Err error) f tagged w e none l t = refuses_with tag p b a error (λ is. none (ap Err is)) (omega (arith, t, l))
 
 -- ---- `take_opt_if`

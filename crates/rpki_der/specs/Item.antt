@@ -3,7 +3,6 @@ use Rattle.std.specs.Prelude.{◌≡◌, ℕ, ◌+◌, ◌-◌, ◌*◌, ◌≤�
 use Rattle.rpki_der.specs.declared.error.DecodeError.{DecodeError}
 use Rattle.rpki_der.specs.declared.error.DecodeError.TheVariants.{Malformed, OutOfMemory}
 use Rattle.rpki_der.specs.declared.mode.Mode.{Mode}
-use Rattle.rpki_der.specs.declared.item.Item.{Item}
 use Rattle.rpki_der.specs.Identifier.{tag_of, has_tag}
 use Rattle.rpki_der.specs.Value.{Value, Primitive, Constructed, spelling, spellings, Begins}
 use Rattle.rpki_der.specs.Header.{IdentifierFirst}
@@ -35,10 +34,6 @@ item (Constructed identifier form inner) = record {
   slice = spelling (Constructed identifier form inner);
 }
 
--- what the answer of a call shows
-abbrev pub shown : Item → ItemFields
-shown i = record { tag = i.tag; constructed = i.constructed; content = i.content.now; slice = i.slice.now }
-
 -- any value
 abbrev pub any_item : Value → Option ItemFields
 any_item v = Some (item v)
@@ -55,18 +50,18 @@ RefusesNext old Malformed = (AtEnd old → ⊥) × NoValue old.mode old.here
 RefusesNext old OutOfMemory = AtEnd old → ⊥
 
 -- The answer is the value that stands next; or None, at the end of the level; or Malformed, exactly where neither is so.
-abbrev pub TakesNext : Position → Position → Result (Option Item) DecodeError → Type 0
+abbrev pub TakesNext : Position → Position → Result (Option ItemFields) DecodeError → Type 0
 TakesNext old new result =
-    MatchResult result (λ found. MatchOption found (AtEnd old × (new ≡ old)) (λ i. TakesOne any_item old new (shown i))) (RefusesNext old)
+    MatchResult result (λ found. MatchOption found (AtEnd old × (new ≡ old)) (λ i. TakesOne any_item old new i)) (RefusesNext old)
 
 pub record CountedRefusesNext (c : ℕ) (old : Position) (before after : ℕ) (error : DecodeError) : Type 0 where
   pub refuses : RefusesNext old error
   pub most : after ≤ before + c * left old + 8
 
 -- TakesNext, and c ticks an octet at most; None ticks nothing.
-abbrev pub TakesNextCounted : ℕ → Position → Position → ℕ → ℕ → Result (Option Item) DecodeError → Type 0
+abbrev pub TakesNextCounted : ℕ → Position → Position → ℕ → ℕ → Result (Option ItemFields) DecodeError → Type 0
 TakesNextCounted c old new before after result =
-    MatchResult result (λ found. MatchOption found (AtEnd old × (new ≡ old) × (after ≡ before)) (λ i. CountedOne c any_item old new before after (shown i))) (CountedRefusesNext c old before after)
+    MatchResult result (λ found. MatchOption found (AtEnd old × (new ≡ old) × (after ≡ before)) (λ i. CountedOne c any_item old new before after i)) (CountedRefusesNext c old before after)
 
 -- ---- the next value, if it has this tag
 
@@ -84,9 +79,9 @@ RefusesOptional tag old Malformed = (Absent tag old → ⊥) × NoValue old.mode
 RefusesOptional tag old OutOfMemory = Absent tag old → ⊥
 
 -- The answer is the value that stands next, which has this tag; or None, at the end of the level and where an identifier of another tag stands next; or Malformed, exactly where none of these is so.
-abbrev pub TakesOptional : List ℕ → Position → Position → Result (Option Item) DecodeError → Type 0
+abbrev pub TakesOptional : List ℕ → Position → Position → Result (Option ItemFields) DecodeError → Type 0
 TakesOptional tag old new result =
-    MatchResult result (λ found. MatchOption found (Absent tag old × (new ≡ old)) (λ i. TakesOne (item_with tag) old new (shown i))) (RefusesOptional tag old)
+    MatchResult result (λ found. MatchOption found (Absent tag old × (new ≡ old)) (λ i. TakesOne (item_with tag) old new i)) (RefusesOptional tag old)
 
 -- Absent: the end of the level ticks nothing, and the identifier of another tag once.
 abbrev pub CountedAbsent : List ℕ → Position → ℕ → ℕ → Type 0
@@ -97,9 +92,9 @@ pub record CountedRefusesOptional (c : ℕ) (tag : List ℕ) (old : Position) (b
   pub most : after ≤ before + c * left old + 8
 
 -- TakesOptional, and c ticks an octet at most.
-abbrev pub TakesOptionalCounted : ℕ → List ℕ → Position → Position → ℕ → ℕ → Result (Option Item) DecodeError → Type 0
+abbrev pub TakesOptionalCounted : ℕ → List ℕ → Position → Position → ℕ → ℕ → Result (Option ItemFields) DecodeError → Type 0
 TakesOptionalCounted c tag old new before after result =
-    MatchResult result (λ found. MatchOption found (CountedAbsent tag old before after × (new ≡ old)) (λ i. CountedOne c (item_with tag) old new before after (shown i))) (CountedRefusesOptional c tag old before after)
+    MatchResult result (λ found. MatchOption found (CountedAbsent tag old before after × (new ≡ old)) (λ i. CountedOne c (item_with tag) old new before after i)) (CountedRefusesOptional c tag old before after)
 
 -- ---- a value whose first header was counted before
 

@@ -7,7 +7,7 @@ ghost use Rattle.rpki_der.specs.Header.{IdentifierFirst};
 ghost use Rattle.rpki_der.specs.Part.{level_of, IsPart, NoValue};
 ghost use Rattle.rpki_der.specs.Grammar.{Takes};
 ghost use Rattle.rpki_der.specs.Ticks.{TakesCounted, counts};
-ghost use Rattle.rpki_der.specs.Item.{shown, item_with, TakesNext, TakesNextCounted, TakesOptional, TakesOptionalCounted, content_in, ShowsWhole};
+ghost use Rattle.rpki_der.specs.Item.{item_with, TakesNext, TakesNextCounted, TakesOptional, TakesOptionalCounted, content_in, ShowsWhole};
 
 use crate::cursor::Cursor;
 use crate::error::DecodeError;
@@ -18,11 +18,11 @@ use crate::steps::Steps;
 use crate::tag::{Tag, tag_is};
 use crate::walk::skip_levels;
 use std::alloc::Global;
-use std::marker::Brand;
+use std::marker::{Brand, Model};
 use std::sync::ledger::{Blank, Ledger};
 
 /// One whole value, as it stands in the octets.
-#[derive(Clone, Copy)]
+#[derive(Drop)]
 pub struct Item<'a> {
     /// What kind of value it is.
     pub tag: Tag,
@@ -32,6 +32,14 @@ pub struct Item<'a> {
     pub content: &'a [u8],
     /// Its exact octets, from the first of its identifier to its last.
     pub slice: &'a [u8],
+}
+
+impl<'a> Model for Item<'a> {
+    ghost use Rattle.rpki_der.specs.Item.{ItemFields};
+
+    ghost Value = { ItemFields };
+
+    ghost view = { λ i. record { tag = i.tag; constructed = i.constructed; content = i.content.now; slice = i.slice.now } };
 }
 
 // The octets in front of those at the end.
@@ -64,7 +72,7 @@ fn constructed_item<'a, L: Ledger>(
     steps: &mut Steps<L>,
 ) -> Result<(Item<'a>, &'a [u8]), DecodeError>
     requires opens { Opens mode here.now identifier.now (level_of level) inner.now }
-    ensures ok { IfOk result (λ r. ShowsWhole mode here.now r.1.now steps.old steps.new (shown r.0)) }
+    ensures ok { IfOk result (λ r. ShowsWhole mode here.now r.1.now steps.old steps.new r.0) }
     ensures malformed { result ≡ Err DecodeError.Malformed → NoValue mode here.now }
     ensures refused { OnErr result (steps.new ≤ steps.old + length here.now) }
 {
@@ -89,7 +97,7 @@ fn whole_item<'a, L: Ledger>(
     steps: &mut Steps<L>,
 ) -> Result<(Item<'a>, &'a [u8]), DecodeError>
     requires part { IsPart mode here.now part }
-    ensures ok { IfOk result (λ r. ShowsWhole mode here.now r.1.now steps.old steps.new (shown r.0)) }
+    ensures ok { IfOk result (λ r. ShowsWhole mode here.now r.1.now steps.old steps.new r.0) }
     ensures malformed { result ≡ Err DecodeError.Malformed → NoValue mode here.now }
     ensures refused { OnErr result (steps.new ≤ steps.old + length here.now) }
 {
@@ -124,7 +132,7 @@ impl<'a> Cursor<'a> {
         steps: &mut Steps<L>,
     ) -> Result<Item<'a>, DecodeError>
         requires first { IdentifierFirst self.old.here identifier.now behind.now }
-        ensures ok { IfOk result (λ i. ShowsWhole self.old.mode self.old.here self.new.here steps.old steps.new (shown i)) }
+        ensures ok { IfOk result (λ i. ShowsWhole self.old.mode self.old.here self.new.here steps.old steps.new i) }
         ensures place { OnOk result ((self.new.levels ≡ self.old.levels) × (self.new.mode ≡ self.old.mode)) }
         ensures malformed { result ≡ Err DecodeError.Malformed → NoValue self.old.mode self.old.here }
         ensures err { OnErr result (self.new ≡ self.old) }
@@ -193,7 +201,7 @@ impl<'a> Cursor<'a> {
         tag: Tag,
         steps: &mut Steps<L>,
     ) -> Result<Item<'a>, DecodeError>
-        ensures value { TakesCounted 1 (item_with tag) shown self.old self.new steps.old steps.new result }
+        ensures value { TakesCounted 1 (item_with tag) (λ i. i) self.old self.new steps.old steps.new result }
         ensures err { OnErr result (self.new ≡ self.old) }
         ensures ticks { OnOk result ((v : Value) × Begins self.old.mode self.old.here v self.new.here × (steps.new ≡ steps.old + counts v)) }
         ensures refused { OnErr result (steps.new ≤ steps.old + length self.old.here + 1) }
@@ -211,7 +219,7 @@ impl<'a> Cursor<'a> {
         requires name { blank.name ≡ L.name }
         requires parts { blank.parts ≡ L.parts }
         requires some { 0 < blank.parts }
-        ensures value { Takes (item_with tag) shown self.old self.new result }
+        ensures value { Takes (item_with tag) (λ i. i) self.old self.new result }
         ensures err { OnErr result (self.new ≡ self.old) }
     {
         let mut steps = Steps::<L>::new(blank);
@@ -220,7 +228,7 @@ impl<'a> Cursor<'a> {
 
     /// The value with this tag that stands next.
     pub fn take_if(&mut self, tag: Tag) -> Result<Item<'a>, DecodeError>
-        ensures value { Takes (item_with tag) shown self.old self.new result }
+        ensures value { Takes (item_with tag) (λ i. i) self.old self.new result }
         ensures err { OnErr result (self.new ≡ self.old) }
     {
         self.take_if_within::<Brand>(tag, Blank::new(1))

@@ -3,7 +3,6 @@
 ghost use Rattle.std.specs.Prelude.{◌≡◌, ◌<◌};
 ghost use Rattle.rpki_der.specs.Grammar.{optional, TakesPart};
 ghost use Rattle.rpki_der.specs.Tags.{null_tag};
-ghost use Rattle.rpki_der.specs.Item.{shown};
 ghost use Rattle.rpki_der.specs.Null.{null, null_shown, present};
 ghost use Rattle.rpki_der.specs.Ticks.{TakesPartCounted};
 
@@ -17,7 +16,7 @@ use std::sync::ledger::{Blank, Ledger};
 
 // Whether a value with the tag of NULL is NULL.
 fn is_null(item: &Item<'_>) -> bool
-    ensures { present result ≡ null_shown (shown item.now) }
+    ensures { present result ≡ null_shown item.now }
 {
     !item.constructed && item.content.is_empty()
 }
