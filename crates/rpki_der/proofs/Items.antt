@@ -1,6 +1,6 @@
 -- What the calls that give whole values say of the values that stand there.
 use Rattle.std.proofs.Common.{◌≡◌, ℕ, ◌+◌, ◌-◌, ◌*◌, ◌≤◌, inl, inr, Bool, true, false, Option, None, Some, Result, Ok, Err, List, [], ◌∷◌, ◌++◌, length, take, refl, sym, ap, subst, ◌∙◌, arith, length-append}
-use Rattle.std.specs.Prelude.{IfOk, OnOk, OnErr}
+use Rattle.std.specs.Prelude.{IsErrAnd, IfOk, OnOk, OnErr}
 use Rattle.std.proofs.lemmas.List.{take_at}
 use Rattle.rpki_der.specs.declared.error.DecodeError.{DecodeError}
 use Rattle.rpki_der.specs.declared.error.DecodeError.TheVariants.{Malformed, OutOfMemory}
@@ -16,7 +16,7 @@ use Rattle.rpki_der.specs.ExactWalk.{CompletesExactly}
 use Rattle.rpki_der.specs.Position.{Position, top, AtEnd}
 use Rattle.rpki_der.specs.Grammar.{identifier_of, optional, NoneStands, Refuses, RefusesFields}
 use Rattle.rpki_der.specs.Ticks.{counts, all_counts, left, CountedOne, CountedRefuses, TakesCounted, CountedFields, CountedRefusesFields}
-use Rattle.rpki_der.specs.Item.{ItemFields, item, any_item, item_with, content_in, ShowsWhole, OtherFirst, Absent, CountedAbsent, RefusesNext, CountedRefusesNext, RefusesOptional, CountedRefusesOptional}
+use Rattle.rpki_der.specs.Item.{ItemFields, item, any_item, item_with, content_in, ShowsWhole, OtherFirst, Absent, CountedAbsent, RefusesNext, CountedRefusesNext, TakesNextCounted, RefusesOptional, CountedRefusesOptional, TakesOptionalCounted}
 use Rattle.rpki_der.proofs.Uniqueness.{same_identifier, three_parts, four_parts}
 use Rattle.rpki_der.proofs.Parts.{at_most_one}
 use Rattle.rpki_der.proofs.Walks.{levels_of-push, opens_back, opens_forth, ends_no_value, end_holds, holds_more}
@@ -115,6 +115,10 @@ unfolding RefusesNext
 refuses_next p b a Malformed more none t = record { refuses = (more, none refl); most = omega (arith, t) }
 refuses_next p b a OutOfMemory more none t = record { refuses = more; most = omega (arith, t) }
 
+pub next_err : (p q : Position) (b a : ℕ) (error : DecodeError) (r : Result (Option ItemFields) DecodeError) → IsErrAnd r (λ e. e ≡ error) → CountedRefusesNext 1 p b a error → TakesNextCounted 1 p q b a r
+next_err p q b a error (Ok y) h n = absurd h
+next_err p q b a error (Err e) h n = subst (CountedRefusesNext 1 p b a) (sym h) n
+
 -- ---- `take_if`
 
 pub whole_with : (tag : List ℕ) (p q : Position) (i r : List ℕ) (b m a : ℕ) (x : ItemFields) → IdentifierFirst p.here i r → has_tag tag i ≡ true → ShowsWhole p.mode p.here q.here m a x → (q.levels ≡ p.levels) × (q.mode ≡ p.mode) → m ≡ b + 1 → CountedOne 1 (item_with tag) p q b a x
@@ -172,6 +176,10 @@ pub refuses_optional : (tag : List ℕ) (p : Position) (b a : ℕ) (e : DecodeEr
 unfolding RefusesOptional
 refuses_optional tag p b a Malformed present none t = record { refuses = (present, none refl); most = omega (arith, t) }
 refuses_optional tag p b a OutOfMemory present none t = record { refuses = present; most = omega (arith, t) }
+
+pub optional_err : (tag : List ℕ) (p q : Position) (b a : ℕ) (error : DecodeError) (r : Result (Option ItemFields) DecodeError) → IsErrAnd r (λ e. e ≡ error) → CountedRefusesOptional 1 tag p b a error → TakesOptionalCounted 1 tag p q b a r
+optional_err tag p q b a error (Ok y) h n = absurd h
+optional_err tag p q b a error (Err e) h n = subst (CountedRefusesOptional 1 tag p b a) (sym h) n
 
 -- ---- an optional field, by `take_opt_if`
 

@@ -139,13 +139,11 @@ impl<'a> Cursor<'a> {
         ensures refused { OnErr result (steps.new ≤ steps.old + length self.old.here) }
     {
         match take_part_behind(self.mode, identifier, behind) {
-            Some(part) => match whole_item(self.alloc, self.mode, self.here, part, steps) {
-                Ok((item, rest)) => {
-                    self.here = rest;
-                    Ok(item)
-                }
-                Err(error) => Err(error),
-            },
+            Some(part) => {
+                let (item, rest) = whole_item(self.alloc, self.mode, self.here, part, steps)?;
+                self.here = rest;
+                Ok(item)
+            }
             None => Err(DecodeError::Malformed),
         }
     }
@@ -165,10 +163,10 @@ impl<'a> Cursor<'a> {
         }
         steps.tick();
         match take_identifier(self.here) {
-            Some((identifier, behind)) => match self.take_behind(identifier, behind, steps) {
-                Ok(item) => Ok(Some(item)),
-                Err(error) => Err(error),
-            },
+            Some((identifier, behind)) => {
+                let value = self.take_behind(identifier, behind, steps)?;
+                Ok(Some(value))
+            }
             None => Err(DecodeError::Malformed),
         }
     }
@@ -253,10 +251,8 @@ impl<'a> Cursor<'a> {
         steps.tick();
         match take_identifier(self.here) {
             Some((identifier, behind)) if tag_is(identifier, tag) => {
-                match self.take_behind(identifier, behind, steps) {
-                    Ok(item) => Ok(Some(item)),
-                    Err(error) => Err(error),
-                }
+                let item = self.take_behind(identifier, behind, steps)?;
+                Ok(Some(item))
             }
             Some(_) => Ok(None),
             None => Err(DecodeError::Malformed),

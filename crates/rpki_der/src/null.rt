@@ -28,16 +28,15 @@ pub fn take_opt_null_counted<L: Ledger>(
 ) -> Result<bool, DecodeError>
     ensures { TakesPartCounted 1 1 (optional null_tag null) present cursor.old cursor.new steps.old steps.new result }
 {
-    match cursor.take_opt_if_counted(Tag::NULL, steps) {
-        Ok(None) => Ok(false),
-        Ok(Some(item)) => {
+    match cursor.take_opt_if_counted(Tag::NULL, steps)? {
+        None => Ok(false),
+        Some(item) => {
             if is_null(&item) {
                 Ok(true)
             } else {
                 Err(DecodeError::Malformed)
             }
         }
-        Err(error) => Err(error),
     }
 }
 
