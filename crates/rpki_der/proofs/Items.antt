@@ -48,9 +48,6 @@ content_whole mode Marked inner vs rest h =
 slice_whole : (mode : Mode) (here : List ℕ) (v : Value) (rest slice : List ℕ) → Begins mode here v rest → slice ≡ take (length here - length rest) here → slice ≡ spelling v
 slice_whole mode here v rest slice b s = let e : Some (spelling v) ≡ Some slice = slice_of here v rest slice mode b s in cc
 
-pub whole_primitive : (mode : Mode) (here i content rest slice : List ℕ) (b a : ℕ) → (lengths : List ℕ) × Begins mode here (Primitive i lengths content) rest → slice ≡ take (length here - length rest) here → a ≡ b → ShowsWhole mode here rest b a (record { tag = tag_of i; constructed = false; content = content; slice = slice })
-whole_primitive mode here i content rest slice b a w s t = (Primitive i w.0 content, w.1, rw (slice_whole mode here (Primitive i w.0 content) rest slice w.1 s) refl, omega (arith, t))
-
 pub whole_constructed : (mode : Mode) (here i inner rest content slice : List ℕ) (level : Level) (levels : List Level) (b a : ℕ) → levels ≡ level ∷ [] → Opens mode here i level inner → (n : ℕ) × CompletesExactly mode inner levels rest n × (a ≡ b + n) → content ≡ content_in level inner rest → slice ≡ take (length here - length rest) here → ShowsWhole mode here rest b a (record { tag = tag_of i; constructed = true; content = content; slice = slice })
 whole_constructed mode here i inner rest content slice level levels b a e o w is s =
     let k = subst (λ (ls : List Level). CompletesExactly mode inner ls rest w.0) e w.1 in

@@ -22,6 +22,8 @@ use std::marker::{Brand, Model};
 use std::sync::ledger::{Blank, Ledger};
 
 /// One whole value, as it stands in the octets.
+///
+/// In a clause it is the record of these four, with the octets as lists.
 #[derive(Drop)]
 pub struct Item<'a> {
     /// What kind of value it is.

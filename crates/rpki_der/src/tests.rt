@@ -79,10 +79,7 @@ fn null_may_be_left_out(rt: HostRuntime) -> Result<(), Fail> {
 }
 
 // No run can read a count, which has no bytes, so a clause says it: two headers and an end mark.
-fn takes_marked_counted<L: Ledger>(
-    alloc: Global,
-    steps: &mut Steps<L>,
-) -> Result<(), DecodeError>
+fn takes_marked_counted<L: Ledger>(alloc: Global, steps: &mut Steps<L>) -> Result<(), DecodeError>
     ensures { OnOk result (steps.new ≡ steps.old + 3) }
 {
     let octets = [0x30, 0x80, 0x02, 0x01, 0x00, 0x00, 0x00];
