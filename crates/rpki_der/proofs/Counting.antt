@@ -52,7 +52,7 @@ some_lengths : (mode : Mode) (l : List ℕ) (n : ℕ) → IsLength mode l n → 
 some_lengths mode [] n p = absurd p
 some_lengths mode (a ∷ l) n p = omega arith
 
-some_identifier : (i : List ℕ) → IsIdentifier i → 1 ≤ length i
+pub some_identifier : (i : List ℕ) → IsIdentifier i → 1 ≤ length i
 some_identifier [] p = absurd p
 some_identifier (a ∷ i) p = omega arith
 
@@ -210,34 +210,34 @@ stops_part c d j fields next p b a e fits n = record {
   most = most_refused c d (left p) b a j fits n.most;
 }
 
--- ---- an optional field, for one look ahead
+-- ---- an optional field; without it one tick may have gone into a look at the identifier that stands there
 
-pub takes_optional : {X : Type 0} (c : ℕ) (tag : List ℕ) (field : Value → Option X) (p q : Position) (b m a : ℕ) (x : X) → m ≡ b + 1 → Next tag p true → CountedOne c field p q m a x → CountedFields c 1 (optional tag field) p q b a (Some x)
-takes_optional c tag field p q b m a x e n t =
-    let u = reading.takes_optional tag field p q x n (uncounted_one c field p q m a x t) in
+pub takes_optional : {X : Type 0} (c : ℕ) (tag : List ℕ) (field : Value → Option X) (p q : Position) (b a : ℕ) (x : X) → Next tag p true → CountedOne c field p q b a x → CountedFields c 1 (optional tag field) p q b a (Some x)
+takes_optional c tag field p q b a x n t =
+    let u = reading.takes_optional tag field p q x n (uncounted_one c field p q b a x t) in
     record {
-      reads = λ vs rest h. (t.value ▸ vs, holds_cons p.mode (top p.levels) p.here q.here t.value vs rest t.begins (rw (t.mode, t.levels) at h), reading.optional_some_reads tag field t.value vs x (n t.value q.here t.begins) t.reads, omega (arith, e, t.least));
+      reads = λ vs rest h. (t.value ▸ vs, holds_cons p.mode (top p.levels) p.here q.here t.value vs rest t.begins (rw (t.mode, t.levels) at h), reading.optional_some_reads tag field t.value vs x (n t.value q.here t.begins) t.reads, omega (arith, t.least));
       only = u.only;
       levels = t.levels;
       mode = t.mode;
       on = omega (arith, value_left p q t.value t.begins t.levels);
-      most = omega (arith, e, t.most);
+      most = omega (arith, t.most);
     }
 
-pub takes_optional_none : {X : Type 0} (c : ℕ) (tag : List ℕ) (field : Value → Option X) (p : Position) (b a : ℕ) → a ≡ b + 1 → Next tag p false → CountedFields c 1 (optional tag field) p p b a None
-takes_optional_none c tag field p b a e n =
+pub takes_optional_none : {X : Type 0} (c : ℕ) (tag : List ℕ) (field : Value → Option X) (p : Position) (b a : ℕ) → b ≤ a → a ≤ b + 1 → Next tag p false → CountedFields c 1 (optional tag field) p p b a None
+takes_optional_none c tag field p b a low high n =
     let u = reading.takes_optional_none tag field p n in
     record {
-      reads = λ vs rest h. (vs, h, reading.optional_none_reads tag field p n vs rest h, omega (arith, e));
+      reads = λ vs rest h. (vs, h, reading.optional_none_reads tag field p n vs rest h, omega (arith, low));
       only = u.only;
       levels = refl;
       mode = refl;
       on = omega arith;
-      most = omega (arith, e);
+      most = omega (arith, high);
     }
 
-pub refuses_optional : {X : Type 0} (c : ℕ) (tag : List ℕ) (field : Value → Option X) (p : Position) (b m a : ℕ) (e : DecodeError) → m ≡ b + 1 → Next tag p true → (AtEnd p → ⊥) → CountedRefuses c field p m a e → CountedRefusesFields c 1 (optional tag field) p b a e
-refuses_optional c tag field p b m a e t n more none = record { refuses = reading.refuses_optional tag field p e n more none.refuses; most = omega (arith, t, none.most) }
+pub refuses_optional : {X : Type 0} (c : ℕ) (tag : List ℕ) (field : Value → Option X) (p : Position) (b a : ℕ) (e : DecodeError) → Next tag p true → (AtEnd p → ⊥) → CountedRefuses c field p b a e → CountedRefusesFields c 1 (optional tag field) p b a e
+refuses_optional c tag field p b a e n more none = record { refuses = reading.refuses_optional tag field p e n more none.refuses; most = omega (arith, none.most) }
 
 -- ---- the end of the fields
 

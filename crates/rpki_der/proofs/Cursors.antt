@@ -1,22 +1,20 @@
 -- What one call of a cursor says of the values that stand there.
-use Rattle.std.proofs.Common.{◌≡◌, ℕ, ◌-◌, Bool, true, false, Option, None, Some, List, [], ◌∷◌, ◌++◌, length, take, refl, sym, ap, subst, ◌∙◌, arith, length-append}
+use Rattle.std.proofs.Common.{◌≡◌, ℕ, ◌-◌, true, false, Option, None, Some, List, [], ◌∷◌, ◌++◌, length, take, refl, sym, ap, subst, ◌∙◌, arith, length-append}
 use Rattle.std.proofs.lemmas.List.{take_at}
 use Rattle.rpki_der.specs.declared.header.Length.{Length}
 use Rattle.rpki_der.specs.declared.header.Length.TheVariants as length_is
 use Rattle.rpki_der.specs.declared.mode.Mode.{Mode}
-use Rattle.rpki_der.specs.declared.mode.Mode.TheVariants.{Ber, Der}
-use Rattle.rpki_der.specs.Value.{Definite, Indefinite, spellings, Value, Primitive, Constructed, spelling, Begins}
+use Rattle.rpki_der.specs.Value.{Value, Primitive, Constructed, spelling, Begins}
 use Rattle.rpki_der.specs.Level.{Level, Sized, Marked, Ends, Opens}
-use Rattle.rpki_der.specs.Header.{HeaderFirst, NoHeader}
+use Rattle.rpki_der.specs.Header.{HeaderFirst}
 use Rattle.rpki_der.specs.Part.{NoValue, NoPart, level_of}
-use Rattle.rpki_der.specs.Position.{Position, top, AtEnd}
+use Rattle.rpki_der.specs.Position.{Position, top}
 use Rattle.rpki_der.specs.Identifier.{has_tag}
-use Rattle.rpki_der.specs.Grammar.{identifier_of, primitive, any}
+use Rattle.rpki_der.specs.Grammar.{primitive, any}
 use Rattle.rpki_der.specs.Takes.{TakesOne, NoneStands, NoneOpens}
 use Rattle.rpki_der.specs.Walk.{levels_of}
-use Rattle.rpki_der.proofs.Uniqueness.{IsEnd, not_zero, three_parts, four_parts}
 use Rattle.rpki_der.proofs.Parts.{at_most_one, same_header}
-use Rattle.rpki_der.proofs.Walks.{opens_forth, levels_of-last, ends_is_end}
+use Rattle.rpki_der.proofs.Walks.{opens_forth, levels_of-last}
 use Rattle.std.specs.Prelude.{slice_get, IfNone}
 use Rattle.std.proofs.Common.{Bor}
 use Rattle.rpki_der.specs.declared.part.Open.{Open}
@@ -99,34 +97,3 @@ top_last opened open' e = ap top (levels_of-last opened open' e)
 pub none_ends : (opened : List Open) (open' : Open) (here : List ℕ) (r : Option (Bor (List ℕ))) → slice_get opened (length opened - 1) ≡ Some open' → IfNone r ((rest : List ℕ) → Ends (level_of open') here rest → ⊥) → IfNone r ((rest : List ℕ) × Ends (top (levels_of opened)) here rest → ⊥)
 none_ends opened open' here None e n = λ p. n p.0 (subst (λ (l : Level). Ends l here p.0) (top_last opened open' e) p.1)
 none_ends opened open' here (Some r) e n = tt
-
--- ---- `next_is`
-
-begins_first : (mode : Mode) (here : List ℕ) (v : Value) (rest : List ℕ) → Begins mode here v rest → First mode here (identifier_of v)
-begins_first mode here (Primitive i l c) rest b = record {
-  length' = length_is.Definite (length c);
-  rest = c ++ rest;
-  header = record { lengths = l; is_identifier = b.lawful.0; says = b.lawful.2; parts = b.parts ∙ three_parts i l c rest };
-}
-begins_first mode here (Constructed i (Definite l) vs) rest b = record {
-  length' = length_is.Definite (length (spellings vs));
-  rest = spellings vs ++ rest;
-  header = record { lengths = l; is_identifier = b.lawful.0; says = b.lawful.2; parts = b.parts ∙ four_parts i l (spellings vs) [] rest };
-}
-begins_first Ber here (Constructed i Indefinite vs) rest b = record {
-  length' = length_is.Indefinite;
-  rest = spellings vs ++ (0 ∷ 0 ∷ rest);
-  header = record { lengths = 128 ∷ []; is_identifier = b.lawful.0; says = (refl, refl); parts = b.parts ∙ four_parts i (128 ∷ []) (spellings vs) (0 ∷ 0 ∷ []) rest };
-}
-begins_first Der here (Constructed i Indefinite vs) rest b = absurd b.lawful.2
-
-pub header_tagged : (p : Position) (tag : List ℕ) (i : List ℕ) (length' : Length) (rest : List ℕ) (found : Bool) → HeaderFirst p.mode p.here i length' rest → has_tag tag i ≡ found → (v : Value) (rest' : List ℕ) → Begins p.mode p.here v rest' → has_tag tag (identifier_of v) ≡ found
-header_tagged p tag i length' rest found h t v rest' b =
-    let f = begins_first p.mode p.here v rest' b in
-    ap (has_tag tag) (sym (same_header p.mode p.here i (identifier_of v) length' f.length' rest f.rest h f.header).identifier) ∙ t
-
-pub no_header_value : (p : Position) (tag : List ℕ) → NoHeader p.mode p.here → (v : Value) (rest : List ℕ) → Begins p.mode p.here v rest → has_tag tag (identifier_of v) ≡ false
-no_header_value p tag n v rest b = let f = begins_first p.mode p.here v rest b in absurd (n (identifier_of v) f.length' f.rest f.header)
-
-pub header_no_end : (p : Position) (i : List ℕ) (length' : Length) (rest : List ℕ) → HeaderFirst p.mode p.here i length' rest → AtEnd p → ⊥
-header_no_end p i length' rest h a = not_zero i (h.lengths ++ rest) h.is_identifier (subst IsEnd h.parts (ends_is_end (top p.levels) p.here a.0 a.1))

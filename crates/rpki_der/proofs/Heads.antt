@@ -2,7 +2,7 @@
 use Rattle.std.proofs.Common.{◌≡◌, ◌≢◌, ℕ, zero, suc, ◌+◌, ◌-◌, ◌%◌, ◌<◌, ◌≤◌, ◌⊎◌, Bool, true, false, cond, eqb, ltb, ◌||◌, Option, None, Some, List, [], ◌∷◌, ◌++◌, length, take, drop, refl, sym, ap, subst, ◌∙◌, arith, inl, inr, length-append}
 use Rattle.std.specs.Prelude.{IfNone}
 use Rattle.std.specs.Option.{option_map}
-use Rattle.std.proofs.lemmas.List.{take_at, drop_at, take-append-drop, length-take}
+use Rattle.std.proofs.lemmas.List.{take_at, take-append-drop, length-take}
 use Rattle.std.proofs.lemmas.Bool.{eqb-true, eqb-false, eq-eqb, ne_eqb, ltb-true, ltb-false, lt-ltb, le-ltb, or_parts, or_from}
 use Rattle.std.proofs.lemmas.Option.{some_pair_parts}
 use Rattle.rpki_der.specs.declared.header.Length.{Length}
@@ -11,7 +11,8 @@ use Rattle.rpki_der.specs.declared.mode.Mode.{Mode}
 use Rattle.rpki_der.specs.declared.mode.Mode.TheVariants.{Ber, Der}
 use Rattle.rpki_der.specs.Identifier.{IsFurther, IsIdentifier, further_size, identifier_size}
 use Rattle.rpki_der.specs.Lengths.{number, IsShortest, IsLength, is_overlong, long_length, indefinite_length, length_at}
-use Rattle.rpki_der.specs.Header.{Says, HeaderFirst, NoHeader}
+use Rattle.rpki_der.specs.Header.{Says, IdentifierFirst, NoIdentifier, HeaderFirst, NoHeader}
+use Rattle.rpki_der.proofs.Uniqueness.{same_identifier}
 
 pub chosen : {A : Type 0} (b : Bool) (x y z : A) → cond b x y ≡ z → ((b ≡ true) × (x ≡ z)) ⊎ ((b ≡ false) × (y ≡ z))
 chosen true x y z e = inl (refl, e)
@@ -146,26 +147,25 @@ pub length_spelled : (mode : Mode) (l rest : List ℕ) (length' : Length) → Sa
 length_spelled mode l rest (length_is.Definite n) p = definite_spelled mode l rest n p
 length_spelled mode l rest length_is.Indefinite p = rw (p.0, p.1) refl
 
-pub header_found : (mode : Mode) (octets identifier rest rest' : List ℕ) (size count : ℕ) (length' : Length) → Some size ≡ identifier_size octets → identifier ≡ take size octets → rest ≡ drop size octets → Some (length', count) ≡ length_at mode rest → rest' ≡ drop count rest → HeaderFirst mode octets identifier length' rest'
-header_found mode octets identifier rest rest' size count length' e i r l r' = record {
-  lengths = take count rest;
-  is_identifier = rw i (identifier_found octets size (sym e));
-  says = length_found mode rest length' count (sym l);
-  parts = rw (i, r', take-append-drop count rest, r, take-append-drop size octets) refl;
+pub first_found : (octets identifier rest : List ℕ) (size : ℕ) → Some size ≡ identifier_size octets → identifier ≡ take size octets → rest ≡ drop size octets → IdentifierFirst octets identifier rest
+first_found octets identifier rest size e i r = record { is_identifier = rw i (identifier_found octets size (sym e)); parts = rw (i, r, take-append-drop size octets) refl }
+
+pub no_identifier : (octets : List ℕ) → None ≡ identifier_size octets → NoIdentifier octets
+no_identifier octets e i rest h =
+    let t = e ∙ ap identifier_size h.parts ∙ identifier_spelled i rest h.is_identifier in absurd cc
+
+pub header_found : (mode : Mode) (identifier behind rest : List ℕ) (count : ℕ) (length' : Length) → IsIdentifier identifier → Some (length', count) ≡ length_at mode behind → rest ≡ drop count behind → HeaderFirst mode (identifier ++ behind) identifier length' rest
+header_found mode identifier behind rest count length' i l r = record {
+  lengths = take count behind;
+  is_identifier = i;
+  says = length_found mode behind length' count (sym l);
+  parts = rw (r, take-append-drop count behind) refl;
 }
 
-pub no_identifier : (mode : Mode) (octets : List ℕ) → None ≡ identifier_size octets → NoHeader mode octets
-no_identifier mode octets e i length' rest h =
-    let s = identifier_spelled i (h.lengths ++ rest) h.is_identifier in
-    let t = e ∙ ap identifier_size h.parts ∙ s in absurd cc
-
-pub no_length : (mode : Mode) (octets rest : List ℕ) (size : ℕ) → Some size ≡ identifier_size octets → rest ≡ drop size octets → None ≡ length_at mode rest → NoHeader mode octets
-no_length mode octets rest size e r l i length' rest' h =
-    let s = identifier_spelled i (h.lengths ++ rest') h.is_identifier in
-    let t : Some size ≡ Some (length i) = e ∙ ap identifier_size h.parts ∙ s in
-    let size-is : length i ≡ size = cc in
-    let d : rest ≡ h.lengths ++ rest' = r ∙ ap (drop size) h.parts ∙ drop_at i (h.lengths ++ rest') size size-is in
-    let u = l ∙ ap (length_at mode) d ∙ length_spelled mode h.lengths rest' length' h.says in absurd cc
+pub no_length : (mode : Mode) (identifier behind : List ℕ) → IsIdentifier identifier → None ≡ length_at mode behind → NoHeader mode (identifier ++ behind)
+no_length mode identifier behind p l i length' rest h =
+    let s = same_identifier identifier i behind (h.lengths ++ rest) p h.is_identifier h.parts in
+    let u = l ∙ ap (length_at mode) s.rest ∙ length_spelled mode h.lengths rest length' h.says in absurd cc
 
 pub if_none : {X : Type 0} (r : Option X) (P : Type 0) → P → IfNone r P
 if_none None P p = p

@@ -14,12 +14,12 @@ use Rattle.rpki_der.specs.Walk.{left_in}
 use Rattle.rpki_der.specs.Tags.{octet_string_tag}
 use Rattle.rpki_der.specs.OctetString.{joined, joined_all, octets_under}
 use Rattle.rpki_der.specs.Ticks.{TakesCounted}
-use Rattle.rpki_der.specs.declared.mode.Mode.{Mode}
-use Rattle.rpki_der.specs.declared.mode.Mode.TheVariants.{Ber, Der}
 use Rattle.rpki_der.specs.Segments.{JoinsUp, OneJoin, Segments, Segment, Joins}
 use Rattle.rpki_der.proofs.Reading.{value_opens}
 use Rattle.rpki_der.proofs.Parts.{at_most_one}
 use Rattle.rpki_der.proofs.Walks.{opens_forth, opens_back, holds_cons, holds_more, holds_end, end_holds, at_end, ends_no_value, smaller_into, smaller_over, smaller_end}
+use Rattle.rpki_der.specs.declared.mode.Mode.{Mode}
+use Rattle.rpki_der.specs.declared.mode.Mode.TheVariants.{Ber, Der}
 
 some_of : {X : Type 0} (x y : X) → Some x ≡ Some y → x ≡ y
 some_of x y e = cc

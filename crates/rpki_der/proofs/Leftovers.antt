@@ -4,8 +4,6 @@ use Rattle.std.specs.Prelude.{IsErrAnd, is_some, nat_lt, if◌then◌else◌, On
 use Rattle.rpki_common.specs.Chaining.{◌>>=◌}
 use Rattle.rpki_common.specs.Collecting.{collect, once}
 use Rattle.rpki_common.proofs.Collected.{bind_both, bind_under, bind_assoc, bind_none}
-use Rattle.rpki_der.specs.declared.error.DecodeError.{DecodeError}
-use Rattle.rpki_der.specs.declared.error.DecodeError.TheVariants.{Malformed, OutOfMemory}
 use Rattle.rpki_der.specs.Identifier.{has_tag}
 use Rattle.rpki_der.specs.Tags.{set, sequence}
 use Rattle.rpki_der.specs.Value.{Value, Primitive, Constructed, Values, End, ◌▸◌, spelling}
@@ -16,6 +14,8 @@ use Rattle.rpki_der.specs.Oid.{oid}
 use Rattle.rpki_der.specs.Takes.{Goes, GoesOut, RefusesToEnter, RefusesToLeave, Stops}
 use Rattle.rpki_der.specs.Ticks.{left, marks, CountedOne, CountedRefuses, CountedReads, CountedStops, TakesRestCounted, TakesCounted}
 use Rattle.rpki_der.proofs.Counting.{CountedContinues, reads_end, reads_first, reads_done, takes_within, refuses_within, refuses_inside, stops_first, stops_later, stops_done}
+use Rattle.rpki_der.specs.declared.error.DecodeError.{DecodeError}
+use Rattle.rpki_der.specs.declared.error.DecodeError.TheVariants.{Malformed, OutOfMemory}
 
 pub takes_rest_err : {X Y : Type 0} (c k : ℕ) (fields : Values → Option X) (view : Y → X) (old new : Position) (b a : ℕ) (error : DecodeError) (r : Result Y DecodeError) → IsErrAnd r (λ e. e ≡ error) → CountedStops c k fields old b a error → TakesRestCounted c k fields view old new b a r
 takes_rest_err c k f view old new b a error (Ok y) h n = absurd h

@@ -12,3 +12,5 @@ pub mod OnwardWalks
 pub mod ExactWalks
 pub mod Modes
 pub mod Leftovers
+pub mod Items
+pub mod Nulls

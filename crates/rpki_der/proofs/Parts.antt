@@ -7,7 +7,7 @@ use Rattle.rpki_der.specs.declared.mode.Mode.{Mode}
 use Rattle.rpki_der.specs.declared.mode.Mode.TheVariants.{Ber, Der}
 use Rattle.rpki_der.specs.Identifier.{is_constructed}
 use Rattle.rpki_der.specs.Lengths.{IsLength}
-use Rattle.rpki_der.specs.Header.{HeaderFirst, NoHeader}
+use Rattle.rpki_der.specs.Header.{NoIdentifier, HeaderFirst, NoHeader}
 use Rattle.rpki_der.specs.Value.{Definite, Indefinite, Value, Primitive, Constructed, End, spellings, Begins}
 use Rattle.rpki_der.specs.Level.{Level, Sized, Marked, Opens}
 use Rattle.rpki_der.specs.Part.{NoPart}
@@ -107,6 +107,9 @@ no_part mode here none = record {
 
 pub no_part_header : (mode : Mode) (here : List ℕ) → NoHeader mode here → NoPart mode here
 no_part_header mode here none = no_part mode here (λ v h. none h.identifier h.length' h.rest h.first)
+
+pub no_part_identifier : (mode : Mode) (here : List ℕ) → NoIdentifier here → NoPart mode here
+no_part_identifier mode here none = no_part mode here (λ v h. none h.identifier (h.first.lengths ++ h.rest) (record { is_identifier = h.first.is_identifier; parts = h.first.parts }))
 
 pub no_part_long : (mode : Mode) (here i : List ℕ) (n : ℕ) (rest : List ℕ) → HeaderFirst mode here i (length_is.Definite n) rest → length rest < n → NoPart mode here
 no_part_long mode here i n rest h lt = no_part mode here (λ v g.

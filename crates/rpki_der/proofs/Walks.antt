@@ -1,5 +1,5 @@
 -- Going through the levels of one value.
-use Rattle.std.proofs.Common.{◌≡◌, ℕ, ◌+◌, ◌-◌, ◌<◌, ◌≤◌, Some, List, [], ◌∷◌, ◌++◌, length, take, map, reverse, refl, sym, ap, subst, ◌∙◌, append_assoc, arith, length-append}
+use Rattle.std.proofs.Common.{◌≡◌, ℕ, ◌+◌, ◌-◌, ◌<◌, Some, List, [], ◌∷◌, ◌++◌, length, take, map, reverse, refl, sym, ap, subst, ◌∙◌, append_assoc, arith, length-append}
 use Rattle.std.specs.Prelude.{slice_get}
 use Rattle.std.proofs.lemmas.List.{reverse-append, map-append, take_more, take_all}
 use Rattle.std.proofs.lemmas.Option.{slice_get_within, get_or_from_slice_get}
@@ -169,24 +169,23 @@ pub first_of : (mode : Mode) (level : Level) (levels : List Level) (here : List 
 first_of mode level levels here final none (End, next, h, k) = absurd (none next (end_holds mode level here next h))
 first_of mode level levels here final none (v ▸ vs, next, h, k) = let m = holds_more mode level here v vs next h in (v, m.here', m.begins, (vs, next, m.holds, k))
 
-pub ended : (mode : Mode) (octets : List ℕ) (level : Level) (levels : List Level) (here rest : List ℕ) → Descends mode octets [] here (level ∷ levels) → Ends level here rest → Descends mode octets [] rest levels
-ended mode octets level levels here rest d e = record {
-  forth = λ final p. let k = d.forth final p in subst (λ (r : List ℕ). Completes mode r levels final) (sym (at_end mode level here rest k.0 k.1 e k.2)) k.3;
-  back = λ final k. d.back final (End, rest, holds_end mode level here rest e, k);
-}
+-- the levels that are completed from octets on are those that are completed from here on
+abbrev pub LeadsTo : Mode → List ℕ → List Level → List ℕ → List Level → Type 0
+LeadsTo mode octets base here levels = (final : List ℕ) → Completes mode octets base final → Completes mode here levels final
 
-pub went_on : (mode : Mode) (octets : List ℕ) (level : Level) (levels : List Level) (here new : List ℕ) (news : List Level) → Descends mode octets [] here (level ∷ levels) → ((rest : List ℕ) → Ends level here rest → ⊥) → Descends mode here (level ∷ levels) new news → Descends mode octets [] new news
-went_on mode octets level levels here new news d none g = record {
-  forth = λ final p. g.forth final (first_of mode level levels here final none (d.forth final p));
-  back = λ final k. let o = g.back final k in let m = o.3 in d.back final (o.0 ▸ m.0, m.1, holds_cons mode level here o.1 o.0 m.0 m.1 o.2 m.2, m.3);
-}
+pub ended : (mode : Mode) (octets : List ℕ) (base : List Level) (level : Level) (levels : List Level) (here rest : List ℕ) → LeadsTo mode octets base here (level ∷ levels) → Ends level here rest → LeadsTo mode octets base rest levels
+ended mode octets base level levels here rest d e = λ final p.
+    let k = d final p in subst (λ (r : List ℕ). Completes mode r levels final) (sym (at_end mode level here rest k.0 k.1 e k.2)) k.3
 
-pub refused : (mode : Mode) (octets : List ℕ) (level : Level) (levels : List Level) (here : List ℕ) → Descends mode octets [] here (level ∷ levels) → ((rest : List ℕ) → Ends level here rest → ⊥) → NoValue mode here → NoValue mode octets
-refused mode octets level levels here d none empty v rest b =
-    let o = first_of mode level levels here rest none (d.forth rest (v, rest, b, refl)) in empty o.0 o.1 o.2
+pub went_on : (mode : Mode) (octets : List ℕ) (base : List Level) (level : Level) (levels : List Level) (here new : List ℕ) (news : List Level) → LeadsTo mode octets base here (level ∷ levels) → ((rest : List ℕ) → Ends level here rest → ⊥) → Descends mode here (level ∷ levels) new news → LeadsTo mode octets base new news
+went_on mode octets base level levels here new news d none g = λ final p. g.forth final (first_of mode level levels here final none (d final p))
 
-pub finished : (mode : Mode) (octets here : List ℕ) → Descends mode octets [] here [] → (v : Value) × Begins mode octets v here
-finished mode octets here d = let o = d.back here refl in (o.0, subst (Begins mode octets o.0) o.3 o.2)
+pub refused : (mode : Mode) (octets : List ℕ) (base : List Level) (level : Level) (levels : List Level) (here : List ℕ) → LeadsTo mode octets base here (level ∷ levels) → ((rest : List ℕ) → Ends level here rest → ⊥) → NoValue mode here → (final : List ℕ) → Completes mode octets base final → ⊥
+refused mode octets base level levels here d none empty final p = let o = first_of mode level levels here final none (d final p) in empty o.0 o.1 o.2
+
+-- where the levels behind the first header can't be completed, no value stands
+pub none_first : (mode : Mode) (octets here : List ℕ) (levels : List Level) → Descends mode octets [] here levels → ((final : List ℕ) → Completes mode here levels final → ⊥) → NoValue mode octets
+none_first mode octets here levels d none v rest b = none rest (d.forth rest (v, rest, b, refl))
 
 pub smaller_end : (level : Level) (levels : List Level) (here rest : List ℕ) → Ends level here rest → length rest + left_in levels < length here + left_in (level ∷ levels)
 smaller_end (Sized after) levels here rest e = let a = ap length e.0 in let b = ap length e.1 in omega arith
@@ -197,22 +196,18 @@ smaller_end Marked levels here rest e = let a = ap length e in omega arith
 abbrev pub front : List Open → List Open
 front opened = take (length opened - 1) opened
 
-pub ended_last : (mode : Mode) (octets : List ℕ) (opened : List Open) (open' : Open) (here rest : List ℕ) → slice_get opened (length opened - 1) ≡ Some open' → Descends mode octets [] here (levels_of opened) → Ends (level_of open') here rest → Descends mode octets [] rest (levels_of (front opened))
-ended_last mode octets opened open' here rest e d h =
-    ended mode octets (level_of open') (levels_of (front opened)) here rest (subst (λ (ls : List Level). Descends mode octets [] here ls) (levels_of-last opened open' e) d) h
+pub ended_last : (mode : Mode) (octets : List ℕ) (base : List Level) (opened : List Open) (open' : Open) (here rest : List ℕ) → slice_get opened (length opened - 1) ≡ Some open' → LeadsTo mode octets base here (levels_of opened) → Ends (level_of open') here rest → LeadsTo mode octets base rest (levels_of (front opened))
+ended_last mode octets base opened open' here rest e d h =
+    ended mode octets base (level_of open') (levels_of (front opened)) here rest (subst (λ (ls : List Level). LeadsTo mode octets base here ls) (levels_of-last opened open' e) d) h
 
 pub smaller_end_last : (opened : List Open) (open' : Open) (here rest : List ℕ) → slice_get opened (length opened - 1) ≡ Some open' → Ends (level_of open') here rest → length rest + left_in (levels_of (front opened)) < length here + left_in (levels_of opened)
 smaller_end_last opened open' here rest e h = rw (levels_of-last opened open' e) (smaller_end (level_of open') (levels_of (front opened)) here rest h)
 
-pub went_on_last : (mode : Mode) (octets : List ℕ) (opened : List Open) (open' : Open) (here new : List ℕ) (news : List Level) → slice_get opened (length opened - 1) ≡ Some open' → Descends mode octets [] here (levels_of opened) → ((rest : List ℕ) → Ends (level_of open') here rest → ⊥) → Descends mode here (levels_of opened) new news → Descends mode octets [] new news
-went_on_last mode octets opened open' here new news e d none g =
+pub went_on_last : (mode : Mode) (octets : List ℕ) (base : List Level) (opened : List Open) (open' : Open) (here new : List ℕ) (news : List Level) → slice_get opened (length opened - 1) ≡ Some open' → LeadsTo mode octets base here (levels_of opened) → ((rest : List ℕ) → Ends (level_of open') here rest → ⊥) → Descends mode here (levels_of opened) new news → LeadsTo mode octets base new news
+went_on_last mode octets base opened open' here new news e d none g =
     let is = levels_of-last opened open' e in
-    went_on mode octets (level_of open') (levels_of (front opened)) here new news (subst (λ (ls : List Level). Descends mode octets [] here ls) is d) none (subst (λ (ls : List Level). Descends mode here ls new news) is g)
+    went_on mode octets base (level_of open') (levels_of (front opened)) here new news (subst (λ (ls : List Level). LeadsTo mode octets base here ls) is d) none (subst (λ (ls : List Level). Descends mode here ls new news) is g)
 
-pub refused_last : (mode : Mode) (octets : List ℕ) (opened : List Open) (open' : Open) (here : List ℕ) → slice_get opened (length opened - 1) ≡ Some open' → Descends mode octets [] here (levels_of opened) → ((rest : List ℕ) → Ends (level_of open') here rest → ⊥) → NoValue mode here → NoValue mode octets
-refused_last mode octets opened open' here e d none empty =
-    refused mode octets (level_of open') (levels_of (front opened)) here (subst (λ (ls : List Level). Descends mode octets [] here ls) (levels_of-last opened open' e) d) none empty
-
-pub finished_last : (mode : Mode) (octets here : List ℕ) (opened : List Open) → length opened ≤ 0 → Descends mode octets [] here (levels_of opened) → (v : Value) × Begins mode octets v here
-finished_last mode octets here [] le d = finished mode octets here d
-finished_last mode octets here (open' ∷ opened) le d = absurd (omega arith)
+pub refused_last : (mode : Mode) (octets : List ℕ) (base : List Level) (opened : List Open) (open' : Open) (here : List ℕ) → slice_get opened (length opened - 1) ≡ Some open' → LeadsTo mode octets base here (levels_of opened) → ((rest : List ℕ) → Ends (level_of open') here rest → ⊥) → NoValue mode here → (final : List ℕ) → Completes mode octets base final → ⊥
+refused_last mode octets base opened open' here e d none empty =
+    refused mode octets base (level_of open') (levels_of (front opened)) here (subst (λ (ls : List Level). LeadsTo mode octets base here ls) (levels_of-last opened open' e) d) none empty

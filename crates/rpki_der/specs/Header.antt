@@ -12,6 +12,14 @@ abbrev pub Says : Mode → List ℕ → Length → Type 0
 Says mode lengths (length_is.Definite n) = IsLength mode lengths n
 Says mode lengths length_is.Indefinite = (mode ≡ Ber) × (lengths ≡ 128 ∷ [])
 
+-- an identifier stands at the beginning of the octets, and rest behind it
+pub record IdentifierFirst (octets identifier rest : List ℕ) : Type 0 where
+  pub is_identifier : IsIdentifier identifier
+  pub parts : octets ≡ identifier ++ rest
+
+abbrev pub NoIdentifier : List ℕ → Type 0
+NoIdentifier octets = (identifier rest : List ℕ) → IdentifierFirst octets identifier rest → ⊥
+
 pub record HeaderFirst (mode : Mode) (octets identifier : List ℕ) (length : Length) (rest : List ℕ) : Type 0 where
   pub lengths : List ℕ
   pub is_identifier : IsIdentifier identifier

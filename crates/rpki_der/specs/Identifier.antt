@@ -1,5 +1,5 @@
 -- Identifier octets and tags (X.690, 8.1.2).
-use Rattle.std.specs.Prelude.{◌≡◌, ◌≢◌, ℕ, zero, suc, ◌+◌, ◌-◌, ◌*◌, ◌/◌, ◌%◌, ◌<◌, ◌≤◌, Bool, false, ◌==◌, ◌||◌, nat_lt, bytes_eq, if◌then◌else◌, Option, None, Some, List, [], ◌∷◌, length}
+use Rattle.std.specs.Prelude.{◌≡◌, ◌≢◌, ℕ, zero, suc, ◌-◌, ◌*◌, ◌/◌, ◌%◌, ◌<◌, ◌≤◌, Bool, false, ◌==◌, ◌||◌, nat_lt, bytes_eq, if◌then◌else◌, Option, None, Some, List, [], ◌∷◌, length}
 use Rattle.std.specs.Option.{option_map}
 
 -- bit 8 is set in each octet but the last

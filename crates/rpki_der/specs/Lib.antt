@@ -20,3 +20,4 @@ pub mod Reader
 pub mod Ticks
 pub mod CountedWalk
 pub mod ExactWalk
+pub mod Item

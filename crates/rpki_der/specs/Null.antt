@@ -1,13 +1,24 @@
--- NULL (X.690, 8.8).
-use Rattle.std.specs.Prelude.{Bool, true, false, Option, None, Some, []}
+-- NULL: a primitive value with no contents octets (X.690, 8.8).
+use Rattle.std.specs.Prelude.{ℕ, Bool, true, false, if◌then◌else◌, Option, None, Some, List, [], ◌∷◌}
+use Rattle.rpki_der.specs.Identifier.{has_tag}
 use Rattle.rpki_der.specs.Tags.{null_tag}
-use Rattle.rpki_der.specs.Value.{Value}
-use Rattle.rpki_der.specs.Grammar.{primitive, so, exactly}
+use Rattle.rpki_der.specs.Value.{Value, Primitive, Constructed}
+use Rattle.rpki_der.specs.Item.{ItemFields}
 
 unfoldable pub null : Value → Option (Unit {0})
-null = so (primitive null_tag) (exactly [])
+null (Primitive identifier lengths []) = if has_tag null_tag identifier then Some tt else None
+null (Primitive identifier lengths (a ∷ more)) = None
+null (Constructed identifier form inner) = None
 
--- whether an optional NULL is there
+-- the same of a value that has the tag, by what it shows
+abbrev pub no_octets : List ℕ → Option (Unit {0})
+no_octets [] = Some tt
+no_octets (a ∷ more) = None
+
+abbrev pub null_shown : ItemFields → Option (Unit {0})
+null_shown i = if i.constructed then None else no_octets i.content
+
+-- whether it stands there
 abbrev pub present : Bool → Option (Unit {0})
 present true = Some tt
 present false = None

@@ -96,7 +96,6 @@ RefusesOctets grammar mode octets OutOfMemory = ⊤
 abbrev pub Decodes : {X Y : Type 0} → (Value → Option X) → (Y → X) → Mode → List ℕ → Result Y DecodeError → Type 0
 Decodes grammar view mode octets result = MatchResult result (λ y. BeginsAs grammar mode octets (view y)) (RefusesOctets grammar mode octets)
 
-
 -- ---- what is left of a level, up to its end
 
 -- What is left of the level at p, fields reads as y, and q is behind the level.

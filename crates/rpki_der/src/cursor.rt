@@ -1,16 +1,14 @@
 //! A reader over borrowed octets.
 
-ghost use Rattle.std.specs.Prelude.{◌≡◌, ◌≢◌, false, ◌<◌, ◌≤◌, ◌+◌, ◌↔◌, ℕ, List, [], ◌∷◌, length, IsTrue, IfSome, IfNone, OnOk, OnErr, Err};
+ghost use Rattle.std.specs.Prelude.{◌≡◌, ◌≢◌, ◌<◌, ◌≤◌, ◌+◌, ◌↔◌, [], ◌∷◌, length, IsTrue, IfSome, IfNone, OnOk, OnErr};
 ghost use Rattle.rpki_der.specs.Value.{Value, Begins};
 ghost use Rattle.rpki_der.specs.Level.{Ends};
 ghost use Rattle.rpki_der.specs.Position.{Position, top, AtEnd};
 ghost use Rattle.rpki_der.specs.Takes.{Takes, Enters, GoesOut};
-ghost use Rattle.rpki_der.specs.Grammar.{primitive, any, identifier_of};
-ghost use Rattle.rpki_der.specs.Identifier.{has_tag};
+ghost use Rattle.rpki_der.specs.Grammar.{primitive, any};
 ghost use Rattle.rpki_der.specs.Ticks.{TakesCounted, counts, marks};
 
 use crate::error::DecodeError;
-use crate::header::take_header;
 use crate::mode::Mode;
 use crate::part::{Open, Part, take_part};
 use crate::steps::Steps;
@@ -23,9 +21,9 @@ use std::sync::ledger::{Blank, Ledger};
 /// A place in the values that octets spell.
 #[derive(Drop)]
 pub struct Cursor<'a> {
-    alloc: Global,
-    mode: Mode,
-    here: &'a [u8],
+    pub(crate) alloc: Global,
+    pub(crate) mode: Mode,
+    pub(crate) here: &'a [u8],
     opened: Vec<Open<'a>>,
 }
 
@@ -185,39 +183,6 @@ impl<'a> Cursor<'a> {
         ensures { IsTrue result ↔ AtEnd self.now }
     {
         self.level_end().is_some()
-    }
-
-    /// Whether a value with this tag stands next, if any does. It ticks once.
-    #[tactic(auto, using(crate::proofs::Cursors::no_header_value, crate::proofs::Cursors::header_no_end))]
-    pub fn next_is_counted<L: Ledger>(&self, tag: Tag, steps: &mut Steps<L>) -> bool
-        ensures value { (v : Value) (rest : List ℕ) → Begins self.now.mode self.now.here v rest → has_tag tag (identifier_of v) ≡ result }
-        ensures end { AtEnd self.now → result ≡ false }
-        ensures ticks { steps.new ≡ steps.old + 1 }
-    {
-        steps.tick();
-        match take_header(self.mode, self.here) {
-            Some(header) => tag_is(header.identifier, tag),
-            None => false,
-        }
-    }
-
-    fn next_is_within<L: Ledger>(&self, tag: Tag, blank: Blank) -> bool
-        requires name { blank.name ≡ L.name }
-        requires parts { blank.parts ≡ L.parts }
-        requires some { 0 < blank.parts }
-        ensures value { (v : Value) (rest : List ℕ) → Begins self.now.mode self.now.here v rest → has_tag tag (identifier_of v) ≡ result }
-        ensures end { AtEnd self.now → result ≡ false }
-    {
-        let mut steps = Steps::<L>::new(blank);
-        self.next_is_counted(tag, &mut steps)
-    }
-
-    /// Whether a value with this tag stands next, if any does.
-    pub fn next_is(&self, tag: Tag) -> bool
-        ensures value { (v : Value) (rest : List ℕ) → Begins self.now.mode self.now.here v rest → has_tag tag (identifier_of v) ≡ result }
-        ensures end { AtEnd self.now → result ≡ false }
-    {
-        self.next_is_within::<Brand>(tag, Blank::new(1))
     }
 
     /// The contents of the primitive value with this tag that stands next. It ticks once.

@@ -1,9 +1,9 @@
 //! Identifier octets and length octets.
 
-ghost use Rattle.std.specs.Prelude.{◌≡◌, ◌+◌, ◌≤◌, length, IfSome, IfNone};
-ghost use Rattle.rpki_der.specs.Identifier.{is_constructed};
+ghost use Rattle.std.specs.Prelude.{◌≡◌, ◌+◌, ◌≤◌, ◌++◌, length, IfSome, IfNone};
+ghost use Rattle.rpki_der.specs.Identifier.{IsIdentifier, is_constructed};
 ghost use Rattle.rpki_der.specs.Lengths.{number, is_overlong, long_length, length_at};
-ghost use Rattle.rpki_der.specs.Header.{HeaderFirst, NoHeader};
+ghost use Rattle.rpki_der.specs.Header.{IdentifierFirst, NoIdentifier, HeaderFirst, NoHeader};
 
 use crate::mode::Mode;
 use crate::tag::{has_bit_6, identifier_len};
@@ -81,6 +81,16 @@ fn length_of(mode: Mode, octets: &[u8]) -> Option<(Length, usize)>
     long_len(mode, first - 0x80, more)
 }
 
+/// The identifier at the beginning, and what stands behind it.
+#[tactic(auto, using(crate::proofs::Heads::no_identifier))]
+pub(crate) fn take_identifier<'a>(octets: &'a [u8]) -> Option<(&'a [u8], &'a [u8])>
+    ensures found { IfSome result (λ r. IdentifierFirst octets.now r.0.now r.1.now) }
+    ensures none { IfNone result (NoIdentifier octets.now) }
+{
+    let size = identifier_len(octets)?;
+    Some(octets.split_at(size))
+}
+
 /// The octets in front of a value's contents, and what stands behind them.
 #[derive(Clone, Copy)]
 pub(crate) struct Header<'a> {
@@ -90,17 +100,20 @@ pub(crate) struct Header<'a> {
     pub(crate) rest: &'a [u8],
 }
 
-/// The header at the beginning.
-#[tactic(auto, using(crate::proofs::Heads::no_identifier, crate::proofs::Heads::no_length))]
-pub(crate) fn take_header<'a>(mode: Mode, octets: &'a [u8]) -> Option<Header<'a>>
-    ensures found { IfSome result (λ h. HeaderFirst mode octets.now h.identifier.now h.length h.rest.now) }
+/// The header that begins with this identifier, behind which these octets stand.
+#[tactic(auto, using(crate::proofs::Heads::no_length))]
+pub(crate) fn take_header<'a>(
+    mode: Mode,
+    identifier: &'a [u8],
+    behind: &'a [u8],
+) -> Option<Header<'a>>
+    requires identifier { IsIdentifier identifier.now }
+    ensures found { IfSome result (λ h. HeaderFirst mode (identifier.now ++ behind.now) h.identifier.now h.length h.rest.now) }
     ensures form { IfSome result (λ h. h.constructed ≡ is_constructed h.identifier.now) }
-    ensures none { IfNone result (NoHeader mode octets.now) }
+    ensures none { IfNone result (NoHeader mode (identifier.now ++ behind.now)) }
 {
-    let size = identifier_len(octets)?;
-    let (identifier, rest) = octets.split_at(size);
-    let (length, count) = length_of(mode, rest)?;
-    let (_lengths, rest) = rest.split_at(count);
+    let (length, count) = length_of(mode, behind)?;
+    let (_lengths, rest) = behind.split_at(count);
     let constructed = has_bit_6(identifier);
     Some(Header {
         identifier,

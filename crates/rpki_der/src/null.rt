@@ -2,40 +2,61 @@
 
 ghost use Rattle.std.specs.Prelude.{◌≡◌, ◌<◌};
 ghost use Rattle.rpki_der.specs.Grammar.{optional};
+ghost use Rattle.rpki_der.specs.Takes.{TakesPart};
 ghost use Rattle.rpki_der.specs.Tags.{null_tag};
-ghost use Rattle.rpki_der.specs.Ticks.{TakesCounted, TakesPartCounted};
-ghost use Rattle.rpki_der.specs.Null.{null, present};
+ghost use Rattle.rpki_der.specs.Null.{null, null_shown, present};
+ghost use Rattle.rpki_der.specs.Ticks.{TakesPartCounted};
 
 use crate::cursor::Cursor;
 use crate::error::DecodeError;
-use crate::oid::is_exactly;
+use crate::item::Item;
 use crate::steps::Steps;
 use crate::tag::Tag;
-use std::sync::ledger::Ledger;
+use std::marker::Brand;
+use std::sync::ledger::{Blank, Ledger};
 
-fn take_null_counted<L: Ledger>(
-    cursor: &mut Cursor<'_>,
-    steps: &mut Steps<L>,
-) -> Result<(), DecodeError>
-    ensures { TakesCounted 1 null (λ x. x) cursor.old cursor.new steps.old steps.new result }
+// Whether a value with the tag of NULL is NULL.
+fn is_null(item: &Item<'_>) -> bool
+    ensures { present result ≡ null_shown item.now }
 {
-    let octets = cursor.take_primitive_counted(Tag::NULL, steps)?;
-    match is_exactly(octets, &[]) {
-        Some(()) => Ok(()),
-        None => Err(DecodeError::Malformed),
-    }
+    !item.constructed && item.content.is_empty()
 }
 
-/// Passes a NULL, if one stands next.
+/// Whether NULL stands next, which is then passed. A value with its tag that isn't NULL is malformed.
 pub fn take_opt_null_counted<L: Ledger>(
     cursor: &mut Cursor<'_>,
     steps: &mut Steps<L>,
 ) -> Result<bool, DecodeError>
     ensures { TakesPartCounted 1 1 (optional null_tag null) present cursor.old cursor.new steps.old steps.new result }
 {
-    if !cursor.next_is_counted(Tag::NULL, steps) {
-        return Ok(false);
+    match cursor.take_opt_if_counted(Tag::NULL, steps)? {
+        None => Ok(false),
+        Some(item) => {
+            if is_null(&item) {
+                Ok(true)
+            } else {
+                Err(DecodeError::Malformed)
+            }
+        }
     }
-    take_null_counted(cursor, steps)?;
-    Ok(true)
+}
+
+fn take_opt_null_within<L: Ledger>(
+    cursor: &mut Cursor<'_>,
+    blank: Blank,
+) -> Result<bool, DecodeError>
+    requires name { blank.name ≡ L.name }
+    requires parts { blank.parts ≡ L.parts }
+    requires some { 0 < blank.parts }
+    ensures { TakesPart (optional null_tag null) present cursor.old cursor.new result }
+{
+    let mut steps = Steps::<L>::new(blank);
+    take_opt_null_counted(cursor, &mut steps)
+}
+
+/// Whether NULL stands next, which is then passed. A value with its tag that isn't NULL is malformed.
+pub fn take_opt_null(cursor: &mut Cursor<'_>) -> Result<bool, DecodeError>
+    ensures { TakesPart (optional null_tag null) present cursor.old cursor.new result }
+{
+    take_opt_null_within::<Brand>(cursor, Blank::new(1))
 }

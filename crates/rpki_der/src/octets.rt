@@ -112,11 +112,7 @@ fn take_octets_within<L: Ledger>(
 ///
 /// In BER it may be one primitive value or segments at any depth, whose octets are joined in their order; a segment
 /// inside has the tag of OCTET STRING. In DER it is one primitive value.
-pub fn take_octets(
-    alloc: Global,
-    cursor: &mut Cursor<'_>,
-    tag: Tag,
-) -> Result<Vec<u8>, DecodeError>
+pub fn take_octets(alloc: Global, cursor: &mut Cursor<'_>, tag: Tag) -> Result<Vec<u8>, DecodeError>
     ensures { Takes (octets_under tag cursor.old.mode) (λ x. x.items) cursor.old cursor.new result }
 {
     take_octets_within::<Brand>(alloc, cursor, tag, Blank::new(1))

@@ -121,14 +121,22 @@ impl Tag {
         if identifier_len(octets)? != octets.len() {
             return None;
         }
-        let (octets, len) = match octets {
+        Some(Tag::of(octets))
+    }
+
+    /// The tag of an identifier.
+    pub(crate) fn of(identifier: &[u8]) -> Tag
+        requires { IsIdentifier identifier.now }
+        ensures { result ≡ tag_of identifier.now }
+    {
+        let (octets, len) = match identifier {
             [a] => ([clear_bit_6(*a), 0, 0, 0], 1),
             [a, b] => ([clear_bit_6(*a), *b, 0, 0], 2),
             [a, b, c] => ([clear_bit_6(*a), *b, *c, 0], 3),
             [a, b, c, d] => ([clear_bit_6(*a), *b, *c, *d], 4),
-            _ => return None,
+            _ => unreachable!(),
         };
-        Some(Tag { octets, len })
+        Tag { octets, len }
     }
 
     /// The octets of the identifier with bit 6 of the first cleared.

@@ -1,1 +1,106 @@
+ghost use Rattle.std.specs.Prelude.{◌≡◌, ◌+◌, ◌<◌, OnOk};
+
 use super::*;
+use std::alloc::Global;
+use std::marker::Brand;
+use std::sync::ledger::{Blank, Ledger};
+use std::test::Fail;
+
+// What an item shows, as the octets of its tag, its form, its contents and its octets.
+fn shows(item: &Item<'_>, tag: &[u8], constructed: bool, content: &[u8], slice: &[u8]) -> bool {
+    item.tag.as_slice() == tag
+        && item.constructed == constructed
+        && item.content == content
+        && item.slice == slice
+}
+
+#[test]
+fn items_show_what_stands_there(rt: HostRuntime) -> Result<(), Fail> {
+    let alloc = rt.alloc();
+    let octets = [
+        0x30, 0x03, 0x02, 0x01, 0x07, 0x30, 0x80, 0x24, 0x80, 0x04, 0x01, 0x61, 0x00, 0x00, 0x00,
+        0x00, 0x04, 0x02, 0x61, 0x62,
+    ];
+    let mut cursor = Cursor::new(alloc, Mode::Ber, &octets);
+    let Ok(Some(sized)) = cursor.next_value() else {
+        return Err(Fail::new("a definite value"));
+    };
+    assert!(rt; shows(&sized, &[0x10], true, &[0x02, 0x01, 0x07], &octets[..5]));
+    let Ok(Some(marked)) = cursor.next_value() else {
+        return Err(Fail::new("an indefinite value"));
+    };
+    assert!(rt; shows(&marked, &[0x10], true, &octets[7..14], &octets[5..16]));
+    let Ok(primitive) = cursor.take_if(Tag::OCTET_STRING) else {
+        return Err(Fail::new("a primitive value"));
+    };
+    assert!(rt; shows(&primitive, &[0x04], false, &[0x61, 0x62], &octets[16..]));
+    assert!(rt; matches!(cursor.next_value(), Ok(None)));
+    assert!(rt; matches!(cursor.take_opt_if(Tag::NULL), Ok(None)));
+    assert!(rt; matches!(cursor.take_if(Tag::NULL), Err(DecodeError::Malformed)));
+    Ok(())
+}
+
+#[test]
+fn an_identifier_is_looked_at_before_its_length(rt: HostRuntime) -> Result<(), Fail> {
+    let alloc = rt.alloc();
+    let mut cursor = Cursor::new(alloc, Mode::Der, &[0x05, 0x85]);
+    assert!(rt; matches!(cursor.take_opt_if(Tag::INTEGER), Ok(None)));
+    assert!(rt; matches!(cursor.take_opt_if(Tag::NULL), Err(DecodeError::Malformed)));
+    assert!(rt; matches!(cursor.next_value(), Err(DecodeError::Malformed)));
+    Ok(())
+}
+
+#[test]
+fn an_identifier_of_four_octets_is_taken(rt: HostRuntime) -> Result<(), Fail> {
+    let alloc = rt.alloc();
+    let Some(tag) = Tag::new(&[0x9F, 0x81, 0x82, 0x03]) else {
+        return Err(Fail::new("a tag"));
+    };
+    let mut cursor = Cursor::new(alloc, Mode::Der, &[0xBF, 0x81, 0x82, 0x03, 0x00]);
+    let Ok(Some(item)) = cursor.take_opt_if(tag) else {
+        return Err(Fail::new("a value"));
+    };
+    assert!(rt; item.tag == tag);
+    assert!(rt; item.constructed);
+    assert!(rt; item.content.is_empty());
+    assert!(rt; cursor.end());
+    Ok(())
+}
+
+#[test]
+fn null_may_be_left_out(rt: HostRuntime) -> Result<(), Fail> {
+    let alloc = rt.alloc();
+    let mut cursor = Cursor::new(alloc, Mode::Ber, &[0x05, 0x00, 0x25, 0x00]);
+    assert!(rt; matches!(take_opt_null(&mut cursor), Ok(true)));
+    assert!(rt; matches!(take_opt_null(&mut cursor), Err(DecodeError::Malformed)));
+    let mut cursor = Cursor::new(alloc, Mode::Ber, &[0x02, 0x01, 0x00]);
+    assert!(rt; matches!(take_opt_null(&mut cursor), Ok(false)));
+    Ok(())
+}
+
+// No run can read a count, which has no bytes, so a clause says it: two headers and an end mark.
+fn takes_marked_counted<L: Ledger>(alloc: Global, steps: &mut Steps<L>) -> Result<(), DecodeError>
+    ensures { OnOk result (steps.new ≡ steps.old + 3) }
+{
+    let octets = [0x30, 0x80, 0x02, 0x01, 0x00, 0x00, 0x00];
+    let mut cursor = Cursor::new(alloc, Mode::Ber, &octets);
+    match cursor.next_value_counted(steps) {
+        Ok(Some(_)) => Ok(()),
+        Ok(None) => Err(DecodeError::Malformed),
+        Err(error) => Err(error),
+    }
+}
+
+fn takes_marked<L: Ledger>(alloc: Global, blank: Blank) -> Result<(), DecodeError>
+    requires name { blank.name ≡ L.name }
+    requires parts { blank.parts ≡ L.parts }
+    requires some { 0 < blank.parts }
+{
+    let mut steps = Steps::<L>::new(blank);
+    takes_marked_counted(alloc, &mut steps)
+}
+
+#[test]
+fn an_indefinite_value_of_one_ticks_three_times(rt: HostRuntime) {
+    assert!(rt; takes_marked::<Brand>(rt.alloc(), Blank::new(1)).is_ok());
+}

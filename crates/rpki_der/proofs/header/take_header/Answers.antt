@@ -3,7 +3,7 @@ use Rattle.rpki_der.proofs.header.take_header.Goals as goal
 
 pub returns-clause-found : goal.returns-clause-found
 returns-clause-found c =
-    header_found c.args.mode c.args.octets.now c.split_at.result.0.now c.split_at.result.1.now c.split_at-2.result.1.now c.in_ok-size.size c.in_ok-length.count c.in_ok-length.length c.in_ok-size.ensures.len c.split_at.ensures.front c.split_at.ensures.back c.in_ok-length.ensures.size c.split_at-2.ensures.back
+    header_found c.args.mode c.args.identifier.now c.args.behind.now c.split_at.result.1.now c.in_ok-length.count c.in_ok-length.length c.requires.identifier c.in_ok-length.ensures.size c.split_at.ensures.back
 
 pub returns-in_err-length-clause-none : goal.returns-in_err-length-clause-none
-returns-in_err-length-clause-none c = if_none _ _ (no_length c.args.mode c.args.octets.now c.split_at.result.1.now c.in_ok-size.size c.in_ok-size.ensures.len c.split_at.ensures.back c.in_err-length.ensures.size)
+returns-in_err-length-clause-none c = if_none _ _ (no_length c.args.mode c.args.identifier.now c.args.behind.now c.requires.identifier c.in_err-length.ensures.size)
