@@ -14,3 +14,7 @@ pub mod Modes
 pub mod Leftovers
 pub mod Items
 pub mod Nulls
+pub mod Strict
+pub mod Nodes
+pub mod Growing
+pub mod Whole

@@ -21,3 +21,7 @@ pub mod Ticks
 pub mod CountedWalk
 pub mod ExactWalk
 pub mod Item
+pub mod ValueCode
+pub mod Tree
+pub mod Entries
+pub mod Growth

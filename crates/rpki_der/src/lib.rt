@@ -4,6 +4,7 @@
 mod cursor;
 mod error;
 mod header;
+mod index;
 mod integer;
 mod item;
 mod law;
@@ -15,13 +16,17 @@ mod part;
 mod rest;
 mod steps;
 mod tag;
+mod tree;
 mod walk;
 
 pub use cursor::Cursor;
 pub use error::DecodeError;
+pub use index::read_tree;
 pub use integer::{take_integer_if, take_integer_if_counted};
 pub use item::Item;
-pub use law::{at_most_one_value, value_at_is};
+pub use law::{
+    at_most_one_value, strict_is_loose, value_at_is, whole_is_its_parts, whole_is_the_value,
+};
 pub use mode::Mode;
 pub use null::{take_opt_null, take_opt_null_counted};
 pub use octets::{take_octets, take_octets_counted};
@@ -30,6 +35,7 @@ pub use rest::{pass_rest, pass_rest_counted};
 pub use rpki_common::OutOfMemory;
 pub use steps::Steps;
 pub use tag::Tag;
+pub use tree::{Children, Node, Tree};
 
 #[cfg(test)]
 mod tests;
