@@ -25,3 +25,4 @@ pub mod ValueCode
 pub mod Tree
 pub mod Entries
 pub mod Growth
+pub mod Writing

@@ -18,6 +18,7 @@ mod steps;
 mod tag;
 mod tree;
 mod walk;
+mod writer;
 
 pub use cursor::Cursor;
 pub use error::DecodeError;
@@ -36,6 +37,7 @@ pub use rpki_common::OutOfMemory;
 pub use steps::Steps;
 pub use tag::Tag;
 pub use tree::{Children, Node, Tree};
+pub use writer::{Captured, Writer};
 
 #[cfg(test)]
 mod tests;

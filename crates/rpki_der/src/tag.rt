@@ -1,7 +1,8 @@
 //! Tags, and the identifier octets that spell them.
 
-ghost use Rattle.std.specs.Prelude.{◌≡◌, ◌+◌, ◌≤◌, ◌↔◌, length, IsSome, IfSome, IsTrue};
+ghost use Rattle.std.specs.Prelude.{◌≡◌, ◌+◌, ◌≤◌, ◌↔◌, length, take, IsSome, IfSome, IsTrue};
 ghost use Rattle.rpki_der.specs.Identifier.{IsIdentifier, IsTag, is_constructed, without_bit_6, tag_of, has_tag, further_size, identifier_size};
+ghost use Rattle.rpki_der.specs.Writing.{with_bit_6};
 
 use std::marker::Model;
 
@@ -144,6 +145,15 @@ impl Tag {
         ensures { result.now ≡ self.now }
     {
         &self.octets[..self.len]
+    }
+
+    /// The octets of the identifier with bit 6 of the first set, and how many they are.
+    pub(crate) fn constructed_octets(&self) -> ([u8; 4], usize)
+        ensures octets { take result.1 result.0 ≡ with_bit_6 self.now }
+        ensures within { result.1 ≤ 4 }
+    {
+        let [first, second, third, fourth] = self.octets;
+        ([first + 0x20, second, third, fourth], self.len)
     }
 }
 
