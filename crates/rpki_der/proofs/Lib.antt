@@ -18,3 +18,4 @@ pub mod Strict
 pub mod Nodes
 pub mod Growing
 pub mod Whole
+pub mod Written

@@ -5,7 +5,7 @@ use Rattle.rpki_der.specs.declared.mode.Mode.TheVariants.{Ber, Der}
 use Rattle.rpki_der.specs.Lengths.{IsLength}
 use Rattle.rpki_der.specs.Value.{Form, Definite, Indefinite, Value, Primitive, Constructed, Values, End, ◌▸◌, spellings, IsForm, IsValue, AreValues, Begins}
 
-loose_length : (octets : List ℕ) (n : ℕ) → IsLength Der octets n → IsLength Ber octets n
+pub loose_length : (octets : List ℕ) (n : ℕ) → IsLength Der octets n → IsLength Ber octets n
 loose_length [] n p = p
 loose_length (a ∷ []) n p = p
 loose_length (a ∷ b ∷ more) n p = (p.0, p.1, p.2, tt)

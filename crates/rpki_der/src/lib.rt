@@ -27,6 +27,7 @@ pub use integer::{take_integer_if, take_integer_if_counted};
 pub use item::Item;
 pub use law::{
     at_most_one_value, strict_is_loose, value_at_is, whole_is_its_parts, whole_is_the_value,
+    written_in_turn, written_is_read,
 };
 pub use mode::Mode;
 pub use null::{take_opt_null, take_opt_null_counted};
