@@ -19,3 +19,5 @@ pub mod Nodes
 pub mod Growing
 pub mod Whole
 pub mod Written
+pub mod Numbers
+pub mod Wholes

@@ -26,3 +26,7 @@ pub mod Tree
 pub mod Entries
 pub mod Growth
 pub mod Writing
+pub mod Boolean
+pub mod Number
+pub mod Bits
+pub mod Whole

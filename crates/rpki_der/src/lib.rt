@@ -1,6 +1,8 @@
 //! BER and DER values.
 #![tactic(auto)]
 
+mod bits;
+mod boolean;
 mod cursor;
 mod error;
 mod header;
@@ -8,8 +10,10 @@ mod index;
 mod integer;
 mod item;
 mod law;
+mod leaf;
 mod mode;
 mod null;
+mod number;
 mod octets;
 mod oid;
 mod part;
@@ -20,6 +24,8 @@ mod tree;
 mod walk;
 mod writer;
 
+pub use bits::{take_bits, take_bits_counted};
+pub use boolean::{take_boolean, take_boolean_counted};
 pub use cursor::Cursor;
 pub use error::DecodeError;
 pub use index::read_tree;
@@ -29,8 +35,10 @@ pub use law::{
     at_most_one_value, strict_is_loose, value_at_is, whole_is_its_parts, whole_is_the_value,
     written_in_turn, written_is_read,
 };
+pub use leaf::{BitString, OctetString, Oid};
 pub use mode::Mode;
 pub use null::{take_opt_null, take_opt_null_counted};
+pub use number::{take_integer, take_integer_counted, take_u64, take_u64_counted};
 pub use octets::{take_octets, take_octets_counted};
 pub use oid::{take_oid, take_oid_counted, take_oid_if, take_oid_if_counted};
 pub use rest::{pass_rest, pass_rest_counted};

@@ -1,0 +1,60 @@
+//! BOOLEAN.
+
+ghost use Rattle.std.specs.Prelude.{◌≡◌, ◌<◌};
+ghost use Rattle.rpki_der.specs.Takes.{Takes};
+ghost use Rattle.rpki_der.specs.Ticks.{TakesCounted};
+ghost use Rattle.rpki_der.specs.Boolean as spec;
+
+use crate::cursor::Cursor;
+use crate::error::DecodeError;
+use crate::mode::Mode;
+use crate::steps::Steps;
+use crate::tag::Tag;
+use std::marker::Brand;
+use std::sync::ledger::{Blank, Ledger};
+
+// What the contents of a BOOLEAN say.
+fn truth(mode: Mode, octets: &[u8]) -> Option<bool>
+    ensures { result ≡ spec.truth mode octets.now }
+{
+    match (mode, octets) {
+        (_, [0]) => Some(false),
+        (Mode::Ber, [_]) | (Mode::Der, [0xFF]) => Some(true),
+        _ => None,
+    }
+}
+
+/// The BOOLEAN that stands next. It ticks once.
+pub fn take_boolean_counted<L: Ledger>(
+    cursor: &mut Cursor<'_>,
+    steps: &mut Steps<L>,
+) -> Result<bool, DecodeError>
+    ensures { TakesCounted 1 (spec.boolean cursor.old.mode) (λ x. x) cursor.old cursor.new steps.old steps.new result }
+{
+    let mode = cursor.mode();
+    let octets = cursor.take_primitive_counted(Tag::BOOLEAN, steps)?;
+    match truth(mode, octets) {
+        Some(value) => Ok(value),
+        None => Err(DecodeError::Malformed),
+    }
+}
+
+fn take_boolean_within<L: Ledger>(
+    cursor: &mut Cursor<'_>,
+    blank: Blank,
+) -> Result<bool, DecodeError>
+    requires name { blank.name ≡ L.name }
+    requires parts { blank.parts ≡ L.parts }
+    requires some { 0 < blank.parts }
+    ensures { Takes (spec.boolean cursor.old.mode) (λ x. x) cursor.old cursor.new result }
+{
+    let mut steps = Steps::<L>::new(blank);
+    take_boolean_counted(cursor, &mut steps)
+}
+
+/// The BOOLEAN that stands next (X.690, 8.2). In DER true is spelled FF alone.
+pub fn take_boolean(cursor: &mut Cursor<'_>) -> Result<bool, DecodeError>
+    ensures { Takes (spec.boolean cursor.old.mode) (λ x. x) cursor.old cursor.new result }
+{
+    take_boolean_within::<Brand>(cursor, Blank::new(1))
+}
