@@ -21,3 +21,5 @@ pub mod Whole
 pub mod Written
 pub mod Numbers
 pub mod Wholes
+pub mod Holding
+pub mod Insides

@@ -30,3 +30,5 @@ pub mod Boolean
 pub mod Number
 pub mod Bits
 pub mod Whole
+pub mod Held
+pub mod InDer

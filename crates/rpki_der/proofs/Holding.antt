@@ -1,0 +1,81 @@
+-- The octets of a level's values, with counted calls.
+use Rattle.std.proofs.Common.{◌≡◌, ℕ, ◌+◌, ◌-◌, Option, None, Some, Result, Ok, Err, Bor, List, [], ◌∷◌, length, take, refl, sym, ap, subst, ◌∙◌, arith, length-append}
+use Rattle.std.specs.Prelude.{IfOk, OnOk, MatchResult}
+use Rattle.std.proofs.lemmas.List.{take_at, take_all}
+use Rattle.rpki_common.specs.Chaining.{◌>>=◌}
+use Rattle.rpki_der.specs.declared.error.DecodeError.{DecodeError}
+use Rattle.rpki_der.specs.declared.error.DecodeError.TheVariants.{Malformed, OutOfMemory}
+use Rattle.rpki_der.specs.declared.mode.Mode.{Mode}
+use Rattle.rpki_der.specs.Value.{Values, spellings}
+use Rattle.rpki_der.specs.Level.{Level, Sized, Marked, Ends, Holds}
+use Rattle.rpki_der.specs.Position.{Position, top, AtEnd, Leaves}
+use Rattle.rpki_der.specs.Grammar.{any, every, anything}
+use Rattle.rpki_der.specs.Takes.{RefusesToLeave, Stops}
+use Rattle.rpki_der.specs.Ticks.{marks, CountedReads, CountedStops, TakesRestCounted}
+use Rattle.rpki_der.specs.Held.{held, as_octets, up_to}
+use Rattle.rpki_der.proofs.Counting.{CountedContinues, reads_end}
+use Rattle.rpki_der.proofs.Leftovers.{passed_over}
+
+-- where the level is at its end, what stands before it are the octets of its values
+pub contents_are : (mode : Mode) (level : Level) (here : List ℕ) (vs : Values) (rest end' : List ℕ) → Holds mode level here vs rest → Ends level end' rest → up_to here end' ≡ spellings vs
+contents_are mode (Sized after) here vs rest end' h e =
+    let size : length here - length end' ≡ length (spellings vs) = rw (e.0, h.1) (omega arith) in
+    rw (size, h.1) (take_all (length (spellings vs)) (spellings vs) (omega arith))
+contents_are mode Marked here vs rest end' h e =
+    let size : length here - length end' ≡ length (spellings vs) = rw (e, h.1) (omega (arith, length-append (spellings vs) (0 ∷ 0 ∷ rest))) in
+    rw (size, h.1) (take_at (spellings vs) (0 ∷ 0 ∷ rest) (length (spellings vs)) refl)
+
+-- ---- fields, with their octets: the cursor began at p, stood at e, at the level's end, and left to q
+
+pub reads_held : {X : Type 0} (c k : ℕ) (f : Values → Option X) (p e q : Position) (b a : ℕ) (x : X) → top e.levels ≡ top p.levels → Leaves e q → CountedReads c k f p q b a x → CountedReads c k (held f) p q b a (up_to p.here e.here, x)
+unfolding held ◌>>=◌
+reads_held c k f p e q b a x l ends r = record {
+  values = r.values;
+  holds = r.holds;
+  reads = rw r.reads (ap (λ o. Some (o, x)) (sym (contents_are p.mode (top p.levels) p.here r.values q.here e.here r.holds (rw l at ends.ends))));
+  levels = r.levels;
+  mode = r.mode;
+  least = r.least;
+  most = r.most;
+}
+
+none_held : {X : Type 0} (f : Values → Option X) (p : Position) (e : DecodeError) → Stops f p e → Stops (held f) p e
+unfolding held Stops ◌>>=◌
+none_held f p Malformed n = record { none = λ vs rest h. rw (n.none vs rest h) refl }
+none_held f p OutOfMemory n = tt
+
+pub stops_held : {X : Type 0} (c k : ℕ) (f : Values → Option X) (p : Position) (b a : ℕ) (e : DecodeError) → CountedStops c k f p b a e → CountedStops c k (held f) p b a e
+stops_held c k f p b a e n = record { stops = none_held f p e n.stops; most = n.most }
+
+-- ---- any values
+
+octets_read : (c k : ℕ) (p e q : Position) (b a : ℕ) (octets : List ℕ) → top e.levels ≡ top p.levels → Leaves e q → octets ≡ up_to p.here e.here → CountedReads c k anything p q b a tt → CountedReads c k as_octets p q b a octets
+octets_read c k p e q b a octets l ends is r = record {
+  values = r.values;
+  holds = r.holds;
+  reads = ap Some (sym (is ∙ contents_are p.mode (top p.levels) p.here r.values q.here e.here r.holds (rw l at ends.ends)));
+  levels = r.levels;
+  mode = r.mode;
+  least = r.least;
+  most = r.most;
+}
+
+some_not : {X : Type 0} (x : X) → Some x ≡ None → ⊥
+some_not x e = cc
+
+only_octets : (p : Position) (e : DecodeError) → Stops anything p e → Stops as_octets p e
+unfolding Stops
+only_octets p Malformed n = record { none = λ vs rest h. absurd (some_not tt (n.none vs rest h)) }
+only_octets p OutOfMemory n = tt
+
+pub stops_octets : (c k : ℕ) (p : Position) (b a : ℕ) (e : DecodeError) → CountedStops c k anything p b a e → CountedStops c k as_octets p b a e
+stops_octets c k p b a e n = record { stops = only_octets p e n.stops; most = n.most }
+
+pub rest_octets : (p e q : Position) (b m a : ℕ) (octets : List ℕ) → CountedContinues 1 anything p b (λ vs. every any vs >>= passed_over) e m → Leaves e q → a ≡ m + marks (top e.levels) → octets ≡ up_to p.here e.here → CountedReads 1 0 as_octets p q b a octets
+rest_octets p e q b m a octets w l t is =
+    octets_read 1 0 p e q b a octets (ap top w.levels) l is (w.reads 0 q a tt (reads_end 1 any passed_over e q m a tt refl l t refl))
+
+pub rest_left : (p e q : Position) (b m a : ℕ) (start : List ℕ) (r : Result (Bor (List ℕ)) DecodeError) → CountedContinues 1 anything p b (λ vs. every any vs >>= passed_over) e m → AtEnd e → start ≡ p.here → MatchResult r (λ _. Leaves e q) (RefusesToLeave e) → IfOk r (λ x. x.now ≡ up_to start e.here) → OnOk r (a ≡ m + marks (top e.levels)) → TakesRestCounted 1 0 as_octets (λ x. x.now) p q b a r
+rest_left p e q b m a start (Ok x) w n s l is t = rest_octets p e q b m a x.now w l t (is ∙ ap (λ o. up_to o e.here) s)
+rest_left p e q b m a start (Err Malformed) w n s l is t = absurd (l n)
+rest_left p e q b m a start (Err OutOfMemory) w n s l is t = absurd l

@@ -1,0 +1,16 @@
+-- The octets of a level's values, as they stand there; what ends the level isn't among them.
+use Rattle.std.specs.Prelude.{ℕ, ◌-◌, Option, Some, List, length, take}
+use Rattle.rpki_common.specs.Chaining.{◌>>=◌}
+use Rattle.rpki_der.specs.Value.{Values, spellings}
+
+-- what fields reads of the values, and in front of it their octets
+unfoldable pub held : {X : Type 0} → (Values → Option X) → Values → Option (List ℕ × X)
+held fields vs = fields vs >>= λ x. Some (spellings vs, x)
+
+-- values of any kind, as their octets
+abbrev pub as_octets : Values → Option (List ℕ)
+as_octets vs = Some (spellings vs)
+
+-- the octets from start up to those at the end
+abbrev pub up_to : List ℕ → List ℕ → List ℕ
+up_to start end' = take (length start - length end') start
