@@ -52,3 +52,6 @@ pub use writer::{Captured, Writer};
 
 #[cfg(test)]
 mod tests;
+
+#[cfg(test)]
+mod tree_tests;

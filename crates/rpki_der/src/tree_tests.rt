@@ -1,0 +1,221 @@
+ghost use Rattle.rpki_der.specs.Grammar.{so, primitive};
+ghost use Rattle.rpki_der.specs.InDer.{in_der, GivesCounted};
+ghost use Rattle.rpki_der.specs.Number.{u64 as small};
+ghost use Rattle.rpki_der.specs.Tags.{octet_string_tag};
+ghost use Rattle.rpki_der.specs.Ticks.{TakesCounted};
+
+use super::*;
+use std::alloc::{AllocError, Global};
+use std::sync::ledger::Ledger;
+use std::test::Fail;
+
+// Whether a node is this one.
+fn is_node(node: &Node<'_>, tag: Tag, constructed: bool, content: &[u8], slice: &[u8]) -> bool {
+    node.tag() == tag
+        && node.is_constructed() == constructed
+        && node.content() == content
+        && node.slice() == slice
+}
+
+#[test]
+fn a_tree_has_the_nodes_that_stand_there(rt: HostRuntime) -> Result<(), Fail> {
+    let alloc = rt.alloc();
+    let octets = [
+        0x30, 0x80, 0x24, 0x80, 0x04, 0x01, 0x61, 0x00, 0x00, 0x02, 0x01, 0x07, 0x30, 0x00, 0x00,
+        0x00, 0x05, 0x00,
+    ];
+    let Ok((tree, size)) = read_tree(alloc, Mode::Ber, &octets) else {
+        return Err(Fail::new("a tree"));
+    };
+    assert_eq!(rt; size, 16);
+    assert!(rt; is_node(&tree.root(), Tag::SEQUENCE, true, &octets[2..14], &octets[..16]));
+    assert!(rt; tree.tag() == Tag::SEQUENCE && tree.is_constructed());
+    assert!(rt; tree.content() == &octets[2..14] && tree.slice() == &octets[..16]);
+    let mut children = tree.children();
+    let Some(marked) = children.next() else {
+        return Err(Fail::new("a first child"));
+    };
+    assert!(rt; is_node(&marked, Tag::OCTET_STRING, true, &octets[4..7], &octets[2..9]));
+    let mut segments = marked.children();
+    let Some(segment) = segments.next() else {
+        return Err(Fail::new("a segment"));
+    };
+    assert!(rt; is_node(&segment, Tag::OCTET_STRING, false, &octets[6..7], &octets[4..7]));
+    assert!(rt; segment.children().next().is_none());
+    assert!(rt; segments.next().is_none());
+    let Some(number) = children.next() else {
+        return Err(Fail::new("a second child"));
+    };
+    assert!(rt; is_node(&number, Tag::INTEGER, false, &[0x07], &octets[9..12]));
+    let Some(empty) = children.next() else {
+        return Err(Fail::new("a third child"));
+    };
+    assert!(rt; is_node(&empty, Tag::SEQUENCE, true, &[], &octets[12..14]));
+    assert!(rt; empty.children().next().is_none());
+    assert!(rt; children.next().is_none());
+    assert!(rt; read_tree(alloc, Mode::Der, &octets).is_err());
+    Ok(())
+}
+
+// How many octets the value at the beginning has; 0 where there is none.
+fn size_in(alloc: Global, mode: Mode, octets: &[u8]) -> usize {
+    match read_tree(alloc, mode, octets) {
+        Ok((_, size)) => size,
+        Err(_) => 0,
+    }
+}
+
+#[test]
+fn lengths_and_identifiers_keep_their_rules(rt: HostRuntime) {
+    let alloc = rt.alloc();
+    assert_eq!(rt; size_in(alloc, Mode::Ber, &[0x30, 0x80, 0x00, 0x00]), 4);
+    assert_eq!(rt; size_in(alloc, Mode::Ber, &[0x30, 0x80, 0x00]), 0);
+    assert_eq!(rt; size_in(alloc, Mode::Ber, &[0x04, 0x80, 0x00, 0x00]), 0);
+    assert_eq!(rt; size_in(alloc, Mode::Ber, &[0x30, 0x85, 0, 0, 0, 0, 0, 0]), 0);
+    assert_eq!(rt; size_in(alloc, Mode::Ber, &[0x00, 0x00]), 0);
+    assert_eq!(rt; size_in(alloc, Mode::Ber, &[0x1F, 0x81, 0x01, 0x00]), 4);
+    assert_eq!(rt; size_in(alloc, Mode::Ber, &[0x1F, 0x81, 0x81, 0x81, 0x01, 0x00]), 0);
+    assert_eq!(rt; size_in(alloc, Mode::Ber, &[0x04, 0x82, 0x00, 0x01, 0x61]), 5);
+    assert_eq!(rt; size_in(alloc, Mode::Der, &[0x04, 0x82, 0x00, 0x01, 0x61]), 0);
+}
+
+#[test]
+fn octet_strings_are_joined(rt: HostRuntime) -> Result<(), Fail> {
+    let alloc = rt.alloc();
+    let octets = [0x24, 0x80, 0x24, 0x03, 0x04, 0x01, 0x61, 0x04, 0x01, 0x62, 0x00, 0x00];
+    assert_eq!(rt; size_in(alloc, Mode::Ber, &octets), 12);
+    let Ok(joined) = OctetString::take(alloc, Mode::Ber, &octets) else {
+        return Err(Fail::new("an octet string"));
+    };
+    assert_eq!(rt; joined.as_slice(), b"ab".as_slice());
+    assert_eq!(rt; joined.len(), 2);
+    assert_eq!(rt; joined.to_bytes(alloc)?.as_slice(), b"ab".as_slice());
+    assert!(rt; matches!(OctetString::take(alloc, Mode::Der, &octets), Err(DecodeError::Malformed)));
+    let behind = [0x04, 0x01, 0x61, 0x04];
+    assert!(rt; matches!(OctetString::take(alloc, Mode::Ber, &behind), Err(DecodeError::Malformed)));
+    Ok(())
+}
+
+// `front`, this many times, then `middle`, and then `back`, this many times.
+fn around(
+    alloc: Global,
+    count: u32,
+    front: &[u8],
+    middle: &[u8],
+    back: &[u8],
+) -> Result<Vec<u8>, AllocError> {
+    let mut octets: Vec<u8> = Vec::new(alloc);
+    for _ in 0..count {
+        octets.extend_from_slice(front)?;
+    }
+    octets.extend_from_slice(middle)?;
+    for _ in 0..count {
+        octets.extend_from_slice(back)?;
+    }
+    Ok(octets)
+}
+
+#[test]
+fn many_levels_are_one_value(rt: HostRuntime) -> Result<(), Fail> {
+    let alloc = rt.alloc();
+    let octets = around(alloc, 100_000, &[0x24, 0x80], &[0x04, 0x00], &[0x00, 0x00])?;
+    assert_eq!(rt; size_in(alloc, Mode::Ber, &octets), octets.len());
+    let Ok(joined) = OctetString::take(alloc, Mode::Ber, &octets) else {
+        return Err(Fail::new("an octet string"));
+    };
+    assert_eq!(rt; joined.len(), 0);
+    Ok(())
+}
+
+#[test]
+fn what_is_written_is_read(rt: HostRuntime) -> Result<(), Fail> {
+    let alloc = rt.alloc();
+    let mut inner = Writer::new(alloc);
+    inner.primitive(Tag::BOOLEAN, &[0xFF])?;
+    inner.primitive(Tag::INTEGER, &[0x00, 0x80])?;
+    inner.raw(&[0x05, 0x00])?;
+    let mut outer = Writer::new(alloc);
+    outer.constructed(Tag::CTX_0, &inner)?;
+    let captured = outer.into_captured()?;
+    let written = [0xA0, 0x09, 0x01, 0x01, 0xFF, 0x02, 0x02, 0x00, 0x80, 0x05, 0x00];
+    assert_eq!(rt; captured.as_slice(), written.as_slice());
+    let mut cursor = Cursor::new(alloc, Mode::Der, captured.as_slice());
+    assert!(rt; cursor.enter(Tag::CTX_0).is_ok());
+    assert!(rt; matches!(take_boolean(&mut cursor), Ok(true)));
+    assert!(rt; matches!(take_u64(&mut cursor), Ok(0x80)));
+    assert!(rt; matches!(take_opt_null(&mut cursor), Ok(true)));
+    assert!(rt; cursor.end());
+    drop(cursor);
+    let mut long = Writer::new(alloc);
+    let content = around(alloc, 300, &[0x61], &[], &[])?;
+    long.primitive(Tag::OCTET_STRING, &content)?;
+    assert_eq!(rt; &long.as_slice()[..4.min(long.as_slice().len())], [0x04, 0x82, 0x01, 0x2C].as_slice());
+    assert_eq!(rt; captured.into_bytes().as_slice(), written.as_slice());
+    Ok(())
+}
+
+#[test]
+fn leaves_keep_their_rules(rt: HostRuntime) {
+    let alloc = rt.alloc();
+    let one = [0x01, 0x01, 0x01];
+    assert!(rt; matches!(take_boolean(&mut Cursor::new(alloc, Mode::Ber, &one)), Ok(true)));
+    assert!(rt; take_boolean(&mut Cursor::new(alloc, Mode::Der, &one)).is_err());
+    let long = [0x02, 0x02, 0x00, 0x7F];
+    assert!(rt; take_integer(&mut Cursor::new(alloc, Mode::Ber, &long)).is_err());
+    let negative = [0x02, 0x01, 0xFF];
+    assert!(rt; take_integer(&mut Cursor::new(alloc, Mode::Ber, &negative)).is_ok());
+    assert!(rt; take_u64(&mut Cursor::new(alloc, Mode::Ber, &negative)).is_err());
+    let most = [0x02, 0x09, 0x00, 0xFF, 0xFF, 0xFF, 0xFF, 0xFF, 0xFF, 0xFF, 0xFF];
+    assert!(rt; matches!(take_u64(&mut Cursor::new(alloc, Mode::Der, &most)), Ok(u64::MAX)));
+    let more = [0x02, 0x09, 0x01, 0x00, 0x00, 0x00, 0x00, 0x00, 0x00, 0x00, 0x00];
+    assert!(rt; take_u64(&mut Cursor::new(alloc, Mode::Der, &more)).is_err());
+    assert!(rt; BitString::take(alloc, Mode::Der, &[0x03, 0x01, 0x01]).is_err());
+    match BitString::take(alloc, Mode::Der, &[0x03, 0x02, 0x07, 0x80]) {
+        Ok(bits) => assert!(rt; bits.unused() == 7 && bits.octets() == [0x80].as_slice()),
+        Err(_) => assert!(rt; false),
+    }
+    assert!(rt; Oid::take(alloc, Mode::Der, &[0x06, 0x01, 0x80]).is_err());
+    match Oid::take(alloc, Mode::Der, &[0x06, 0x01, 0x2A]) {
+        Ok(oid) => assert_eq!(rt; oid.as_slice(), [0x2A].as_slice()),
+        Err(_) => assert!(rt; false),
+    }
+}
+
+#[test]
+fn a_level_is_held_without_its_end_mark(rt: HostRuntime) -> Result<(), Fail> {
+    let octets = [0x30, 0x80, 0x02, 0x01, 0x00, 0x05, 0x00, 0x00, 0x00, 0x05, 0x00];
+    let mut cursor = Cursor::new(rt.alloc(), Mode::Ber, &octets);
+    if cursor.enter(Tag::SEQUENCE).is_err() {
+        return Err(Fail::new("a sequence"));
+    }
+    let Ok(held) = take_rest(&mut cursor) else {
+        return Err(Fail::new("the rest"));
+    };
+    assert_eq!(rt; held, &octets[2..7]);
+    assert_eq!(rt; cursor.here(), &octets[9..]);
+    Ok(())
+}
+
+// A number in DER inside octets.
+fn inner_number<L: Ledger>(
+    alloc: Global,
+    octets: &[u8],
+    steps: &mut Steps<L>,
+) -> Result<u64, DecodeError>
+    ensures { GivesCounted 1 (in_der small octets.now) (λ x. x) octets.now steps.old steps.new result }
+{
+    let mut cursor = Cursor::new(alloc, Mode::Der, octets);
+    take_u64_counted(&mut cursor, steps)
+}
+
+// A number in DER inside the octet string that stands next.
+fn take_inner_number<L: Ledger>(
+    alloc: Global,
+    cursor: &mut Cursor<'_>,
+    steps: &mut Steps<L>,
+) -> Result<u64, DecodeError>
+    ensures { TakesCounted 2 (so (primitive octet_string_tag) (in_der small)) (λ x. x) cursor.old cursor.new steps.old steps.new result }
+{
+    let octets = cursor.take_primitive_counted(Tag::OCTET_STRING, steps)?;
+    inner_number(alloc, octets, steps)
+}
