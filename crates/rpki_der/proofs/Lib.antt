@@ -23,3 +23,4 @@ pub mod Numbers
 pub mod Wholes
 pub mod Holding
 pub mod Insides
+pub mod Dotted

@@ -32,3 +32,4 @@ pub mod Bits
 pub mod Whole
 pub mod Held
 pub mod InDer
+pub mod Arcs

@@ -1,6 +1,7 @@
 //! BER and DER values.
 #![tactic(auto)]
 
+mod arcs;
 mod bits;
 mod boolean;
 mod cursor;

@@ -1,3 +1,4 @@
+ghost use Rattle.std.specs.Prelude.{◌<◌, length};
 ghost use Rattle.rpki_der.specs.Grammar.{so, primitive};
 ghost use Rattle.rpki_der.specs.InDer.{in_der, GivesCounted};
 ghost use Rattle.rpki_der.specs.Number.{u64 as small};
@@ -146,11 +147,16 @@ fn what_is_written_is_read(rt: HostRuntime) -> Result<(), Fail> {
     assert!(rt; matches!(take_opt_null(&mut cursor), Ok(true)));
     assert!(rt; cursor.end());
     drop(cursor);
-    let mut long = Writer::new(alloc);
-    let content = around(alloc, 300, &[0x61], &[], &[])?;
-    long.primitive(Tag::OCTET_STRING, &content)?;
-    assert_eq!(rt; &long.as_slice()[..4.min(long.as_slice().len())], [0x04, 0x82, 0x01, 0x2C].as_slice());
     assert_eq!(rt; captured.into_bytes().as_slice(), written.as_slice());
+    Ok(())
+}
+
+#[test]
+fn a_long_length_has_octets_of_its_own(rt: HostRuntime) -> Result<(), Fail> {
+    let mut long = Writer::new(rt.alloc());
+    long.primitive(Tag::OCTET_STRING, &[0x61; 300])?;
+    assert!(rt; long.as_slice().starts_with(&[0x04, 0x82, 0x01, 0x2C, 0x61]));
+    assert_eq!(rt; long.as_slice().len(), 304);
     Ok(())
 }
 
@@ -179,6 +185,33 @@ fn leaves_keep_their_rules(rt: HostRuntime) {
         Ok(oid) => assert_eq!(rt; oid.as_slice(), [0x2A].as_slice()),
         Err(_) => assert!(rt; false),
     }
+}
+
+// Whether the object identifier with these contents prints so.
+fn prints(alloc: Global, contents: &[u8], text: &str) -> Result<bool, AllocError>
+    requires { length contents.now < 128 }
+{
+    let mut writer = Writer::new(alloc);
+    let Ok(()) = writer.primitive(Tag::OID, contents) else {
+        return Err(AllocError);
+    };
+    match Oid::take(alloc, Mode::Der, writer.as_slice()) {
+        Ok(oid) => {
+            let shown = format!(in alloc; "{oid}")?;
+            Ok(shown.as_str() == text)
+        }
+        Err(_) => Ok(false),
+    }
+}
+
+#[test]
+fn object_identifiers_print_their_arcs(rt: HostRuntime) -> Result<(), Fail> {
+    let alloc = rt.alloc();
+    assert!(rt; prints(alloc, &[0x2A, 0x86, 0x48, 0x86, 0xF7, 0x0D], "1.2.840.113549")?);
+    assert!(rt; prints(alloc, &[0x27, 0x00], "0.39.0")?);
+    assert!(rt; prints(alloc, &[0x88, 0x37], "2.999")?);
+    assert!(rt; prints(alloc, &[0x50, 0x81, 0x81, 0x81, 0x81, 0x81, 0x81, 0x81, 0x81, 0x81, 0x01, 0x02], "2.0.?.2")?);
+    Ok(())
 }
 
 #[test]
