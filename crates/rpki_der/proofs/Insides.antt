@@ -1,5 +1,5 @@
 -- Calculations on contents, and values in DER inside them.
-use Rattle.std.proofs.Common.{◌≡◌, ℕ, ◌+◌, ◌*◌, ◌≤◌, Bool, true, false, Option, None, Some, Result, Ok, Err, List, [], ◌∷◌, ◌++◌, length, refl, sym, ap, subst, ◌∙◌, arith, length-append}
+use Rattle.std.proofs.Common.{◌≡◌, ℕ, ◌+◌, ◌*◌, ◌≤◌, Bool, true, false, Option, None, Some, Result, Ok, Err, List, [], ◌++◌, length, refl, sym, ap, subst, ◌∙◌, arith, length-append}
 use Rattle.std.specs.Prelude.{IsErrAnd, if◌then◌else◌}
 use Rattle.std.proofs.Math.Nat.{mul-le-mul_left}
 use Rattle.rpki_common.specs.Chaining.{◌>>=◌}
@@ -8,14 +8,14 @@ use Rattle.rpki_der.specs.declared.error.DecodeError.TheVariants.{Malformed, Out
 use Rattle.rpki_der.specs.declared.mode.Mode.{Mode}
 use Rattle.rpki_der.specs.declared.mode.Mode.TheVariants.{Ber, Der}
 use Rattle.rpki_der.specs.Identifier.{has_tag}
-use Rattle.rpki_der.specs.Value.{Form, Value, Primitive, Constructed, Values, End, ◌▸◌, lengths_of, end_mark, spelling, spellings}
+use Rattle.rpki_der.specs.Value.{Value, Primitive, Constructed, Values, End, ◌▸◌, lengths_of, end_mark, spelling, spellings}
 use Rattle.rpki_der.specs.Position.{Position}
 use Rattle.rpki_der.specs.Grammar.{so, primitive}
 use Rattle.rpki_der.specs.OctetString.{joined, joined_all, octets_under}
 use Rattle.rpki_der.specs.Tags.{octet_string_tag}
-use Rattle.rpki_der.specs.Takes.{Takes, TakesOne, Refuses, RefusesOctets, Gives, Lacks}
-use Rattle.rpki_der.specs.Ticks.{left, CountedOne, CountedRefuses, TakesCounted, DecodesCounted}
-use Rattle.rpki_der.specs.InDer.{in_der, CountedGiven, CountedLacks, GivesCounted}
+use Rattle.rpki_der.specs.Takes.{Refuses, RefusesOctets, Gives, Lacks}
+use Rattle.rpki_der.specs.Ticks.{left, CountedOne, TakesCounted, DecodesCounted}
+use Rattle.rpki_der.specs.InDer.{in_der, CountedLacks, GivesCounted}
 use Rattle.rpki_der.proofs.Counting.{takes_so, refuses_convert, uncounted}
 use Rattle.rpki_der.proofs.Decoding.{decoded_ok, decoded_none}
 use Rattle.rpki_der.proofs.Counting as counting

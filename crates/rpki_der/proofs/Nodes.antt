@@ -1,14 +1,13 @@
 -- The values that octets spell, and the entries of the values in a value.
-use Rattle.std.proofs.Common.{◌≡◌, ◌≢◌, ℕ, suc, ◌+◌, ◌-◌, ◌<◌, ◌≤◌, false, true, Some, List, [], ◌∷◌, ◌++◌, length, take, drop, refl, sym, ap, subst, ◌∙◌, append_assoc, arith, length-append}
+use Rattle.std.proofs.Common.{◌≡◌, ℕ, suc, ◌+◌, ◌-◌, ◌<◌, ◌≤◌, false, true, List, [], ◌∷◌, ◌++◌, length, take, drop, refl, sym, ap, subst, ◌∙◌, append_assoc, arith, length-append}
 use Rattle.std.proofs.lemmas.List.{append-nil, take_at, drop_at}
 use Rattle.rpki_der.specs.declared.mode.Mode.TheVariants.{Ber}
 use Rattle.rpki_der.specs.declared.tree.Entry.{Entry}
-use Rattle.rpki_der.specs.Value.{Form, Definite, Indefinite, Value, Primitive, Constructed, Values, End, ◌▸◌, lengths_of, end_mark, spelling, spellings, IsValue, AreValues, Begins}
+use Rattle.rpki_der.specs.Value.{Indefinite, Value, Primitive, Constructed, Values, End, ◌▸◌, lengths_of, end_mark, spelling, spellings, AreValues, Begins}
 use Rattle.rpki_der.specs.Item.{item}
 use Rattle.rpki_der.specs.Ticks.{nodes, all_nodes}
 use Rattle.rpki_der.specs.Tree.{value_of, inside, each, value_in, values_in}
-use Rattle.rpki_der.specs.Entries.{header_size, mark_size, entry_of, entries_of, all_entries_of, IsNode, AreNodes, IsTree}
-use Rattle.rpki_der.proofs.Uniqueness.{four_parts}
+use Rattle.rpki_der.specs.Entries.{entry_of, entries_of, all_entries_of, IsNode, AreNodes, IsTree}
 use Rattle.rpki_der.proofs.Decoding.{value_at-begins}
 
 -- ---- the octets

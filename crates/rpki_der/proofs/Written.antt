@@ -1,5 +1,5 @@
 -- What is written is read again as what was written.
-use Rattle.std.proofs.Common.{◌≡◌, ◌≢◌, ℕ, ◌+◌, ◌-◌, ◌*◌, ◌/◌, ◌%◌, ◌<◌, ◌≤◌, Bool, true, false, List, [], ◌∷◌, ◌++◌, length, refl, sym, ap, subst, ◌∙◌, append_assoc, arith}
+use Rattle.std.proofs.Common.{◌≡◌, ◌≢◌, ℕ, ◌+◌, ◌/◌, ◌%◌, ◌<◌, ◌≤◌, Bool, true, false, List, [], ◌∷◌, ◌++◌, length, refl, sym, ap, subst, ◌∙◌, append_assoc, arith}
 use Rattle.std.specs.Prelude.{nat_lt, if◌then◌else◌}
 use Rattle.std.proofs.lemmas.Bool.{eqb-false, eq-eqb, ltb-true, ltb-false}
 use Rattle.std.proofs.lemmas.List.{append-nil}
@@ -7,7 +7,7 @@ use Rattle.rpki_der.specs.declared.mode.Mode.{Mode}
 use Rattle.rpki_der.specs.declared.mode.Mode.TheVariants.{Ber, Der}
 use Rattle.rpki_der.specs.Identifier.{IsIdentifier, IsTag, is_constructed, without_bit_6, tag_of}
 use Rattle.rpki_der.specs.Lengths.{number, IsLength}
-use Rattle.rpki_der.specs.Value.{Definite, Value, Primitive, Constructed, Values, End, ◌▸◌, spelling, spellings, IsValue, AreValues, Begins}
+use Rattle.rpki_der.specs.Value.{Value, Values, End, ◌▸◌, spelling, spellings, IsValue, AreValues, Begins}
 use Rattle.rpki_der.specs.Item.{ItemFields, item}
 use Rattle.rpki_der.specs.Writing.{octets_of, der_length, with_bit_6, primitive_value, der_primitive, constructed_value, der_constructed, Spells, followed}
 use Rattle.rpki_der.proofs.Strict.{loose_length}

@@ -1,5 +1,5 @@
 -- What a reader of a tree has still to read, and to note. A means for that reader alone.
-use Rattle.std.specs.Prelude.{◌≡◌, ℕ, zero, suc, ◌+◌, ◌-◌, List, [], ◌∷◌, ◌++◌, length, reverse, map}
+use Rattle.std.specs.Prelude.{◌≡◌, ℕ, zero, suc, ◌-◌, List, [], ◌∷◌, ◌++◌, length, reverse, map}
 use Rattle.rpki_der.specs.declared.mode.Mode.{Mode}
 use Rattle.rpki_der.specs.declared.tree.Entry.{Entry}
 use Rattle.rpki_der.specs.declared.index.Inside.{Inside}

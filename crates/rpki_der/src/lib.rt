@@ -53,6 +53,5 @@ pub use writer::{Captured, Writer};
 
 #[cfg(test)]
 mod tests;
-
 #[cfg(test)]
 mod tree_tests;

@@ -98,10 +98,7 @@ pub fn take_u64_counted<L: Ledger>(
     }
 }
 
-fn take_u64_within<L: Ledger>(
-    cursor: &mut Cursor<'_>,
-    blank: Blank,
-) -> Result<u64, DecodeError>
+fn take_u64_within<L: Ledger>(cursor: &mut Cursor<'_>, blank: Blank) -> Result<u64, DecodeError>
     requires name { blank.name ≡ L.name }
     requires parts { blank.parts ≡ L.parts }
     requires some { 0 < blank.parts }

@@ -29,19 +29,43 @@ fn a_tree_has_the_nodes_that_stand_there(rt: HostRuntime) -> Result<(), Fail> {
         return Err(Fail::new("a tree"));
     };
     assert_eq!(rt; size, 16);
-    assert!(rt; is_node(&tree.root(), Tag::SEQUENCE, true, &octets[2..14], &octets[..16]));
+    assert!(rt;
+        is_node(
+            &tree.root(),
+            Tag::SEQUENCE,
+            true,
+            &octets[2..14],
+            &octets[..16]
+        )
+    );
     assert!(rt; tree.tag() == Tag::SEQUENCE && tree.is_constructed());
     assert!(rt; tree.content() == &octets[2..14] && tree.slice() == &octets[..16]);
     let mut children = tree.children();
     let Some(marked) = children.next() else {
         return Err(Fail::new("a first child"));
     };
-    assert!(rt; is_node(&marked, Tag::OCTET_STRING, true, &octets[4..7], &octets[2..9]));
+    assert!(rt;
+        is_node(
+            &marked,
+            Tag::OCTET_STRING,
+            true,
+            &octets[4..7],
+            &octets[2..9]
+        )
+    );
     let mut segments = marked.children();
     let Some(segment) = segments.next() else {
         return Err(Fail::new("a segment"));
     };
-    assert!(rt; is_node(&segment, Tag::OCTET_STRING, false, &octets[6..7], &octets[4..7]));
+    assert!(rt;
+        is_node(
+            &segment,
+            Tag::OCTET_STRING,
+            false,
+            &octets[6..7],
+            &octets[4..7]
+        )
+    );
     assert!(rt; segment.children().next().is_none());
     assert!(rt; segments.next().is_none());
     let Some(number) = children.next() else {
@@ -72,18 +96,32 @@ fn lengths_and_identifiers_keep_their_rules(rt: HostRuntime) {
     assert_eq!(rt; size_in(alloc, Mode::Ber, &[0x30, 0x80, 0x00, 0x00]), 4);
     assert_eq!(rt; size_in(alloc, Mode::Ber, &[0x30, 0x80, 0x00]), 0);
     assert_eq!(rt; size_in(alloc, Mode::Ber, &[0x04, 0x80, 0x00, 0x00]), 0);
-    assert_eq!(rt; size_in(alloc, Mode::Ber, &[0x30, 0x85, 0, 0, 0, 0, 0, 0]), 0);
+    assert_eq!(rt;
+        size_in(alloc, Mode::Ber, &[0x30, 0x85, 0, 0, 0, 0, 0, 0]),
+        0
+    );
     assert_eq!(rt; size_in(alloc, Mode::Ber, &[0x00, 0x00]), 0);
     assert_eq!(rt; size_in(alloc, Mode::Ber, &[0x1F, 0x81, 0x01, 0x00]), 4);
-    assert_eq!(rt; size_in(alloc, Mode::Ber, &[0x1F, 0x81, 0x81, 0x81, 0x01, 0x00]), 0);
-    assert_eq!(rt; size_in(alloc, Mode::Ber, &[0x04, 0x82, 0x00, 0x01, 0x61]), 5);
-    assert_eq!(rt; size_in(alloc, Mode::Der, &[0x04, 0x82, 0x00, 0x01, 0x61]), 0);
+    assert_eq!(rt;
+        size_in(alloc, Mode::Ber, &[0x1F, 0x81, 0x81, 0x81, 0x01, 0x00]),
+        0
+    );
+    assert_eq!(rt;
+        size_in(alloc, Mode::Ber, &[0x04, 0x82, 0x00, 0x01, 0x61]),
+        5
+    );
+    assert_eq!(rt;
+        size_in(alloc, Mode::Der, &[0x04, 0x82, 0x00, 0x01, 0x61]),
+        0
+    );
 }
 
 #[test]
 fn octet_strings_are_joined(rt: HostRuntime) -> Result<(), Fail> {
     let alloc = rt.alloc();
-    let octets = [0x24, 0x80, 0x24, 0x03, 0x04, 0x01, 0x61, 0x04, 0x01, 0x62, 0x00, 0x00];
+    let octets = [
+        0x24, 0x80, 0x24, 0x03, 0x04, 0x01, 0x61, 0x04, 0x01, 0x62, 0x00, 0x00,
+    ];
     assert_eq!(rt; size_in(alloc, Mode::Ber, &octets), 12);
     let Ok(joined) = OctetString::take(alloc, Mode::Ber, &octets) else {
         return Err(Fail::new("an octet string"));
@@ -91,9 +129,19 @@ fn octet_strings_are_joined(rt: HostRuntime) -> Result<(), Fail> {
     assert_eq!(rt; joined.as_slice(), b"ab".as_slice());
     assert_eq!(rt; joined.len(), 2);
     assert_eq!(rt; joined.to_bytes(alloc)?.as_slice(), b"ab".as_slice());
-    assert!(rt; matches!(OctetString::take(alloc, Mode::Der, &octets), Err(DecodeError::Malformed)));
+    assert!(rt;
+        matches!(
+            OctetString::take(alloc, Mode::Der, &octets),
+            Err(DecodeError::Malformed)
+        )
+    );
     let behind = [0x04, 0x01, 0x61, 0x04];
-    assert!(rt; matches!(OctetString::take(alloc, Mode::Ber, &behind), Err(DecodeError::Malformed)));
+    assert!(rt;
+        matches!(
+            OctetString::take(alloc, Mode::Ber, &behind),
+            Err(DecodeError::Malformed)
+        )
+    );
     Ok(())
 }
 
@@ -138,7 +186,9 @@ fn what_is_written_is_read(rt: HostRuntime) -> Result<(), Fail> {
     let mut outer = Writer::new(alloc);
     outer.constructed(Tag::CTX_0, &inner)?;
     let captured = outer.into_captured()?;
-    let written = [0xA0, 0x09, 0x01, 0x01, 0xFF, 0x02, 0x02, 0x00, 0x80, 0x05, 0x00];
+    let written = [
+        0xA0, 0x09, 0x01, 0x01, 0xFF, 0x02, 0x02, 0x00, 0x80, 0x05, 0x00,
+    ];
     assert_eq!(rt; captured.as_slice(), written.as_slice());
     let mut cursor = Cursor::new(alloc, Mode::Der, captured.as_slice());
     assert!(rt; cursor.enter(Tag::CTX_0).is_ok());
@@ -164,16 +214,30 @@ fn a_long_length_has_octets_of_its_own(rt: HostRuntime) -> Result<(), Fail> {
 fn leaves_keep_their_rules(rt: HostRuntime) {
     let alloc = rt.alloc();
     let one = [0x01, 0x01, 0x01];
-    assert!(rt; matches!(take_boolean(&mut Cursor::new(alloc, Mode::Ber, &one)), Ok(true)));
+    assert!(rt;
+        matches!(
+            take_boolean(&mut Cursor::new(alloc, Mode::Ber, &one)),
+            Ok(true)
+        )
+    );
     assert!(rt; take_boolean(&mut Cursor::new(alloc, Mode::Der, &one)).is_err());
     let long = [0x02, 0x02, 0x00, 0x7F];
     assert!(rt; take_integer(&mut Cursor::new(alloc, Mode::Ber, &long)).is_err());
     let negative = [0x02, 0x01, 0xFF];
     assert!(rt; take_integer(&mut Cursor::new(alloc, Mode::Ber, &negative)).is_ok());
     assert!(rt; take_u64(&mut Cursor::new(alloc, Mode::Ber, &negative)).is_err());
-    let most = [0x02, 0x09, 0x00, 0xFF, 0xFF, 0xFF, 0xFF, 0xFF, 0xFF, 0xFF, 0xFF];
-    assert!(rt; matches!(take_u64(&mut Cursor::new(alloc, Mode::Der, &most)), Ok(u64::MAX)));
-    let more = [0x02, 0x09, 0x01, 0x00, 0x00, 0x00, 0x00, 0x00, 0x00, 0x00, 0x00];
+    let most = [
+        0x02, 0x09, 0x00, 0xFF, 0xFF, 0xFF, 0xFF, 0xFF, 0xFF, 0xFF, 0xFF,
+    ];
+    assert!(rt;
+        matches!(
+            take_u64(&mut Cursor::new(alloc, Mode::Der, &most)),
+            Ok(u64::MAX)
+        )
+    );
+    let more = [
+        0x02, 0x09, 0x01, 0x00, 0x00, 0x00, 0x00, 0x00, 0x00, 0x00, 0x00,
+    ];
     assert!(rt; take_u64(&mut Cursor::new(alloc, Mode::Der, &more)).is_err());
     assert!(rt; BitString::take(alloc, Mode::Der, &[0x03, 0x01, 0x01]).is_err());
     match BitString::take(alloc, Mode::Der, &[0x03, 0x02, 0x07, 0x80]) {
@@ -207,16 +271,32 @@ fn prints(alloc: Global, contents: &[u8], text: &str) -> Result<bool, AllocError
 #[test]
 fn object_identifiers_print_their_arcs(rt: HostRuntime) -> Result<(), Fail> {
     let alloc = rt.alloc();
-    assert!(rt; prints(alloc, &[0x2A, 0x86, 0x48, 0x86, 0xF7, 0x0D], "1.2.840.113549")?);
+    assert!(rt;
+        prints(
+            alloc,
+            &[0x2A, 0x86, 0x48, 0x86, 0xF7, 0x0D],
+            "1.2.840.113549"
+        )?
+    );
     assert!(rt; prints(alloc, &[0x27, 0x00], "0.39.0")?);
     assert!(rt; prints(alloc, &[0x88, 0x37], "2.999")?);
-    assert!(rt; prints(alloc, &[0x50, 0x81, 0x81, 0x81, 0x81, 0x81, 0x81, 0x81, 0x81, 0x81, 0x01, 0x02], "2.0.?.2")?);
+    assert!(rt;
+        prints(
+            alloc,
+            &[
+                0x50, 0x81, 0x81, 0x81, 0x81, 0x81, 0x81, 0x81, 0x81, 0x81, 0x01, 0x02
+            ],
+            "2.0.?.2"
+        )?
+    );
     Ok(())
 }
 
 #[test]
 fn a_level_is_held_without_its_end_mark(rt: HostRuntime) -> Result<(), Fail> {
-    let octets = [0x30, 0x80, 0x02, 0x01, 0x00, 0x05, 0x00, 0x00, 0x00, 0x05, 0x00];
+    let octets = [
+        0x30, 0x80, 0x02, 0x01, 0x00, 0x05, 0x00, 0x00, 0x00, 0x05, 0x00,
+    ];
     let mut cursor = Cursor::new(rt.alloc(), Mode::Ber, &octets);
     if cursor.enter(Tag::SEQUENCE).is_err() {
         return Err(Fail::new("a sequence"));

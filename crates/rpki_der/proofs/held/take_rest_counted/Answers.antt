@@ -1,4 +1,4 @@
-use Rattle.std.proofs.Common.{refl, ap, sym, ◌∙◌}
+use Rattle.std.proofs.Common.{refl}
 use Rattle.rpki_der.proofs.Reading.{not_ended}
 use Rattle.rpki_der.proofs.Counting.{continues_item, stops_item, takes_smaller}
 use Rattle.rpki_der.proofs.Leftovers.{takes_rest_err, every_any, continues_as}

@@ -1,8 +1,8 @@
-use Rattle.std.proofs.Common.{rules, ◌≡◌, ◌++◌, refl, ap, sym, ◌∙◌}
+use Rattle.std.proofs.Common.{rules, ◌++◌, ap, sym, ◌∙◌}
 use Rattle.std.specs.Fmt.{HasWritten}
 use Rattle.std.specs.Prelude.{codes}
 use Rattle.rpki_der.specs.Arcs.{arc_text, first_text, later_text, subidentifier_parts}
-use Rattle.rpki_der.proofs.Dotted.{Wrote, wrote_more, wrote_all, wrote_none}
+use Rattle.rpki_der.proofs.Dotted.{wrote_more, wrote_all, wrote_none}
 use Rattle.rpki_der.proofs.arcs.OidDisplay.fmt.Goals as goal
 
 pub returns-in_default-clause-writes : goal.returns-in_default-clause-writes

@@ -1,4 +1,3 @@
-use Rattle.std.proofs.Common.{sym}
 use Rattle.rpki_der.specs.Oid.{oid}
 use Rattle.rpki_der.proofs.Reading.{not_ended}
 use Rattle.rpki_der.proofs.Wholes.{whole_more, whole_none, whole_memory, whole_err}

@@ -1,6 +1,5 @@
-use Rattle.std.proofs.Common.{◌≡◌, ◌∷◌, [], None, length, refl, ap, sym, ◌∙◌, arith}
-use Rattle.rpki_der.proofs.Nodes.{NextNode, next_node, no_more}
-use Rattle.rpki_der.specs.Tree.{value_in, values_in, each}
+use Rattle.std.proofs.Common.{◌≡◌, [], None, length, ap, arith}
+use Rattle.rpki_der.proofs.Nodes.{next_node, no_more}
 use Rattle.rpki_der.proofs.tree.ChildrenIterator.next.Goals as goal
 
 pub split_at-requires : goal.split_at-requires
