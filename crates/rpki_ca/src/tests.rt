@@ -112,6 +112,7 @@ fn words_are_kept_in_order(rt: HostRuntime) -> Result<(), Fail> {
 fn a_failing_source_is_blamed(rt: HostRuntime) -> Result<(), Fail> {
     let alloc = rt.alloc();
     let words = words_of(alloc, &["content"])?;
+    // The message takes five calls, and the end of input a sixth.
     for call in 0..6u64 {
         let mut source = MemorySource::new(alloc, MESSAGE.as_bytes(), 200, &[call])?;
         let mut sink = MemorySink::new(alloc, 1000, 1000, &[])?;
@@ -130,19 +131,32 @@ fn a_failing_source_is_blamed(rt: HostRuntime) -> Result<(), Fail> {
 fn a_failing_sink_keeps_a_part_of_the_line(rt: HostRuntime) -> Result<(), Fail> {
     let alloc = rt.alloc();
     let words = words_of(alloc, &["content"])?;
-    let rows: [(usize, u64, &[u8]); 4] = [
-        (1, 0, b""),
-        (1, 3, b"Cms"),
-        (5, 1, b"CmsDe"),
-        (1000, 0, b""),
-    ];
-    for (piece, call, written) in rows {
-        let mut source = MemorySource::new(alloc, b"00", 1, &[])?;
-        let mut sink = MemorySink::new(alloc, 1000, piece, &[call])?;
-        assert_eq!(rt; run(alloc, &words, &mut source, &mut sink), Status(11));
-        assert_eq!(rt; sink.written(), written);
-        assert_eq!(rt; sink.faults(), 1);
+    let line = b"CmsDecode\n".as_slice();
+    // The octets that a call takes, and how many calls take the line.
+    let rows: [(usize, usize); 3] = [(1, 10), (5, 2), (1000, 1)];
+    for (piece, calls) in rows {
+        for call in 0..calls {
+            let mut source = MemorySource::new(alloc, b"00", 1, &[])?;
+            let mut sink = MemorySink::new(alloc, 1000, piece, &[call as u64])?;
+            assert_eq!(rt; run(alloc, &words, &mut source, &mut sink), Status(11));
+            assert!(rt;
+                line.get(..call * piece) == Some(sink.written()),
+                "call {call} of {piece}"
+            );
+            assert_eq!(rt; sink.faults(), 1);
+        }
     }
+    Ok(())
+}
+
+#[test]
+fn a_sink_with_too_little_room_fails(rt: HostRuntime) -> Result<(), Fail> {
+    let alloc = rt.alloc();
+    let words = words_of(alloc, &["content"])?;
+    let mut source = MemorySource::new(alloc, b"00", 1, &[])?;
+    let mut sink = MemorySink::new(alloc, 9, 1000, &[])?;
+    assert_eq!(rt; run(alloc, &words, &mut source, &mut sink), Status(11));
+    assert_eq!(rt; sink.written(), b"CmsDecode".as_slice());
     Ok(())
 }
 
