@@ -1,11 +1,11 @@
 //! All that the program does.
 
-ghost use Rattle.std.specs.Prelude.{◌≡◌, ◌≢◌, ◌≤◌, ◌++◌, ◌∷◌, [], ◌↔◌, ◌⊎◌, List, ℕ, Ok, Err, false, IfOk, IfErr, IfSome};
-ghost use Rattle.std.specs.Io.KnownBytes.{Appends};
+ghost use Rattle.std.specs.Prelude.{◌≡◌, ◌≢◌, ◌++◌, ◌∷◌, [], ◌↔◌, ◌⊎◌, List, ℕ, Result, Ok, Err, false, IfOk, IfErr, IfSome, IsErrOf, MatchResult};
+ghost use Rattle.std.specs.Io.KnownBytes.{Appends, IsAtEnd};
 ghost use Rattle.rpki_common.specs.Causes.{Rose};
 ghost use Rattle.rpki_text.specs.Sink.{AppendsPart};
-ghost use Rattle.rpki_ca.specs.Refusal.{status_of, name_of};
-ghost use Rattle.rpki_ca.specs.Answer.{is_content, answer_of, IsShown};
+ghost use Rattle.rpki_ca.specs.Refusal.{status_of};
+ghost use Rattle.rpki_ca.specs.Answer.{is_content, answer_of, IsAdmitted, Ends, ReadsAll};
 
 use crate::content::content;
 use crate::refusals::Refusal;
@@ -31,9 +31,11 @@ fn is_content_command(words: &Words) -> bool
 
 // The line with the text that the words ask for.
 fn answer<I: Source>(alloc: Global, words: &Words, input: &mut I) -> Result<Vec<u8>, Refusal>
-    ensures ok { IfOk result (λ line. IfSome (I.rest input.old) (λ octets. (text : List ℕ) × (answer_of words.now octets ≡ Ok text) × (line.items ≡ text ++ 10 ∷ []))) }
-    ensures err { IfErr result (λ e. IsShown e → IfSome (I.rest input.old) (λ octets. answer_of words.now octets ≡ Err e)) }
-    ensures cause { IfErr result (λ e. e ≡ Refusal.ReadFault → Rose (I.faults input.old) (I.faults input.new)) }
+    ensures ok { IfOk result (λ line. (text : List ℕ) × (line.items ≡ text ++ 10 ∷ []) × IsAdmitted words.now (I.rest input.old) (I.faults input.old) (I.faults input.new) (Ok text)) }
+    ensures err { IfErr result (λ e. IsAdmitted words.now (I.rest input.old) (I.faults input.old) (I.faults input.new) (Err e)) }
+    ensures usage { IsErrOf result Refusal.Usage ↔ (is_content words.now ≡ false) }
+    ensures unread { is_content words.now ≡ false → input.new ≡ input.old }
+    ensures whole { MatchResult result (λ _. IsAtEnd (I.rest input.new)) (λ e. ReadsAll (status_of e) → IsAtEnd (I.rest input.new)) }
 {
     if !is_content_command(words) {
         return Err(Refusal::Usage);
@@ -60,28 +62,31 @@ fn write_line<O: Sink>(output: &mut O, line: &[u8], status: u8) -> Status
     }
 }
 
-/// Does what the words ask for with the input, writes one line, and answers the exit status: 0, or that of a refusal, or
-/// 11 where a write failed.
+/// Does what the words ask for with the input, writes one line, and answers the exit status: 0, that of a refusal, or 11
+/// where a write failed.
 ///
 /// `content` reads a signed message in hexadecimal, an even number of digits of either case and at most one line feed
-/// behind them, and writes its content. Octets behind the message are allowed. Reading stops behind 2^26 octets.
+/// behind them, and writes its content. Octets behind the message are allowed. Reading stops behind 2^26 octets. The
+/// whole line is made before the first write.
 pub fn run<I: Source, O: Sink>(
     alloc: Global,
     words: &Words,
     input: &mut I,
     output: &mut O,
 ) -> Status
-    // With status 0 the line is the text that the words ask for.
+    // Status 0 comes only with the text that the words ask for of this input, as the line that was written.
     ensures done { result.0 ≡ 0 → IfSome (I.rest input.old) (λ octets. (text : List ℕ) × (answer_of words.now octets ≡ Ok text) × Appends (O.written output.old) (O.written output.new) (text ++ 10 ∷ [])) }
 
-    // With another one it is the name of the refusal that the words and the input show.
-    ensures refused { (refusal : Refusal) → IsShown refusal → result.0 ≡ status_of refusal → IfSome (I.rest input.old) (λ octets. answer_of words.now octets ≡ Err refusal) }
-    ensures named { (refusal : Refusal) → result.0 ≡ status_of refusal → Appends (O.written output.old) (O.written output.new) (name_of refusal ++ 10 ∷ []) }
-    ensures each { (result.0 ≡ 0) ⊎ (result.0 ≡ 11) ⊎ ((refusal : Refusal) × (result.0 ≡ status_of refusal)) }
+    // Every status comes with an admitted answer: one that words and input show, that the source failed, or want of memory.
+    ensures answered { (answer : Result (List ℕ) Refusal) × IsAdmitted words.now (I.rest input.old) (I.faults input.old) (I.faults input.new) answer × Ends answer result.0 (O.written output.old) (O.written output.new) (O.faults output.old) (O.faults output.new) }
 
-    // The outside is blamed only where it failed.
-    ensures read_fault { result.0 ≡ 10 → Rose (I.faults input.old) (I.faults input.new) }
-    ensures write_fault { result.0 ≡ 11 → Rose (O.faults output.old) (O.faults output.new) }
+    // Other words leave the source unread, and are answered so unless the write fails.
+    ensures usage { result.0 ≡ 2 → is_content words.now ≡ false }
+    ensures usage_always { is_content words.now ≡ false → (result.0 ≡ 2) ⊎ (result.0 ≡ 11) }
+    ensures unread { is_content words.now ≡ false → input.new ≡ input.old }
+
+    // Where the input decided, nothing of it is left.
+    ensures whole { ReadsAll result.0 → IsAtEnd (I.rest input.new) }
 {
     match answer(alloc, words, input) {
         Ok(line) => write_line(output, &line, 0),

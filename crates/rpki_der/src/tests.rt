@@ -104,3 +104,136 @@ fn takes_marked<L: Ledger>(alloc: Global, blank: Blank) -> Result<(), DecodeErro
 fn an_indefinite_value_of_one_ticks_three_times(rt: HostRuntime) {
     assert!(rt; takes_marked::<Brand>(rt.alloc(), Blank::new(1)).is_ok());
 }
+
+#[test]
+fn a_tag_is_made_of_one_identifier(rt: HostRuntime) {
+    let rows: [(&[u8], Option<&[u8]>); 10] = [
+        (&[0x30], Some(&[0x10])),
+        (&[0x04], Some(&[0x04])),
+        (&[0xA0], Some(&[0x80])),
+        (&[0x3F, 0x81, 0x82, 0x03], Some(&[0x1F, 0x81, 0x82, 0x03])),
+        (&[0x1F, 0x81, 0x81, 0x81, 0x01], None),
+        (&[0x1F, 0x81], None),
+        (&[0x00], None),
+        (&[0x20], None),
+        (&[], None),
+        (&[0x04, 0x04], None),
+    ];
+    for (octets, wanted) in rows {
+        match Tag::new(octets) {
+            Some(tag) => assert_eq!(rt; wanted, Some(tag.as_slice())),
+            None => assert!(rt; wanted.is_none()),
+        }
+    }
+}
+
+#[test]
+fn a_level_is_entered_and_left(rt: HostRuntime) -> Result<(), Fail> {
+    let octets = [0x30, 0x80, 0x02, 0x01, 0x00, 0x00, 0x00, 0x05, 0x00];
+    let mut cursor = Cursor::new(rt.alloc(), Mode::Ber, &octets);
+    assert_eq!(rt; cursor.enter(Tag::SET), Err(DecodeError::Malformed));
+    cursor.enter(Tag::SEQUENCE)?;
+    if cursor.depth() != 1 {
+        return Err(Fail::new("a level was entered"));
+    }
+    assert_eq!(rt; cursor.leave(), Err(DecodeError::Malformed));
+    take_integer_if(&mut cursor, 0)?;
+    assert!(rt; cursor.end());
+    if cursor.depth() == 0 {
+        return Err(Fail::new("the level is still open"));
+    }
+    cursor.leave()?;
+    assert_eq!(rt; cursor.capture()?, [0x05u8, 0x00].as_slice());
+    assert!(rt; cursor.end());
+    let mut strict = Cursor::new(rt.alloc(), Mode::Der, &octets);
+    assert_eq!(rt; strict.enter(Tag::SEQUENCE), Err(DecodeError::Malformed));
+    Ok(())
+}
+
+#[test]
+fn what_is_left_is_passed(rt: HostRuntime) -> Result<(), Fail> {
+    let octets = [0x30, 0x06, 0x06, 0x01, 0x2A, 0x02, 0x01, 0x07, 0x04, 0x00];
+    let mut cursor = Cursor::new(rt.alloc(), Mode::Der, &octets);
+    cursor.enter(Tag::SEQUENCE)?;
+    assert_eq!(rt; take_oid(&mut cursor)?, [0x2Au8].as_slice());
+    if cursor.depth() == 0 {
+        return Err(Fail::new("the level is still open"));
+    }
+    pass_rest(&mut cursor)?;
+    assert_eq!(rt;
+        take_octets(rt.alloc(), &mut cursor, Tag::OCTET_STRING)?.len(),
+        0
+    );
+    Ok(())
+}
+
+#[test]
+fn an_object_identifier_ends_with_bit_8_clear(rt: HostRuntime) -> Result<(), Fail> {
+    let mut cursor = Cursor::new(rt.alloc(), Mode::Der, &[0x06, 0x03, 0x55, 0x1D, 0x0E]);
+    take_oid_if(&mut cursor, &[0x55, 0x1D, 0x0E])?;
+    let rows: [&[u8]; 3] = [&[0x06, 0x00], &[0x06, 0x02, 0x55, 0x9D], &[0x26, 0x00]];
+    for octets in rows {
+        let mut cursor = Cursor::new(rt.alloc(), Mode::Ber, octets);
+        assert_eq!(rt; take_oid(&mut cursor), Err(DecodeError::Malformed));
+    }
+    Ok(())
+}
+
+#[test]
+fn segments_are_joined_in_ber_alone(rt: HostRuntime) -> Result<(), Fail> {
+    let alloc = rt.alloc();
+    let rows: [&[u8]; 3] = [
+        &[
+            0x24, 0x80, 0x24, 0x03, 0x04, 0x01, 0x61, 0x04, 0x01, 0x62, 0x00, 0x00,
+        ],
+        &[0x04, 0x82, 0x00, 0x02, 0x61, 0x62],
+        &[0x24, 0x81, 0x06, 0x04, 0x01, 0x61, 0x04, 0x01, 0x62],
+    ];
+    for octets in rows {
+        let mut loose = Cursor::new(alloc, Mode::Ber, octets);
+        assert_eq!(rt;
+            take_octets(alloc, &mut loose, Tag::OCTET_STRING)?.as_slice(),
+            b"ab".as_slice()
+        );
+        assert!(rt; loose.end());
+        let mut strict = Cursor::new(alloc, Mode::Der, octets);
+        assert!(rt; take_octets(alloc, &mut strict, Tag::OCTET_STRING).is_err());
+    }
+    let tagged = [0xA0, 0x80, 0x04, 0x01, 0x61, 0x04, 0x01, 0x62, 0x00, 0x00];
+    let mut cursor = Cursor::new(alloc, Mode::Ber, &tagged);
+    assert_eq!(rt;
+        take_octets(alloc, &mut cursor, Tag::CTX_0)?.as_slice(),
+        b"ab".as_slice()
+    );
+    let inner = [0x24, 0x03, 0x80, 0x01, 0x61];
+    let mut cursor = Cursor::new(alloc, Mode::Ber, &inner);
+    assert!(rt; take_octets(alloc, &mut cursor, Tag::OCTET_STRING).is_err());
+    Ok(())
+}
+
+#[test]
+fn a_hundred_thousand_nested_values_are_read_and_dropped(rt: HostRuntime) -> Result<(), Fail> {
+    let alloc = rt.alloc();
+    let mut octets = Vec::new(alloc);
+    for _ in 0..100_000 {
+        octets.extend_from_slice(&[0x24, 0x80])?;
+    }
+    octets.extend_from_slice(&[0x04, 0x00])?;
+    for _ in 0..100_000 {
+        octets.extend_from_slice(&[0x00, 0x00])?;
+    }
+    let mut cursor = Cursor::new(alloc, Mode::Ber, &octets);
+    assert_eq!(rt; cursor.capture()?.len(), octets.len());
+    let mut cursor = Cursor::new(alloc, Mode::Ber, &octets);
+    assert_eq!(rt;
+        take_octets(alloc, &mut cursor, Tag::OCTET_STRING)?.len(),
+        0
+    );
+    assert!(rt; cursor.end());
+    let mut cursor = Cursor::new(alloc, Mode::Ber, &octets);
+    for _ in 0..100_000 {
+        cursor.enter(Tag::OCTET_STRING)?;
+    }
+    assert_eq!(rt; cursor.depth(), 100_000);
+    Ok(())
+}

@@ -7,6 +7,34 @@ use std::env;
 use std::io::ErrorKind;
 use std::process::ExitCode;
 
+const HELP: &[u8] = b"\
+rpkica reads and checks the messages of RPKI certification authorities.
+
+    rpkica content < MESSAGE
+        MESSAGE is a signed message in DER, in hexadecimal: an even number of
+        digits of either case, then at most one line feed. Its content is
+        written, if the content has the digest that was signed; who signed is
+        not looked at.
+        Example: rpkica content < examples/content.hex
+
+    rpkica --help
+    rpkica --version
+
+One line is written to standard output. The exit status is
+     0  the line is what was asked for
+     2  Usage         the words are no command; nothing is read
+     3  Hex           the input is not hexadecimal
+     4  CmsDecode     the input begins with no signed message
+     6  Validation 2  the content does not have the digest that was signed
+     9  TooLong       more than 67108864 octets of input
+    10  ReadFault     standard input failed
+    11                standard output failed
+    12  OutOfMemory   memory ran out
+Example: rpkica --help; echo $?
+";
+
+const VERSION: &[u8] = b"rpkica 0.1.0\n";
+
 // The words behind the program's name.
 fn words_of<R: std::rt::Env + AllocGlobal>(rt: &R) -> Result<Words, Refusal> {
     let mut words = Words::new(rt.alloc());
@@ -23,14 +51,33 @@ fn words_of<R: std::rt::Env + AllocGlobal>(rt: &R) -> Result<Words, Refusal> {
     Ok(words)
 }
 
+// The text that the only word asks for, if it is one of the program's own.
+fn own_text(words: &Words) -> Option<&'static [u8]> {
+    if words.len() != 1 {
+        return None;
+    }
+    match words.get(0) {
+        Some("--help") => Some(HELP),
+        Some("--version") => Some(VERSION),
+        _ => None,
+    }
+}
+
+fn written<O: Sink>(output: &mut O, text: &[u8], status: u8) -> Status {
+    match write_all(output, text) {
+        Ok(()) => Status(status),
+        Err(_) => Status(11),
+    }
+}
+
 fn main(rt: HostRuntime) -> ExitCode {
     let mut input = StdSource::new(rt.stdin());
     let mut output = StdSink::new(rt.stdout());
     let Status(status) = match words_of(&rt) {
-        Ok(words) => run(rt.alloc(), &words, &mut input, &mut output),
-        Err(refusal) => match write_all(&mut output, refusal.line()) {
-            Ok(()) => Status(refusal.status()),
-            Err(_) => Status(11),
+        Err(refusal) => written(&mut output, refusal.line(), refusal.status()),
+        Ok(words) => match own_text(&words) {
+            Some(text) => written(&mut output, text, 0),
+            None => run(rt.alloc(), &words, &mut input, &mut output),
         },
     };
     ExitCode::from(status)

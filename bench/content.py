@@ -1,0 +1,114 @@
+#!/usr/bin/env python3
+"""Times `rpkica content` on inputs of 1, 4, 16 and 64 MB of hexadecimal, and prints seconds, input bytes a second and peak memory.
+
+    bench/content.py [MB ..]
+
+Three shapes: one message with a large content; the same content in many segments, which DER refuses; and a message whose
+certificate is a deep nesting of SEQUENCEs. The inputs are made in a temporary folder and removed."""
+import hashlib
+import os
+import subprocess
+import sys
+import tempfile
+import time
+
+TOP = os.path.dirname(os.path.dirname(os.path.abspath(__file__)))
+PROGRAM = os.path.join(TOP, "crates", "rpkica", "out", "rpkica")
+
+
+def length(n):
+    if n < 0x80:
+        return bytes([n])
+    octets = n.to_bytes((n.bit_length() + 7) // 8, "big")
+    return bytes([0x80 + len(octets)]) + octets
+
+
+def value(identifier, *parts):
+    content = b"".join(parts)
+    return bytes([identifier]) + length(len(content)) + content
+
+
+def oid(text):
+    return value(0x06, bytes.fromhex(text))
+
+
+SHA256 = value(0x30, oid("608648016503040201"))
+XML = oid("2a864886f70d010910011c")
+
+
+def message(content, octet_string=None, certificate=None):
+    """A message by the reduced grammar; its signature and key identifier are without meaning."""
+    digest = value(0x04, hashlib.sha256(content).digest())
+    attributes = value(0xA0, value(0x30, oid("2a864886f70d010903"), value(0x31, XML)),
+                       value(0x30, oid("2a864886f70d010904"), value(0x31, digest)))
+    signer = value(0x30, value(0x02, b"\x03"), value(0x80, bytes(20)), SHA256, attributes, value(0x30), value(0x04, b"\x00"))
+    encapsulated = value(0x30, XML, value(0xA0, octet_string or value(0x04, content)))
+    data = value(0x30, value(0x02, b"\x03"), value(0x31, SHA256), encapsulated, value(0xA0, certificate or value(0x30)),
+                 value(0xA1, value(0x30)), value(0x31, signer))
+    return value(0x30, oid("2a864886f70d010702"), value(0xA0, data))
+
+
+def nested(size):
+    """SEQUENCEs inside one another, of about this many octets in all"""
+    headers, inner = [], 0
+    while inner < size:
+        header = b"\x30" + length(inner)
+        headers.append(header)
+        inner += len(header)
+    return b"".join(reversed(headers))
+
+
+def large(size):
+    return message(b"x" * (size - 300))
+
+
+def segmented(size):
+    piece = value(0x04, b"x" * 8)
+    count = (size - 300) // len(piece)
+    return message(b"x" * (8 * count), octet_string=value(0x24, piece * count))
+
+
+def deep(size):
+    return message(b"a", certificate=nested(size - 300))
+
+
+def measure(path):
+    """Prints seconds, status and peak memory of one run; in a small process, since a child's peak counts its parent's memory."""
+    with open(path, "rb") as source:
+        start = time.perf_counter()
+        child = subprocess.Popen([PROGRAM, "content"], stdin=source, stdout=subprocess.DEVNULL)
+        _, status, usage = os.wait4(child.pid, 0)
+        seconds = time.perf_counter() - start
+    child.returncode = os.waitstatus_to_exitcode(status)
+    print(seconds, child.returncode, usage.ru_maxrss * 1024)
+
+
+def run(path):
+    words = [sys.executable, os.path.abspath(__file__), "--measure", path]
+    seconds, status, peak = subprocess.run(words, capture_output=True, text=True, check=True).stdout.split()
+    return float(seconds), int(status), int(peak)
+
+
+def main():
+    if sys.argv[1:2] == ["--measure"]:
+        measure(sys.argv[2])
+        return
+    sizes = [int(word) for word in sys.argv[1:]] or [1, 4, 16, 64]
+    if not os.path.exists(PROGRAM):
+        subprocess.run([os.path.join(TOP, "rpkica"), "content"], stdin=subprocess.DEVNULL, stdout=subprocess.DEVNULL, check=False)
+    print(f"{'shape':<10} {'MB':>4} {'status':>6} {'seconds':>8} {'MB/s':>8} {'peak MB':>8} {'bytes/byte':>10}")
+    with tempfile.TemporaryDirectory() as folder:
+        for shape in (large, segmented, deep):
+            for size in sizes:
+                path = os.path.join(folder, "input")
+                text = shape(size * 2**20 // 2).hex()
+                with open(path, "w", encoding="ascii") as target:
+                    target.write(text)
+                best = min(run(path) for _ in range(3))
+                seconds, status, peak = best
+                print(f"{shape.__name__:<10} {size:>4} {status:>6} {seconds:>8.3f} {len(text) / seconds / 1e6:>8.1f} "
+                      f"{peak / 1e6:>8.1f} {(peak - 32e6) / len(text):>10.2f}")
+
+
+if __name__ == "__main__":
+    main()
