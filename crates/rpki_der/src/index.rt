@@ -1,7 +1,8 @@
 //! Reading a value with all that is in it.
 
-ghost use Rattle.std.specs.Prelude.{◌≡◌, ◌≤◌, ◌<◌, ◌+◌, length, drop, IfOk, Err};
+ghost use Rattle.std.specs.Prelude.{◌≡◌, ◌<◌, ◌+◌, ◌-◌, true, false, length, drop, IfOk, Err};
 ghost use Rattle.rpki_der.specs.Value.{Value, spelling, Begins};
+ghost use Rattle.rpki_der.specs.Identifier.{IsIdentifier, tag_of};
 ghost use Rattle.rpki_der.specs.Part.{NoValue, level_of};
 ghost use Rattle.rpki_der.specs.Level.{behind_level, mark_of};
 ghost use Rattle.rpki_der.specs.Entries.{entries_of};
@@ -43,6 +44,38 @@ fn mark_len(level: Open<'_>) -> usize
     }
 }
 
+// The entry of a primitive value, behind which `rest` stands.
+fn primitive_entry(here: &[u8], identifier: &[u8], content: &[u8], rest: &[u8]) -> Entry
+    requires identifier { IsIdentifier identifier.now }
+    ensures { result ≡ record { tag = tag_of identifier.now; constructed = false; header = length here.now - length rest.now - length content.now; mark = 0; size = length here.now - length rest.now; count = 0 } }
+{
+    let size = here.len().saturating_sub(rest.len());
+    Entry {
+        tag: Tag::of(identifier),
+        constructed: false,
+        header: size.saturating_sub(content.len()),
+        mark: 0,
+        size,
+        count: 0,
+    }
+}
+
+// The entry of a constructed value, as far as its header tells.
+fn opening_entry(here: &[u8], identifier: &[u8], open: Open<'_>, inner: &[u8]) -> Entry
+    requires identifier { IsIdentifier identifier.now }
+    ensures { result ≡ record { tag = tag_of identifier.now; constructed = true; header = length here.now - behind_level (level_of open.entry) - length inner.now; mark = length (mark_of (level_of open.entry)); size = length here.now - behind_level (level_of open.entry); count = 0 } }
+{
+    let size = here.len().saturating_sub(behind(open));
+    Entry {
+        tag: Tag::of(identifier),
+        constructed: true,
+        header: size.saturating_sub(inner.len()),
+        mark: mark_len(open),
+        size,
+        count: 0,
+    }
+}
+
 // Notes the value that begins here, and passes it or goes into it.
 fn descend<'a>(
     mode: Mode,
@@ -63,15 +96,7 @@ fn descend<'a>(
                 rest,
             },
         ) => {
-            let size = here.len().saturating_sub(rest.len());
-            entries.push(Entry {
-                tag: Tag::of(identifier),
-                constructed: false,
-                header: size.saturating_sub(content.len()),
-                mark: 0,
-                size,
-                count: 0,
-            })?;
+            entries.push(primitive_entry(here, identifier, content, rest))?;
             Ok(rest)
         }
         Some(
@@ -81,16 +106,8 @@ fn descend<'a>(
                 inner,
             },
         ) => {
-            let size = here.len().saturating_sub(behind(open));
             let entry = entries.len();
-            entries.push(Entry {
-                tag: Tag::of(identifier),
-                constructed: true,
-                header: size.saturating_sub(inner.len()),
-                mark: mark_len(open),
-                size,
-                count: 0,
-            })?;
+            entries.push(opening_entry(here, identifier, open, inner))?;
             levels.push(Inside {
                 extent: open,
                 entry,

@@ -1,4 +1,11 @@
-//! BER and DER values.
+//! BER and DER values (X.690).
+//!
+//! - [`Cursor`] reads values from octets, one after the other and level by level. The calls that take a cursor read
+//!   leaves; each has a form that counts the headers which it reads.
+//! - [`read_tree`] reads one value with all that is in it, as a [`Tree`].
+//! - [`OctetString`], [`Oid`] and [`BitString`] are leaves that are kept.
+//! - [`Writer`] writes values in DER.
+//! - What holds of every spelling is said by functions that do nothing, as [`strict_is_loose`].
 #![tactic(auto)]
 
 mod arcs;
