@@ -107,10 +107,6 @@ contents (Constructed i f vs) octets entry inner n =
     let w = content_between (i ++ lengths_of f) (spellings vs) (end_mark f) octets entry.header entry.mark e (ap (λ (x : Entry). x.header) n.entry' ∙ sym (length-append i (lengths_of f))) (ap (λ (x : Entry). x.mark) n.entry') in
     record { fits = w.0; ordered = w.1; content = w.2 }
 
-pub slice_is : (v : Value) (octets : List ℕ) → Begins Ber octets v [] → octets ≡ (item v).slice
-slice_is (Primitive i l c) octets b = whole octets (Primitive i l c) b
-slice_is (Constructed i f vs) octets b = whole octets (Constructed i f vs) b
-
 -- ---- the values inside it
 
 pub inside_nodes : (v : Value) (octets content : List ℕ) (entry : Entry) (inner : List Entry) → IsNode v octets entry inner → (item v).constructed ≡ true → content ≡ (item v).content → AreNodes (inside v) content inner
@@ -136,11 +132,6 @@ pub tree_in : (v : Value) (octets : List ℕ) (entries : List Entry) → Begins 
 tree_in v octets entries b e = subst (λ (w : Value). IsTree w octets entries) (sym (value_in-is octets v [] b)) (record { begins = b; entries' = e })
 
 -- ---- the root
-
-pub root_node : (v : Value) (octets : List ℕ) (entries : List Entry) (root : Entry) (inner : List Entry) → IsTree v octets entries → entries ≡ root ∷ inner → IsNode v octets root inner
-root_node v octets entries root inner t e =
-    let both : root ∷ inner ≡ entry_of v ∷ all_entries_of (inside v) = sym e ∙ t.entries' ∙ entries_front v in
-    record { begins = t.begins; entry' = head_is root (entry_of v) inner _ both; inner' = tail_is root (entry_of v) inner _ both }
 
 pub some_entry : (v : Value) (octets : List ℕ) (entries : List Entry) → IsTree v octets entries → 0 < length entries
 some_entry v octets entries t = rw (t.entries', entries_front v) (omega arith)

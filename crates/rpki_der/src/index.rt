@@ -61,16 +61,16 @@ fn primitive_entry(here: &[u8], identifier: &[u8], content: &[u8], rest: &[u8]) 
 }
 
 // The entry of a constructed value, as far as its header tells.
-fn opening_entry(here: &[u8], identifier: &[u8], open: Open<'_>, inner: &[u8]) -> Entry
+fn opening_entry(here: &[u8], identifier: &[u8], extent: Open<'_>, inner: &[u8]) -> Entry
     requires identifier { IsIdentifier identifier.now }
-    ensures { result ≡ record { tag = tag_of identifier.now; constructed = true; header = length here.now - behind_level (level_of open.entry) - length inner.now; mark = length (mark_of (level_of open.entry)); size = length here.now - behind_level (level_of open.entry); count = 0 } }
+    ensures { result ≡ record { tag = tag_of identifier.now; constructed = true; header = length here.now - behind_level (level_of extent.entry) - length inner.now; mark = length (mark_of (level_of extent.entry)); size = length here.now - behind_level (level_of extent.entry); count = 0 } }
 {
-    let size = here.len().saturating_sub(behind(open));
+    let size = here.len().saturating_sub(behind(extent));
     Entry {
         tag: Tag::of(identifier),
         constructed: true,
         header: size.saturating_sub(inner.len()),
-        mark: mark_len(open),
+        mark: mark_len(extent),
         size,
         count: 0,
     }
