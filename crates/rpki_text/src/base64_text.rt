@@ -143,7 +143,7 @@ impl Base64 {
 
     /// Three quarters of the length of the text: the number of octets, or up to two more.
     pub fn size_approx(&self) -> usize
-        ensures value { result ≡ length (encode_of standard self.now) * 3 / 4 }
+        ensures value { result ≡ length (encode_of standard self.now) / 4 * 3 }
         ensures at_least { length self.now ≤ result }
         ensures at_most { result ≤ length self.now + 2 }
     {
