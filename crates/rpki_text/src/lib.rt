@@ -50,3 +50,6 @@ pub use writing::write_all;
 
 #[cfg(test)]
 mod tests;
+
+#[cfg(test)]
+mod text_tests;
