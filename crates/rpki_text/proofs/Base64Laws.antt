@@ -6,6 +6,7 @@ use Rattle.std.proofs.lemmas.Option.{none-some, same_Some}
 use Rattle.std.proofs.lemmas.List.Folds.{list_all-append}
 use Rattle.base64.specs.Engines.{standard}
 use Rattle.base64.specs.GeneralPurpose.{encode_of, decode_of, decoded_of, engine_symbols, IsBytes}
+use Rattle.base64.specs.declared.engine.general_purpose.GeneralPurpose.{GeneralPurpose}
 use Rattle.base64.specs.Rfc4648.{encode_symbols, encode_group, padding_len}
 use Rattle.base64.specs.declared.decode.DecodeError.{DecodeError}
 use Rattle.std.proofs.lemmas.List.{length-replicate}
@@ -87,19 +88,20 @@ pub base64_content-encode : (content : List ℕ) → IsBytes content → base64_
 base64_content-encode content fits =
     ap (λ (l : List ℕ). decoded_of standard l) (filter_none (encode_of standard content) (encode_of-spaceless content)) ∙ decoded_of-encode content fits
 
-told_by : (s c : List ℕ) (r : Result (List ℕ) DecodeError) → decode_of standard s ≡ r → result_ok r ≡ Some c → decode_of standard s ≡ Ok c
-told_by s c (Ok x) f g = f ∙ ap Ok (same_Some x c g)
-told_by s c (Err x) f g = absurd (none-some c g)
+told_by : (e : GeneralPurpose) (s c : List ℕ) (r : Result (List ℕ) DecodeError) → decode_of e s ≡ r → result_ok r ≡ Some c → decode_of e s ≡ Ok c
+told_by e s c (Ok x) f g = f ∙ ap Ok (same_Some x c g)
+told_by e s c (Err x) f g = absurd (none-some c g)
 
-told : (s c : List ℕ) → decoded_of standard s ≡ Some c → decode_of standard s ≡ Ok c
+-- what an engine decodes to
+pub decode_of-told : (e : GeneralPurpose) (s c : List ℕ) → decoded_of e s ≡ Some c → decode_of e s ≡ Ok c
 unfolding decoded_of
-told s c e = told_by s c (decode_of standard s) refl e
+decode_of-told e s c h = told_by e s c (decode_of e s) refl h
 
 -- a text spells the octets whose base64 text it is, once its white space is dropped
 pub base64_content-iff : (text content : List ℕ) → IsBytes (filter is_not_space text) → IsBytes content
     → (base64_content text ≡ Some content) ↔ (filter is_not_space text ≡ encode_of standard content)
 base64_content-iff text content octets fits = (
-  λ e. (decode_of_iff standard (filter is_not_space text) content (refl, refl) octets fits).0 (told (filter is_not_space text) content e),
+  λ e. (decode_of_iff standard (filter is_not_space text) content (refl, refl) octets fits).0 (decode_of-told standard (filter is_not_space text) content e),
   λ e. ap (λ (l : List ℕ). decoded_of standard l) e ∙ decoded_of-encode content fits,
 )
 

@@ -25,6 +25,7 @@ mod base64_text;
 mod digests;
 mod handles;
 mod json;
+mod key_identifiers;
 mod memory_sink;
 mod memory_source;
 mod reading;
@@ -41,6 +42,7 @@ pub use handles::{
     SenderHandle,
 };
 pub use json::JsonError;
+pub use key_identifiers::{key_identifier_text, read_key_identifier};
 pub use memory_sink::MemorySink;
 pub use memory_source::MemorySource;
 pub use reading::{ReadAllError, read_all};

@@ -299,3 +299,34 @@ fn a_handle_is_one_string_of_json(rt: HostRuntime) -> Result<(), Fail> {
     }
     Ok(())
 }
+
+#[test]
+fn a_key_identifier_is_twenty_octets(rt: HostRuntime) -> Result<(), Fail> {
+    let alloc = rt.alloc();
+    let zeros = [0u8; 20];
+    assert_eq!(rt; read_key_identifier("AAAAAAAAAAAAAAAAAAAAAAAAAAA="), Some(zeros));
+    assert_eq!(rt; read_key_identifier("AAAAAAAAAAAAAAAAAAAAAAAAAAA"), Some(zeros));
+    assert_eq!(rt;
+        key_identifier_text(alloc, &zeros)?.as_str(),
+        "AAAAAAAAAAAAAAAAAAAAAAAAAAA"
+    );
+    let ones = [0xffu8; 20];
+    assert_eq!(rt;
+        key_identifier_text(alloc, &ones)?.as_str(),
+        "__________________________8"
+    );
+    assert_eq!(rt; read_key_identifier("__________________________8"), Some(ones));
+    for text in [
+        "",
+        "AAAAAAAAAAAAAAAAAAAAAAAAAA",
+        "AAAAAAAAAAAAAAAAAAAAAAAAAAAA",
+        "AAAAAAAAAAAAAAAAAAAAAAAAAAA==",
+        "AAAAAAAAAAAAAAAAAAAAAAAAAAB",
+        "AAAAAAAAAAAAAAAAAAAAAAAAA+A",
+        " AAAAAAAAAAAAAAAAAAAAAAAAAAA",
+        "AAAAAAAAAAAAAAAAAAAAAAAAAA\n=",
+    ] {
+        assert_eq!(rt; read_key_identifier(text), None);
+    }
+    Ok(())
+}
