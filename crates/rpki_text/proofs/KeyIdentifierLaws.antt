@@ -1,13 +1,13 @@
 -- Key identifiers and their texts.
-use Rattle.std.proofs.Common.{◌≡◌, ◌≢◌, ◌↔◌, ℕ, ◌+◌, ◌*◌, ◌/◌, ◌-◌, ◌%◌, ◌<◌, ◌≤◌, Bool, true, false, ◌==◌, if◌then◌else◌, ◌⊎◌, inl, inr, List, [], ◌++◌, length, take, drop, Option, Some, None, IfSome, Result, Ok, Err, replicate, refl, sym, ap, ◌∙◌, arith, length-append}
+use Rattle.std.proofs.Common.{◌≡◌, ◌≢◌, ◌↔◌, ℕ, ◌-◌, ◌%◌, ◌<◌, ◌≤◌, Bool, true, false, ◌==◌, if◌then◌else◌, inl, inr, List, [], length, Option, Some, None, IfSome, Result, Ok, replicate, refl, sym, ap, ◌∙◌, arith, length-append}
 use Rattle.std.specs.Option.{option_or}
 use Rattle.std.specs.Result.{result_ok, is_ok}
 use Rattle.std.proofs.lemmas.Bool.{true≢false}
 use Rattle.std.proofs.lemmas.Bool.Decides.{nat_tests, Decides-eqb}
-use Rattle.std.proofs.lemmas.List.{length-replicate, take_at}
+use Rattle.std.proofs.lemmas.List.{length-replicate}
 use Rattle.std.proofs.lemmas.Option.{none-some, same_Some}
 use Rattle.base64.specs.Engines.{url_safe, url_safe_no_pad}
-use Rattle.base64.specs.GeneralPurpose.{encode_of, decode_of, decoded_of, decoded_bytes_of, decode_slice_of, engine_symbols, IsBytes, IsStrict}
+use Rattle.base64.specs.GeneralPurpose.{encode_of, decoded_of, decoded_bytes_of, decode_slice_of, engine_symbols, IsBytes, IsStrict}
 use Rattle.base64.specs.Decode.{decode_outcome, decoded_estimate, or_error}
 use Rattle.base64.specs.Rfc4648.{encode_symbols}
 use Rattle.base64.specs.declared.decode.DecodeError.{DecodeError}

@@ -1,11 +1,9 @@
 -- What is read of a URI, step by step.
-use Rattle.std.proofs.Common.{◌≡◌, ◌≢◌, ◌↔◌, ℕ, ◌+◌, ◌-◌, ◌<◌, ◌≤◌, min, Bool, true, false, ◌||◌, ◌&&◌, not, nat_lt, nat_le, nat_eq, if◌then◌else◌, List, [], ◌∷◌, ◌++◌, length, take, drop, map, Option, Some, None, IsTrue, MatchOption, Bor, is_some, refl, sym, ap, ◌∙◌, arith, length-drop, codes}
-use Rattle.std.specs.List.{list_all, list_any, slice_split, position, position_or_len, before_first, after_first}
+use Rattle.std.proofs.Common.{◌≡◌, ◌↔◌, ℕ, ◌+◌, ◌-◌, ◌<◌, ◌≤◌, min, Bool, true, false, ◌&&◌, not, nat_lt, if◌then◌else◌, List, [], ◌∷◌, length, take, drop, map, Option, Some, None, IsTrue, MatchOption, Bor, is_some, refl, sym, ap, ◌∙◌, arith}
+use Rattle.std.specs.List.{list_all, slice_split, position, position_or_len, after_first}
 use Rattle.std.specs.Option.{option_map_or}
-use Rattle.std.specs.Bool.{Decides}
-use Rattle.std.specs.Cmp.Lexicographic.{pointwise, bytes_decides}
+use Rattle.std.specs.Cmp.Lexicographic.{bytes_decides}
 use Rattle.std.specs.Char.{to_ascii_lowercase}
-use Rattle.std.specs.Str.{IsAscii}
 use Rattle.std.proofs.lemmas.Bool.{false≢true, true≢false}
 use Rattle.std.proofs.lemmas.Bool.Decides.{nat_tests, Decides-ltb, same_from_decides}
 use Rattle.std.proofs.lemmas.Option.{none-some, same_Some}
@@ -13,7 +11,6 @@ use Rattle.std.proofs.lemmas.Grind.{common_steps}
 use Rattle.std.proofs.lemmas.List.{take_all, drop_all, take_min, drop_min, length-map, length-take}
 use Rattle.std.proofs.lemmas.List.Sums.{fails_before_first}
 use Rattle.std.proofs.lemmas.List.Splits.{slice_split_first, slice_split_none, length-slice_split}
-use Rattle.std.proofs.lemmas.Str.Ascii.{IsAscii-cons, IsAscii-nil}
 use Rattle.rpki_text.specs.Uri.{is_uri_octet, is_slash, is_empty, has_scheme, parts_behind, has_host_and_module, has_dot_segment, parts_fault, uri_fault}
 use Rattle.rpki_text.specs.declared.uri.Error.{Error}
 use Rattle.rpki_text.specs.declared.uri.Error.TheVariants.{TooLong, BadCharacter, BadScheme, BadUri, DotSegments}

@@ -52,6 +52,5 @@ pub use writing::write_all;
 
 #[cfg(test)]
 mod tests;
-
 #[cfg(test)]
 mod text_tests;

@@ -1,4 +1,4 @@
-use Rattle.std.proofs.Common.{sym, ap, refl, ◌∙◌, arith}
+use Rattle.std.proofs.Common.{sym, arith}
 use Rattle.base64.specs.Engines.{url_safe, url_safe_no_pad}
 use Rattle.base64.specs.GeneralPurpose.{decoded_of, IsBytes}
 use Rattle.rpki_text.specs.KeyIdentifier.{twenty}

@@ -17,6 +17,6 @@ pub returns : goal.returns
 returns c =
     let p = sliced_ok c.args.engine.now c.args.text.now c.decode_slice.result c.in-Ok.count c.requires c.decode_slice.ensures.value c.in-Ok.is in
     let copied : c.copy_from_slice.new.self ≡ decoded_bytes_of c.args.engine.now c.args.text.now =
-        c.copy_from_slice.ensures.after ∙ ap (λ (l : List ℕ). take 20 l) c.in-Ok.ensures.written
-        ∙ take_at (decoded_bytes_of c.args.engine.now c.args.text.now) _ 20 (p.1 ∙ c.if-count-ne20.false) in
+    c.copy_from_slice.ensures.after ∙ ap (λ (l : List ℕ). take 20 l) c.in-Ok.ensures.written
+    ∙ take_at (decoded_bytes_of c.args.engine.now c.args.text.now) _ 20 (p.1 ∙ c.if-count-ne20.false) in
     sym (twenty-some (decoded_of c.args.engine.now c.args.text.now) _ (p.0 ∙ ap Some (sym copied)) c.copy_from_slice.ensures.len)

@@ -1,6 +1,6 @@
-use Rattle.std.proofs.Common.{Some, None, Ok, Err, sym, ap, ◌∙◌, arith, refl}
+use Rattle.std.proofs.Common.{◌∙◌, arith}
 use Rattle.base64.specs.GeneralPurpose.{IsBytes}
-use Rattle.rpki_text.proofs.Base64Laws.{IsHeld-encode, held_content-encode, held_is, held_again, held_decodes, length-encode, size_low, size_high}
+use Rattle.rpki_text.proofs.Base64Laws.{IsHeld-encode, held_content-encode}
 use Rattle.rpki_text.proofs.base64_text.Base64.from_content.Goals as goal
 
 pub invariant_of-result : goal.invariant_of-result

@@ -1,6 +1,5 @@
-use Rattle.std.proofs.Common.{ℕ, ◌/◌, ◌*◌, List, length, Some, None, Ok, Err, sym, ap, ◌∙◌, arith, refl}
-use Rattle.base64.specs.GeneralPurpose.{IsBytes}
-use Rattle.rpki_text.proofs.Base64Laws.{IsHeld-encode, held_content-encode, held_is, held_again, held_decodes, length-encode, size_low, size_high}
+use Rattle.std.proofs.Common.{ℕ, ◌/◌, ◌*◌, List, length, ap, ◌∙◌}
+use Rattle.rpki_text.proofs.Base64Laws.{held_is, length-encode, size_low, size_high}
 use Rattle.rpki_text.proofs.base64_text.Base64.size_approx.Goals as goal
 
 pub returns-clause-value : goal.returns-clause-value
