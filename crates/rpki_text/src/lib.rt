@@ -1,4 +1,15 @@
-//! Where octets come from and go to, in pieces, and each failure of the outside is counted.
+//! The leaves that all messages share, and where octets come from and go to.
+//!
+//! Texts, each read exactly by its rule and printed as it stands:
+//!
+//! - [`uri::Rsync`] and [`uri::Https`]: the two kinds of URIs that messages hold.
+//! - [`Hash`]: a SHA-256 digest, as 64 hexadecimal digits.
+//! - [`Base64`]: octets that travel as base64 text. [`read_key_identifier`] and [`key_identifier_text`] are for the key
+//!   identifiers in messages, which have an alphabet of their own.
+//! - [`Handle`]: the name of a party. A marker says which one, so that the handle of a child is never taken for that of a
+//!   parent.
+//!
+//! Where octets come from and go to, in pieces, and each failure of the outside is counted:
 //!
 //! - [`Source`] and [`Sink`]: what is read from and written to. Each has a count of its faults that never falls, so a
 //!   contract can say that a call answers a fault only where the outside failed.
@@ -7,16 +18,31 @@
 //!   caller can be tried at each failure.
 //! - [`StdSource`] and [`StdSink`]: ones over what `std` reads and writes, as a file or standard input.
 //!
-//! Nothing here knows what the octets mean.
+//! Nothing here knows what a message means.
 #![tactic(auto)]
 
+mod base64_text;
+mod digests;
+mod handles;
+mod json;
+mod key_identifiers;
 mod memory_sink;
 mod memory_source;
 mod reading;
 mod standard;
 mod traits;
+pub mod uri;
 mod writing;
 
+pub use base64_text::{Base64, Base64Error};
+pub use digests::Hash;
+pub use handles::{
+    CaHandle, Child, ChildHandle, Handle, InvalidHandle, MyHandle, Myself, Parent, ParentHandle,
+    Publisher, PublisherHandle, Recipient, RecipientHandle, Repository, RepositoryHandle, Sender,
+    SenderHandle,
+};
+pub use json::JsonError;
+pub use key_identifiers::{key_identifier_text, read_key_identifier};
 pub use memory_sink::MemorySink;
 pub use memory_source::MemorySource;
 pub use reading::{ReadAllError, read_all};
@@ -26,3 +52,5 @@ pub use writing::write_all;
 
 #[cfg(test)]
 mod tests;
+#[cfg(test)]
+mod text_tests;

@@ -1,0 +1,74 @@
+//! JSON texts that are one string.
+
+ghost use Rattle.std.specs.Prelude.{◌≡◌, Some, None, IfOk, IsErrOf, string_bytes};
+ghost use Rattle.serde_json.specs.Data.{string};
+ghost use Rattle.serde_json.specs.Read.{read};
+ghost use Rattle.serde_json.specs.View.{view};
+ghost use Rattle.serde_json.specs.Written.{compact_text};
+ghost use Rattle.rpki_text.specs.Json.{string_of_json};
+ghost use Rattle.rpki_text.specs.declared.json.JsonError.TheVariants as variant;
+
+use rpki_common::OutOfMemory;
+use serde_json::Value;
+use std::alloc::{AllocError, Global};
+use thiserror::Error;
+
+/// Why a JSON text was not read.
+#[derive(Clone, Copy, Debug, PartialEq, Eq, Error)]
+pub enum JsonError {
+    /// The text is no JSON, it is not of the right kind, or what it holds is no value of the type.
+    #[error("malformed JSON")]
+    Malformed,
+    /// Memory ran out.
+    #[error("out of memory")]
+    OutOfMemory,
+}
+
+impl From<AllocError> for JsonError {
+    ghost from_gives = { λ _ e. e ≡ variant.OutOfMemory };
+
+    fn from(_: AllocError) -> JsonError {
+        JsonError::OutOfMemory
+    }
+}
+
+impl From<OutOfMemory> for JsonError {
+    ghost from_gives = { λ _ e. e ≡ variant.OutOfMemory };
+
+    fn from(_: OutOfMemory) -> JsonError {
+        JsonError::OutOfMemory
+    }
+}
+
+/// The value of a JSON text, which is nested up to 127 deep.
+fn value_of(alloc: Global, text: &str) -> Result<Value, JsonError>
+    ensures ok { IfOk result (λ v. read text.now ≡ Some (view v)) }
+    ensures malformed { IsErrOf result JsonError.Malformed → read text.now ≡ None }
+{
+    match Value::from_str(alloc, text) {
+        Ok(value) => Ok(value),
+        Err(error) if error.is_memory() => Err(JsonError::OutOfMemory),
+        Err(_) => Err(JsonError::Malformed),
+    }
+}
+
+/// The string that a JSON text is.
+pub(crate) fn read_string(alloc: Global, text: &str) -> Result<String, JsonError>
+    ensures ok { IfOk result (λ s. string_of_json text.now ≡ Some (string_bytes s)) }
+    ensures malformed { IsErrOf result JsonError.Malformed → string_of_json text.now ≡ None }
+{
+    let value = value_of(alloc, text)?;
+    match value.as_str() {
+        Some(found) => Ok(String::from_str(alloc, found)?),
+        None => Err(JsonError::Malformed),
+    }
+}
+
+/// The JSON text of a string.
+pub(crate) fn write_string(alloc: Global, text: &str) -> Result<String, OutOfMemory>
+    ensures exact { IfOk result (λ s. string_bytes s ≡ compact_text (string text.now)) }
+    ensures again { IfOk result (λ s. string_of_json (string_bytes s) ≡ Some text.now) }
+{
+    let value = Value::try_from_str(alloc, text)?;
+    Ok(value.to_string(alloc)?)
+}

@@ -1,0 +1,401 @@
+//! The URIs that messages hold.
+//!
+//! A URI is kept as it was written, and two are equal where their texts are.
+
+ghost use Rattle.std.specs.Prelude.{ℕ, Bool, List, ◌≡◌, ◌≢◌, ◌↔◌, ◌≤◌, ◌<◌, ◌∷◌, [], length, Some, None, IfOk, IfErr, IfSome, IfNone, OnOk, IsTrue, not};
+ghost use Rattle.std.specs.List.{list_all, slice_split, position, after_first};
+ghost use Rattle.std.specs.Option.{option_map_or};
+ghost use Rattle.std.specs.Str.{IsAscii};
+ghost use Rattle.rpki_text.specs.Uri.{is_uri_octet as tells_octet, is_slash, is_dot_segment as tells_dots, has_host_and_module as tells_host_and_module, has_host as tells_host, has_dot_segment as tells_dots_behind, rsync_fault, https_fault, rsync_path as path_of_rsync, https_path as path_of_https, names_directory as tells_directory, uri_fault, parts_fault, without_slash as text_without_slash, joined as joined_text};
+ghost use Rattle.rpki_text.specs.declared.uri.Error.TheVariants as variant;
+
+use rpki_common::{OutOfMemory, Text};
+use std::alloc::{AllocError, Global};
+use std::fmt;
+use std::marker::Model;
+
+/// Why a text is no URI. The rules are tried in the order of the variants, and the first that is broken is told.
+#[derive(Clone, Copy, Debug, PartialEq, Eq, thiserror::Error)]
+pub enum Error {
+    /// The text has more than 65535 octets.
+    #[error("the URI is too long")]
+    TooLong,
+    /// An octet that no URI holds.
+    #[error("the URI has a character that is not allowed")]
+    BadCharacter,
+    /// The text does not begin with the scheme.
+    #[error("the URI has another scheme")]
+    BadScheme,
+    /// The host or the module is missing.
+    #[error("the URI lacks its host or its module")]
+    BadUri,
+    /// A segment of the module or the path is `.` or `..`.
+    #[error("the URI has a segment of dots")]
+    DotSegments,
+    /// Memory ran out.
+    #[error("out of memory")]
+    OutOfMemory,
+}
+
+impl From<AllocError> for Error {
+    ghost from_gives = { λ _ e. e ≡ variant.OutOfMemory };
+
+    fn from(_: AllocError) -> Error {
+        Error::OutOfMemory
+    }
+}
+
+impl From<OutOfMemory> for Error {
+    ghost from_gives = { λ _ e. e ≡ variant.OutOfMemory };
+
+    fn from(_: OutOfMemory) -> Error {
+        Error::OutOfMemory
+    }
+}
+
+/// The most octets of a URI.
+const MOST_OCTETS: usize = 65535;
+
+/// An rsync URI, with a host, a module and a path (RFC 5781). In a clause it is the list of its octets.
+#[derive(Debug, PartialEq, Eq, Hash, Drop)]
+pub struct Rsync {
+    text: Text,
+}
+
+impl Model for Rsync {
+    ghost use Rattle.std.specs.Prelude.{◌≡◌, ℕ, List, None};
+    ghost use Rattle.rpki_text.specs.Uri.{rsync_fault};
+
+    ghost Value = { List ℕ };
+
+    ghost view = { λ u. u.text };
+
+    ghost invariant = { λ u. rsync_fault u.text ≡ None };
+
+    ghost inverse = { λ d. record { text = d } };
+}
+
+impl Rsync {
+    /// The URI that `text` is, or the first rule that it breaks.
+    pub fn from_str(alloc: Global, text: &str) -> Result<Rsync, Error>
+        ensures text { IfOk result (λ u. u ≡ text.now) }
+        ensures accepted { OnOk result (rsync_fault text.now ≡ None) }
+        ensures fault { IfErr result (λ e. e ≢ Error.OutOfMemory → rsync_fault text.now ≡ Some e) }
+    {
+        check_rsync(text.as_bytes())?;
+        Ok(Rsync {
+            text: Text::from_str(alloc, text)?,
+        })
+    }
+
+    /// This URI with `path` behind it and exactly one slash between the two, or the first rule that this text breaks.
+    pub fn join(&self, alloc: Global, path: &[u8]) -> Result<Rsync, Error>
+        ensures text { IfOk result (λ u. u ≡ joined_text self.now path.now) }
+        ensures accepted { OnOk result (rsync_fault (joined_text self.now path.now) ≡ None) }
+        ensures fault { IfErr result (λ e. e ≢ Error.OutOfMemory → rsync_fault (joined_text self.now path.now) ≡ Some e) }
+    {
+        let joined = joined(alloc, self.as_str().as_bytes(), path)?;
+        check_rsync(&joined)?;
+        Ok(Rsync {
+            text: Text::from_str(alloc, ascii_text(&joined))?,
+        })
+    }
+
+    /// Whether the path is empty or ends with a slash.
+    pub fn path_is_dir(&self) -> bool
+        ensures { result ≡ tells_directory (path_of_rsync self.now) }
+    {
+        names_directory(rsync_path(self.as_str().as_bytes()))
+    }
+
+    /// The text, which is read as this URI again.
+    pub fn as_str(&self) -> &str
+        ensures text { result.now ≡ self.now }
+        ensures lawful { rsync_fault result.now ≡ None }
+    {
+        self.text.as_str()
+    }
+
+    /// An equal URI that shares the text with this one.
+    pub fn clone(&self, alloc: Global) -> Result<Rsync, OutOfMemory>
+        ensures { IfOk result (λ u. u ≡ self.now) }
+    {
+        Ok(Rsync {
+            text: self.text.clone(alloc)?,
+        })
+    }
+}
+
+impl fmt::Display for Rsync {
+    ghost output = { λ u. Some u };
+
+    fn fmt<W: fmt::Write>(&self, f: &mut fmt::Formatter<W>) -> fmt::Result {
+        f.write_str(self.text.as_str())
+    }
+}
+
+/// An https URI, with a host and a path, which may be missing (RFC 9110, section 4.2.2). In a clause it is the list of its
+/// octets.
+#[derive(Debug, PartialEq, Eq, Hash, Drop)]
+pub struct Https {
+    text: Text,
+}
+
+impl Model for Https {
+    ghost use Rattle.std.specs.Prelude.{◌≡◌, ℕ, List, None};
+    ghost use Rattle.rpki_text.specs.Uri.{https_fault};
+
+    ghost Value = { List ℕ };
+
+    ghost view = { λ u. u.text };
+
+    ghost invariant = { λ u. https_fault u.text ≡ None };
+
+    ghost inverse = { λ d. record { text = d } };
+}
+
+impl Https {
+    /// The URI that `text` is, or the first rule that it breaks.
+    pub fn from_str(alloc: Global, text: &str) -> Result<Https, Error>
+        ensures text { IfOk result (λ u. u ≡ text.now) }
+        ensures accepted { OnOk result (https_fault text.now ≡ None) }
+        ensures fault { IfErr result (λ e. e ≢ Error.OutOfMemory → https_fault text.now ≡ Some e) }
+    {
+        check_https(text.as_bytes())?;
+        Ok(Https {
+            text: Text::from_str(alloc, text)?,
+        })
+    }
+
+    /// This URI with `path` behind it and exactly one slash between the two, or the first rule that this text breaks.
+    pub fn join(&self, alloc: Global, path: &[u8]) -> Result<Https, Error>
+        ensures text { IfOk result (λ u. u ≡ joined_text self.now path.now) }
+        ensures accepted { OnOk result (https_fault (joined_text self.now path.now) ≡ None) }
+        ensures fault { IfErr result (λ e. e ≢ Error.OutOfMemory → https_fault (joined_text self.now path.now) ≡ Some e) }
+    {
+        let joined = joined(alloc, self.as_str().as_bytes(), path)?;
+        check_https(&joined)?;
+        Ok(Https {
+            text: Text::from_str(alloc, ascii_text(&joined))?,
+        })
+    }
+
+    /// Whether the path is missing, is empty or ends with a slash.
+    pub fn path_is_dir(&self) -> bool
+        ensures { result ≡ tells_directory (path_of_https self.now) }
+    {
+        names_directory(https_path(self.as_str().as_bytes()))
+    }
+
+    /// The text, which is read as this URI again.
+    pub fn as_str(&self) -> &str
+        ensures text { result.now ≡ self.now }
+        ensures lawful { https_fault result.now ≡ None }
+    {
+        self.text.as_str()
+    }
+
+    /// An equal URI that shares the text with this one.
+    pub fn clone(&self, alloc: Global) -> Result<Https, OutOfMemory>
+        ensures { IfOk result (λ u. u ≡ self.now) }
+    {
+        Ok(Https {
+            text: self.text.clone(alloc)?,
+        })
+    }
+}
+
+impl fmt::Display for Https {
+    ghost output = { λ u. Some u };
+
+    fn fmt<W: fmt::Write>(&self, f: &mut fmt::Formatter<W>) -> fmt::Result {
+        f.write_str(self.text.as_str())
+    }
+}
+
+/// Whether `text` is an rsync URI.
+fn check_rsync(text: &[u8]) -> Result<(), Error>
+    ensures accepted { OnOk result (rsync_fault text.now ≡ None) }
+    ensures ascii { OnOk result (IsAscii text.now) }
+    ensures fault { IfErr result (λ e. rsync_fault text.now ≡ Some e) }
+{
+    let rest = check_scheme(text, b"rsync://")?;
+    if !has_host_and_module(rest) {
+        return Err(Error::BadUri);
+    }
+    if has_dot_segment(rest) {
+        return Err(Error::DotSegments);
+    }
+    Ok(())
+}
+
+/// Whether `text` is an https URI.
+fn check_https(text: &[u8]) -> Result<(), Error>
+    ensures accepted { OnOk result (https_fault text.now ≡ None) }
+    ensures ascii { OnOk result (IsAscii text.now) }
+    ensures fault { IfErr result (λ e. https_fault text.now ≡ Some e) }
+{
+    let rest = check_scheme(text, b"https://")?;
+    if !has_host(rest) {
+        return Err(Error::BadUri);
+    }
+    if has_dot_segment(rest) {
+        return Err(Error::DotSegments);
+    }
+    Ok(())
+}
+
+/// What stands behind the scheme of `text`, which is short enough and holds only octets that a URI may hold.
+fn check_scheme<'a>(text: &'a [u8], scheme: &[u8]) -> Result<&'a [u8], Error>
+    ensures rest { IfOk result (λ rest. (has_parts : List (List ℕ) → Bool) → uri_fault scheme.now has_parts text.now ≡ parts_fault has_parts (slice_split is_slash rest.now)) }
+    ensures ascii { OnOk result (IsAscii text.now) }
+    ensures fault { IfErr result (λ e. (has_parts : List (List ℕ) → Bool) → uri_fault scheme.now has_parts text.now ≡ Some e) }
+{
+    if text.len() > MOST_OCTETS {
+        return Err(Error::TooLong);
+    }
+    if !has_uri_octets(text) {
+        return Err(Error::BadCharacter);
+    }
+    let end = scheme.len().min(text.len());
+    if !text[..end].eq_ignore_ascii_case(scheme) {
+        return Err(Error::BadScheme);
+    }
+    Ok(&text[end..])
+}
+
+/// Whether each octet of `text` is one that a URI may hold.
+fn has_uri_octets(text: &[u8]) -> bool
+    ensures { result ≡ list_all tells_octet text.now }
+{
+    text.iter().all(|octet| is_uri_octet(*octet))
+}
+
+/// Whether a URI may hold an octet.
+fn is_uri_octet(octet: u8) -> bool
+    ensures { result ≡ tells_octet octet }
+{
+    matches!(octet, b'!' | b'#'..=b';' | b'=' | b'?'..=b'[' | b']' | b'_' | b'a'..=b'z' | b'~')
+}
+
+/// Where the first slash stands.
+fn first_slash(text: &[u8]) -> Option<usize>
+    ensures { result ≡ position is_slash text.now }
+{
+    text.iter().position(|octet| *octet == b'/')
+}
+
+/// What stands before the first slash, and what stands behind it if there is one.
+fn cut(text: &[u8]) -> (&[u8], Option<&[u8]>)
+    ensures parts { slice_split is_slash text.now ≡ result.0.now ∷ option_map_or (λ rest. slice_split is_slash rest.now) result.1 [] }
+    ensures after { after_first is_slash text.now ≡ option_map_or (λ rest. rest.now) result.1 [] }
+    ensures shorter { IfSome result.1 (λ rest. length rest.now < length text.now) }
+{
+    match first_slash(text) {
+        Some(at) => (&text[..at], Some(&text[at + 1..])),
+        None => (text, None),
+    }
+}
+
+/// Whether `rest`, cut at each slash, begins with a host and a module and has a part behind them.
+fn has_host_and_module(rest: &[u8]) -> bool
+    ensures { result ≡ tells_host_and_module (slice_split is_slash rest.now) }
+{
+    let (host, behind) = cut(rest);
+    let Some(behind) = behind else {
+        return false;
+    };
+    let (module, path) = cut(behind);
+    if path.is_none() {
+        return false;
+    }
+    !host.is_empty() && !module.is_empty()
+}
+
+/// Whether `rest`, cut at each slash, begins with a host.
+fn has_host(rest: &[u8]) -> bool
+    ensures { result ≡ tells_host (slice_split is_slash rest.now) }
+{
+    !cut(rest).0.is_empty()
+}
+
+/// Whether a part of `rest`, which is cut at each slash, is `.` or `..`. The first part, which is the host, doesn't count.
+fn has_dot_segment(rest: &[u8]) -> bool
+    ensures { result ≡ tells_dots_behind (slice_split is_slash rest.now) }
+{
+    let mut path = cut(rest).1;
+    'segments: while let Some(text) = path {
+        let (segment, behind) = cut(text);
+        if is_dot_segment(segment) {
+            return true;
+        }
+        path = behind;
+    }
+    false
+}
+
+/// Whether a segment is `.` or `..`.
+fn is_dot_segment(segment: &[u8]) -> bool
+    ensures { result ≡ tells_dots segment.now }
+{
+    segment == b".".as_slice() || segment == b"..".as_slice()
+}
+
+/// The path of an rsync URI.
+fn rsync_path(text: &[u8]) -> &[u8]
+    requires { 8 ≤ length text.now }
+    ensures { result.now ≡ path_of_rsync text.now }
+{
+    match cut(&text[b"rsync://".len()..]).1 {
+        Some(behind) => cut(behind).1.unwrap_or(b""),
+        None => b"",
+    }
+}
+
+/// The path of an https URI, which is empty where it is missing.
+fn https_path(text: &[u8]) -> &[u8]
+    requires { 8 ≤ length text.now }
+    ensures { result.now ≡ path_of_https text.now }
+{
+    cut(&text[b"https://".len()..]).1.unwrap_or(b"")
+}
+
+/// Whether a path is empty or ends with a slash.
+fn names_directory(path: &[u8]) -> bool
+    ensures { result ≡ tells_directory path.now }
+{
+    path.is_empty() || path.ends_with(b"/")
+}
+
+/// `base` with `path` behind it and exactly one slash between the two.
+fn joined(alloc: Global, base: &[u8], path: &[u8]) -> Result<Vec<u8>, AllocError>
+    ensures { IfOk result (λ v. v.items ≡ joined_text base.now path.now) }
+{
+    let mut text = base.to_vec(alloc)?;
+    if !base.ends_with(b"/") {
+        text.push(b'/')?;
+    }
+    text.extend_from_slice(without_slash(path))?;
+    Ok(text)
+}
+
+/// `path` without its first slash, if it begins with one.
+fn without_slash(path: &[u8]) -> &[u8]
+    ensures { result.now ≡ text_without_slash path.now }
+{
+    match path {
+        [b'/', rest @ ..] => rest,
+        _ => path,
+    }
+}
+
+/// Octets below 128 as a text.
+fn ascii_text(octets: &[u8]) -> &str
+    requires { IsAscii octets.now }
+    ensures { result.now ≡ octets.now }
+{
+    match str::from_utf8(octets) {
+        Ok(text) => text,
+        Err(_) => unreachable!(),
+    }
+}
