@@ -1,0 +1,13 @@
+pub mod Documents
+pub mod Drafts
+pub mod Each
+pub mod Flats
+pub mod Found
+pub mod Held
+pub mod Letters
+pub mod Octets
+pub mod Roots
+pub mod Spelled
+pub mod Stacks
+pub mod Until
+pub mod Written
