@@ -5,6 +5,7 @@ pub mod Flats
 pub mod Found
 pub mod Held
 pub mod Letters
+pub mod NameSets
 pub mod Octets
 pub mod Roots
 pub mod Spelled

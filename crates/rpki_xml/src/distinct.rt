@@ -54,7 +54,7 @@ fn is_distinct_by_set(alloc: Global, attributes: &[Attribute]) -> Result<bool, X
 {
     let mut names: BTreeSet<&[u8]> = BTreeSet::new(alloc);
     let mut left = attributes;
-    while let [more @ .., last] = left {
+    while let Some((last, more)) = left.split_last() {
         if !names.insert(last.name.as_slice())? {
             return Ok(false);
         }

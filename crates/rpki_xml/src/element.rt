@@ -195,6 +195,7 @@ impl<'a> ElementRef<'a> {
     }
 
     /// The value of the attribute with this local name, where it is there. Malformed where there are two of them.
+    #[tactic(auto, unfolding(crate::specs::Lookup::optional))]
     pub fn optional(&self, local: &str) -> Result<Option<&'a str>, XmlError>
         ensures { Gives option_copied result (optional local.now self.now.head) }
     {
@@ -205,6 +206,7 @@ impl<'a> ElementRef<'a> {
     }
 
     /// The value of the attribute with this local name. Malformed where it is not there, or where there are two of them.
+    #[tactic(auto, unfolding(crate::specs::Lookup::required))]
     pub fn required(&self, local: &str) -> Result<&'a str, XmlError>
         ensures { Gives (λ v. v.now) result (required local.now self.now.head) }
     {
@@ -213,6 +215,7 @@ impl<'a> ElementRef<'a> {
     }
 
     /// Nothing. Malformed where there is an attribute with none of these local names.
+    #[tactic(auto, unfolding(crate::specs::Lookup::only))]
     pub fn only(&self, locals: &[&str]) -> Result<(), XmlError>
         ensures { Gives (λ _. tt) result (only (texts locals.now) self.now.head) }
     {
