@@ -99,6 +99,13 @@ set_there nodes places front i m n = slots-set nodes i n ∙ ap (λ (l : List Sl
 
 -- ---- a run
 
+some_same : (a b : List ℕ) → Some a ≡ Some b → a ≡ b
+some_same a b e = cc
+
+-- a node whose text was taken and put back with one more run
+pub with_run : (n : Node) (so_far run text : List ℕ) → so_far ≡ n.text → Some (so_far ++ run) ≡ Some text → head_of (record n { text = text }) ≡ with_text ((head_of n).text ++ run) (head_of n)
+with_run n so_far run text is more = ap (λ (t : List ℕ). with_text t (head_of n)) (sym (some_same (so_far ++ run) text more) ∙ ap (λ (s : List ℕ). s ++ run) is)
+
 pub run_added : (nodes : List Node) (places front : List ℕ) (i : ℕ) (text : List ℕ) (n n' : Node) → places ≡ front ++ i ∷ [] → IsHeld nodes places → n ≡ get_or nodes i n
     → head_of n' ≡ with_text ((head_of n).text ++ text) (head_of n) → n'.below ≡ n.below
     → (add_run text (held nodes places) ≡ Some (held (set nodes i n') places)) × IsHeld (set nodes i n') places

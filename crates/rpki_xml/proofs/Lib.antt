@@ -7,6 +7,7 @@ pub mod Held
 pub mod Letters
 pub mod NameSets
 pub mod Octets
+pub mod Plains
 pub mod Roots
 pub mod Spelled
 pub mod Stacks

@@ -201,6 +201,6 @@ pub step_refused : (e : XmlError) (b rest next : List ℕ) (p : Piece) (opens : 
 step_refused errors.OutOfMemory b rest next p opens h found fails = tt
 step_refused errors.Malformed b rest next p opens h found fails = λ x doc. no_step_there b rest next p opens x h found fails doc
 
-pub answered : (r : Result Element XmlError) (b rest : List ℕ) (opens : List Open) → list_all is_octet b ≡ true → Reached b rest opens → true ≡ eqb (length rest) 0 → Gives (λ d. d) r (root_element opens) → MatchResult r (IsDocument b) (λ e. IsRefused e b)
-answered (Ok x) b rest opens octets h over given = read_ok b opens x octets (subst (λ (l : List ℕ). Reached b l opens) (nil_from_length rest (eqb-true (length rest) 0 (sym over))) h) given
-answered (Err e) b rest opens octets h over given = read_fails e b opens (subst (λ (l : List ℕ). Reached b l opens) (nil_from_length rest (eqb-true (length rest) 0 (sym over))) h) given
+pub answered : {X : Type 0} (view : X → Element) (r : Result X XmlError) (b rest : List ℕ) (opens : List Open) → list_all is_octet b ≡ true → Reached b rest opens → true ≡ eqb (length rest) 0 → Gives view r (root_element opens) → MatchResult r (λ x. IsDocument b (view x)) (λ e. IsRefused e b)
+answered view (Ok x) b rest opens octets h over given = read_ok b opens (view x) octets (subst (λ (l : List ℕ). Reached b l opens) (nil_from_length rest (eqb-true (length rest) 0 (sym over))) h) given
+answered view (Err e) b rest opens octets h over given = read_fails e b opens (subst (λ (l : List ℕ). Reached b l opens) (nil_from_length rest (eqb-true (length rest) 0 (sym over))) h) given

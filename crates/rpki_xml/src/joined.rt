@@ -1,6 +1,7 @@
 //! Texts that are put together of runs.
 
-ghost use Rattle.std.specs.Prelude.{◌≡◌, ◌++◌, [], IfOk};
+ghost use Rattle.std.specs.Prelude.{◌≡◌, ◌++◌, [], Some};
+ghost use Rattle.rpki_xml.specs.Reading.{Gives};
 
 use crate::error::XmlError;
 use bytes::Bytes;
@@ -58,9 +59,9 @@ impl Joined {
         }
     }
 
-    /// The text with one more run.
+    /// The text with one more run. Malformed never comes.
     pub(crate) fn with(self, alloc: Global, run: Bytes) -> Result<Joined, XmlError>
-        ensures { IfOk result (λ text. text ≡ self ++ run) }
+        ensures { Gives (λ text. text) result (Some (self ++ run)) }
     {
         let Joined { runs } = self;
         match runs {
@@ -85,13 +86,14 @@ impl Joined {
     }
 
     /// A part of the text, which ends `behind` octets before its end. It shares the octets of a run that stands alone.
+    /// Malformed never comes.
     pub(crate) fn part(
         &self,
         alloc: Global,
         part: &[u8],
         behind: usize,
     ) -> Result<Joined, XmlError>
-        ensures { IfOk result (λ text. text ≡ part.now) }
+        ensures { Gives (λ text. text) result (Some part.now) }
     {
         match &self.runs {
             Runs::One(run) => Ok(Joined::one(shared(alloc, run, part, behind)?)),
@@ -101,13 +103,14 @@ impl Joined {
 }
 
 /// The octets of `part`, shared with `source` where they end `behind` octets before its end, and otherwise copied.
+/// Malformed never comes.
 pub(crate) fn shared(
     alloc: Global,
     source: &Bytes,
     part: &[u8],
     behind: usize,
 ) -> Result<Bytes, XmlError>
-    ensures { IfOk result (λ octets. octets ≡ part.now) }
+    ensures { Gives (λ octets. octets) result (Some part.now) }
 {
     let end = source.len().saturating_sub(behind);
     let start = end.saturating_sub(part.len());

@@ -1,8 +1,9 @@
-use Rattle.std.proofs.Common.{◌≡◌, length, true}
+use Rattle.std.proofs.Common.{length}
+use Rattle.rpki_xml.proofs.NameSets.{Seen}
 use Rattle.rpki_xml.proofs.distinct.is_distinct_by_set.Given as goal
 
-abbrev pub invariant-loop-left : goal.invariant-loop-left
-invariant-loop-left l = true ≡ true
+abbrev pub invariant-loop-last : goal.invariant-loop-last
+invariant-loop-last l = Seen l.names l.attributes l.left
 
-abbrev pub decreases-loop-left : goal.decreases-loop-left
-decreases-loop-left l = length l.left
+abbrev pub decreases-loop-last : goal.decreases-loop-last
+decreases-loop-last l = length l.left

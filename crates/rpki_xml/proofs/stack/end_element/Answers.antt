@@ -31,7 +31,7 @@ index_mut-node-requires c =
 pub returns-then-ne-clause-given : goal.returns-then-ne-clause-given
 returns-then-ne-clause-given c =
     let more : 0 < length c.pop.new.self.items = grind arith in
-    let ne : bytes_eq c.index_mut-node.result.now.name.items c.args.name.now ≡ false = rw c.as_slice.ensures.value at (is_false (bytes_eq c.as_slice.result.now c.args.name.now) c.if-ne.ensures) in
+    let ne : bytes_eq c.index_mut-node.result.now.name c.args.name.now ≡ false = rw c.as_slice.ensures at (is_false (bytes_eq c.as_slice.result.now c.args.name.now) c.if-ne.ensures) in
     other_name c.args.nodes.now.items c.args.places.now.items c.pop.new.self.items c.in-Some.place c.index_mut-node.result.now c.args.name.now c.in-Some.ensures.items c.requires more c.index_mut-node.ensures.value ne
 
 pub returns-in_err-text-clause-given : goal.returns-in_err-text-clause-given
@@ -40,22 +40,22 @@ returns-in_err-text-clause-given c =
     let more : 0 < length c.pop.new.self.items = grind arith in
     let count : c.len.result - c.in-Some.place - 1 ≡ length c.args.nodes.now.items - c.in-Some.place - 1 = omega arith in
     rw (p.1, p.2) (unsettled_fails c.in_err-text.field-0.0 c.args.nodes.now.items c.args.places.now.items c.pop.new.self.items c.in-Some.place (c.len.result - c.in-Some.place - 1) c.index_mut-node.result.now c.args.name.now
-    c.in-Some.ensures.items c.requires more c.index_mut-node.ensures.value count (rw c.deref.ensures.value at c.in_err-text.ensures))
+    c.in-Some.ensures.items c.requires more c.index_mut-node.ensures.value count (rw c.replace-so_far.ensures.value at c.in_err-text.ensures))
 
 pub returns-clause-given : goal.returns-clause-given
 returns-clause-given c =
     let more : 0 < length c.pop.new.self.items = grind arith in
     let count : c.len.result - c.in-Some.place - 1 ≡ length c.args.nodes.now.items - c.in-Some.place - 1 = omega arith in
-    let same : bytes_eq c.index_mut-node.result.now.name.items c.args.name.now ≡ true = rw c.as_slice.ensures.value at (is_true (bytes_eq c.as_slice.result.now c.args.name.now) c.if-ne.ensures) in
+    let same : bytes_eq c.index_mut-node.result.now.name c.args.name.now ≡ true = rw c.as_slice.ensures at (is_true (bytes_eq c.as_slice.result.now c.args.name.now) c.if-ne.ensures) in
     (element_ended c.args.nodes.now.items c.args.places.now.items c.pop.new.self.items c.in-Some.place (c.len.result - c.in-Some.place - 1) c.index_mut-node.result.now
-    (record c.index_mut-node.result.now { text = c.in_ok-text.text; below = c.len.result - c.in-Some.place - 1 }) c.args.name.now c.in_ok-text.text.items
-    c.in-Some.ensures.items c.requires more c.index_mut-node.ensures.value count same (rw c.deref.ensures.value at c.in_ok-text.ensures) refl refl).0
+    (record c.index_mut-node.result.now { text = c.in_ok-text.text; below = c.len.result - c.in-Some.place - 1 }) c.args.name.now c.in_ok-text.text
+    c.in-Some.ensures.items c.requires more c.index_mut-node.ensures.value count same (rw c.replace-so_far.ensures.value at c.in_ok-text.ensures) refl refl).0
 
 pub returns-clause-kept : goal.returns-clause-kept
 returns-clause-kept c =
     let more : 0 < length c.pop.new.self.items = grind arith in
     let count : c.len.result - c.in-Some.place - 1 ≡ length c.args.nodes.now.items - c.in-Some.place - 1 = omega arith in
-    let same : bytes_eq c.index_mut-node.result.now.name.items c.args.name.now ≡ true = rw c.as_slice.ensures.value at (is_true (bytes_eq c.as_slice.result.now c.args.name.now) c.if-ne.ensures) in
+    let same : bytes_eq c.index_mut-node.result.now.name c.args.name.now ≡ true = rw c.as_slice.ensures at (is_true (bytes_eq c.as_slice.result.now c.args.name.now) c.if-ne.ensures) in
     (element_ended c.args.nodes.now.items c.args.places.now.items c.pop.new.self.items c.in-Some.place (c.len.result - c.in-Some.place - 1) c.index_mut-node.result.now
-    (record c.index_mut-node.result.now { text = c.in_ok-text.text; below = c.len.result - c.in-Some.place - 1 }) c.args.name.now c.in_ok-text.text.items
-    c.in-Some.ensures.items c.requires more c.index_mut-node.ensures.value count same (rw c.deref.ensures.value at c.in_ok-text.ensures) refl refl).1
+    (record c.index_mut-node.result.now { text = c.in_ok-text.text; below = c.len.result - c.in-Some.place - 1 }) c.args.name.now c.in_ok-text.text
+    c.in-Some.ensures.items c.requires more c.index_mut-node.ensures.value count same (rw c.replace-so_far.ensures.value at c.in_ok-text.ensures) refl refl).1
