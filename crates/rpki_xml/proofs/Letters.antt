@@ -125,7 +125,7 @@ repeated_finds P stops at each zero b h = tt
 repeated_finds {X} P stops at each (suc n) b h =
     either (Finds (AllByRecursion P)) (stops b) (Some ([], b)) (at b >>= λ (y : X × List ℕ). repeated stops at n y.1 >>= λ more. Some (y.0 ∷ more.0, more.1)) (tt, h)
     (then_finds P (AllByRecursion P) (at b) (λ y. repeated stops at n y.1 >>= λ more. Some (y.0 ∷ more.0, more.1)) (each b h)
-        (λ y c p k. then_finds (AllByRecursion P) (AllByRecursion P) (repeated stops at n c) (λ more. Some (y ∷ more.0, more.1)) (repeated_finds P stops at each n c k) (λ ys d ps l. ((p, ps), l))))
+    (λ y c p k. then_finds (AllByRecursion P) (AllByRecursion P) (repeated stops at n c) (λ more. Some (y ∷ more.0, more.1)) (repeated_finds P stops at each n c k) (λ ys d ps l. ((p, ps), l))))
 
 until_finds : {X : Type 0} (P : X → Type 0) (stops : List ℕ → Bool) (at : List ℕ → Option (X × List ℕ)) → ((b : List ℕ) → AreOctets b → Finds P (at b)) → (b : List ℕ) → AreOctets b → Finds (AllByRecursion P) (until stops at b)
 unfolding until

@@ -87,12 +87,7 @@ impl Joined {
 
     /// A part of the text, which ends `behind` octets before its end. It shares the octets of a run that stands alone.
     /// Malformed never comes.
-    pub(crate) fn part(
-        &self,
-        alloc: Global,
-        part: &[u8],
-        behind: usize,
-    ) -> Result<Joined, XmlError>
+    pub(crate) fn part(&self, alloc: Global, part: &[u8], behind: usize) -> Result<Joined, XmlError>
         ensures { Gives (λ text. text) result (Some part.now) }
     {
         match &self.runs {

@@ -280,11 +280,7 @@ fn value_in<'a>(
 }
 
 #[tactic(auto, unfolding(crate::specs::Lexing::quoted_at))]
-fn quoted_at<'a>(
-    alloc: Global,
-    source: &Bytes,
-    b: &'a [u8],
-) -> Result<(Bytes, &'a [u8]), XmlError>
+fn quoted_at<'a>(alloc: Global, source: &Bytes, b: &'a [u8]) -> Result<(Bytes, &'a [u8]), XmlError>
     ensures value { Gives (λ x. (x.0, x.1.now)) result (quoted_at b.now) }
     ensures shorter { IfOk result (λ x. length x.1.now < length b.now) }
 {
@@ -363,11 +359,7 @@ fn attributes_at<'a>(
 }
 
 #[tactic(auto, unfolding(crate::specs::Lexing::tag_at))]
-fn tag_at<'a>(
-    alloc: Global,
-    source: &Bytes,
-    b: &'a [u8],
-) -> Result<(Piece<'a>, &'a [u8]), XmlError>
+fn tag_at<'a>(alloc: Global, source: &Bytes, b: &'a [u8]) -> Result<(Piece<'a>, &'a [u8]), XmlError>
     ensures value { Gives (λ x. (piece x.0, x.1.now)) result (tag_at b.now) }
     ensures shorter { IfOk result (λ x. length x.1.now ≤ length b.now) }
 {
@@ -413,11 +405,7 @@ fn passed_at<'a>(close: &[u8], b: &'a [u8]) -> Result<(Piece<'a>, &'a [u8]), Xml
 }
 
 #[tactic(auto, unfolding(crate::specs::Lexing::run_at))]
-fn run_at<'a>(
-    alloc: Global,
-    source: &Bytes,
-    b: &'a [u8],
-) -> Result<(Piece<'a>, &'a [u8]), XmlError>
+fn run_at<'a>(alloc: Global, source: &Bytes, b: &'a [u8]) -> Result<(Piece<'a>, &'a [u8]), XmlError>
     ensures value { Gives (λ x. (piece x.0, x.1.now)) result (run_at b.now) }
     ensures moved { IfOk result (λ x. ends_at true 60 b.now ≡ false → length x.1.now < length b.now) }
 {

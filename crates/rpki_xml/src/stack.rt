@@ -36,7 +36,11 @@ pub(crate) fn add_run(
 }
 
 /// An element without children, in the innermost open element.
-pub(crate) fn add_element(nodes: &mut Vec<Node>, places: &[usize], node: Node) -> Result<(), XmlError>
+pub(crate) fn add_element(
+    nodes: &mut Vec<Node>,
+    places: &[usize],
+    node: Node,
+) -> Result<(), XmlError>
     requires held { IsHeld nodes.old.items places.now }
     requires below { node.below ≡ 0 }
     ensures given { Gives (λ _. held nodes.new.items places.now) result (add_element (head_of node) (held nodes.old.items places.now)) }
