@@ -1,3 +1,4 @@
+pub mod Contents
 pub mod Documents
 pub mod Drafts
 pub mod Each

@@ -1,5 +1,5 @@
 -- Elements of a document consist of the octets of a document.
-use Rattle.std.specs.Prelude.{◌≡◌, ℕ, List, [], ◌∷◌, true, Option, IfSome}
+use Rattle.std.specs.Prelude.{◌≡◌, ℕ, List, true, IfSome}
 use Rattle.std.specs.List.{list_all, AllByRecursion}
 use Rattle.rpki_xml.specs.Element.{Attribute, Head, Elements, none, first}
 use Rattle.rpki_xml.specs.Lexing.{is_octet}

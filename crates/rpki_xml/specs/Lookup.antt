@@ -1,6 +1,6 @@
 -- What a table of messages asks of an element: which name, which attributes, which text, which children. Names are compared
 -- by their local parts.
-use Rattle.std.specs.Prelude.{ℕ, List, [], ◌∷◌, Bool, true, false, ◌&&◌, Option, Some, None, if◌then◌else◌, filter}
+use Rattle.std.specs.Prelude.{ℕ, List, Bool, true, false, ◌&&◌, Option, Some, None, filter}
 use Rattle.std.specs.List.{list_any}
 use Rattle.std.specs.Str.{bytes_eq}
 use Rattle.rpki_common.specs.Items as items

@@ -1,5 +1,5 @@
 -- What the code's nodes are as values: a means for the document in memory.
-use Rattle.std.specs.Prelude.{ℕ, List, map}
+use Rattle.std.specs.Prelude.{List, map}
 use Rattle.rpki_xml.specs.declared.element.Node as declared_node
 use Rattle.rpki_xml.specs.Element.{Head}
 use Rattle.rpki_xml.specs.Nodes.{Slot}

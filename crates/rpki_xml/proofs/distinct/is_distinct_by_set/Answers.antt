@@ -1,4 +1,4 @@
-use Rattle.std.proofs.Common.{ap, sym, Some}
+use Rattle.std.proofs.Common.{ap, Some}
 use Rattle.rpki_xml.proofs.NameSets.{starts, repeated, one_more, all_seen}
 use Rattle.rpki_xml.proofs.distinct.is_distinct_by_set.Goals as goal
 

@@ -2,7 +2,7 @@ use Rattle.std.proofs.Common.{sym, arith, refl, ◌<◌, length}
 use Rattle.rpki_xml.specs.Lexing.{ends_at, character_at}
 use Rattle.rpki_xml.specs.Plain.{is_plain}
 use Rattle.rpki_xml.proofs.Until.{until_starts, until_more}
-use Rattle.rpki_xml.proofs.Plains.{until_plain, back_smaller, moved_at_end}
+use Rattle.rpki_xml.proofs.Plains.{until_plain, back_smaller}
 use Rattle.rpki_xml.proofs.lexing.resolved_until.Goals as goal
 
 pub characters-init : goal.characters-init
