@@ -1,0 +1,16 @@
+pub mod Contents
+pub mod Documents
+pub mod Drafts
+pub mod Each
+pub mod Flats
+pub mod Found
+pub mod Held
+pub mod Letters
+pub mod NameSets
+pub mod Octets
+pub mod Plains
+pub mod Roots
+pub mod Spelled
+pub mod Stacks
+pub mod Until
+pub mod Written

@@ -1,0 +1,102 @@
+-- Characters that stand for themselves, read many at a time.
+use Rattle.std.proofs.Common.{◌≡◌, ℕ, ◌<◌, ◌≤◌, ◌+◌, List, [], ◌∷◌, ◌++◌, length, Bool, ◌&&◌, not, true, false, cond, eqb, Some, refl, sym, ap, subst, ◌∙◌, append_assoc, arith}
+use Rattle.std.proofs.lemmas.List.{append-nil, length-append}
+use Rattle.std.proofs.lemmas.Bool.{eqb-true, eqb-false}
+use Rattle.std.specs.List.{list_all}
+use Rattle.rpki_xml.specs.Lexing.{character_at, ends_at, front_of, back_of, until}
+use Rattle.rpki_xml.specs.Plain.{is_plain}
+use Rattle.rpki_xml.proofs.Until.{Until, until_starts, until_more, until_done}
+
+both : (a b : Bool) → (a && b) ≡ true → (a ≡ true) × (b ≡ true)
+both true true e = (refl, refl)
+both true false e = absurd cc
+both false b e = absurd cc
+
+not_true : (a : Bool) → not a ≡ true → a ≡ false
+not_true true e = absurd cc
+not_true false e = refl
+
+-- ---- the longest front of octets that pass
+
+pub front_back : (passes : ℕ → Bool) (b : List ℕ) → front_of passes b ++ back_of passes b ≡ b
+front_back passes [] = refl
+front_back passes (c ∷ b) = go (passes c) (front_back passes b)
+  where
+    go : (x : Bool) → front_of passes b ++ back_of passes b ≡ b → cond x (c ∷ front_of passes b) [] ++ cond x (back_of passes b) (c ∷ b) ≡ c ∷ b
+    go true e = ap (λ (l : List ℕ). c ∷ l) e
+    go false e = refl
+
+front_passes : (passes : ℕ → Bool) (b : List ℕ) → list_all passes (front_of passes b) ≡ true
+front_passes passes [] = refl
+front_passes passes (c ∷ b) = go (passes c) refl (front_passes passes b)
+  where
+    go : (x : Bool) → passes c ≡ x → list_all passes (front_of passes b) ≡ true → list_all passes (cond x (c ∷ front_of passes b) []) ≡ true
+    go true e h = rw (e, h) refl
+    go false e h = refl
+
+pub front_back_length : (passes : ℕ → Bool) (b : List ℕ) → length (front_of passes b) + length (back_of passes b) ≡ length b
+front_back_length passes b = sym (length-append (front_of passes b) (back_of passes b)) ∙ ap length (front_back passes b)
+
+-- where nothing passes, all is left
+pub back_same : (passes : ℕ → Bool) (b : List ℕ) → length (back_of passes b) ≡ length b → back_of passes b ≡ b
+back_same passes b e = go (front_of passes b) (front_back passes b) (front_back_length passes b)
+  where
+    go : (front : List ℕ) → front ++ back_of passes b ≡ b → length front + length (back_of passes b) ≡ length b → back_of passes b ≡ b
+    go [] is count = is
+    go (c ∷ front) is count = absurd (omega (arith, e, count))
+
+pub back_smaller : (passes : ℕ → Bool) (rest front back : List ℕ) → front ≡ front_of passes rest → back ≡ back_of passes rest → 0 < length front → length back < length rest
+back_smaller passes rest front back f b some = omega (arith, front_back_length passes rest, ap length f, ap length b, some)
+
+-- ---- reading
+
+plain_stops : (at_end : Bool) (stop c : ℕ) (b : List ℕ) → is_plain stop c ≡ true → (ends_at at_end stop (c ∷ b) ≡ false) × (character_at (c ∷ b) ≡ Some (c, b))
+unfolding character_at
+plain_stops at_end stop c b h =
+    let p = both (not (eqb c stop) && not (eqb c 60)) (not (eqb c 38)) h in
+    let q = both (not (eqb c stop)) (not (eqb c 60)) p.0 in
+    (not_true (eqb c stop) q.0, rw (not_true (eqb c 38) p.1, not_true (eqb c 60) q.1) refl)
+
+until_front : (at_end : Bool) (stop : ℕ) (b value front rest : List ℕ) → list_all (is_plain stop) front ≡ true → Until (ends_at at_end stop) character_at b value (front ++ rest) → Until (ends_at at_end stop) character_at b (value ++ front) rest
+until_front at_end stop b value [] rest h u = subst (λ (v : List ℕ). Until (ends_at at_end stop) character_at b v rest) (sym (append-nil value)) u
+until_front at_end stop b value (c ∷ front) rest h u =
+    let p = both (is_plain stop c) (list_all (is_plain stop) front) h in
+    let s = plain_stops at_end stop c (front ++ rest) p.0 in
+    let one = until_more (ends_at at_end stop) character_at b value (c ∷ (front ++ rest)) c (front ++ rest) u s.0 s.1 (omega arith) in
+    subst (λ (v : List ℕ). Until (ends_at at_end stop) character_at b v rest) (append_assoc value (c ∷ []) front) (until_front at_end stop b (value ++ c ∷ []) front rest p.1 one)
+
+-- what stands for itself was read, and the rest is left
+pub until_plain : (at_end : Bool) (stop : ℕ) (b value rest : List ℕ) → Until (ends_at at_end stop) character_at b value rest → Until (ends_at at_end stop) character_at b (value ++ front_of (is_plain stop) rest) (back_of (is_plain stop) rest)
+until_plain at_end stop b value rest u =
+    until_front at_end stop b value (front_of (is_plain stop) rest) (back_of (is_plain stop) rest) (front_passes (is_plain stop) rest) (subst (λ (l : List ℕ). Until (ends_at at_end stop) character_at b value l) (sym (front_back (is_plain stop) rest)) u)
+
+pub plain_done : (at_end : Bool) (stop : ℕ) (b : List ℕ) → ends_at at_end stop (back_of (is_plain stop) b) ≡ true → until (ends_at at_end stop) character_at b ≡ Some (front_of (is_plain stop) b, back_of (is_plain stop) b)
+plain_done at_end stop b off =
+    until_done (ends_at at_end stop) character_at b (front_of (is_plain stop) b) (back_of (is_plain stop) b) (until_plain at_end stop b [] b (until_starts (ends_at at_end stop) character_at b)) off
+
+differs : (x y : Bool) → x ≡ true → y ≡ false → x ≡ y → ⊥
+differs x y on off e = cc
+
+-- where it does not end at once, something was read
+pub plain_moves : (at_end : Bool) (stop : ℕ) (b : List ℕ) → ends_at at_end stop (back_of (is_plain stop) b) ≡ true → ends_at at_end stop b ≡ false → length (back_of (is_plain stop) b) < length b
+plain_moves at_end stop b off on = go (eqb (length (back_of (is_plain stop) b)) (length b)) refl
+  where
+    go : (x : Bool) → eqb (length (back_of (is_plain stop) b)) (length b) ≡ x → length (back_of (is_plain stop) b) < length b
+    go true e = absurd (differs (ends_at at_end stop (back_of (is_plain stop) b)) (ends_at at_end stop b) off on (ap (ends_at at_end stop) (back_same (is_plain stop) b (eqb-true (length (back_of (is_plain stop) b)) (length b) e))))
+    go false e = let ne = eqb-false (length (back_of (is_plain stop) b)) (length b) e in omega (arith, ne, front_back_length (is_plain stop) b)
+
+-- a loop's end: where it does not end at once, something was read
+pub moved_at_end : (at_end : Bool) (stop : ℕ) (b rest : List ℕ) → length rest ≤ length b → (length rest ≡ length b → rest ≡ b) → ends_at at_end stop rest ≡ true → ends_at at_end stop b ≡ false → length rest < length b
+moved_at_end at_end stop b rest le same off on = go (eqb (length rest) (length b)) refl
+  where
+    go : (x : Bool) → eqb (length rest) (length b) ≡ x → length rest < length b
+    go true e = absurd (differs (ends_at at_end stop rest) (ends_at at_end stop b) off on (ap (ends_at at_end stop) (same (eqb-true (length rest) (length b) e))))
+    go false e = let ne = eqb-false (length rest) (length b) e in omega (arith, ne, le)
+
+some_same : (a b : List ℕ) → Some a ≡ Some b → a ≡ b
+some_same a b e = cc
+
+-- octets that are what stands for itself were read
+pub plain_read : (at_end : Bool) (stop : ℕ) (b front back octets : List ℕ) → Some front ≡ Some octets → front ≡ front_of (is_plain stop) b → back ≡ back_of (is_plain stop) b → ends_at at_end stop back ≡ true → until (ends_at at_end stop) character_at b ≡ Some (octets, back)
+plain_read at_end stop b front back octets same f g off =
+    plain_done at_end stop b (ap (ends_at at_end stop) (sym g) ∙ off) ∙ ap (λ (x : List ℕ). Some (x, back_of (is_plain stop) b)) (sym f ∙ some_same front octets same) ∙ ap (λ (x : List ℕ). Some (octets, x)) (sym g)

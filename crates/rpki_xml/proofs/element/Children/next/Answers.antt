@@ -1,0 +1,29 @@
+use Rattle.std.proofs.Common.{sym, subst, ◌∙◌}
+use Rattle.rpki_xml.specs.Lettered.{AreLettered}
+use Rattle.rpki_xml.proofs.Flats.{splits, no_nodes}
+use Rattle.rpki_xml.proofs.element.Children.next.Goals as goal
+
+pub returns-in_err-node : goal.returns-in_err-node
+returns-in_err-node c =
+    let e = sym c.self.view_is ∙ no_nodes c.self.inside.nodes.now c.in_err-node.ensures.cases in
+    rw c.from_residual.ensures (e, e)
+
+pub split_at-requires : goal.split_at-requires
+split_at-requires c = (splits c.self.inside.nodes.now c.in_ok-node.node.now c.in_ok-node.rest.now c.in_ok-node.ensures.cases.0 c.self.invariant.0).fits
+
+pub invariant_of-result : goal.invariant_of-result
+invariant_of-result c =
+    let s = splits c.self.inside.nodes.now c.in_ok-node.node.now c.in_ok-node.rest.now c.in_ok-node.ensures.cases.0 c.self.invariant.0 in
+    let l = subst AreLettered s.tree c.self.invariant.1 in
+    (l.0, rw c.split_at.ensures.front (s.below, l.1.0))
+
+pub invariant_of-self : goal.invariant_of-self
+invariant_of-self c =
+    let s = splits c.self.inside.nodes.now c.in_ok-node.node.now c.in_ok-node.rest.now c.in_ok-node.ensures.cases.0 c.self.invariant.0 in
+    let l = subst AreLettered s.tree c.self.invariant.1 in
+    rw c.split_at.ensures.back (s.after, l.1.1)
+
+pub returns : goal.returns
+returns c =
+    let s = splits c.self.inside.nodes.now c.in_ok-node.node.now c.in_ok-node.rest.now c.in_ok-node.ensures.cases.0 c.self.invariant.0 in
+    rw (c.split_at.ensures.front, c.split_at.ensures.back) (sym c.self.view_is ∙ s.tree)

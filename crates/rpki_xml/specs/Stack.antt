@@ -1,0 +1,100 @@
+-- Reading piece by piece, with the elements that are still open: a means for the reader, tied to Content by
+-- proofs/Stacks.antt.
+use Rattle.std.specs.Prelude.{ℕ, List, [], ◌∷◌, ◌++◌, ◌&&◌, Option, Some, None, if◌then◌else◌, length, take, drop, reverse, ◌≡◌, nat_eq}
+use Rattle.std.specs.List.{list_all}
+use Rattle.std.specs.Str.{bytes_eq}
+use Rattle.rpki_xml.specs.Element.{Head, Elements, none, Element, alone, joined}
+use Rattle.rpki_xml.specs.Nodes.{Slot, flat, tree_of}
+use Rattle.rpki_xml.specs.Views.{slots}
+use Rattle.rpki_xml.specs.declared.element.Node.{Node}
+use Rattle.rpki_xml.specs.Chaining.{◌>>=◌}
+use Rattle.rpki_xml.specs.Content.{Piece, run, passed_over, leaf, start, end, head_of, text_of, fits, is_distinct, is_white, trimmed}
+
+-- an element that is still open: its head, whose text is the text so far, and its children so far
+pub record Open : Type 0 where
+  pub head : Head
+  pub done : Elements
+
+abbrev pub with_text : List ℕ → Head → Head
+with_text text h = record { name = h.name; namespace = h.namespace; attributes = h.attributes; text = text }
+
+abbrev pub opened : Head → Open
+opened h = record { head = h; done = none }
+
+-- the document itself, whose content is read like an element's
+abbrev pub whole : Open
+whole = opened (record { name = []; namespace = None; attributes = []; text = [] })
+
+-- an open element after more text and more children
+abbrev pub and_more : List ℕ → Elements → Open → Open
+and_more text children o = record { head = with_text (o.head.text ++ text) o.head; done = joined o.done children }
+
+abbrev pub closed : Open → Element
+closed o = record { head = with_text (text_of o.done o.head.text) o.head; children = o.done }
+
+-- the open elements, the innermost first, after one more run, element without children, start or end
+unfoldable pub add_run : List ℕ → List Open → Option (List Open)
+add_run text [] = None
+add_run text (o ∷ outer) = Some (and_more text none o ∷ outer)
+
+unfoldable pub add_element : Head → List Open → Option (List Open)
+add_element head [] = None
+add_element head (o ∷ outer) = Some (and_more [] (alone (record { head = head; children = none })) o ∷ outer)
+
+unfoldable pub begin_element : Head → List Open → Option (List Open)
+begin_element head [] = None
+begin_element head (o ∷ outer) = Some (opened head ∷ o ∷ outer)
+
+unfoldable pub end_element : List ℕ → List Open → Option (List Open)
+end_element name [] = None
+end_element name (o ∷ []) = None
+end_element name (o ∷ p ∷ outer) = if bytes_eq o.head.name name && fits o.done o.head.text then Some (and_more [] (alone (closed o)) p ∷ outer) else None
+
+abbrev pub step : Piece → List Open → Option (List Open)
+step (run text) opens = add_run text opens
+step passed_over opens = Some opens
+step (leaf tag) opens = if is_distinct tag.attributes then add_element (head_of tag []) opens else None
+step (start tag) opens = if is_distinct tag.attributes then begin_element (head_of tag []) opens else None
+step (end name) opens = end_element name opens
+
+abbrev pub steps : List Piece → List Open → Option (List Open)
+steps [] opens = Some opens
+steps (piece ∷ more) opens = step piece opens >>= λ after. steps more after
+
+-- ---- the open elements as they lie in a flat list
+
+-- an open element, the elements below which aren't counted yet
+abbrev pub open_slot : Open → Slot
+open_slot o = record { head = o.head; below = 0 }
+
+abbrev pub slots_of : List Open → List Slot
+slots_of [] = []
+slots_of (o ∷ outer) = slots_of outer ++ open_slot o ∷ flat o.done
+
+-- where the open elements stand, the innermost first
+abbrev pub places_of : List Open → List ℕ
+places_of [] = []
+places_of (o ∷ outer) = length (slots_of outer) ∷ places_of outer
+
+-- the open element that begins a list
+abbrev pub open_at : List Slot → List Open
+open_at [] = []
+open_at (s ∷ list) = record { head = s.head; done = tree_of list } ∷ []
+
+-- the open elements at these places
+abbrev pub opens_of : List Slot → List ℕ → List Open
+opens_of list [] = []
+opens_of list (i ∷ places) = open_at (drop i list) ++ opens_of (take i list) places
+
+-- the open elements that the code holds
+unfoldable pub held : List Node → List ℕ → List Open
+held nodes places = opens_of (slots nodes) (reverse places)
+
+-- what the code holds is open elements, and nothing else
+pub record IsHeld (nodes : List Node) (places : List ℕ) : Type 0 where
+  pub nodes_are : slots nodes ≡ slots_of (held nodes places)
+  pub places_are : reverse places ≡ places_of (held nodes places)
+
+-- the text of an element with so many elements below it, if it may have one
+abbrev pub settled : ℕ → List ℕ → Option (List ℕ)
+settled below text = if nat_eq below 0 then Some (trimmed text) else if list_all is_white text then Some [] else None

@@ -1,0 +1,64 @@
+//! Whether no two attributes have one whole name.
+
+ghost use Rattle.std.specs.Prelude.{◌≡◌, not};
+ghost use Rattle.std.specs.List.{list_all};
+ghost use Rattle.std.specs.Str.{bytes_eq};
+ghost use Rattle.rpki_xml.specs.Content.{is_distinct};
+ghost use Rattle.rpki_xml.specs.Reading.{Gives};
+
+use crate::element::Attribute;
+use crate::error::XmlError;
+use std::alloc::Global;
+use std::collections::BTreeSet;
+
+/// Up to so many attributes are compared in pairs, which takes no memory.
+const FEW: usize = 8;
+
+/// Whether no two attributes have one whole name. Malformed never comes.
+pub(crate) fn is_distinct(alloc: Global, attributes: &[Attribute]) -> Result<bool, XmlError>
+    ensures { Gives (λ b. b) result (Some (is_distinct attributes.now)) }
+{
+    if attributes.len() <= FEW {
+        return Ok(is_distinct_in_pairs(attributes));
+    }
+    is_distinct_by_set(alloc, attributes)
+}
+
+fn differs_from_all(name: &[u8], attributes: &[Attribute]) -> bool
+    ensures { result ≡ list_all (λ b. not (bytes_eq name.now b.name)) attributes.now }
+{
+    for other in attributes {
+        if name == other.name.as_slice() {
+            return false;
+        }
+    }
+    true
+}
+
+fn is_distinct_in_pairs(attributes: &[Attribute]) -> bool
+    ensures { result ≡ is_distinct attributes.now }
+{
+    let mut rest = attributes;
+    while let [first, more @ ..] = rest {
+        if !differs_from_all(first.name.as_slice(), more) {
+            return false;
+        }
+        rest = more;
+    }
+    true
+}
+
+// From the last one on, so that the set has the names of the attributes that follow.
+fn is_distinct_by_set(alloc: Global, attributes: &[Attribute]) -> Result<bool, XmlError>
+    ensures { Gives (λ b. b) result (Some (is_distinct attributes.now)) }
+{
+    let mut names: BTreeSet<&[u8]> = BTreeSet::new(alloc);
+    let mut left = attributes;
+    while let Some((last, more)) = left.split_last() {
+        if !names.insert(last.name.as_slice())? {
+            return Ok(false);
+        }
+        left = more;
+    }
+    Ok(true)
+}

@@ -1,0 +1,228 @@
+//! Documents are read.
+
+ghost use Rattle.std.specs.Prelude.{◌≡◌, [], OnOk, IfOk, MatchResult, is_some, true};
+ghost use Rattle.std.specs.List.{list_all};
+ghost use Rattle.std.specs.Option.{option_copied};
+ghost use Rattle.rpki_xml.specs.Finds.{bare_head, IsRefused};
+ghost use Rattle.rpki_xml.specs.Lexing.{is_octet, IsDocument};
+ghost use Rattle.rpki_xml.specs.Name.{local_name};
+ghost use Rattle.rpki_xml.specs.Nodes.{IsFlat, tree_of};
+ghost use Rattle.rpki_xml.specs.Pieces.{piece as piece_of};
+ghost use Rattle.rpki_xml.specs.Reading.{Gives};
+ghost use Rattle.rpki_xml.specs.Root.{root_element, only_element, root_of, IsWhole};
+ghost use Rattle.rpki_xml.specs.Stack.{held, IsHeld, step};
+ghost use Rattle.rpki_xml.specs.Views.{head_of, slots};
+
+use crate::distinct::is_distinct;
+use crate::element::{Attribute, Children, ElementRef, Node};
+use crate::error::XmlError;
+use crate::joined::Joined;
+use crate::lexing::{Piece, are_octets, piece_at};
+use crate::stack::{add_element, add_run, begin_element, end_element, is_all_white};
+use crate::tag::node_of;
+use bytes::Bytes;
+use rpki_common::OutOfMemory;
+use std::alloc::Global;
+use std::marker::Model;
+use std::rc::Rc;
+
+/// The element of a document. Its copies share their memory. In a clause it is a record of its head, which has name,
+/// namespace, attributes and text, and of its children.
+#[derive(Drop)]
+pub struct Element {
+    // A node for the document itself, and the elements in the order of their starts.
+    nodes: Rc<Vec<Node>>,
+}
+
+impl Model for Element {
+    ghost use Rattle.rpki_xml.specs.Element.{Element as Tree, alone};
+    ghost use Rattle.rpki_xml.specs.Lettered.{AreLettered};
+    ghost use Rattle.rpki_xml.specs.Nodes.{element_code};
+    ghost use Rattle.rpki_xml.specs.Root.{root_of, IsWhole};
+
+    ghost Value = { Tree };
+
+    ghost coded = { element_code };
+
+    ghost view = { λ e. root_of e.nodes.value.items };
+
+    ghost invariant = { λ e. IsWhole e.nodes.value.items × AreLettered (alone (root_of e.nodes.value.items)) };
+}
+
+/// Reads a document: the element that the octets are a document of. Malformed exactly where they are no document.
+pub fn read_document(alloc: Global, octets: &[u8]) -> Result<Element, XmlError>
+    ensures { MatchResult result (IsDocument octets.now) (λ e. IsRefused e octets.now) }
+{
+    if !are_octets(octets) {
+        return Err(XmlError::Malformed);
+    }
+    let nodes = nodes_of(alloc, octets)?;
+    Ok(Element {
+        nodes: Rc::new(alloc, nodes)?,
+    })
+}
+
+// The nodes of a document.
+fn nodes_of(alloc: Global, octets: &[u8]) -> Result<Vec<Node>, XmlError>
+    requires { list_all is_octet octets.now ≡ true }
+    ensures value { MatchResult result (λ v. IsDocument octets.now (root_of v.items)) (λ e. IsRefused e octets.now) }
+    ensures whole { IfOk result (λ v. IsWhole v.items) }
+{
+    let source = Bytes::copy_from_slice(alloc, octets)?;
+    let mut nodes = Vec::new(alloc);
+    nodes.push(own_node(alloc))?;
+    let mut places: Vec<usize> = Vec::new(alloc);
+    places.push(0)?;
+    let mut rest = octets;
+    while !rest.is_empty() {
+        let (piece, after) = piece_at(alloc, &source, rest)?;
+        take(alloc, &mut nodes, &mut places, piece)?;
+        rest = after;
+    }
+    finished(nodes, &places)
+}
+
+// The document itself, as an element.
+fn own_node(alloc: Global) -> Node
+    ensures head { head_of result ≡ bare_head [] }
+    ensures below { result.below ≡ 0 }
+{
+    Node {
+        name: Bytes::new(),
+        namespace: None,
+        attributes: Vec::new(alloc),
+        text: Joined::empty(),
+        below: 0,
+    }
+}
+
+// One more piece.
+fn take(
+    alloc: Global,
+    nodes: &mut Vec<Node>,
+    places: &mut Vec<usize>,
+    piece: Piece<'_>,
+) -> Result<(), XmlError>
+    requires { IsHeld nodes.old.items places.old.items }
+    ensures given { Gives (λ _. held nodes.new.items places.new.items) result (step (piece_of piece.entry) (held nodes.old.items places.old.items)) }
+    ensures kept { OnOk result (IsHeld nodes.new.items places.new.items) }
+{
+    match piece {
+        Piece::Run(text) => add_run(alloc, nodes, places, text),
+        Piece::PassedOver => Ok(()),
+        Piece::Leaf(tag) => {
+            if !is_distinct(alloc, tag.attributes.as_slice())? {
+                return Err(XmlError::Malformed);
+            }
+            let node = node_of(tag)?;
+            add_element(nodes, places, node)
+        }
+        Piece::Start(tag) => {
+            if !is_distinct(alloc, tag.attributes.as_slice())? {
+                return Err(XmlError::Malformed);
+            }
+            let node = node_of(tag)?;
+            begin_element(nodes, places, node)
+        }
+        Piece::End(name) => end_element(alloc, nodes, places, name),
+    }
+}
+
+// The nodes, where no element but the document itself is open, which holds one element and white space.
+fn finished(nodes: Vec<Node>, places: &[usize]) -> Result<Vec<Node>, XmlError>
+    requires { IsHeld nodes.items places.now }
+    ensures value { Gives (λ v. root_of v.items) result (root_element (held nodes.items places.now)) }
+    ensures whole { IfOk result (λ v. IsWhole v.items) }
+{
+    if places.len() != 1 {
+        return Err(XmlError::Malformed);
+    }
+    let Some((document, below)) = nodes.split_first() else {
+        return Err(XmlError::Malformed);
+    };
+    if !is_all_white(document.text.as_slice()) {
+        return Err(XmlError::Malformed);
+    }
+    if !is_one(below) {
+        return Err(XmlError::Malformed);
+    }
+    Ok(nodes)
+}
+
+// Whether there is one element that is no other's child: the first one, with all others below it.
+fn is_one(nodes: &[Node]) -> bool
+    requires { IsFlat (slots nodes.now) }
+    ensures { result ≡ is_some (only_element (tree_of (slots nodes.now))) }
+{
+    match nodes.split_first() {
+        None => false,
+        Some((root, rest)) => root.below == rest.len(),
+    }
+}
+
+impl Element {
+    /// The element, lent.
+    pub fn as_ref(&self) -> ElementRef<'_>
+        ensures { result ≡ self.now }
+    {
+        let Some((_, below)) = self.nodes.split_first() else {
+            unreachable!()
+        };
+        let mut children = Children::over(below);
+        let Some(root) = children.next() else {
+            unreachable!()
+        };
+        root
+    }
+
+    /// An equal element that shares its memory with this one.
+    pub fn clone(&self, _alloc: Global) -> Result<Element, OutOfMemory>
+        ensures { IfOk result (λ e. e ≡ self.now) }
+    {
+        Ok(Element {
+            nodes: self.nodes.clone()?,
+        })
+    }
+
+    /// The whole name.
+    pub fn name(&self) -> &str
+        ensures { result.now ≡ self.now.head.name }
+    {
+        self.as_ref().name()
+    }
+
+    /// The part of the name behind its colon, or the whole.
+    pub fn local(&self) -> &str
+        ensures { result.now ≡ local_name self.now.head.name }
+    {
+        self.as_ref().local()
+    }
+
+    /// The namespace that its own declaration gives, where there is one and it is not empty.
+    pub fn namespace(&self) -> Option<&str>
+        ensures { option_copied result ≡ self.now.head.namespace }
+    {
+        self.as_ref().namespace()
+    }
+
+    /// The attributes in their order, without declarations of namespaces.
+    pub fn attributes(&self) -> &[Attribute]
+        ensures { result.now ≡ self.now.head.attributes }
+    {
+        self.as_ref().attributes()
+    }
+
+    /// Its children, from the first one on.
+    pub fn children(&self) -> Children<'_>
+        ensures { result ≡ self.now.children }
+    {
+        self.as_ref().children()
+    }
+
+    /// The text without outer white space, empty where there is a child.
+    pub fn text(&self) -> &str
+        ensures { result.now ≡ self.now.head.text }
+    {
+        self.as_ref().text()
+    }
+}

@@ -1,0 +1,465 @@
+//! The pieces of a document, one at a time.
+
+ghost use Rattle.std.specs.Prelude.{◌≡◌, ◌<◌, ◌≤◌, length, IfSome, IfOk, false, true};
+ghost use Rattle.std.specs.List.{list_all};
+ghost use Rattle.std.specs.Option.{option_copied, option_map};
+ghost use Rattle.rpki_xml.specs.Content.{behind};
+ghost use Rattle.rpki_xml.specs.Lexing.{ends_at, until, value_in, quoted_at, attribute_at, begins_white, begins_close, no_attribute, past_next, passed_at, run_at, front_of, back_of, past_white, any_entity_at, character_at, name_at, end_at, tag_at, markup_at, piece_at, is_octet};
+ghost use Rattle.rpki_xml.specs.Name.{is_letter, is_name_octet, ends_name, is_name};
+ghost use Rattle.rpki_xml.specs.Pieces.{piece};
+ghost use Rattle.rpki_xml.specs.Plain.{is_plain};
+ghost use Rattle.rpki_xml.specs.Reading.{Gives};
+
+use crate::element::Attribute;
+use crate::error::XmlError;
+use crate::joined::shared;
+use crate::stack::is_white;
+use bytes::Bytes;
+use std::alloc::Global;
+
+/// The start of an element: its whole name and all its attributes.
+#[derive(Debug, Drop)]
+pub(crate) struct Tag {
+    pub(crate) name: Bytes,
+    pub(crate) attributes: Vec<Attribute>,
+}
+
+/// A piece of a document.
+#[derive(Debug, Drop)]
+pub(crate) enum Piece<'a> {
+    /// A text run, its entities resolved.
+    Run(Bytes),
+    /// A comment or an instruction.
+    PassedOver,
+    /// `<name attributes/>`
+    Leaf(Tag),
+    /// `<name attributes>`
+    Start(Tag),
+    /// `</name>`
+    End(&'a [u8]),
+}
+
+/// What follows a front, where the front is there.
+pub(crate) fn behind<'a>(front: &[u8], b: &'a [u8]) -> Option<&'a [u8]>
+    ensures value { option_copied result ≡ behind front.now b.now }
+    ensures shorter { IfSome result (λ rest. length rest.now ≤ length b.now) }
+{
+    let mut rest = b;
+    for c in front {
+        match rest {
+            [] => return None,
+            [d, after @ ..] => {
+                if *d != *c {
+                    return None;
+                }
+                rest = after;
+            }
+        }
+    }
+    Some(rest)
+}
+
+// What follows white space.
+fn past_white(b: &[u8]) -> &[u8]
+    ensures value { result.now ≡ past_white b.now }
+    ensures shorter { length result.now ≤ length b.now }
+{
+    for (i, c) in b.iter().enumerate() {
+        if !is_white(*c) {
+            return &b[i..];
+        }
+    }
+    &[]
+}
+
+fn is_letter(c: u8) -> bool
+    ensures { result ≡ is_letter c }
+{
+    (65 <= c && c <= 90) || (97 <= c && c <= 122)
+}
+
+fn is_name_octet(c: u8) -> bool
+    ensures { result ≡ is_name_octet c }
+{
+    is_letter(c) || (48 <= c && c <= 58) || c == 45 || c == 95 || c == 46
+}
+
+// Whether what stands behind the first octet of a name may stand there.
+fn ends_name(name: &[u8]) -> bool
+    ensures { result ≡ ends_name false name.now }
+{
+    let mut colon = false;
+    let mut rest = name;
+    while let [c, after @ ..] = rest {
+        if *c == b':' {
+            if colon || after.is_empty() {
+                return false;
+            }
+            colon = true;
+        }
+        rest = after;
+    }
+    true
+}
+
+fn is_name(name: &[u8]) -> bool
+    ensures { result ≡ is_name name.now }
+{
+    match name {
+        [] => false,
+        [c, rest @ ..] => (is_letter(*c) || *c == 95) && ends_name(rest),
+    }
+}
+
+// The longest run of name octets, and what follows it.
+fn split_name(b: &[u8]) -> (&[u8], &[u8])
+    ensures front { result.0.now ≡ front_of is_name_octet b.now }
+    ensures back { result.1.now ≡ back_of is_name_octet b.now }
+    ensures shorter { length result.1.now ≤ length b.now }
+{
+    for (i, c) in b.iter().enumerate() {
+        if !is_name_octet(*c) {
+            return b.split_at(i);
+        }
+    }
+    (b, &[])
+}
+
+#[tactic(auto, unfolding(crate::specs::Lexing::name_at))]
+fn name_at(b: &[u8]) -> Option<(&[u8], &[u8])>
+    ensures value { option_map (λ x. (x.0.now, x.1.now)) result ≡ name_at b.now }
+    ensures shorter { IfSome result (λ x. length x.1.now ≤ length b.now) }
+{
+    let (name, rest) = split_name(b);
+    if is_name(name) {
+        Some((name, rest))
+    } else {
+        None
+    }
+}
+
+#[tactic(auto, unfolding(crate::specs::Lexing::any_entity_at))]
+fn any_entity_at(b: &[u8]) -> Option<(u8, &[u8])>
+    ensures value { option_map (λ x. (x.0, x.1.now)) result ≡ any_entity_at b.now }
+    ensures shorter { IfSome result (λ x. length x.1.now ≤ length b.now) }
+{
+    if let Some(rest) = behind(b"amp;", b) {
+        Some((b'&', rest))
+    } else if let Some(rest) = behind(b"lt;", b) {
+        Some((b'<', rest))
+    } else if let Some(rest) = behind(b"gt;", b) {
+        Some((b'>', rest))
+    } else if let Some(rest) = behind(b"quot;", b) {
+        Some((b'"', rest))
+    } else if let Some(rest) = behind(b"apos;", b) {
+        Some((b'\'', rest))
+    } else {
+        None
+    }
+}
+
+#[tactic(auto, unfolding(crate::specs::Lexing::character_at))]
+fn character_at(b: &[u8]) -> Option<(u8, &[u8])>
+    ensures value { option_map (λ x. (x.0, x.1.now)) result ≡ character_at b.now }
+    ensures shorter { IfSome result (λ x. length x.1.now < length b.now) }
+{
+    match b {
+        [] => None,
+        [b'&', rest @ ..] => any_entity_at(rest),
+        [b'<', ..] => None,
+        [c, rest @ ..] => Some((*c, rest)),
+    }
+}
+
+#[tactic(auto, unfolding(crate::specs::Lexing::end_at))]
+fn end_at(b: &[u8]) -> Result<(Piece<'_>, &[u8]), XmlError>
+    ensures value { Gives (λ x. (piece x.0, x.1.now)) result (end_at b.now) }
+    ensures shorter { IfOk result (λ x. length x.1.now ≤ length b.now) }
+{
+    let Some((name, rest)) = name_at(b) else {
+        return Err(XmlError::Malformed);
+    };
+    match behind(b">", past_white(rest)) {
+        None => Err(XmlError::Malformed),
+        Some(rest) => Ok((Piece::End(name), rest)),
+    }
+}
+
+fn ends_at(at_end: bool, stop: u8, b: &[u8]) -> bool
+    ensures { result ≡ ends_at at_end stop b.now }
+{
+    match b {
+        [] => at_end,
+        [c, ..] => *c == stop,
+    }
+}
+
+fn is_plain(stop: u8, c: u8) -> bool
+    ensures { result ≡ is_plain stop c }
+{
+    c != stop && c != b'<' && c != b'&'
+}
+
+// The characters that stand for themselves, up to the first other one, and what follows them.
+fn split_plain(stop: u8, b: &[u8]) -> (&[u8], &[u8])
+    ensures front { result.0.now ≡ front_of (is_plain stop) b.now }
+    ensures back { result.1.now ≡ back_of (is_plain stop) b.now }
+    ensures shorter { length result.1.now ≤ length b.now }
+{
+    for (i, c) in b.iter().enumerate() {
+        if !is_plain(stop, *c) {
+            return b.split_at(i);
+        }
+    }
+    (b, &[])
+}
+
+// The characters up to `stop`, or to the end where `at_end` says so.
+fn characters_until<'a>(
+    alloc: Global,
+    source: &Bytes,
+    at_end: bool,
+    stop: u8,
+    b: &'a [u8],
+) -> Result<(Bytes, &'a [u8]), XmlError>
+    ensures value { Gives (λ x. (x.0, x.1.now)) result (until (ends_at at_end stop) character_at b.now) }
+    ensures shorter { IfOk result (λ x. length x.1.now ≤ length b.now) }
+    ensures moved { IfOk result (λ x. ends_at at_end stop b.now ≡ false → length x.1.now < length b.now) }
+{
+    let (front, rest) = split_plain(stop, b);
+    if ends_at(at_end, stop, rest) {
+        return Ok((shared(alloc, source, front, rest.len())?, rest));
+    }
+    resolved_until(alloc, at_end, stop, b)
+}
+
+// The same, in octets of their own.
+fn resolved_until<'a>(
+    alloc: Global,
+    at_end: bool,
+    stop: u8,
+    b: &'a [u8],
+) -> Result<(Bytes, &'a [u8]), XmlError>
+    ensures value { Gives (λ x. (x.0, x.1.now)) result (until (ends_at at_end stop) character_at b.now) }
+    ensures shorter { IfOk result (λ x. length x.1.now ≤ length b.now) }
+    ensures moved { IfOk result (λ x. ends_at at_end stop b.now ≡ false → length x.1.now < length b.now) }
+{
+    let mut value = Vec::new(alloc);
+    let mut rest = b;
+    'characters: while !ends_at(at_end, stop, rest) {
+        let (front, after) = split_plain(stop, rest);
+        if front.is_empty() {
+            let Some((c, after)) = character_at(rest) else {
+                return Err(XmlError::Malformed);
+            };
+            value.push(c)?;
+            rest = after;
+        } else {
+            value.extend_from_slice(front)?;
+            rest = after;
+        }
+    }
+    Ok((Bytes::from_vec(value)?, rest))
+}
+
+#[tactic(auto, unfolding(crate::specs::Lexing::value_in))]
+fn value_in<'a>(
+    alloc: Global,
+    source: &Bytes,
+    quote: u8,
+    b: &'a [u8],
+) -> Result<(Bytes, &'a [u8]), XmlError>
+    ensures value { Gives (λ x. (x.0, x.1.now)) result (value_in quote b.now) }
+    ensures shorter { IfOk result (λ x. length x.1.now ≤ length b.now) }
+{
+    let (value, rest) = characters_until(alloc, source, false, quote, b)?;
+    match behind(&[quote], rest) {
+        None => Err(XmlError::Malformed),
+        Some(rest) => Ok((value, rest)),
+    }
+}
+
+#[tactic(auto, unfolding(crate::specs::Lexing::quoted_at))]
+fn quoted_at<'a>(alloc: Global, source: &Bytes, b: &'a [u8]) -> Result<(Bytes, &'a [u8]), XmlError>
+    ensures value { Gives (λ x. (x.0, x.1.now)) result (quoted_at b.now) }
+    ensures shorter { IfOk result (λ x. length x.1.now < length b.now) }
+{
+    match b {
+        [] => Err(XmlError::Malformed),
+        [c, rest @ ..] => {
+            if *c == b'"' || *c == b'\'' {
+                Ok(value_in(alloc, source, *c, rest)?)
+            } else {
+                Err(XmlError::Malformed)
+            }
+        }
+    }
+}
+
+#[tactic(auto, unfolding(crate::specs::Lexing::attribute_at))]
+fn attribute_at<'a>(
+    alloc: Global,
+    source: &Bytes,
+    b: &'a [u8],
+) -> Result<(Attribute, &'a [u8]), XmlError>
+    ensures value { Gives (λ x. (x.0, x.1.now)) result (attribute_at b.now) }
+    ensures shorter { IfOk result (λ x. length x.1.now < length b.now) }
+{
+    let Some((name, behind_name)) = name_at(past_white(b)) else {
+        return Err(XmlError::Malformed);
+    };
+    let Some(rest) = behind(b"=", past_white(behind_name)) else {
+        return Err(XmlError::Malformed);
+    };
+    let (value, rest) = quoted_at(alloc, source, past_white(rest))?;
+    let name = shared(alloc, source, name, behind_name.len())?;
+    Ok((Attribute { name, value }, rest))
+}
+
+fn no_attribute(b: &[u8]) -> bool
+    ensures { result ≡ no_attribute b.now }
+{
+    !begins_white(b) || begins_close(past_white(b))
+}
+
+fn begins_white(b: &[u8]) -> bool
+    ensures { result ≡ begins_white b.now }
+{
+    match b {
+        [] => false,
+        [c, ..] => is_white(*c),
+    }
+}
+
+fn begins_close(b: &[u8]) -> bool
+    ensures { result ≡ begins_close b.now }
+{
+    match b {
+        [] => false,
+        [c, ..] => *c == 47 || *c == 62,
+    }
+}
+
+fn attributes_at<'a>(
+    alloc: Global,
+    source: &Bytes,
+    b: &'a [u8],
+) -> Result<(Vec<Attribute>, &'a [u8]), XmlError>
+    ensures value { Gives (λ x. (x.0.items, x.1.now)) result (until no_attribute attribute_at b.now) }
+    ensures shorter { IfOk result (λ x. length x.1.now ≤ length b.now) }
+{
+    let mut attributes = Vec::new(alloc);
+    let mut rest = b;
+    'attributes: while !no_attribute(rest) {
+        let (attribute, after) = attribute_at(alloc, source, rest)?;
+        attributes.push(attribute)?;
+        rest = after;
+    }
+    Ok((attributes, rest))
+}
+
+#[tactic(auto, unfolding(crate::specs::Lexing::tag_at))]
+fn tag_at<'a>(alloc: Global, source: &Bytes, b: &'a [u8]) -> Result<(Piece<'a>, &'a [u8]), XmlError>
+    ensures value { Gives (λ x. (piece x.0, x.1.now)) result (tag_at b.now) }
+    ensures shorter { IfOk result (λ x. length x.1.now ≤ length b.now) }
+{
+    let Some((name, rest)) = name_at(b) else {
+        return Err(XmlError::Malformed);
+    };
+    let name = shared(alloc, source, name, rest.len())?;
+    let (attributes, rest) = attributes_at(alloc, source, rest)?;
+    let rest = past_white(rest);
+    let tag = Tag { name, attributes };
+    if let Some(rest) = behind(b"/>", rest) {
+        return Ok((Piece::Leaf(tag), rest));
+    }
+    match behind(b">", rest) {
+        None => Err(XmlError::Malformed),
+        Some(rest) => Ok((Piece::Start(tag), rest)),
+    }
+}
+
+fn past_next<'a>(close: &[u8], b: &'a [u8]) -> Option<&'a [u8]>
+    ensures value { option_copied result ≡ past_next close.now b.now }
+    ensures shorter { IfSome result (λ rest. length rest.now ≤ length b.now) }
+{
+    let mut from = b;
+    while let [_, after @ ..] = from {
+        if let Some(rest) = behind(close, from) {
+            return Some(rest);
+        }
+        from = after;
+    }
+    None
+}
+
+#[tactic(auto, unfolding(crate::specs::Lexing::passed_at))]
+fn passed_at<'a>(close: &[u8], b: &'a [u8]) -> Result<(Piece<'a>, &'a [u8]), XmlError>
+    ensures value { Gives (λ x. (piece x.0, x.1.now)) result (passed_at close.now b.now) }
+    ensures shorter { IfOk result (λ x. length x.1.now ≤ length b.now) }
+{
+    match past_next(close, b) {
+        None => Err(XmlError::Malformed),
+        Some(rest) => Ok((Piece::PassedOver, rest)),
+    }
+}
+
+#[tactic(auto, unfolding(crate::specs::Lexing::run_at))]
+fn run_at<'a>(alloc: Global, source: &Bytes, b: &'a [u8]) -> Result<(Piece<'a>, &'a [u8]), XmlError>
+    ensures value { Gives (λ x. (piece x.0, x.1.now)) result (run_at b.now) }
+    ensures moved { IfOk result (λ x. ends_at true 60 b.now ≡ false → length x.1.now < length b.now) }
+{
+    let (text, rest) = characters_until(alloc, source, true, b'<', b)?;
+    Ok((Piece::Run(text), rest))
+}
+
+#[tactic(auto, unfolding(crate::specs::Lexing::markup_at))]
+fn markup_at<'a>(
+    alloc: Global,
+    source: &Bytes,
+    b: &'a [u8],
+) -> Result<(Piece<'a>, &'a [u8]), XmlError>
+    ensures value { Gives (λ x. (piece x.0, x.1.now)) result (markup_at b.now) }
+    ensures shorter { IfOk result (λ x. length x.1.now ≤ length b.now) }
+{
+    if let Some(rest) = behind(b"/", b) {
+        return end_at(rest);
+    }
+    if let Some(rest) = behind(b"!--", b) {
+        return passed_at(b"-->", rest);
+    }
+    if let Some(rest) = behind(b"?", b) {
+        return passed_at(b"?>", rest);
+    }
+    tag_at(alloc, source, b)
+}
+
+/// The piece at the front of `b`, and what follows it. Its texts share the octets of `source` where they stand in it.
+#[tactic(auto, unfolding(crate::specs::Lexing::piece_at))]
+pub(crate) fn piece_at<'a>(
+    alloc: Global,
+    source: &Bytes,
+    b: &'a [u8],
+) -> Result<(Piece<'a>, &'a [u8]), XmlError>
+    ensures value { Gives (λ x. (piece x.0, x.1.now)) result (piece_at b.now) }
+    ensures shorter { IfOk result (λ x. length x.1.now < length b.now) }
+{
+    match b {
+        [] => Err(XmlError::Malformed),
+        [b'<', rest @ ..] => markup_at(alloc, source, rest),
+        _ => run_at(alloc, source, b),
+    }
+}
+
+/// Whether all are octets that a document may have.
+pub(crate) fn are_octets(b: &[u8]) -> bool
+    ensures { result ≡ list_all is_octet b.now }
+{
+    b.iter().all(|c| is_octet(*c))
+}
+
+fn is_octet(c: u8) -> bool
+    ensures { result ≡ is_octet c }
+{
+    c == 9 || c == 10 || c == 13 || (32 <= c && c <= 126)
+}

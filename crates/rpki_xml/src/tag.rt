@@ -1,0 +1,101 @@
+//! The element that a start begins.
+
+ghost use Rattle.std.specs.Prelude.{◌≡◌, Some, [], IfOk, IfSome};
+ghost use Rattle.std.specs.Option.{option_copied, option_map};
+ghost use Rattle.rpki_xml.specs.Content.{declares, declared, is_declaration, handed_on, namespace_of, head_of as tag_head};
+ghost use Rattle.rpki_xml.specs.Name.{behind_colon, before_colon};
+ghost use Rattle.rpki_xml.specs.Pieces.{tag as tag_of};
+ghost use Rattle.rpki_xml.specs.Reading.{Gives};
+ghost use Rattle.rpki_xml.specs.Views.{head_of};
+
+use crate::element::{Attribute, Node};
+use crate::error::XmlError;
+use crate::joined::Joined;
+use crate::lexing::{Tag, behind};
+use bytes::Bytes;
+
+// The parts before and behind the first colon, where there is one.
+fn split_colon(name: &[u8]) -> Option<(&[u8], &[u8])>
+    ensures behind { option_map (λ x. x.1.now) result ≡ behind_colon name.now }
+    ensures before { IfSome result (λ x. x.0.now ≡ before_colon name.now) }
+{
+    for (i, c) in name.iter().enumerate() {
+        if *c == b':' {
+            return Some((&name[..i], &name[i + 1..]));
+        }
+    }
+    None
+}
+
+#[tactic(auto, unfolding(crate::specs::Content::declares))]
+fn declares(declaration: &[u8], name: &[u8]) -> bool
+    ensures { result ≡ declares declaration.now name.now }
+{
+    match split_colon(name) {
+        None => declaration == b"xmlns".as_slice(),
+        Some((prefix, _)) => match behind(b"xmlns:", declaration) {
+            None => false,
+            Some(p) => p == prefix,
+        },
+    }
+}
+
+#[tactic(auto, unfolding(crate::specs::Content::is_declaration))]
+fn is_declaration(attribute: &Attribute) -> bool
+    ensures { result ≡ is_declaration attribute.now }
+{
+    let name = attribute.name.as_slice();
+    name == b"xmlns".as_slice() || behind(b"xmlns:", name).is_some()
+}
+
+fn declared<'a>(name: &[u8], attributes: &'a [Attribute]) -> Option<&'a Bytes>
+    ensures { option_copied result ≡ declared name.now attributes.now }
+{
+    for attribute in attributes {
+        if declares(attribute.name.as_slice(), name) {
+            return Some(&attribute.value);
+        }
+    }
+    None
+}
+
+#[tactic(auto, unfolding(crate::specs::Content::namespace_of))]
+fn namespace_of(name: &[u8], attributes: &[Attribute]) -> Result<Option<Bytes>, XmlError>
+    ensures { Gives (λ n. n) result (Some (namespace_of (record { name = name.now; attributes = attributes.now }))) }
+{
+    match declared(name, attributes) {
+        None => Ok(None),
+        Some(uri) => {
+            if uri.is_empty() {
+                Ok(None)
+            } else {
+                Ok(Some(uri.clone()?))
+            }
+        }
+    }
+}
+
+// The attributes that are no declarations, in their order.
+fn handed_on(attributes: Vec<Attribute>) -> Vec<Attribute>
+    ensures { result.items ≡ handed_on attributes.items }
+{
+    let mut kept = attributes;
+    kept.retain(|attribute| !is_declaration(attribute));
+    kept
+}
+
+/// The element that a start begins, without children and text.
+pub(crate) fn node_of(tag: Tag) -> Result<Node, XmlError>
+    ensures head { Gives head_of result (Some (tag_head (tag_of tag) [])) }
+    ensures below { IfOk result (λ n. n.below ≡ 0) }
+{
+    let Tag { name, attributes } = tag;
+    let namespace = namespace_of(name.as_slice(), attributes.as_slice())?;
+    Ok(Node {
+        name,
+        namespace,
+        attributes: handed_on(attributes),
+        text: Joined::empty(),
+        below: 0,
+    })
+}

@@ -1,0 +1,229 @@
+//! Elements are written, call by call.
+
+ghost use Rattle.std.specs.Prelude.{◌≡◌, ◌++◌, ◌∷◌, [], OnOk, OnErr, IfOk};
+ghost use Rattle.std.specs.Option.{option_copied};
+ghost use Rattle.rpki_xml.specs.Spelling.{spelled_text, spelled_value, spelled_attribute, text_character, value_character};
+ghost use Rattle.rpki_xml.specs.Draft.{empty_draft, opened, with_attribute, with_optional, with_text, closed, ending, settled, names_of};
+
+use bytes::Bytes;
+use rpki_common::OutOfMemory;
+use std::alloc::Global;
+use std::marker::Model;
+
+/// Writes elements, call by call. The caller keeps the order: attributes before what stands inside, one `close` for each
+/// `element`. A call that is refused memory leaves the writer as it was.
+///
+/// In a clause it is a record of the octets so far, the names of the open elements, the innermost first, and whether the
+/// start of the innermost one still takes attributes.
+#[derive(Drop)]
+pub struct ElementWriter {
+    alloc: Global,
+    octets: Vec<u8>,
+    names: Vec<Vec<u8>>,
+    in_start: bool,
+}
+
+impl Model for ElementWriter {
+    ghost use Rattle.rpki_xml.specs.Draft.{Draft, names_of};
+
+    ghost Value = { Draft };
+
+    ghost view = { λ w. record { octets = w.octets.items; open_names = names_of w.names.items; in_start = w.in_start } };
+}
+
+impl ElementWriter {
+    /// A writer that has written nothing. It takes no memory; later calls take it from `alloc`.
+    pub fn new(alloc: Global) -> ElementWriter
+        ensures { result ≡ empty_draft }
+    {
+        ElementWriter {
+            alloc,
+            octets: Vec::new(alloc),
+            names: Vec::new(alloc),
+            in_start: false,
+        }
+    }
+
+    /// Begins an element inside the innermost open one.
+    #[tactic(auto, unfolding(crate::specs::Draft::opened))]
+    pub fn element(&mut self, name: &str) -> Result<(), OutOfMemory>
+        ensures ok { OnOk result (self.new ≡ opened name.now self.old) }
+        ensures err { OnErr result (self.new ≡ self.old) }
+    {
+        let name = name.as_bytes();
+        let copy = Vec::from_slice(self.alloc, name)?;
+        let start = start_text(self.alloc, self.in_start, name)?;
+        self.names.push(copy)?;
+        match self.octets.extend_from_slice(&start) {
+            Ok(()) => {
+                self.in_start = true;
+                Ok(())
+            }
+            Err(_) => {
+                let _copy = self.names.pop();
+                Err(OutOfMemory)
+            }
+        }
+    }
+
+    /// Gives the element that was begun last an attribute. Nothing is inside it yet.
+    #[tactic(auto, unfolding(crate::specs::Draft::with_attribute))]
+    pub fn attr(&mut self, name: &str, value: &str) -> Result<(), OutOfMemory>
+        ensures ok { OnOk result (self.new ≡ with_attribute name.now value.now self.old) }
+        ensures err { OnErr result (self.new ≡ self.old) }
+    {
+        let text = attribute_text(self.alloc, name.as_bytes(), value.as_bytes())?;
+        self.octets.extend_from_slice(&text)?;
+        Ok(())
+    }
+
+    /// The same, where there is a value.
+    pub fn attr_opt(&mut self, name: &str, value: Option<&str>) -> Result<(), OutOfMemory>
+        ensures ok { OnOk result (self.new ≡ with_optional name.now (option_copied value.entry) self.old) }
+        ensures err { OnErr result (self.new ≡ self.old) }
+    {
+        match value {
+            None => Ok(()),
+            Some(value) => self.attr(name, value),
+        }
+    }
+
+    /// Writes text into the innermost open element. The empty text changes nothing.
+    #[tactic(auto, unfolding(crate::specs::Draft::with_inside))]
+    pub fn text(&mut self, text: &str) -> Result<(), OutOfMemory>
+        ensures ok { OnOk result (self.new ≡ with_text text.now self.old) }
+        ensures err { OnErr result (self.new ≡ self.old) }
+    {
+        if text.is_empty() {
+            return Ok(());
+        }
+        let inside = inside_text(self.alloc, self.in_start, text.as_bytes())?;
+        self.octets.extend_from_slice(&inside)?;
+        self.in_start = false;
+        Ok(())
+    }
+
+    /// Ends the innermost open element.
+    #[tactic(auto, unfolding(crate::specs::Draft::closed))]
+    pub fn close(&mut self) -> Result<(), OutOfMemory>
+        ensures ok { OnOk result (self.new ≡ closed self.old) }
+        ensures err { OnErr result (self.new ≡ self.old) }
+    {
+        let end = end_text(self.alloc, self.in_start, &self.names)?;
+        self.octets.extend_from_slice(&end)?;
+        let _name = self.names.pop();
+        self.in_start = false;
+        Ok(())
+    }
+
+    /// The octets that were written.
+    pub fn done(self) -> Result<Bytes, OutOfMemory>
+        ensures { IfOk result (λ octets. octets ≡ self.octets) }
+    {
+        let ElementWriter {
+            alloc: _,
+            octets,
+            names: _,
+            in_start: _,
+        } = self;
+        Ok(Bytes::from_vec(octets)?)
+    }
+}
+
+// `>` where the start before it is still open, `<` and the name.
+fn start_text(alloc: Global, in_start: bool, name: &[u8]) -> Result<Vec<u8>, OutOfMemory>
+    ensures { IfOk result (λ v. v.items ≡ settled in_start [] ++ 60 ∷ name.now) }
+{
+    let mut out = Vec::new(alloc);
+    if in_start {
+        out.push(b'>')?;
+    }
+    out.push(b'<')?;
+    out.extend_from_slice(name)?;
+    Ok(out)
+}
+
+// `>` where the start before it is still open, and the text.
+fn inside_text(alloc: Global, in_start: bool, text: &[u8]) -> Result<Vec<u8>, OutOfMemory>
+    ensures { IfOk result (λ v. v.items ≡ settled in_start [] ++ spelled_text text.now) }
+{
+    let mut out = Vec::new(alloc);
+    if in_start {
+        out.push(b'>')?;
+    }
+    put_text(&mut out, text)?;
+    Ok(out)
+}
+
+// `/>` where the start is still open, else `</`, the name and `>`.
+fn end_text(alloc: Global, in_start: bool, names: &[Vec<u8>]) -> Result<Vec<u8>, OutOfMemory>
+    ensures { IfOk result (λ v. v.items ≡ ending in_start (names_of names.now)) }
+{
+    let mut out = Vec::new(alloc);
+    if in_start {
+        out.extend_from_slice(b"/>")?;
+    } else if let Some(name) = names.last() {
+        out.extend_from_slice(b"</")?;
+        out.extend_from_slice(name)?;
+        out.push(b'>')?;
+    }
+    Ok(out)
+}
+
+// A character of a text.
+fn put_text_character(out: &mut Vec<u8>, c: u8) -> Result<(), OutOfMemory>
+    ensures { OnOk result (out.new.items ≡ out.old.items ++ text_character c) }
+{
+    match c {
+        b'&' => out.extend_from_slice(b"&amp;")?,
+        b'<' => out.extend_from_slice(b"&lt;")?,
+        b'>' => out.extend_from_slice(b"&gt;")?,
+        _ => out.push(c)?,
+    }
+    Ok(())
+}
+
+// A character of a value.
+fn put_value_character(out: &mut Vec<u8>, c: u8) -> Result<(), OutOfMemory>
+    ensures { OnOk result (out.new.items ≡ out.old.items ++ value_character c) }
+{
+    match c {
+        b'"' => out.extend_from_slice(b"&quot;")?,
+        b'\'' => out.extend_from_slice(b"&apos;")?,
+        _ => put_text_character(out, c)?,
+    }
+    Ok(())
+}
+
+#[tactic(auto, unfolding(crate::specs::Spelling::spelled_text))]
+fn put_text(out: &mut Vec<u8>, text: &[u8]) -> Result<(), OutOfMemory>
+    ensures { OnOk result (out.new.items ≡ out.old.items ++ spelled_text text.now) }
+{
+    for c in text {
+        put_text_character(out, *c)?;
+    }
+    Ok(())
+}
+
+#[tactic(auto, unfolding(crate::specs::Spelling::spelled_value))]
+fn put_value(out: &mut Vec<u8>, value: &[u8]) -> Result<(), OutOfMemory>
+    ensures { OnOk result (out.new.items ≡ out.old.items ++ spelled_value value.now) }
+{
+    for c in value {
+        put_value_character(out, *c)?;
+    }
+    Ok(())
+}
+
+// ` name="value"`
+fn attribute_text(alloc: Global, name: &[u8], value: &[u8]) -> Result<Vec<u8>, OutOfMemory>
+    ensures { IfOk result (λ v. v.items ≡ spelled_attribute name.now value.now) }
+{
+    let mut out = Vec::new(alloc);
+    out.push(b' ')?;
+    out.extend_from_slice(name)?;
+    out.extend_from_slice(b"=\"")?;
+    put_value(&mut out, value)?;
+    out.push(b'"')?;
+    Ok(out)
+}
