@@ -1,0 +1,8 @@
+//! Sets of AS numbers and of IP addresses.
+#![tactic(auto)]
+
+mod includes;
+mod run;
+mod union;
+
+pub use run::Run;
