@@ -1,2 +1,4 @@
 pub mod RunLemmas
 pub mod Walking
+pub mod Joining
+pub mod Sorting

@@ -176,3 +176,7 @@ not_included s r others rest m o reach outside all =
 -- nothing has no number
 pub nothing_included : (r : Run) (rest : List Run) → r.first ≤ r.last → ¬ (Includes [] (r ∷ rest))
 nothing_included r rest o all = all r.first (inl (omega arith, o))
+
+pub union-nil : union [] ≡ []
+unfolding union
+union-nil = refl

@@ -5,10 +5,6 @@ use Rattle.rpki_sets.specs.declared.run.Run.{Run}
 use Rattle.rpki_sets.specs.Runs.{Includes, IsMaximal}
 use Rattle.rpki_sets.proofs.RunLemmas.{without_first, without_asked, not_included, nothing_included}
 
-pub length-zero : (xs : List Run) → length xs ≡ 0 → xs ≡ []
-length-zero [] e = refl
-length-zero (x ∷ xs) e = absurd (omega arith)
-
 -- what is left decides whether all has part
 pub record IsLeft (all part held asked : List Run) : Type 0 where
   pub held_maximal : IsMaximal held
