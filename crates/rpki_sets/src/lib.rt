@@ -3,6 +3,7 @@
 
 mod includes;
 mod run;
+mod texts;
 mod union;
 
 pub use run::Run;
