@@ -5,3 +5,5 @@ pub mod Sorting
 pub mod Spaces
 pub mod Cutting
 pub mod Decimals
+pub mod ItemLemmas
+pub mod PrefixLemmas

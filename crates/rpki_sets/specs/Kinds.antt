@@ -29,11 +29,15 @@ range_of kind text (Some ends) = kind.number ends.0 >>= λ first. kind.number en
 unfoldable pub range : Kind → List ℕ → Option Run
 range kind text = range_of kind text (cut dash text)
 
--- an address, `/` and a length, the address's bits past the length being of no account; or else a range
+-- an address and a length; what the address has past the length is of no account
+abbrev pub prefix_of : Kind → List ℕ × List ℕ → Option Run
+prefix_of kind parts =
+    kind.number parts.0 >>= λ address. decimal_below (kind.width + 1) parts.1 >>= λ len. Some (prefix kind.width address len)
+
+-- an address and a length with `/` between, or a range
 abbrev pub prefix_or_range : Kind → List ℕ → Option (List ℕ × List ℕ) → Option Run
 prefix_or_range kind text None = range kind text
-prefix_or_range kind text (Some parts) =
-    kind.number parts.0 >>= λ address. decimal_below (kind.width + 1) parts.1 >>= λ len. Some (prefix kind.width address len)
+prefix_or_range kind text (Some parts) = prefix_of kind parts
 
 -- one item of a text
 unfoldable pub item : Kind → List ℕ → Option Run

@@ -2,6 +2,9 @@
 #![tactic(auto)]
 
 mod includes;
+mod item;
+mod numbers;
+mod prefix;
 mod run;
 mod texts;
 mod union;

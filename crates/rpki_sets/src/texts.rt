@@ -62,7 +62,8 @@ pub fn cut(text: &[u8], mark: u8) -> Option<(&[u8], &[u8])>
 pub fn decimal_below(limit: u64, text: &[u8]) -> Option<u64>
     requires positive { 0 < limit }
     requires small { limit ≤ 2 ^ 32 }
-    ensures { result ≡ decimal_below_of limit text.now }
+    ensures number { result ≡ decimal_below_of limit text.now }
+    ensures below { IfSome result (λ number. number < limit) }
 {
     if text.is_empty() {
         return None;
