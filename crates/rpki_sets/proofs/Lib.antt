@@ -7,3 +7,4 @@ pub mod Cutting
 pub mod Decimals
 pub mod ItemLemmas
 pub mod PrefixLemmas
+pub mod ReadingLemmas

@@ -5,7 +5,7 @@ use Rattle.std.specs.Fmt.{decimal}
 use Rattle.rpki_common.specs.Chaining.{◌>>=◌}
 use Rattle.rpki_sets.specs.declared.run.Run.{Run}
 use Rattle.rpki_sets.specs.Runs.{union}
-use Rattle.rpki_sets.specs.Texts.{dash, slash, comma, space, cut, items, read_all, decimal_below}
+use Rattle.rpki_sets.specs.Texts.{dash, slash, comma, space, cut, trimmed, parts, read_all, decimal_below}
 use Rattle.rpki_sets.specs.Prefixes.{prefix, prefix_length}
 
 -- a kind of numbers: how many bits they have, whether their items may be prefixes, how one is read and written
@@ -43,12 +43,16 @@ prefix_or_range kind text (Some parts) = prefix_of kind parts
 unfoldable pub item : Kind → List ℕ → Option Run
 item kind text = if kind.has_prefixes then prefix_or_range kind text (cut slash text) else range kind text
 
+-- one item, which may have spaces round it
+abbrev pub spaced_item : Kind → List ℕ → Option Run
+spaced_item kind text = item kind (trimmed text)
+
 -- the runs that the items of a text stand for
-abbrev pub runs_of : Kind → List ℕ → Option (List Run)
-runs_of kind text = read_all (item kind) (items text)
+unfoldable pub runs_of : Kind → List ℕ → Option (List Run)
+runs_of kind text = read_all (spaced_item kind) (parts text)
 
 -- the set that a text stands for, as its maximal runs
-abbrev pub blocks_of : Kind → List ℕ → Option (List Run)
+unfoldable pub blocks_of : Kind → List ℕ → Option (List Run)
 blocks_of kind text = runs_of kind text >>= λ runs. Some (union runs)
 
 -- ---- writing

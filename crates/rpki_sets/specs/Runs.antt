@@ -38,6 +38,11 @@ IsMaximal (run ∷ more) = (run.first ≤ run.last) × IsApart run.last more × 
 abbrev pub IsWithin : ℕ → List Run → Type 0
 IsWithin width runs = (n : ℕ) → Has runs n → n < 2 ^ width
 
+-- what lists stand for sets of numbers of so many bits: one list for each set
+pub record IsSet (width : ℕ) (runs : List Run) : Type 0 where
+  pub maximal : IsMaximal runs
+  pub within : IsWithin width runs
+
 -- from the first number of either run to the last number of either
 abbrev pub hull : Run → Run → Run
 hull a b = record { first = min a.first b.first; last = max a.last b.last }

@@ -1,0 +1,1 @@
+use Rattle.rpki_sets.proofs.reading.read_runs.Goals as goal
