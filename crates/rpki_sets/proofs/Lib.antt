@@ -8,3 +8,7 @@ pub mod Decimals
 pub mod ItemLemmas
 pub mod PrefixLemmas
 pub mod ReadingLemmas
+pub mod Fitting
+pub mod WritingLemmas
+pub mod EqualRuns
+pub mod Fitted

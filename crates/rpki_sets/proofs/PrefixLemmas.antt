@@ -7,7 +7,9 @@ use Rattle.std.proofs.Math.Nat.{mul-le-mul_right, div-mul-le_self, div-lt_iff_lt
 use Rattle.std.proofs.lemmas.Nat.{pow-add, pow_pos}
 use Rattle.std.proofs.Math.Pow.{pow-lt, pow_mono}
 use Rattle.rpki_sets.specs.declared.run.Run.{Run}
-use Rattle.rpki_sets.specs.Prefixes.{prefix, is_same, prefix_length}
+use Rattle.rpki_sets.specs.Comparing.{is_same}
+use Rattle.rpki_sets.proofs.EqualRuns.{is_same-true, is_same-refl}
+use Rattle.rpki_sets.specs.Prefixes.{prefix, prefix_length}
 
 -- a whole block of an address lies below the power that the address lies below
 pub block_below : (address free width : ℕ) → free ≤ width → address < 2 ^ width → address / 2 ^ free * 2 ^ free + 2 ^ free ≤ 2 ^ width
@@ -48,16 +50,6 @@ module _ (width : ℕ) (run : Run) where
   pub prefix_length_none : (made : Run) (len : ℕ) → len ≡ the_len → made ≡ prefix width run.first len → false ≡ is_same made run → None ≡ prefix_length width run
   unfolding prefix_length
   prefix_length_none made len e is same = sym (cond-false _ _ _ (same_answer made len false e is same))
-
-is_same-true : (a b : Run) → is_same a b ≡ true → a ≡ b
-is_same-true a b e =
-    let parts = and_parts (eqb a.first b.first) (eqb a.last b.last) e in
-    let first : a.first ≡ b.first = eqb-true _ _ parts.0 in
-    let last : a.last ≡ b.last = eqb-true _ _ parts.1 in
-    λ i. record { first = first i; last = last i }
-
-is_same-refl : (a b : Run) → a ≡ b → is_same a b ≡ true
-is_same-refl a b e = and_from (eqb a.first b.first) (eqb a.last b.last) (eq-eqb _ _ (ap (λ r. r.first) e)) (eq-eqb _ _ (ap (λ r. r.last) e))
 
 some_len : (width : ℕ) (run : Run) (n len : ℕ) (b : Bool) → is_same (prefix width run.first n) run ≡ b → cond b (Some n) None ≡ Some len → (n ≡ len) × (prefix width run.first n ≡ run)
 some_len width run n len true same e = (cc, is_same-true _ _ same)

@@ -1,7 +1,9 @@
 //! Sets of numbers.
 
 ghost use Rattle.std.specs.Prelude.{◌≡◌, ◌↔◌, [], Some, None, IfOk, IsErrOf, IsSomeAnd, IsTrue};
-ghost use Rattle.std.specs.Cmp.Lexicographic.{pointwise, lists_per, lists_equiv};
+ghost use Rattle.std.specs.Cmp.{partial_equiv_from_equiv};
+ghost use Rattle.std.specs.Cmp.Lexicographic.{pointwise, lists_equiv};
+ghost use Rattle.rpki_sets.specs.Comparing.{is_same, is_same-equiv};
 ghost use Rattle.rpki_sets.specs.Runs.{Has, SameNumbers, Includes, IsSet};
 ghost use Rattle.rpki_sets.specs.Kinds.{runs_of, blocks_of, text_of};
 
@@ -11,6 +13,7 @@ use crate::numbers::Numbers;
 use crate::reading::read_runs;
 use crate::run::Run;
 use crate::union::union;
+use crate::writing::write_run;
 use rpki_common::OutOfMemory;
 use std::alloc::Global;
 use std::fmt;
@@ -85,5 +88,39 @@ impl<N: Numbers> Blocks<N> {
             runs: self.runs.clone()?,
             kind: PhantomData,
         })
+    }
+}
+
+impl<N: Numbers> PartialEq for Blocks<N> {
+    ghost eq = { pointwise is_same };
+
+    ghost laws = { partial_equiv_from_equiv (lists_equiv is_same-equiv) };
+
+    fn eq(&self, other: &Self) -> bool
+        ensures value { result ≡ pointwise is_same self.now other.now }
+        ensures same { IsTrue result ↔ (self.now ≡ other.now) }
+        ensures numbers { IsTrue result ↔ SameNumbers self.now other.now }
+    {
+        self.runs() == other.runs()
+    }
+}
+
+impl<N: Numbers> Eq for Blocks<N> {
+    ghost laws = { lists_equiv is_same-equiv };
+}
+
+impl<N: Numbers> fmt::Display for Blocks<N> {
+    ghost output = { λ b. Some (text_of N.kind b) };
+
+    fn fmt<W: fmt::Write>(&self, f: &mut fmt::Formatter<W>) -> fmt::Result {
+        let Some((first, more)) = self.runs().split_first() else {
+            return Ok(());
+        };
+        write_run::<N, W>(f, first)?;
+        'each: for run in more {
+            f.write_str(",")?;
+            write_run::<N, W>(f, run)?;
+        }
+        Ok(())
     }
 }

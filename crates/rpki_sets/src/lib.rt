@@ -11,6 +11,7 @@ mod reading;
 mod run;
 mod texts;
 mod union;
+mod writing;
 
 pub use blocks::Blocks;
 pub use error::BlocksError;
