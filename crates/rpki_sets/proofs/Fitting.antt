@@ -39,7 +39,7 @@ run_from-fits width a b run below =
       record { ordered = omega arith; within = rw (← last) below })
     (λ le e. absurd (cc))
 
-decimal_below-below : (limit : ℕ) (text : List ℕ) (n : ℕ) → decimal_below limit text ≡ Some n → n < limit
+pub decimal_below-below : (limit : ℕ) (text : List ℕ) (n : ℕ) → decimal_below limit text ≡ Some n → n < limit
 unfolding decimal_below
 decimal_below-below limit text n =
     cond_both (ltb 0 (length text) && all_ascii_digits text && ltb (digits_value 10 text) limit) (Some (digits_value 10 text)) None (λ o. o ≡ Some n → n < limit)

@@ -12,3 +12,8 @@ pub mod Fitting
 pub mod WritingLemmas
 pub mod EqualRuns
 pub mod Fitted
+pub mod AsLaws
+pub mod Ipv4Laws
+pub mod Ipv6Laws
+pub mod Wholes
+pub mod BigEndian

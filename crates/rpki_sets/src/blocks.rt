@@ -59,6 +59,7 @@ impl<N: Numbers> Blocks<N> {
         ensures malformed { IsErrOf result BlocksError.Malformed → blocks_of N.kind text.now ≡ None }
     {
         let runs = read_runs::<N>(alloc, text.as_bytes())?;
+        N::law();
         Ok(Blocks {
             runs: union(alloc, runs)?,
             kind: PhantomData,

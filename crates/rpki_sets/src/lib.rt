@@ -1,9 +1,12 @@
 //! Sets of AS numbers and of IP addresses.
 #![tactic(auto)]
 
+mod as_numbers;
 mod blocks;
 mod error;
 mod includes;
+mod ipv4;
+mod ipv6;
 mod item;
 mod numbers;
 mod prefix;
@@ -13,8 +16,11 @@ mod texts;
 mod union;
 mod writing;
 
+pub use as_numbers::{AsBlocks, AsNumbers};
 pub use blocks::Blocks;
 pub use error::BlocksError;
+pub use ipv4::{Ipv4Addresses, Ipv4Blocks};
+pub use ipv6::{Ipv6Addresses, Ipv6Blocks};
 pub use numbers::Numbers;
 pub use rpki_common::OutOfMemory;
 pub use run::Run;

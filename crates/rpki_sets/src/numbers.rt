@@ -27,5 +27,8 @@ pub trait Numbers {
         requires { number < 2 ^ kind.width }
         ensures { DisplaysOnOk W.Write.write_str_gives f.old result (Some (kind.number_text number)) f.new };
 
-    ghost lawful: { IsLawful kind };
+    /// What holds of every kind: numbers that are read have no more bits than the kind, and what is written is read as
+    /// the same number.
+    fn law()
+        ensures { IsLawful kind };
 }

@@ -27,6 +27,7 @@ pub fn write_run<N: Numbers, W: fmt::Write>(f: &mut fmt::Formatter<W>, run: &Run
     ensures { DisplaysOnOk W.Write.write_str_gives f.old result (Some (run_text N.kind run.now)) f.new }
 {
     if N::has_prefixes() {
+        N::law();
         match prefix_length(N::width(), run) {
             Some(len) => {
                 N::write(f, run.first)?;

@@ -11,12 +11,12 @@ returns-in_err-runs-clause-malformed g c =
 
 pub union-requires : goal.union-requires
 union-requires g c =
-    AllOrdered-fit g.N.Numbers.kind g.met.N.Numbers.lawful _ (AllFit-runs_of g.N.Numbers.kind g.met.N.Numbers.lawful _ _ c.in_ok-runs.ensures.runs)
+    AllOrdered-fit g.N.Numbers.kind c.law.ensures _ (AllFit-runs_of g.N.Numbers.kind c.law.ensures _ _ c.in_ok-runs.ensures.runs)
 
 pub invariant_of-result : goal.invariant_of-result
 invariant_of-result g c =
     rw c.in_ok-union.ensures
-    (IsSet-union g.N.Numbers.kind g.met.N.Numbers.lawful _ (AllFit-runs_of g.N.Numbers.kind g.met.N.Numbers.lawful _ _ c.in_ok-runs.ensures.runs))
+    (IsSet-union g.N.Numbers.kind c.law.ensures _ (AllFit-runs_of g.N.Numbers.kind c.law.ensures _ _ c.in_ok-runs.ensures.runs))
 
 pub returns-clause-set : goal.returns-clause-set
 returns-clause-set g c =
@@ -25,4 +25,4 @@ returns-clause-set g c =
 
 pub returns-clause-numbers : goal.returns-clause-numbers
 returns-clause-numbers g c =
-    numbers_of_runs g.N.Numbers.kind c.args.text.now g.met.N.Numbers.lawful _ _ (sym (ap (runs_of g.N.Numbers.kind) c.as_bytes.ensures.value) ∙ c.in_ok-runs.ensures.runs) c.in_ok-union.ensures
+    numbers_of_runs g.N.Numbers.kind c.args.text.now c.law.ensures _ _ (sym (ap (runs_of g.N.Numbers.kind) c.as_bytes.ensures.value) ∙ c.in_ok-runs.ensures.runs) c.in_ok-union.ensures
