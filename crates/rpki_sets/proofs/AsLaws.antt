@@ -1,5 +1,5 @@
 -- AS numbers are a lawful kind.
-use Rattle.std.proofs.Common.{◌≡◌, ◌≢◌, ℕ, ◌+◌, ◌^◌, ◌<◌, ◌≤◌, Bool, true, false, ◌&&◌, eqb, ltb, cond, Option, Some, List, [], ◌∷◌, length, get_or, take, map, codes, refl, sym, ap, ◌∙◌, arith, lit≤}
+use Rattle.std.proofs.Common.{◌≡◌, ◌≢◌, ℕ, ◌+◌, ◌^◌, ◌<◌, ◌≤◌, Bool, true, false, ◌&&◌, eqb, ltb, cond, Option, None, Some, List, [], ◌∷◌, length, get_or, take, map, codes, refl, sym, ap, ◌∙◌, arith, lit≤}
 use Rattle.std.specs.Fmt.{decimal}
 use Rattle.std.specs.List.{All}
 use Rattle.std.specs.Int.{IsInRange}
@@ -52,5 +52,9 @@ as_within : (text : List ℕ) (n : ℕ) → as_number text ≡ Some n → n < 2 
 unfolding as_number
 as_within text n e = decimal_below-below (2 ^ 32) (without_as text) n e
 
+as_empty : as_number [] ≡ None
+unfolding as_number decimal_below
+as_empty = refl
+
 pub as_lawful : IsLawful as_kind
-as_lawful = record { bounded = lit≤ tt; within = as_within; again = as_again; plain = All-plain-decimal }
+as_lawful = record { bounded = lit≤ tt; within = as_within; again = as_again; empty = as_empty; plain = All-plain-decimal }

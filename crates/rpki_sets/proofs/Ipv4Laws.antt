@@ -4,7 +4,7 @@ use Rattle.std.specs.List.{All}
 use Rattle.std.specs.Int.{w32, from_be_bytes, to_be_bytes}
 use Rattle.std.specs.Net.Grammar.{IsDotted}
 use Rattle.std.specs.Net.Text.{ipv4_text}
-use Rattle.std.specs.Net.Reader.{read_ipv4, whole_value}
+use Rattle.std.specs.Net.Reader.{read_ipv4, read_octet, read_number, whole_value}
 use Rattle.std.proofs.lemmas.List.Elements.{All-weaker}
 use Rattle.std.proofs.lemmas.Nat.{from_be_bytes-to_be_bytes_4}
 use Rattle.std.proofs.NetLemmas.Alphabet.{IsDigitOrDot, All-ipv4_text}
@@ -66,5 +66,9 @@ unfolding ipv4_number_text
 ipv4_plain n small =
     All-weaker IsDigitOrDot IsPlain (λ octet h. (omega arith, omega arith, omega arith, omega arith)) _ (All-ipv4_text (to_be_bytes w32 n) (four_small n))
 
+ipv4_empty : ipv4_number [] ≡ None
+unfolding ipv4_number read_ipv4 read_octet read_number ◌>>=◌
+ipv4_empty = refl
+
 pub ipv4_lawful : IsLawful ipv4_kind
-ipv4_lawful = record { bounded = lit≤ tt; within = ipv4_within; again = ipv4_again; plain = ipv4_plain }
+ipv4_lawful = record { bounded = lit≤ tt; within = ipv4_within; again = ipv4_again; empty = ipv4_empty; plain = ipv4_plain }

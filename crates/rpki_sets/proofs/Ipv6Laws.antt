@@ -6,7 +6,7 @@ use Rattle.std.specs.Str.Parse.{digits_value}
 use Rattle.std.specs.Net.Addr.{octets_of, segments_of}
 use Rattle.std.specs.Net.Grammar.{IsDotted, IsGroup, IsGroupsAfter, IsElided, IsColonHex}
 use Rattle.std.specs.Net.Text.{hex_groups_text}
-use Rattle.std.specs.Net.Reader.{read_ipv6, whole_value}
+use Rattle.std.specs.Net.Reader.{read_ipv6, read_segments, read_segment, read_ipv4, read_octet, read_number, whole_value}
 use Rattle.std.proofs.Math.Nat.{pow-le-pow_right}
 use Rattle.std.proofs.lemmas.Int.Digits.{digits_value-lt}
 use Rattle.std.proofs.lemmas.List.{length-replicate}
@@ -133,5 +133,9 @@ unfolding ipv6_number_text
 ipv6_plain n small =
     All-weaker IsHexOrColon IsPlain (λ octet h. (omega arith, omega arith, omega arith, omega arith)) _ (All-hex_groups_text (segments_of (to_be_bytes w128 n)) (segments_small (to_be_bytes w128 n) (bytes_small 16 n)))
 
+ipv6_empty : ipv6_number [] ≡ None
+unfolding ipv6_number read_ipv6 read_segments read_segment read_ipv4 read_octet read_number ◌>>=◌
+ipv6_empty = refl
+
 pub ipv6_lawful : IsLawful ipv6_kind
-ipv6_lawful = record { bounded = lit≤ tt; within = ipv6_within; again = ipv6_again; plain = ipv6_plain }
+ipv6_lawful = record { bounded = lit≤ tt; within = ipv6_within; again = ipv6_again; empty = ipv6_empty; plain = ipv6_plain }

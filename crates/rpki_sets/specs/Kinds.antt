@@ -83,10 +83,11 @@ text_of kind (run ∷ more) = run_text kind run ++ flat_map (λ next. codes "," 
 abbrev pub IsPlain : ℕ → Type 0
 IsPlain octet = (octet ≢ comma) × (octet ≢ space) × (octet ≢ dash) × (octet ≢ slash)
 
--- numbers that are read have no more bits than the kind, what is written is read as the same number, and no text of
--- a number is empty or has an octet that stands between numbers
+-- numbers that are read have no more bits than the kind, what is written is read as the same number, the empty text is
+-- no number, and no text of a number has an octet that stands between numbers
 pub record IsLawful (kind : Kind) : Type 0 where
   pub bounded : kind.width ≤ 128
   pub within : (text : List ℕ) (n : ℕ) → kind.number text ≡ Some n → n < 2 ^ kind.width
   pub again : (n : ℕ) → n < 2 ^ kind.width → kind.number (kind.number_text n) ≡ Some n
+  pub empty : kind.number [] ≡ None
   pub plain : (n : ℕ) → n < 2 ^ kind.width → All IsPlain (kind.number_text n)
