@@ -4,13 +4,13 @@ use Rattle.rpki_sets.specs.declared.run.Run.{Run}
 use Rattle.rpki_sets.specs.Runs.{IsMaximal, IsWithin, IsSet}
 use Rattle.rpki_sets.proofs.Fitting.{IsFit}
 
-tail_set : (width : ℕ) (run : Run) (more : List Run) → IsSet width (run ∷ more) → IsSet width more
+pub tail_set : (width : ℕ) (run : Run) (more : List Run) → IsSet width (run ∷ more) → IsSet width more
 tail_set width run more set = record { maximal = set.maximal.2; within = λ n h. set.within n (inr h) }
 
-head_fits : (width : ℕ) (run : Run) (more : List Run) → IsSet width (run ∷ more) → IsFit width run
+pub head_fits : (width : ℕ) (run : Run) (more : List Run) → IsSet width (run ∷ more) → IsFit width run
 head_fits width run more set = record { ordered = set.maximal.0; within = set.within run.last (inl (set.maximal.0, omega arith)) }
 
-each_fits : (width : ℕ) (runs : List Run) → IsSet width runs → (k : ℕ) (d : Run) → k < length runs → IsFit width (get_or runs k d)
+pub each_fits : (width : ℕ) (runs : List Run) → IsSet width runs → (k : ℕ) (d : Run) → k < length runs → IsFit width (get_or runs k d)
 each_fits width [] set k d within = absurd (omega arith)
 each_fits width (run ∷ more) set zero d within = head_fits width run more set
 each_fits width (run ∷ more) set (suc k) d within = each_fits width more (tail_set width run more set) k d (omega arith)

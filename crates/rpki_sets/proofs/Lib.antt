@@ -17,3 +17,4 @@ pub mod Ipv4Laws
 pub mod Ipv6Laws
 pub mod Wholes
 pub mod BigEndian
+pub mod ReadBack

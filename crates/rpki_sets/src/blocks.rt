@@ -81,6 +81,15 @@ impl<N: Numbers> Blocks<N> {
         includes(self.runs(), other.runs())
     }
 
+    /// The text that this set prints is read as the same set.
+    pub fn text_is_read_back(&self)
+        ensures runs { runs_of N.kind (text_of N.kind self.now) ≡ Some self.now }
+        ensures set { blocks_of N.kind (text_of N.kind self.now) ≡ Some self.now }
+    {
+        let _runs = self.runs();
+        N::law();
+    }
+
     /// An equal set.
     pub fn clone(&self, _alloc: Global) -> Result<Self, OutOfMemory>
         ensures { IfOk result (λ blocks. blocks ≡ self.now) }

@@ -8,6 +8,7 @@ mod includes;
 mod ipv4;
 mod ipv6;
 mod item;
+mod laws;
 mod numbers;
 mod prefix;
 mod reading;
@@ -22,6 +23,10 @@ pub use blocks::Blocks;
 pub use error::BlocksError;
 pub use ipv4::{Ipv4Addresses, Ipv4Blocks};
 pub use ipv6::{Ipv6Addresses, Ipv6Blocks};
+pub use laws::{
+    equal_sets_have_equal_runs, ipv4_number_is, ipv6_number_is, prefix_length_is,
+    union_has_the_numbers,
+};
 pub use numbers::Numbers;
 pub use rpki_common::OutOfMemory;
 pub use resource_set::ResourceSet;
