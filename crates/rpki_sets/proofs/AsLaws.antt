@@ -39,8 +39,8 @@ without_as-digit (c ∷ cs) long digit =
 pub All-plain-decimal : (n : ℕ) → n < 2 ^ 32 → All IsPlain (decimal n)
 All-plain-decimal n small =
     All-from_get_or IsPlain (decimal n) 0 (λ i h.
-      let digit = digit_at (decimal n) i (decimal_is_IsNumeral n (omega arith)).0.1 h in
-      (omega arith, omega arith, omega arith, omega arith))
+    let digit = digit_at (decimal n) i (decimal_is_IsNumeral n (omega arith)).0.1 h in
+    (omega arith, omega arith, omega arith, omega arith))
 
 as_again : (n : ℕ) → n < 2 ^ 32 → as_number (decimal n) ≡ Some n
 unfolding as_number

@@ -38,15 +38,15 @@ module _ (mark : ℕ) (text : List ℕ) where
 
   pub cut-some : (a b : List ℕ) → cut mark text ≡ Some (a, b) → (position_or_len is_mark text < length text) × (take (position_or_len is_mark text) text ≡ a) × (drop (position_or_len is_mark text + 1) text ≡ b)
   cut-some a b e = elim (cases_lt (position_or_len is_mark text) (length text)) [
-      inl within ↦ let same = same_parts _ _ _ _ (sym (cut_found within) ∙ e) in (within, same.0, same.1)
+    | inl within ↦ let same = same_parts _ _ _ _ (sym (cut_found within) ∙ e) in (within, same.0, same.1)
     | inr past ↦ absurd (let none = cut_missing past in cc)
-    ]
+  ]
 
   pub cut-none : cut mark text ≡ None → length text ≤ position_or_len is_mark text
   cut-none e = elim (cases_lt (position_or_len is_mark text) (length text)) [
-      inl within ↦ absurd (let some = cut_found within in cc)
+    | inl within ↦ absurd (let some = cut_found within in cc)
     | inr past ↦ past
-    ]
+  ]
 
   -- a text cut at its first mark, and the other parts
   pub split_first : (a b : List ℕ) → cut mark text ≡ Some (a, b) → slice_split is_mark text ≡ a ∷ slice_split is_mark b
@@ -71,9 +71,9 @@ module _ (mark : ℕ) (text : List ℕ) where
   cut_behind front back is none =
       let long : length text ≡ length front + (length back + 1) = ap length is ∙ simp length-append (omega arith) in
       let place : position_or_len is_mark text ≡ length front =
-          position_or_len_is is_mark text (length front) 0 (omega arith)
-          (λ k h. rw (is, get_or_append_left front (mark ∷ back) 0 k h) (ne_eqb _ _ (none k 0 h)))
-          (λ h. rw is (eq-eqb _ _ (get_or-append_seam front mark back 0))) in
+      position_or_len_is is_mark text (length front) 0 (omega arith)
+      (λ k h. rw (is, get_or_append_left front (mark ∷ back) 0 k h) (ne_eqb _ _ (none k 0 h)))
+      (λ h. rw is (eq-eqb _ _ (get_or-append_seam front mark back 0))) in
       let before : take (position_or_len is_mark text) text ≡ front = rw (place, is) (take-append_seam front (mark ∷ back)) in
       let behind : drop (position_or_len is_mark text + 1) text ≡ back = rw (place, is) (drop-append-add front (mark ∷ back) 1) in
       cut_found (omega arith) ∙ (λ i. Some (before i, behind i))
@@ -81,5 +81,5 @@ module _ (mark : ℕ) (text : List ℕ) where
   pub cut_none_there : All (λ octet. octet ≢ mark) text → cut mark text ≡ None
   cut_none_there none =
       let place : position_or_len is_mark text ≡ length text =
-          position_or_len_is is_mark text (length text) 0 (omega arith) (λ k h. ne_eqb _ _ (none k 0 h)) (λ h. absurd (omega arith)) in
+      position_or_len_is is_mark text (length text) 0 (omega arith) (λ k h. ne_eqb _ _ (none k 0 h)) (λ h. absurd (omega arith)) in
       cut_missing (omega arith)

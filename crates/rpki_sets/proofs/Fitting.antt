@@ -33,10 +33,10 @@ run_from-fits : (width a b : ℕ) (run : Run) → b < 2 ^ width → run_from a b
 run_from-fits width a b run below =
     cond_both (leb a b) _ _ (λ o. o ≡ Some run → IsFit width run)
     (λ le e.
-      let first : a ≡ run.first = cc in
-      let last : b ≡ run.last = cc in
-      let up = leb-true a b le in
-      record { ordered = omega arith; within = rw (← last) below })
+    let first : a ≡ run.first = cc in
+    let last : b ≡ run.last = cc in
+    let up = leb-true a b le in
+    record { ordered = omega arith; within = rw (← last) below })
     (λ le e. absurd (cc))
 
 pub decimal_below-below : (limit : ℕ) (text : List ℕ) (n : ℕ) → decimal_below limit text ≡ Some n → n < limit
@@ -44,9 +44,9 @@ unfolding decimal_below
 decimal_below-below limit text n =
     cond_both (ltb 0 (length text) && all_ascii_digits text && ltb (digits_value 10 text) limit) (Some (digits_value 10 text)) None (λ o. o ≡ Some n → n < limit)
     (λ t e.
-      let value : digits_value 10 text ≡ n = cc in
-      let last = and_parts (ltb 0 (length text) && all_ascii_digits text) (ltb (digits_value 10 text) limit) t in
-      rw (← value) (ltb-true (digits_value 10 text) limit last.1))
+    let value : digits_value 10 text ≡ n = cc in
+    let last = and_parts (ltb 0 (length text) && all_ascii_digits text) (ltb (digits_value 10 text) limit) t in
+    rw (← value) (ltb-true (digits_value 10 text) limit last.1))
     (λ t e. absurd (cc))
 
 prefix-fits : (width address len : ℕ) → len ≤ width → address < 2 ^ width → IsFit width (prefix width address len)
@@ -63,7 +63,7 @@ module _ (kind : Kind) (lawful : IsLawful kind) where
   range_of-fits text (Some ends) run e =
       bind_some (kind.number ends.0) (λ first. kind.number ends.1 >>= λ last. run_from first last) run e
       (λ first h g. bind_some (kind.number ends.1) (λ last. run_from first last) run g
-        (λ last k f. run_from-fits kind.width first last run (lawful.within ends.1 last k) f))
+      (λ last k f. run_from-fits kind.width first last run (lawful.within ends.1 last k) f))
 
   range-fits : (text : List ℕ) (run : Run) → range kind text ≡ Some run → IsFit kind.width run
   unfolding range
@@ -73,10 +73,10 @@ module _ (kind : Kind) (lawful : IsLawful kind) where
   prefix_of-fits ends run e =
       bind_some (kind.number ends.0) (λ address. decimal_below (kind.width + 1) ends.1 >>= λ len. Some (prefix kind.width address len)) run e
       (λ address h g. bind_some (decimal_below (kind.width + 1) ends.1) (λ len. Some (prefix kind.width address len)) run g
-        (λ len k f.
-          let is : prefix kind.width address len ≡ run = cc in
-          let short = decimal_below-below (kind.width + 1) ends.1 len k in
-          rw (← is) (prefix-fits kind.width address len (omega arith) (lawful.within ends.0 address h))))
+      (λ len k f.
+      let is : prefix kind.width address len ≡ run = cc in
+      let short = decimal_below-below (kind.width + 1) ends.1 len k in
+      rw (← is) (prefix-fits kind.width address len (omega arith) (lawful.within ends.0 address h))))
 
   prefix_or_range-fits : (text : List ℕ) (cut_in : Option (List ℕ × List ℕ)) (run : Run) → prefix_or_range kind text cut_in ≡ Some run → IsFit kind.width run
   prefix_or_range-fits text None run e = range-fits text run e
@@ -101,11 +101,11 @@ module _ (kind : Kind) (lawful : IsLawful kind) where
   AllFit-read_all (text ∷ more) runs e =
       bind_some (spaced_item kind text) (λ b. read_all (spaced_item kind) more >>= λ found. Some (b ∷ found)) runs e
       (λ run h g. bind_some (read_all (spaced_item kind) more) (λ found. Some (run ∷ found)) runs g
-        (λ found k f.
-          let is : run ∷ found ≡ runs = cc in
-          let fit = item-fits (trimmed text) run h in
-          let rec = AllFit-read_all more found k in
-          subst AllFit is (fit, rec)))
+      (λ found k f.
+      let is : run ∷ found ≡ runs = cc in
+      let fit = item-fits (trimmed text) run h in
+      let rec = AllFit-read_all more found k in
+      subst AllFit is (fit, rec)))
 
   pub AllFit-runs_of : (text : List ℕ) (runs : List Run) → runs_of kind text ≡ Some runs → AllFit runs
   unfolding runs_of
@@ -126,9 +126,9 @@ module _ (kind : Kind) (lawful : IsLawful kind) where
   pub IsSet-union : (runs : List Run) → AllFit runs → IsSet kind.width (union runs)
   IsSet-union runs fit =
       let ordered = AllOrdered-fit runs fit in record {
-      maximal = IsMaximal-union runs ordered;
-      within = λ n h. IsWithin-fit runs fit n ((Has-union runs ordered n).0 h);
-    }
+        maximal = IsMaximal-union runs ordered;
+        within = λ n h. IsWithin-fit runs fit n ((Has-union runs ordered n).0 h);
+      }
 
 module _ (kind : Kind) (text : List ℕ) where
   pub runs_of-blank : (runs : List Run) → length (trimmed text) ≡ 0 → runs ≡ [] → runs_of kind text ≡ Some runs

@@ -30,9 +30,9 @@ unfolding ipv4_number
 ipv4_number-sound text n e =
     bind_some (whole_value (read_ipv4 text)) (λ octets. Some (from_be_bytes w32 octets)) n e
     (λ octets h g.
-      let read = whole_value-some octets (read_ipv4 text) h in
-      let (front, split, dotted) = read_ipv4_sound text octets [] read in
-      (octets, rw (split ∙ append-nil front) dotted, cc))
+    let read = whole_value-some octets (read_ipv4 text) h in
+    let (front, split, dotted) = read_ipv4_sound text octets [] read in
+    (octets, rw (split ∙ append-nil front) dotted, cc))
 
 -- where the text is no four octets, nothing is read
 pub ipv4_number-none : (text : List ℕ) → ((octets : List ℕ) → ¬ (IsDotted text octets)) → ipv4_number text ≡ None

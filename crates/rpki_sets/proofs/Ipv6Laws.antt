@@ -35,9 +35,9 @@ unfolding ipv6_number
 ipv6_number-sound text n e =
     bind_some (whole_value (read_ipv6 text)) (λ segments. Some (from_be_bytes w128 (octets_of segments))) n e
     (λ segments h g.
-      let read = whole_value-some segments (read_ipv6 text) h in
-      let (front, split, groups) = read_ipv6_sound text segments [] read in
-      (segments, rw (split ∙ append-nil front) groups, cc))
+    let read = whole_value-some segments (read_ipv6 text) h in
+    let (front, split, groups) = read_ipv6_sound text segments [] read in
+    (segments, rw (split ∙ append-nil front) groups, cc))
 
 -- where the text is no eight groups, nothing is read
 pub ipv6_number-none : (text : List ℕ) → ((segments : List ℕ) → ¬ (IsColonHex text segments)) → ipv6_number text ≡ None
@@ -91,9 +91,9 @@ IsEight-elided text segments h =
     let room = h.room in
     let value = h.value in
     record {
-    small = subst AllSmall (sym value) (AllSmall-append _ _ (AllSmall-append _ _ (AllSmall-groups _ _ _ _ h.head_groups) (AllSmall-zeros _)) (AllSmall-groups _ _ _ _ h.tail_groups));
-    long = ap length value ∙ simp (length-append, length-replicate) (omega arith);
-  }
+      small = subst AllSmall (sym value) (AllSmall-append _ _ (AllSmall-append _ _ (AllSmall-groups _ _ _ _ h.head_groups) (AllSmall-zeros _)) (AllSmall-groups _ _ _ _ h.tail_groups));
+      long = ap length value ∙ simp (length-append, length-replicate) (omega arith);
+    }
 
 IsEight-colon_hex : (text segments : List ℕ) → IsColonHex text segments → IsEight segments
 IsEight-colon_hex text segments (inl h) = record { small = AllSmall-groups _ _ _ _ h.0; long = h.1 }

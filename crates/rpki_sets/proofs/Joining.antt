@@ -21,9 +21,9 @@ pub Has-append : (xs ys : List Run) (n : ℕ) → Has (xs ++ ys) n ↔ (Has xs n
 Has-append [] ys n = (λ h. inr h, λ h. elim h [ inl x ↦ absurd x | inr y ↦ y ])
 Has-append (x ∷ xs) ys n =
     let rec = Has-append xs ys n in (
-    λ h. elim h [ inl a ↦ inl (inl a) | inr b ↦ elim (rec.0 b) [ inl c ↦ inl (inr c) | inr d ↦ inr d ] ],
-    λ h. elim h [ inl a ↦ elim a [ inl c ↦ inl c | inr d ↦ inr (rec.1 (inl d)) ] | inr b ↦ inr (rec.1 (inr b)) ],
-  )
+      λ h. elim h [ inl a ↦ inl (inl a) | inr b ↦ elim (rec.0 b) [ inl c ↦ inl (inr c) | inr d ↦ inr d ] ],
+      λ h. elim h [ inl a ↦ elim a [ inl c ↦ inl c | inr d ↦ inr (rec.1 (inl d)) ] | inr b ↦ inr (rec.1 (inr b)) ],
+    )
 
 -- lists with the same numbers at the end have the same numbers
 SameNumbers-append : (xs ys zs : List Run) → SameNumbers ys zs → SameNumbers (xs ++ ys) (xs ++ zs)
@@ -36,12 +36,12 @@ SameNumbers-append xs ys zs same n = (
 two_as_one : (held next : Run) (left : List Run) → held.first ≤ next.first → next.first ≤ held.last + 1 → SameNumbers (longer held next.last ∷ left) (held ∷ next ∷ left)
 two_as_one held next left from near n = (
   λ h. elim h [
-    inl x ↦ elim (cases_lt held.last n) [ inl above ↦ inr (inl (omega arith, omega arith)) | inr under ↦ inl (x.0, under) ]
-  | inr y ↦ inr (inr y)
+    | inl x ↦ elim (cases_lt held.last n) [ inl above ↦ inr (inl (omega arith, omega arith)) | inr under ↦ inl (x.0, under) ]
+    | inr y ↦ inr (inr y)
   ],
   λ h. elim h [
-    inl x ↦ inl (omega arith, omega arith)
-  | inr y ↦ elim y [ inl z ↦ inl (omega arith, omega arith) | inr w ↦ inr w ]
+    | inl x ↦ inl (omega arith, omega arith)
+    | inr y ↦ elim y [ inl z ↦ inl (omega arith, omega arith) | inr w ↦ inr w ]
   ],
 )
 
@@ -77,12 +77,12 @@ module _ (runs : List Run) where
   start_joining first more e o up =
       let o' : AllOrdered (first ∷ more) = subst AllOrdered e o in
       let up' : IsAscending (first ∷ more) = subst IsAscending e up in record {
-      maximal = (o'.0, tt, tt);
-      from = up'.0;
-      ascending = up'.1;
-      ordered = o'.1;
-      same = rw e (λ n. (λ h. h, λ h. h));
-    }
+        maximal = (o'.0, tt, tt);
+        from = up'.0;
+        ascending = up'.1;
+        ordered = o'.1;
+        same = rw e (λ n. (λ h. h, λ h. h));
+      }
 
   -- the next run is taken into the one at hand
   pub join_more : (joined : List Run) (held next : Run) (left : List Run) → next.first ≤ held.last + 1 → IsJoining runs joined held (next ∷ left) → IsJoining runs joined (longer held next.last) left
@@ -92,8 +92,8 @@ module _ (runs : List Run) where
     ascending = j.ascending.1;
     ordered = j.ordered.1;
     same = λ n.
-      let step = SameNumbers-append joined _ _ (two_as_one held next left j.from.0 near) n in
-      (λ h. (j.same n).0 (step.0 h), λ h. step.1 ((j.same n).1 h));
+        let step = SameNumbers-append joined _ _ (two_as_one held next left j.from.0 near) n in
+        (λ h. (j.same n).0 (step.0 h), λ h. step.1 ((j.same n).1 h));
   }
 
   -- the run at hand is done

@@ -73,7 +73,7 @@ module _ (kind : Kind) (lawful : IsLawful kind) (run : Run) (fit : IsFit kind.wi
       let sound = prefix_length-sound kind.width run len e in
       let bounded = lawful.bounded in
       sym (prefix_some kind (kind.number_text run.first) (decimal len) run run.first len kind.width kind.width (sym sound.1) (sym (lawful.again run.first first_within)) refl refl
-        (sym (decimal_below-decimal (kind.width + 1) len (omega arith) (omega arith))))
+      (sym (decimal_below-decimal (kind.width + 1) len (omega arith) (omega arith))))
 
   prefix_item : (len : ℕ) (text : List ℕ) → kind.has_prefixes ≡ true → prefix_length kind.width run ≡ Some len → text ≡ kind.number_text run.first ++ (47 ∷ decimal len) → item kind text ≡ Some run
   prefix_item len text p e is =
@@ -142,8 +142,8 @@ module _ (kind : Kind) (lawful : IsLawful kind) where
   item-empty =
       let nothing : None ≡ range kind [] = range_one_none kind [] (cut_none_there 45 [] (All-nil (λ o. o ≢ 45))) (sym lawful.empty) in
       elim (cases_Bool kind.has_prefixes) [
-        inl p ↦ sym (item_no_prefix kind [] p (cut_none_there 47 [] (All-nil (λ o. o ≢ 47)))) ∙ sym nothing
-      | inr p ↦ sym (item_range kind [] p) ∙ sym nothing
+        | inl p ↦ sym (item_no_prefix kind [] p (cut_none_there 47 [] (All-nil (λ o. o ≢ 47)))) ∙ sym nothing
+        | inr p ↦ sym (item_range kind [] p) ∙ sym nothing
       ]
 
   not_empty_text : (text : List ℕ) (run : Run) → item kind text ≡ Some run → 0 < length text

@@ -50,9 +50,9 @@ module _ (B : Type 0) (read : List ℕ → Option B) (text : List ℕ) where
   pub read_more : (rest part more : List ℕ) (found : List B) (b : B) → cut 44 rest ≡ Some (part, more) → read part ≡ Some b → IsReadTo rest found → IsReadTo more (found ++ b ∷ [])
   read_more rest part more found b e h so = record {
     same =
-      so.same ∙ ap (λ l. read_behind read found (read_all read l)) (split_first 44 rest part more e)
-      ∙ ap (read_behind read found) (read_all-some read part (slice_split (λ octet. eqb octet 44) more) b h)
-      ∙ behind_behind read found b (read_all read (slice_split (λ octet. eqb octet 44) more));
+        so.same ∙ ap (λ l. read_behind read found (read_all read l)) (split_first 44 rest part more e)
+        ∙ ap (read_behind read found) (read_all-some read part (slice_split (λ octet. eqb octet 44) more) b h)
+        ∙ behind_behind read found b (read_all read (slice_split (λ octet. eqb octet 44) more));
   }
 
   pub part_none : (rest part more : List ℕ) (found : List B) → cut 44 rest ≡ Some (part, more) → read part ≡ None → IsReadTo rest found → read_all read (slice_split (λ octet. eqb octet 44) text) ≡ None

@@ -35,8 +35,8 @@ in_others run more n behind (inr later) = later
 last_le : (r s : Run) (xs ys : List Run) → IsMaximal (r ∷ xs) → IsMaximal (s ∷ ys) → Includes (s ∷ ys) (r ∷ xs) → r.first ≡ s.first → r.last ≤ s.last
 last_le r s xs ys ma mb all e =
     elim (cases_lt s.last r.last) [
-      inl longer ↦ absurd (gap_behind s ys mb (all (s.last + 1) (inl (omega arith, omega arith))))
-    | inr short ↦ short
+      | inl longer ↦ absurd (gap_behind s ys mb (all (s.last + 1) (inl (omega arith, omega arith))))
+      | inr short ↦ short
     ]
 
 others_included : (r s : Run) (xs ys : List Run) → IsMaximal (r ∷ xs) → Includes (s ∷ ys) (r ∷ xs) → r.last ≡ s.last → Includes ys xs
@@ -71,8 +71,8 @@ same_runs a b ma mb same = same_from_includes a b ma mb (SameNumbers-includes a 
 hull-holds : (a b : Run) → a.first ≤ a.last → b.first ≤ b.last → b.first ≤ a.last + 1 → a.first ≤ b.last + 1 → (n : ℕ) → Holds (hull a b) n ↔ (Holds a n ⊎ Holds b n)
 hull-holds a b oa ob near far n = (
   λ h. elim (cases_lt a.last n) [
-    inl above ↦ elim (cases_lt b.last n) [ inl both ↦ absurd (omega arith) | inr under ↦ inr (omega arith, under) ]
-  | inr under ↦ elim (cases_lt n a.first) [ inl below ↦ inr (omega arith, omega arith) | inr inside ↦ inl (inside, under) ]
+    | inl above ↦ elim (cases_lt b.last n) [ inl both ↦ absurd (omega arith) | inr under ↦ inr (omega arith, under) ]
+    | inr under ↦ elim (cases_lt n a.first) [ inl below ↦ inr (omega arith, omega arith) | inr inside ↦ inl (inside, under) ]
   ],
   λ h. elim h [ inl x ↦ (omega arith, omega arith) | inr y ↦ (omega arith, omega arith) ],
 )
@@ -85,18 +85,18 @@ Has-add run (next ∷ more) o m n =
     cond_both (ltb (run.last + 1) next.first) _ _ (λ x. Has x n ↔ (Holds run n ⊎ Has (next ∷ more) n))
     (λ e. (λ h. h, λ h. h))
     (λ e. cond_both (ltb (next.last + 1) run.first) _ _ (λ x. Has x n ↔ (Holds run n ⊎ Has (next ∷ more) n))
-      (λ f. let rec = Has-add run more o m.2 n in (
-        λ h. elim h [ inl x ↦ inr (inl x) | inr y ↦ elim (rec.0 y) [ inl z ↦ inl z | inr w ↦ inr (inr w) ] ],
-        λ h. elim h [ inl x ↦ inr (rec.1 (inl x)) | inr y ↦ elim y [ inl z ↦ inl z | inr w ↦ inr (rec.1 (inr w)) ] ],
-      ))
-      (λ f.
-        let near : next.first ≤ run.last + 1 = ltb-false _ _ e in
-        let far : run.first ≤ next.last + 1 = ltb-false _ _ f in
-        let rec = Has-add (hull run next) more (omega arith) m.2 n in
-        let both = hull-holds run next o m.0 near far n in (
-        λ h. elim (rec.0 h) [ inl x ↦ elim (both.0 x) [ inl y ↦ inl y | inr z ↦ inr (inl z) ] | inr w ↦ inr (inr w) ],
-        λ h. rec.1 (elim h [ inl x ↦ inl (both.1 (inl x)) | inr y ↦ elim y [ inl z ↦ inl (both.1 (inr z)) | inr w ↦ inr w ] ]),
-      )))
+    (λ f. let rec = Has-add run more o m.2 n in (
+      λ h. elim h [ inl x ↦ inr (inl x) | inr y ↦ elim (rec.0 y) [ inl z ↦ inl z | inr w ↦ inr (inr w) ] ],
+      λ h. elim h [ inl x ↦ inr (rec.1 (inl x)) | inr y ↦ elim y [ inl z ↦ inl z | inr w ↦ inr (rec.1 (inr w)) ] ],
+    ))
+    (λ f.
+    let near : next.first ≤ run.last + 1 = ltb-false _ _ e in
+    let far : run.first ≤ next.last + 1 = ltb-false _ _ f in
+    let rec = Has-add (hull run next) more (omega arith) m.2 n in
+    let both = hull-holds run next o m.0 near far n in (
+      λ h. elim (rec.0 h) [ inl x ↦ elim (both.0 x) [ inl y ↦ inl y | inr z ↦ inr (inl z) ] | inr w ↦ inr (inr w) ],
+      λ h. rec.1 (elim h [ inl x ↦ inl (both.1 (inl x)) | inr y ↦ elim y [ inl z ↦ inl (both.1 (inr z)) | inr w ↦ inr w ] ]),
+    )))
 
 IsApart-add : (k : ℕ) (run : Run) (runs : List Run) → k + 1 < run.first → IsApart k runs → IsMaximal runs → IsApart k (add run runs)
 unfolding add
@@ -105,8 +105,8 @@ IsApart-add k run (next ∷ more) below apart m =
     cond_both (ltb (run.last + 1) next.first) _ _ (IsApart k)
     (λ e. below)
     (λ e. cond_both (ltb (next.last + 1) run.first) _ _ (IsApart k)
-      (λ f. apart)
-      (λ f. IsApart-add k (hull run next) more (omega arith) (IsApart-further more m) m.2))
+    (λ f. apart)
+    (λ f. IsApart-add k (hull run next) more (omega arith) (IsApart-further more m) m.2))
   where
     IsApart-further : (others : List Run) → IsMaximal (next ∷ others) → IsApart k others
     IsApart-further [] q = tt
@@ -120,8 +120,8 @@ IsMaximal-add run (next ∷ more) o m =
     cond_both (ltb (run.last + 1) next.first) _ _ IsMaximal
     (λ e. (o, ltb-true _ _ e, m))
     (λ e. cond_both (ltb (next.last + 1) run.first) _ _ IsMaximal
-      (λ f. (m.0, IsApart-add next.last run more (ltb-true _ _ f) m.1 m.2, IsMaximal-add run more o m.2))
-      (λ f. IsMaximal-add (hull run next) more (omega arith) m.2))
+    (λ f. (m.0, IsApart-add next.last run more (ltb-true _ _ f) m.1 m.2, IsMaximal-add run more o m.2))
+    (λ f. IsMaximal-add (hull run next) more (omega arith) m.2))
 
 -- ---- a union
 
@@ -136,9 +136,9 @@ Has-union [] o n = (λ h. h, λ h. h)
 Has-union (run ∷ more) o n =
     let here = Has-add run (union more) o.0 (IsMaximal-union more o.1) n in
     let rec = Has-union more o.1 n in (
-    λ h. elim (here.0 h) [ inl x ↦ inl x | inr y ↦ inr (rec.0 y) ],
-    λ h. here.1 (elim h [ inl x ↦ inl x | inr y ↦ inr (rec.1 y) ]),
-  )
+      λ h. elim (here.0 h) [ inl x ↦ inl x | inr y ↦ inr (rec.0 y) ],
+      λ h. here.1 (elim h [ inl x ↦ inl x | inr y ↦ inr (rec.1 y) ]),
+    )
 
 -- maximal runs of the numbers in some runs are their union
 pub is_union : (joined runs : List Run) → AllOrdered runs → IsMaximal joined → SameNumbers joined runs → joined ≡ union runs
@@ -166,10 +166,10 @@ without_asked s r others rest inside = (
 pub not_included : (s r : Run) (others rest : List Run) → IsMaximal (s ∷ others) → r.first ≤ r.last → r.first ≤ s.last → ¬ ((s.first ≤ r.first) × (r.last ≤ s.last)) → ¬ (Includes (s ∷ others) (r ∷ rest))
 not_included s r others rest m o reach outside all =
     elim (cases_lt r.first s.first) [
-      inl early ↦ let least : s.first ≤ r.first = first_least s others m r.first (all r.first (inl (omega arith, o))) in omega arith
-    | inr late ↦ elim (cases_lt s.last r.last) [
-        inl long ↦ gap_behind s others m (all (s.last + 1) (inl (omega arith, omega arith)))
-      | inr short ↦ outside (late, short)
+      | inl early ↦ let least : s.first ≤ r.first = first_least s others m r.first (all r.first (inl (omega arith, o))) in omega arith
+      | inr late ↦ elim (cases_lt s.last r.last) [
+        | inl long ↦ gap_behind s others m (all (s.last + 1) (inl (omega arith, omega arith)))
+        | inr short ↦ outside (late, short)
       ]
     ]
 

@@ -42,7 +42,7 @@ pass_back text rest octet front is e so =
 pub stop_back : (text rest : List ℕ) (octet : ℕ) (front : List ℕ) → rest ≡ front ++ octet ∷ [] → octet ≢ 32 → from_back rest ≡ from_back text → rest ≡ from_back text
 stop_back text rest octet front is e so =
     let kept : skip_spaces (reverse rest) ≡ reverse rest =
-        ap (λ x. skip_spaces (reverse x)) is ∙ ap skip_spaces (reverse-last octet front) ∙ skip_spaces-other octet (reverse front) e ∙ sym (reverse-last octet front) ∙ sym (ap reverse is) in
+    ap (λ x. skip_spaces (reverse x)) is ∙ ap skip_spaces (reverse-last octet front) ∙ skip_spaces-other octet (reverse front) e ∙ sym (reverse-last octet front) ∙ sym (ap reverse is) in
     sym (ap reverse kept ∙ reverse-reverse rest) ∙ so
 
 pub end_back : (text rest : List ℕ) → rest ≡ [] → from_back rest ≡ from_back text → rest ≡ from_back text

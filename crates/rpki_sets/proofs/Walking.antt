@@ -23,18 +23,18 @@ module _ (all part : List Run) where
   past_first : (s : Run) (others : List Run) (r : Run) (rest : List Run) → s.last < r.first → IsLeft all part (s ∷ others) (r ∷ rest) → IsLeft all part others (r ∷ rest)
   past_first s others r rest before left =
       let step = without_first s r others rest before left.asked_maximal in record {
-      held_maximal = left.held_maximal.2;
-      asked_maximal = left.asked_maximal;
-      same = (λ h. step.0 (left.same.0 h), λ h. left.same.1 (step.1 h));
-    }
+        held_maximal = left.held_maximal.2;
+        asked_maximal = left.asked_maximal;
+        same = (λ h. step.0 (left.same.0 h), λ h. left.same.1 (step.1 h));
+      }
 
   past_asked : (s : Run) (others : List Run) (r : Run) (rest : List Run) → (s.first ≤ r.first) × (r.last ≤ s.last) → IsLeft all part (s ∷ others) (r ∷ rest) → IsLeft all part (s ∷ others) rest
   past_asked s others r rest inside left =
       let step = without_asked s r others rest inside in record {
-      held_maximal = left.held_maximal;
-      asked_maximal = left.asked_maximal.2;
-      same = (λ h. step.0 (left.same.0 h), λ h. left.same.1 (step.1 h));
-    }
+        held_maximal = left.held_maximal;
+        asked_maximal = left.asked_maximal.2;
+        same = (λ h. step.0 (left.same.0 h), λ h. left.same.1 (step.1 h));
+      }
 
   -- the first run held is passed
   pub IsLeft-others : (held asked : List Run) (s : Run) (others : List Run) (r : Run) (rest : List Run) → IsSeen held asked s others r rest → IsLeft all part held asked → s.last < r.first → IsLeft all part others asked
@@ -50,17 +50,17 @@ module _ (all part : List Run) where
   pub is_missing : (held asked : List Run) (s : Run) (others : List Run) (r : Run) (rest : List Run) → IsSeen held asked s others r rest → IsLeft all part held asked → r.first ≤ s.last → ¬ ((s.first ≤ r.first) × (r.last ≤ s.last)) → IsTrue false ↔ Includes all part
   is_missing held asked s others r rest seen left reach outside =
       let now = opened held asked s others r rest seen left in (
-      λ h. absurd (false≢true h),
-      λ h. absurd (not_included s r others rest now.held_maximal now.asked_maximal.0 reach outside (now.same.0 h)),
-    )
+        λ h. absurd (false≢true h),
+        λ h. absurd (not_included s r others rest now.held_maximal now.asked_maximal.0 reach outside (now.same.0 h)),
+      )
 
   -- nothing is left to find it in
   pub is_exhausted : (held asked : List Run) (r : Run) (rest : List Run) → held ≡ [] → asked ≡ r ∷ rest → IsLeft all part held asked → IsTrue false ↔ Includes all part
   is_exhausted held asked r rest none asked_is left =
       let now : IsLeft all part [] (r ∷ rest) = rw (← none, ← asked_is) left in (
-      λ h. absurd (false≢true h),
-      λ h. absurd (nothing_included r rest now.asked_maximal.0 (now.same.0 h)),
-    )
+        λ h. absurd (false≢true h),
+        λ h. absurd (nothing_included r rest now.asked_maximal.0 (now.same.0 h)),
+      )
 
   -- all that was asked for was found
   pub is_found : (held asked : List Run) → asked ≡ [] → IsLeft all part held asked → IsTrue true ↔ Includes all part

@@ -28,6 +28,9 @@ pub use laws::{
     union_has_the_numbers,
 };
 pub use numbers::Numbers;
-pub use rpki_common::OutOfMemory;
 pub use resource_set::ResourceSet;
+pub use rpki_common::OutOfMemory;
 pub use run::Run;
+
+#[cfg(test)]
+mod tests;

@@ -12,9 +12,9 @@ each-init c = rw c.new-joined.ensures.items (start_joining _ _ _ c.in-Some.ensur
 
 pub each-preserved : goal.each-preserved
 each-preserved c = elim c.if-is_joined.branch [
-    then-is_joined w ↦ step_joined _ _ _ _ _ _ c.each-test.true c.each.invariant _ _ _ (ap (λ v. v.items) w.joined-is) w.held-is w.max.ensures (w.if-is_joined.ensures.0 refl)
+  | then-is_joined w ↦ step_joined _ _ _ _ _ _ c.each-test.true c.each.invariant _ _ _ (ap (λ v. v.items) w.joined-is) w.held-is w.max.ensures (w.if-is_joined.ensures.0 refl)
   | else-is_joined+in_ok-push w ↦ step_pushed _ _ _ _ _ _ c.each-test.true c.each.invariant _ _ (ap (λ v. v.items) w.joined-is ∙ w.in_ok-push.ensures.items) w.held-is (not_near _ _ w.if-is_joined.ensures.1)
-  ]
+]
 
 pub returns-in_default : goal.returns-in_default
 returns-in_default c =
