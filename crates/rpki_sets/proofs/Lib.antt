@@ -18,3 +18,4 @@ pub mod Ipv6Laws
 pub mod Wholes
 pub mod BigEndian
 pub mod ReadBack
+pub mod Ipv6Writing

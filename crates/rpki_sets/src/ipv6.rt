@@ -37,6 +37,7 @@ impl Numbers for Ipv6Addresses {
         }
     }
 
+    #[tactic(auto, using(crate::proofs::Ipv6Writing::written_groups))]
     fn write<W: fmt::Write>(f: &mut fmt::Formatter<W>, number: u128) -> fmt::Result {
         let groups = Ipv6Addr::from_bits(number).hex_groups();
         write!(f, "{groups}")
