@@ -1,7 +1,7 @@
 -- Each run of a set of a kind is one of the kind.
-use Rattle.std.proofs.Common.{◌≡◌, ℕ, zero, suc, ◌^◌, ◌<◌, ◌≤◌, inl, inr, List, [], ◌∷◌, length, get_or, subst, arith}
+use Rattle.std.proofs.Common.{◌≡◌, ℕ, zero, suc, ◌<◌, inl, inr, List, [], ◌∷◌, length, get_or, subst, arith}
 use Rattle.rpki_sets.specs.declared.run.Run.{Run}
-use Rattle.rpki_sets.specs.Runs.{IsMaximal, IsWithin, IsSet}
+use Rattle.rpki_sets.specs.Runs.{IsSet}
 use Rattle.rpki_sets.proofs.Fitting.{IsFit}
 
 pub tail_set : (width : ℕ) (run : Run) (more : List Run) → IsSet width (run ∷ more) → IsSet width more

@@ -1,14 +1,14 @@
 -- What is read are runs of numbers of the kind, so that their union is a set of the kind.
-use Rattle.std.proofs.Common.{◌≡◌, ℕ, suc, ◌+◌, ◌-◌, ◌*◌, ◌/◌, ◌^◌, ◌<◌, ◌≤◌, ◌⊎◌, inl, inr, Bool, true, false, ◌&&◌, cond, eqb, ltb, leb, Option, None, Some, Result, Err, List, [], ◌∷◌, length, refl, sym, subst, ap, ◌∙◌, arith}
+use Rattle.std.proofs.Common.{◌≡◌, ℕ, ◌+◌, ◌-◌, ◌^◌, ◌<◌, ◌≤◌, inl, inr, false, ◌&&◌, eqb, ltb, leb, Option, None, Some, Result, Err, List, [], ◌∷◌, length, refl, subst, ap, arith}
 use Rattle.std.specs.List.{slice_split}
 use Rattle.std.specs.Str.{all_ascii_digits}
 use Rattle.std.specs.Str.Parse.{digits_value}
 use Rattle.std.specs.Prelude.{IsSomeAnd}
-use Rattle.std.proofs.lemmas.Bool.{cond_both, cond-true, cond-false, leb-true, ltb-true, and_parts, eq-eqb}
+use Rattle.std.proofs.lemmas.Bool.{cond_both, leb-true, ltb-true, and_parts}
 use Rattle.std.proofs.lemmas.Nat.{pow_pos}
 use Rattle.rpki_common.specs.Chaining.{◌>>=◌}
 use Rattle.rpki_sets.specs.declared.run.Run.{Run}
-use Rattle.rpki_sets.specs.Runs.{Has, SameNumbers, AllOrdered, IsWithin, IsSet, union}
+use Rattle.rpki_sets.specs.Runs.{SameNumbers, AllOrdered, IsWithin, IsSet, union}
 use Rattle.rpki_sets.specs.Texts.{cut, trimmed, parts, read_all, decimal_below}
 use Rattle.rpki_sets.specs.Prefixes.{prefix}
 use Rattle.rpki_sets.specs.Kinds.{Kind, IsLawful, run_from, range_of, range, prefix_of, prefix_or_range, item, spaced_item, runs_of, blocks_of}

@@ -1,8 +1,7 @@
 -- IPv6 addresses are a lawful kind.
-use Rattle.std.proofs.Common.{◌≡◌, ℕ, zero, suc, ◌+◌, ◌-◌, ◌*◌, ◌/◌, ◌%◌, ◌^◌, ◌<◌, ◌≤◌, ◌⊎◌, inl, inr, Bool, true, Option, None, Some, List, [], ◌∷◌, ◌++◌, length, replicate, get_or, codes, refl, sym, subst, ap, ◌∙◌, arith, lit≤, append-nil, length-append}
+use Rattle.std.proofs.Common.{◌≡◌, ℕ, zero, suc, ◌^◌, ◌<◌, ◌≤◌, inl, inr, Bool, Option, None, Some, List, [], ◌∷◌, ◌++◌, length, replicate, get_or, codes, refl, sym, subst, ap, ◌∙◌, arith, lit≤, append-nil, length-append}
 use Rattle.std.specs.List.{All}
 use Rattle.std.specs.Int.{w128, from_be_bytes, to_be_bytes}
-use Rattle.std.specs.Str.Parse.{digits_value}
 use Rattle.std.specs.Net.Addr.{octets_of, segments_of}
 use Rattle.std.specs.Net.Grammar.{IsDotted, IsGroup, IsGroupsAfter, IsElided, IsColonHex}
 use Rattle.std.specs.Net.Text.{hex_groups_text}

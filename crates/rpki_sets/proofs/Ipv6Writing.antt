@@ -1,7 +1,5 @@
 -- The text of an address that has a number's bits.
-use Rattle.std.proofs.Common.{◌≡◌, ℕ, List, ap, ◌∙◌}
-use Rattle.std.specs.Fmt.{HasWritten}
-use Rattle.std.specs.declared.fmt.Formatter.{Formatter}
+use Rattle.std.proofs.Common.{◌≡◌, ℕ, ap, ◌∙◌}
 use Rattle.std.specs.declared.net.ipv6_addr.Ipv6Addr.{Ipv6Addr}
 use Rattle.std.specs.declared.net.display.HexGroups.{HexGroups}
 use Rattle.std.specs.Net.Addr.{ipv6_segments, IsIpv6OfBits}

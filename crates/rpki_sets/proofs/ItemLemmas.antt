@@ -1,5 +1,5 @@
 -- What an item is, by the parts that it is cut into.
-use Rattle.std.proofs.Common.{◌≡◌, ℕ, ◌+◌, Bool, true, false, Option, None, Some, List, refl, sym, ap, ◌∙◌}
+use Rattle.std.proofs.Common.{◌≡◌, ℕ, ◌+◌, true, false, None, Some, List, refl, sym, ap, ◌∙◌}
 use Rattle.rpki_common.specs.Chaining.{◌>>=◌}
 use Rattle.rpki_sets.specs.declared.run.Run.{Run}
 use Rattle.rpki_sets.specs.Texts.{cut, decimal_below}

@@ -1,9 +1,9 @@
 -- The loop that joins ascending runs: what is joined, the run at hand and what is left have the numbers of all runs.
-use Rattle.std.proofs.Common.{◌≡◌, ◌↔◌, ℕ, ◌+◌, ◌<◌, ◌≤◌, ◌⊎◌, inl, inr, max, Bool, false, IsTrue, List, [], ◌∷◌, ◌++◌, refl, sym, ap, ◌∙◌, subst, arith, append_assoc, length, get_or, drop, add-one, drop-cons, length-drop}
+use Rattle.std.proofs.Common.{◌≡◌, ◌↔◌, ℕ, ◌+◌, ◌<◌, ◌≤◌, ◌⊎◌, inl, inr, max, false, IsTrue, List, [], ◌∷◌, ◌++◌, refl, subst, arith, append_assoc, length, get_or, drop, add-one, drop-cons, length-drop}
 use Rattle.std.proofs.lemmas.Bool.{cases_lt, false≢true}
 use Rattle.std.proofs.lemmas.List.{nil_from_length}
 use Rattle.rpki_sets.specs.declared.run.Run.{Run}
-use Rattle.rpki_sets.specs.Runs.{Holds, Has, SameNumbers, AllOrdered, IsApart, IsMaximal, union}
+use Rattle.rpki_sets.specs.Runs.{Has, SameNumbers, AllOrdered, IsApart, IsMaximal, union}
 use Rattle.rpki_sets.specs.Ascending.{AllFrom, IsAscending}
 use Rattle.rpki_sets.proofs.RunLemmas.{is_union}
 

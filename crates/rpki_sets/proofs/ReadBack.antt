@@ -1,17 +1,17 @@
 -- What is printed is read as the same set.
-use Rattle.std.proofs.Common.{◌≡◌, ◌≢◌, inl, inr, ℕ, zero, suc, ◌+◌, ◌^◌, ◌<◌, ◌≤◌, Bool, true, false, cond, eqb, leb, Option, None, Some, List, [], ◌∷◌, ◌++◌, length, reverse, map, codes, flat_map, refl, sym, subst, ap, ◌∙◌, arith, append-nil, length-append}
+use Rattle.std.proofs.Common.{◌≡◌, ◌≢◌, inl, inr, ℕ, ◌+◌, ◌^◌, ◌<◌, ◌≤◌, Bool, true, false, cond, eqb, Option, None, Some, List, [], ◌∷◌, ◌++◌, length, reverse, map, refl, sym, ap, ◌∙◌, arith, append-nil, length-append}
 use Rattle.std.specs.Fmt.{decimal}
 use Rattle.std.specs.List.{All, slice_split}
-use Rattle.std.proofs.lemmas.Bool.{cond_both, cond-true, cond-false, eqb-true, eq-eqb, ne_eqb, le-leb, cases_Bool}
+use Rattle.std.proofs.lemmas.Bool.{cond_both, cond-true, eqb-true, ne_eqb, le-leb, cases_Bool}
 use Rattle.std.proofs.lemmas.List.{reverse-reverse}
-use Rattle.std.proofs.lemmas.List.Elements.{All-nil, All-cons, All-head, All-tail, All-append, All-weaker}
+use Rattle.std.proofs.lemmas.List.Elements.{All-nil, All-cons, All-head, All-append, All-weaker}
 use Rattle.std.proofs.lemmas.List.Splits.{slice_split_at, slice_split_none}
 use Rattle.std.proofs.lemmas.List.Sorted.{All-permutation, IsPermutation-reverse}
 use Rattle.rpki_common.specs.Chaining.{◌>>=◌}
 use Rattle.rpki_sets.specs.declared.run.Run.{Run}
-use Rattle.rpki_sets.specs.Runs.{SameNumbers, AllOrdered, IsMaximal, IsSet, union}
-use Rattle.rpki_sets.specs.Texts.{skip_spaces, trimmed, cut, parts, read_all, decimal_below}
-use Rattle.rpki_sets.specs.Prefixes.{prefix, prefix_length}
+use Rattle.rpki_sets.specs.Runs.{AllOrdered, IsMaximal, IsSet}
+use Rattle.rpki_sets.specs.Texts.{skip_spaces, trimmed, read_all}
+use Rattle.rpki_sets.specs.Prefixes.{prefix_length}
 use Rattle.rpki_sets.specs.Kinds.{Kind, IsLawful, IsPlain, run_from, range, prefix_of, item, spaced_item, runs_of, blocks_of, range_text, prefix_or_range_text, run_text, text_of}
 use Rattle.rpki_sets.proofs.AsLaws.{decimal_below-decimal, All-plain-decimal}
 use Rattle.rpki_sets.proofs.Cutting.{cut_behind, cut_none_there}

@@ -1,9 +1,9 @@
 -- The loop that reads the items of a text.
-use Rattle.std.proofs.Common.{◌≡◌, ℕ, Bool, eqb, Option, None, Some, List, [], ◌∷◌, ◌++◌, refl, sym, ap, ◌∙◌, append_assoc}
+use Rattle.std.proofs.Common.{◌≡◌, ℕ, eqb, Option, None, Some, List, [], ◌∷◌, ◌++◌, refl, sym, ap, ◌∙◌, append_assoc}
 use Rattle.std.specs.List.{slice_split}
 use Rattle.rpki_common.specs.Chaining.{◌>>=◌}
 use Rattle.rpki_sets.specs.Texts.{cut, read_all}
-use Rattle.rpki_sets.proofs.Cutting.{is_mark, split_first, split_last}
+use Rattle.rpki_sets.proofs.Cutting.{split_first, split_last}
 
 module _ {A B : Type 0} (read : A → Option B) where
   -- what is read of a list whose front was read

@@ -1,5 +1,5 @@
 -- The walk over two lists of maximal runs, as `includes` goes: what is left to look at decides the question.
-use Rattle.std.proofs.Common.{◌≡◌, ◌↔◌, ℕ, ◌<◌, ◌≤◌, Bool, true, false, IsTrue, List, [], ◌∷◌, length, refl, arith}
+use Rattle.std.proofs.Common.{◌≡◌, ◌↔◌, ◌<◌, ◌≤◌, true, false, IsTrue, List, [], ◌∷◌, refl}
 use Rattle.std.proofs.lemmas.Bool.{false≢true}
 use Rattle.rpki_sets.specs.declared.run.Run.{Run}
 use Rattle.rpki_sets.specs.Runs.{Includes, IsMaximal}

@@ -1,5 +1,5 @@
 -- AS numbers as text.
-use Rattle.std.specs.Prelude.{ℕ, ◌^◌, Bool, false, if◌then◌else◌, Option, List, take, drop, map, codes}
+use Rattle.std.specs.Prelude.{ℕ, ◌^◌, false, if◌then◌else◌, Option, List, take, drop, map, codes}
 use Rattle.std.specs.Char.{to_ascii_lowercase}
 use Rattle.std.specs.Str.{bytes_eq}
 use Rattle.std.specs.Fmt.{decimal}

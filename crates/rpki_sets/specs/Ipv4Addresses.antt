@@ -1,5 +1,5 @@
 -- IPv4 addresses as text.
-use Rattle.std.specs.Prelude.{ℕ, Bool, true, Option, Some, List}
+use Rattle.std.specs.Prelude.{ℕ, true, Option, Some, List}
 use Rattle.std.specs.Int.{w32, from_be_bytes, to_be_bytes}
 use Rattle.std.specs.Net.Reader.{read_ipv4, whole_value}
 use Rattle.std.specs.Net.Text.{ipv4_text}

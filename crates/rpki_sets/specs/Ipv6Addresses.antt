@@ -1,5 +1,5 @@
 -- IPv6 addresses as text.
-use Rattle.std.specs.Prelude.{ℕ, Bool, true, Option, Some, List}
+use Rattle.std.specs.Prelude.{ℕ, true, Option, Some, List}
 use Rattle.std.specs.Int.{w128, from_be_bytes, to_be_bytes}
 use Rattle.std.specs.Net.Addr.{octets_of, segments_of}
 use Rattle.std.specs.Net.Reader.{read_ipv6, whole_value}

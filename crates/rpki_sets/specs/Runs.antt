@@ -1,5 +1,5 @@
 -- Runs of numbers, and the sets that lists of runs stand for.
-use Rattle.std.specs.Prelude.{◌≡◌, ◌↔◌, ◌⊎◌, ℕ, ◌+◌, ◌≤◌, ◌<◌, ◌^◌, nat_lt, min, max, if◌then◌else◌, List, [], ◌∷◌}
+use Rattle.std.specs.Prelude.{◌↔◌, ◌⊎◌, ℕ, ◌+◌, ◌≤◌, ◌<◌, ◌^◌, nat_lt, min, max, if◌then◌else◌, List, [], ◌∷◌}
 use Rattle.rpki_sets.specs.declared.run.Run.{Run}
 
 -- the number lies in the run

@@ -1,5 +1,5 @@
 -- Texts cut into parts, and numbers in decimal digits.
-use Rattle.std.specs.Prelude.{ℕ, ◌+◌, ◌<◌, nat_lt, Bool, ◌&&◌, ◌==◌, if◌then◌else◌, Option, None, Some, List, [], ◌∷◌, length, reverse, take, drop, position}
+use Rattle.std.specs.Prelude.{ℕ, ◌+◌, nat_lt, ◌&&◌, ◌==◌, if◌then◌else◌, Option, None, Some, List, [], ◌∷◌, length, reverse, take, drop, position}
 use Rattle.std.specs.List.{slice_split}
 use Rattle.std.specs.Str.{all_ascii_digits}
 use Rattle.std.specs.Str.Parse.{digits_value}
@@ -35,9 +35,13 @@ unfoldable pub cut : ℕ → List ℕ → Option (List ℕ × List ℕ)
 cut mark text =
     position (λ octet. octet == mark) text >>= λ place. Some (take place text, drop (place + 1) text)
 
--- what stands between commas; a text that is empty or spaces has no part
+-- what stands between commas
+abbrev pub at_commas : List ℕ → List (List ℕ)
+at_commas text = slice_split (λ octet. octet == comma) text
+
+-- the parts between commas; a text that is empty or spaces has none
 unfoldable pub parts : List ℕ → List (List ℕ)
-parts text = if length (trimmed text) == 0 then [] else slice_split (λ octet. octet == comma) text
+parts text = if length (trimmed text) == 0 then [] else at_commas text
 
 -- each is read; nothing is read where one of them can't be
 unfoldable pub read_all : {A B : Type 0} → (A → Option B) → List A → Option (List B)

@@ -4,7 +4,7 @@ ghost use Rattle.std.specs.Prelude.{◌≡◌, ◌↔◌, [], Some, None, IfOk, 
 ghost use Rattle.std.specs.Cmp.{partial_equiv_from_equiv};
 ghost use Rattle.std.specs.Cmp.Lexicographic.{pointwise, lists_equiv};
 ghost use Rattle.rpki_sets.specs.Comparing.{is_same, is_same-equiv};
-ghost use Rattle.rpki_sets.specs.Runs.{Has, SameNumbers, Includes, IsSet};
+ghost use Rattle.rpki_sets.specs.Runs.{SameNumbers, Includes, IsSet};
 ghost use Rattle.rpki_sets.specs.Kinds.{runs_of, blocks_of, text_of};
 
 use crate::error::BlocksError;

@@ -1,4 +1,12 @@
-//! Sets of AS numbers and of IP addresses.
+//! Sets of AS numbers and of IP addresses, read from texts and printed.
+//!
+//! - [`AsBlocks`], [`Ipv4Blocks`] and [`Ipv6Blocks`] are one type, [`Blocks`], at three kinds of [`Numbers`]. In a clause
+//!   such a set is the list of its maximal runs in ascending order; each set has one such list, so `≡` says that the
+//!   numbers are the same ([`equal_sets_have_equal_runs`]).
+//! - A text means the union of its items, whatever way it is spelled. What a set prints is the one text that is made of
+//!   its maximal runs, and is read as the same set ([`Blocks::text_is_read_back`]).
+//! - Reading takes time in proportion to n log n of the number of items, `contains` and `==` to the number of runs.
+//! - [`ResourceSet`] holds one set of each kind.
 #![tactic(auto)]
 
 mod as_numbers;

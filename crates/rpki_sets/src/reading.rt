@@ -1,8 +1,7 @@
 //! The runs that a text stands for.
 
-ghost use Rattle.std.specs.Prelude.{◌≡◌, ◌==◌, Some, None, IfOk, IsErrOf};
-ghost use Rattle.std.specs.List.{slice_split};
-ghost use Rattle.rpki_sets.specs.Texts.{read_all};
+ghost use Rattle.std.specs.Prelude.{◌≡◌, Some, None, IfOk, IsErrOf};
+ghost use Rattle.rpki_sets.specs.Texts.{read_all, at_commas};
 ghost use Rattle.rpki_sets.specs.Kinds.{spaced_item, runs_of};
 
 use crate::error::BlocksError;
@@ -21,8 +20,8 @@ fn read_spaced_item<N: Numbers>(text: &[u8]) -> Option<Run>
 
 /// The runs of the items between commas.
 fn read_parts<N: Numbers>(alloc: Global, text: &[u8]) -> Result<Vec<Run>, BlocksError>
-    ensures runs { IfOk result (λ runs. read_all (spaced_item N.kind) (slice_split (λ octet. octet == 44) text.now) ≡ Some runs.items) }
-    ensures malformed { IsErrOf result BlocksError.Malformed → read_all (spaced_item N.kind) (slice_split (λ octet. octet == 44) text.now) ≡ None }
+    ensures runs { IfOk result (λ runs. read_all (spaced_item N.kind) (at_commas text.now) ≡ Some runs.items) }
+    ensures malformed { IsErrOf result BlocksError.Malformed → read_all (spaced_item N.kind) (at_commas text.now) ≡ None }
 {
     let mut runs = Vec::new(alloc);
     let mut rest = text;

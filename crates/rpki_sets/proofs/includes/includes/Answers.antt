@@ -1,7 +1,6 @@
-use Rattle.std.proofs.Common.{arith, rules}
 use Rattle.std.proofs.lemmas.Bool.{false≢true}
 use Rattle.std.proofs.lemmas.List.{nil_from_length}
-use Rattle.rpki_sets.proofs.Walking.{IsLeft-others, IsLeft-rest, is_missing, is_exhausted, is_found}
+use Rattle.rpki_sets.proofs.Walking.{IsLeft-others, is_missing, is_exhausted}
 use Rattle.rpki_sets.proofs.includes.includes.Goals as goal
 
 pub walk-init : goal.walk-init

@@ -2,7 +2,7 @@ use Rattle.std.proofs.Common.{Some, sym, ap, ◌∙◌}
 use Rattle.rpki_sets.specs.declared.run.Run.{Run}
 use Rattle.rpki_sets.specs.Kinds.{spaced_item}
 use Rattle.rpki_sets.proofs.Cutting.{cut_shorter}
-use Rattle.rpki_sets.proofs.ReadingLemmas.{IsReadTo, read_start, read_more, part_none, last_none, last_some}
+use Rattle.rpki_sets.proofs.ReadingLemmas.{read_start, read_more, part_none, last_none, last_some}
 use Rattle.rpki_sets.proofs.reading.read_parts.Goals as goal
 
 pub parts-init : goal.parts-init

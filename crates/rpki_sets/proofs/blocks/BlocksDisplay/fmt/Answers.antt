@@ -1,4 +1,4 @@
-use Rattle.std.proofs.Common.{◌≡◌, ◌∷◌, arith, rules, refl, sym, ◌∙◌}
+use Rattle.std.proofs.Common.{arith, rules, refl, sym, ◌∙◌}
 use Rattle.std.proofs.lemmas.Grind.{common_steps}
 use Rattle.std.proofs.lemmas.List.{nil_from_length}
 use Rattle.rpki_sets.specs.declared.run.Run.{Run}

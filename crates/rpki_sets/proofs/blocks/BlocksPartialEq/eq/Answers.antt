@@ -1,4 +1,4 @@
-use Rattle.std.proofs.Common.{ap, ◌∙◌}
+use Rattle.std.proofs.Common.{◌∙◌}
 use Rattle.std.specs.Cmp.Lexicographic.{pointwise}
 use Rattle.rpki_sets.specs.Comparing.{is_same}
 use Rattle.rpki_sets.proofs.EqualRuns.{same_lists, same_sets}
