@@ -1,5 +1,5 @@
 -- What one call of a cursor says of the values that stand there.
-use Rattle.std.proofs.Common.{◌≡◌, ℕ, ◌-◌, true, false, Option, None, Some, List, [], ◌∷◌, ◌++◌, length, take, refl, sym, ap, subst, ◌∙◌, arith, length-append}
+use Rattle.std.proofs.Common.{◌≡◌, ℕ, ◌-◌, true, false, Option, None, Some, List, [], ◌∷◌, ◌++◌, length, take, drop, refl, sym, ap, subst, ◌∙◌, arith, length-append}
 use Rattle.std.proofs.lemmas.List.{take_at}
 use Rattle.rpki_der.specs.declared.header.Length.{Length}
 use Rattle.rpki_der.specs.declared.header.Length.TheVariants as length_is
@@ -7,17 +7,15 @@ use Rattle.rpki_der.specs.declared.mode.Mode.{Mode}
 use Rattle.rpki_der.specs.Value.{Value, Primitive, Constructed, spelling, Begins}
 use Rattle.rpki_der.specs.Level.{Level, Sized, Marked, Ends, Opens}
 use Rattle.rpki_der.specs.Header.{HeaderFirst}
-use Rattle.rpki_der.specs.Part.{NoValue, NoPart, level_of}
+use Rattle.rpki_der.specs.Part.{NoValue, NoPart}
 use Rattle.rpki_der.specs.Position.{Position, top}
 use Rattle.rpki_der.specs.Identifier.{has_tag}
 use Rattle.rpki_der.specs.Grammar.{primitive, any}
 use Rattle.rpki_der.specs.Takes.{TakesOne, NoneStands, NoneOpens}
-use Rattle.rpki_der.specs.Walk.{levels_of}
 use Rattle.rpki_der.proofs.Parts.{at_most_one, same_header}
-use Rattle.rpki_der.proofs.Walks.{opens_forth, levels_of-last}
-use Rattle.std.specs.Prelude.{slice_get, IfNone}
+use Rattle.rpki_der.proofs.Walks.{opens_forth}
+use Rattle.std.specs.Prelude.{IfNone}
 use Rattle.std.proofs.Common.{Bor}
-use Rattle.rpki_der.specs.declared.part.Open.{Open}
 
 -- ---- the header of a constructed value
 
@@ -91,9 +89,6 @@ none_any p n v rest b = absurd (n v rest b)
 
 -- ---- the end of a level
 
-pub top_last : (opened : List Open) (open' : Open) → slice_get opened (length opened - 1) ≡ Some open' → top (levels_of opened) ≡ level_of open'
-top_last opened open' e = ap top (levels_of-last opened open' e)
-
-pub none_ends : (opened : List Open) (open' : Open) (here : List ℕ) (r : Option (Bor (List ℕ))) → slice_get opened (length opened - 1) ≡ Some open' → IfNone r ((rest : List ℕ) → Ends (level_of open') here rest → ⊥) → IfNone r ((rest : List ℕ) × Ends (top (levels_of opened)) here rest → ⊥)
-none_ends opened open' here None e n = λ p. n p.0 (subst (λ (l : Level). Ends l here p.0) (top_last opened open' e) p.1)
-none_ends opened open' here (Some r) e n = tt
+pub none_ends : (opened : List Level) (level : Level) (here : List ℕ) (r : Option (Bor (List ℕ))) → opened ≡ level ∷ drop 1 opened → IfNone r ((rest : List ℕ) → Ends level here rest → ⊥) → IfNone r ((rest : List ℕ) × Ends (top opened) here rest → ⊥)
+none_ends opened level here None e n = λ p. n p.0 (subst (λ (l : Level). Ends l here p.0) (ap top e) p.1)
+none_ends opened level here (Some r) e n = tt

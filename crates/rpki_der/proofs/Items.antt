@@ -5,13 +5,12 @@ use Rattle.std.proofs.lemmas.List.{take_at}
 use Rattle.rpki_der.specs.declared.error.DecodeError.{DecodeError}
 use Rattle.rpki_der.specs.declared.error.DecodeError.TheVariants.{Malformed, OutOfMemory}
 use Rattle.rpki_der.specs.declared.mode.Mode.{Mode}
-use Rattle.rpki_der.specs.declared.part.Open.{Open}
 use Rattle.rpki_der.specs.Identifier.{tag_of, has_tag}
 use Rattle.rpki_der.specs.Header.{IdentifierFirst, NoIdentifier}
 use Rattle.rpki_der.specs.Value.{Definite, Indefinite, lengths_of, end_mark, Value, Primitive, Constructed, Values, End, ◌▸◌, spelling, spellings, IsValue, AreValues, Begins}
 use Rattle.rpki_der.specs.Level.{Level, Sized, Marked, Holds, Opens}
-use Rattle.rpki_der.specs.Part.{level_of, NoValue}
-use Rattle.rpki_der.specs.Walk.{levels_of, Completes}
+use Rattle.rpki_der.specs.Part.{NoValue}
+use Rattle.rpki_der.specs.Walk.{Completes}
 use Rattle.rpki_der.specs.ExactWalk.{CompletesExactly}
 use Rattle.rpki_der.specs.Position.{Position, top, AtEnd}
 use Rattle.rpki_der.specs.Grammar.{identifier_of, optional}
@@ -20,7 +19,7 @@ use Rattle.rpki_der.specs.Ticks.{counts, all_counts, left, CountedOne, CountedRe
 use Rattle.rpki_der.specs.Item.{ItemFields, item, any_item, item_with, content_in, ShowsWhole, OtherFirst, Absent, CountedAbsent, RefusesNext, CountedRefusesNext, TakesNextCounted, RefusesOptional, CountedRefusesOptional, TakesOptionalCounted}
 use Rattle.rpki_der.proofs.Uniqueness.{same_identifier, three_parts, four_parts}
 use Rattle.rpki_der.proofs.Parts.{at_most_one}
-use Rattle.rpki_der.proofs.Walks.{levels_of-push, opens_back, opens_forth, ends_no_value, end_holds, holds_more}
+use Rattle.rpki_der.proofs.Walks.{opens_back, opens_forth, ends_no_value, end_holds, holds_more}
 use Rattle.rpki_der.proofs.ExactWalks.{same_marks, nodes_counts}
 use Rattle.rpki_der.proofs.Cursors.{slice_of}
 use Rattle.rpki_der.proofs.Counting.{some_identifier, begins_left, refuses_at_once}
@@ -32,8 +31,8 @@ same_error e f is = cc
 
 -- ---- the octets of one value
 
-pub one_level : (opened opened' : List Open) (open' : Open) → opened ≡ [] → opened' ≡ opened ++ open' ∷ [] → levels_of opened' ≡ level_of open' ∷ []
-one_level opened opened' open' none e = ap levels_of e ∙ levels_of-push opened open' ∙ ap (λ (o : List Open). level_of open' ∷ levels_of o) none
+pub one_level : (opened opened' : List Level) (level : Level) → opened ≡ [] → opened' ≡ level ∷ opened → opened' ≡ level ∷ []
+one_level opened opened' level none e = e ∙ ap (λ (ls : List Level). level ∷ ls) none
 
 pub none_constructed : (mode : Mode) (here i inner : List ℕ) (level : Level) (levels : List Level) → levels ≡ level ∷ [] → Opens mode here i level inner → ((final : List ℕ) → Completes mode inner levels final → ⊥) → NoValue mode here
 none_constructed mode here i inner level levels e o none v rest b =

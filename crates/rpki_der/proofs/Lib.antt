@@ -25,3 +25,5 @@ pub mod Holding
 pub mod Insides
 pub mod Dotted
 pub mod Flats
+pub mod Depths
+mod Row

@@ -1,17 +1,13 @@
 -- Going through the levels of one value.
-use Rattle.std.proofs.Common.{◌≡◌, ℕ, ◌+◌, ◌-◌, ◌<◌, Some, List, [], ◌∷◌, ◌++◌, length, take, map, reverse, refl, sym, ap, subst, ◌∙◌, append_assoc, arith, length-append}
-use Rattle.std.specs.Prelude.{slice_get}
-use Rattle.std.proofs.lemmas.List.{reverse-append, map-append, take_more, take_all}
-use Rattle.std.proofs.lemmas.Option.{slice_get_within, get_or_from_slice_get}
+use Rattle.std.proofs.Common.{◌≡◌, ℕ, ◌+◌, ◌<◌, List, [], ◌∷◌, ◌++◌, length, drop, refl, sym, ap, subst, ◌∙◌, append_assoc, arith, length-append}
 use Rattle.rpki_der.specs.declared.mode.Mode.{Mode}
 use Rattle.rpki_der.specs.declared.mode.Mode.TheVariants.{Ber, Der}
-use Rattle.rpki_der.specs.declared.part.Open.{Open}
 use Rattle.rpki_der.specs.Identifier.{IsIdentifier}
 use Rattle.rpki_der.specs.Lengths.{IsLength}
 use Rattle.rpki_der.specs.Value.{Form, Definite, Indefinite, Value, Primitive, Constructed, Values, End, ◌▸◌, end_mark, spelling, spellings, Begins}
 use Rattle.rpki_der.specs.Level.{mark_of, Level, Sized, Marked, Holds, Ends, Opens}
-use Rattle.rpki_der.specs.Part.{level_of, NoValue}
-use Rattle.rpki_der.specs.Walk.{levels_of, Completes, OneFirst, Descends, left_in}
+use Rattle.rpki_der.specs.Part.{NoValue}
+use Rattle.rpki_der.specs.Walk.{Completes, OneFirst, Descends, left_in}
 use Rattle.rpki_der.proofs.Uniqueness.{same_cut, same_identifier, same_length, not_indefinite, three_parts, four_parts, begins_no_end, mixed, IsEnd, tail_of}
 use Rattle.rpki_der.proofs.Parts.{at_most_one}
 
@@ -124,12 +120,9 @@ descends_into mode here i level inner levels o = record {
   back = λ final k. let w = opens_back mode here i level inner k.0 k.1 o k.2 in (Constructed i w.form k.0, k.1, w.begins, k.3);
 }
 
-pub levels_of-push : (opened : List Open) (open' : Open) → levels_of (opened ++ open' ∷ []) ≡ level_of open' ∷ levels_of opened
-levels_of-push opened open' = ap reverse (map-append level_of opened (open' ∷ [])) ∙ reverse-append (map level_of opened) (level_of open' ∷ [])
-
-pub descends_push : (mode : Mode) (here i inner : List ℕ) (opened opened' : List Open) (open' : Open) → Opens mode here i (level_of open') inner → opened' ≡ opened ++ open' ∷ [] → Descends mode here (levels_of opened) inner (levels_of opened')
-descends_push mode here i inner opened opened' open' o e =
-    subst (λ (ls : List Level). Descends mode here (levels_of opened) inner ls) (sym (ap levels_of e ∙ levels_of-push opened open')) (descends_into mode here i (level_of open') inner (levels_of opened) o)
+pub descends_push : (mode : Mode) (here i inner : List ℕ) (opened opened' : List Level) (level : Level) → Opens mode here i level inner → opened' ≡ level ∷ opened → Descends mode here opened inner opened'
+descends_push mode here i inner opened opened' level o e =
+    subst (λ (ls : List Level). Descends mode here opened inner ls) (sym e) (descends_into mode here i level inner opened o)
 
 not_empty : (i : List ℕ) → IsIdentifier i → 0 < length i
 not_empty [] p = absurd p
@@ -147,17 +140,9 @@ pub smaller_into : (mode : Mode) (here i : List ℕ) (level : Level) (inner : Li
 smaller_into mode here i (Sized after) inner levels o = omega (arith, not_empty i o.0, some_lengths mode o.2 (length inner) o.3, simp length-append at (ap length o.4))
 smaller_into mode here i Marked inner levels o = omega (arith, not_empty i o.0, simp length-append at (ap length o.3))
 
-pub smaller_push : (mode : Mode) (here i inner : List ℕ) (opened opened' : List Open) (open' : Open) → Opens mode here i (level_of open') inner → opened' ≡ opened ++ open' ∷ [] → length inner + left_in (levels_of opened') < length here + left_in (levels_of opened)
-smaller_push mode here i inner opened opened' open' o e =
-    subst (λ (ls : List Level). length inner + left_in ls < length here + left_in (levels_of opened)) (sym (ap levels_of e ∙ levels_of-push opened open')) (smaller_into mode here i (level_of open') inner (levels_of opened) o)
-
-pub levels_of-last : (opened : List Open) (open' : Open) → slice_get opened (length opened - 1) ≡ Some open' → levels_of opened ≡ level_of open' ∷ levels_of (take (length opened - 1) opened)
-levels_of-last opened open' e =
-    let n = length opened - 1 in
-    let lt : n < length opened = slice_get_within opened n open' e in
-    let whole : take (n + 1) opened ≡ opened = take_all (n + 1) opened (omega arith) in
-    let front : take (n + 1) opened ≡ take n opened ++ open' ∷ [] = take_more opened n open' lt ∙ ap (λ (o : Open). take n opened ++ o ∷ []) (get_or_from_slice_get opened n open' open' e) in
-    ap levels_of (sym whole ∙ front) ∙ levels_of-push (take n opened) open'
+pub smaller_push : (mode : Mode) (here i inner : List ℕ) (opened opened' : List Level) (level : Level) → Opens mode here i level inner → opened' ≡ level ∷ opened → length inner + left_in opened' < length here + left_in opened
+smaller_push mode here i inner opened opened' level o e =
+    subst (λ (ls : List Level). length inner + left_in ls < length here + left_in opened) (sym e) (smaller_into mode here i level inner opened o)
 
 -- where the level ends, it holds no value
 pub at_end : (mode : Mode) (level : Level) (here rest : List ℕ) (vs : Values) (next : List ℕ) → Ends level here rest → Holds mode level here vs next → rest ≡ next
@@ -191,23 +176,20 @@ pub smaller_end : (level : Level) (levels : List Level) (here rest : List ℕ) �
 smaller_end (Sized after) levels here rest e = let a = ap length e.0 in let b = ap length e.1 in omega arith
 smaller_end Marked levels here rest e = let a = ap length e in omega arith
 
--- ---- the same on the stack of the code
+-- ---- the same on the levels of the code
 
-abbrev pub front : List Open → List Open
-front opened = take (length opened - 1) opened
+pub ended_last : (mode : Mode) (octets : List ℕ) (base opened : List Level) (level : Level) (here rest : List ℕ) → opened ≡ level ∷ drop 1 opened → LeadsTo mode octets base here opened → Ends level here rest → LeadsTo mode octets base rest (drop 1 opened)
+ended_last mode octets base opened level here rest e d h =
+    ended mode octets base level (drop 1 opened) here rest (subst (λ (ls : List Level). LeadsTo mode octets base here ls) e d) h
 
-pub ended_last : (mode : Mode) (octets : List ℕ) (base : List Level) (opened : List Open) (open' : Open) (here rest : List ℕ) → slice_get opened (length opened - 1) ≡ Some open' → LeadsTo mode octets base here (levels_of opened) → Ends (level_of open') here rest → LeadsTo mode octets base rest (levels_of (front opened))
-ended_last mode octets base opened open' here rest e d h =
-    ended mode octets base (level_of open') (levels_of (front opened)) here rest (subst (λ (ls : List Level). LeadsTo mode octets base here ls) (levels_of-last opened open' e) d) h
+pub smaller_end_last : (opened : List Level) (level : Level) (here rest : List ℕ) → opened ≡ level ∷ drop 1 opened → Ends level here rest → length rest + left_in (drop 1 opened) < length here + left_in opened
+smaller_end_last opened level here rest e h =
+    subst (λ (ls : List Level). length rest + left_in (drop 1 opened) < length here + left_in ls) (sym e) (smaller_end level (drop 1 opened) here rest h)
 
-pub smaller_end_last : (opened : List Open) (open' : Open) (here rest : List ℕ) → slice_get opened (length opened - 1) ≡ Some open' → Ends (level_of open') here rest → length rest + left_in (levels_of (front opened)) < length here + left_in (levels_of opened)
-smaller_end_last opened open' here rest e h = rw (levels_of-last opened open' e) (smaller_end (level_of open') (levels_of (front opened)) here rest h)
+pub went_on_last : (mode : Mode) (octets : List ℕ) (base opened : List Level) (level : Level) (here new : List ℕ) (news : List Level) → opened ≡ level ∷ drop 1 opened → LeadsTo mode octets base here opened → ((rest : List ℕ) → Ends level here rest → ⊥) → Descends mode here opened new news → LeadsTo mode octets base new news
+went_on_last mode octets base opened level here new news e d none g =
+    went_on mode octets base level (drop 1 opened) here new news (subst (λ (ls : List Level). LeadsTo mode octets base here ls) e d) none (subst (λ (ls : List Level). Descends mode here ls new news) e g)
 
-pub went_on_last : (mode : Mode) (octets : List ℕ) (base : List Level) (opened : List Open) (open' : Open) (here new : List ℕ) (news : List Level) → slice_get opened (length opened - 1) ≡ Some open' → LeadsTo mode octets base here (levels_of opened) → ((rest : List ℕ) → Ends (level_of open') here rest → ⊥) → Descends mode here (levels_of opened) new news → LeadsTo mode octets base new news
-went_on_last mode octets base opened open' here new news e d none g =
-    let is = levels_of-last opened open' e in
-    went_on mode octets base (level_of open') (levels_of (front opened)) here new news (subst (λ (ls : List Level). LeadsTo mode octets base here ls) is d) none (subst (λ (ls : List Level). Descends mode here ls new news) is g)
-
-pub refused_last : (mode : Mode) (octets : List ℕ) (base : List Level) (opened : List Open) (open' : Open) (here : List ℕ) → slice_get opened (length opened - 1) ≡ Some open' → LeadsTo mode octets base here (levels_of opened) → ((rest : List ℕ) → Ends (level_of open') here rest → ⊥) → NoValue mode here → (final : List ℕ) → Completes mode octets base final → ⊥
-refused_last mode octets base opened open' here e d none empty =
-    refused mode octets base (level_of open') (levels_of (front opened)) here (subst (λ (ls : List Level). LeadsTo mode octets base here ls) (levels_of-last opened open' e) d) none empty
+pub refused_last : (mode : Mode) (octets : List ℕ) (base opened : List Level) (level : Level) (here : List ℕ) → opened ≡ level ∷ drop 1 opened → LeadsTo mode octets base here opened → ((rest : List ℕ) → Ends level here rest → ⊥) → NoValue mode here → (final : List ℕ) → Completes mode octets base final → ⊥
+refused_last mode octets base opened level here e d none empty =
+    refused mode octets base level (drop 1 opened) here (subst (λ (ls : List Level). LeadsTo mode octets base here ls) e d) none empty

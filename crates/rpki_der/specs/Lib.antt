@@ -35,3 +35,4 @@ pub mod InDer
 pub mod Arcs
 pub mod Leaf
 pub mod Flat
+pub mod Levels

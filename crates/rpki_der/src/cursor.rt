@@ -9,6 +9,7 @@ ghost use Rattle.rpki_der.specs.Grammar.{primitive, any};
 ghost use Rattle.rpki_der.specs.Ticks.{TakesCounted, counts, marks};
 
 use crate::error::DecodeError;
+use crate::levels::Levels;
 use crate::mode::Mode;
 use crate::part::{Open, Part, take_part};
 use crate::steps::Steps;
@@ -24,16 +25,15 @@ pub struct Cursor<'a> {
     pub(crate) alloc: Global,
     pub(crate) mode: Mode,
     pub(crate) here: &'a [u8],
-    opened: Vec<Open<'a>>,
+    opened: Levels<'a>,
 }
 
 impl<'a> Model for Cursor<'a> {
     ghost use Rattle.rpki_der.specs.Position.{Position};
-    ghost use Rattle.rpki_der.specs.Walk.{levels_of};
 
     ghost Value = { Position };
 
-    ghost view = { λ c. record { mode = c.mode; here = c.here.now; levels = levels_of c.opened.items } };
+    ghost view = { λ c. record { mode = c.mode; here = c.here.now; levels = c.opened } };
 }
 
 impl<'a> Cursor<'a> {
@@ -45,7 +45,7 @@ impl<'a> Cursor<'a> {
             alloc,
             mode,
             here: octets,
-            opened: Vec::new(alloc),
+            opened: Levels::new(alloc),
         }
     }
 
@@ -159,7 +159,7 @@ impl<'a> Cursor<'a> {
     pub fn depth(&self) -> usize
         ensures { result ≡ length self.now.levels }
     {
-        self.opened.len()
+        self.opened.depth()
     }
 
     fn level_end(&self) -> Option<&'a [u8]>
@@ -167,7 +167,7 @@ impl<'a> Cursor<'a> {
         ensures none { IfNone result (AtEnd self.now → ⊥) }
     {
         match self.opened.last() {
-            Some(open) => level_end(*open, self.here),
+            Some(open) => level_end(open, self.here),
             None => {
                 if self.here.is_empty() {
                     Some(self.here)

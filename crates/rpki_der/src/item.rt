@@ -12,6 +12,7 @@ ghost use Rattle.rpki_der.specs.Item.{item_with, TakesNext, TakesNextCounted, Ta
 use crate::cursor::Cursor;
 use crate::error::DecodeError;
 use crate::header::take_identifier;
+use crate::levels::Levels;
 use crate::mode::Mode;
 use crate::part::{Open, Part, take_part_behind};
 use crate::steps::Steps;
@@ -78,7 +79,7 @@ fn constructed_item<'a, L: Ledger>(
     ensures malformed { result ≡ Err DecodeError.Malformed → NoValue mode here.now }
     ensures refused { OnErr result (steps.new ≤ steps.old + length here.now) }
 {
-    let mut opened: Vec<Open<'a>> = Vec::new(alloc);
+    let mut opened = Levels::new(alloc);
     opened.push(level)?;
     let rest = skip_levels(mode, inner, opened, steps)?;
     let item = Item {

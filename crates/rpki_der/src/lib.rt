@@ -21,6 +21,7 @@ mod integer;
 mod item;
 mod law;
 mod leaf;
+mod levels;
 mod mode;
 mod null;
 mod number;

@@ -82,6 +82,102 @@ fn a_tree_has_the_nodes_that_stand_there(rt: HostRuntime) -> Result<(), Fail> {
     Ok(())
 }
 
+// Whether the nodes of the tree, each before those in it, have these tags, forms and content lengths, and are no more.
+fn is_listed(
+    alloc: Global,
+    tree: &Tree,
+    rows: &[(&[u8], bool, usize)],
+) -> Result<bool, AllocError> {
+    let mut found = 0;
+    let mut inside: Vec<Children<'_>> = Vec::new(alloc);
+    let mut next = Some(tree.root());
+    for _ in 0..100 {
+        match next {
+            Some(node) => {
+                let Some((tag, constructed, length)) = rows.get(found) else {
+                    return Ok(false);
+                };
+                if node.tag().as_slice() != *tag
+                    || node.is_constructed() != *constructed
+                    || node.content().len() != *length
+                {
+                    return Ok(false);
+                }
+                found += 1;
+                inside.push(node.children())?;
+            }
+            None => {
+                inside.pop();
+            }
+        }
+        next = match inside.last_mut() {
+            Some(children) => children.next(),
+            None => return Ok(found == rows.len()),
+        };
+    }
+    Ok(false)
+}
+
+#[test]
+fn trees_of_many_shapes_have_their_nodes(rt: HostRuntime) -> Result<(), Fail> {
+    let alloc = rt.alloc();
+    let rows: [(&[u8], &[(&[u8], bool, usize)]); 11] = [
+        (&[0x05, 0x00], &[(&[0x05], false, 0)]),
+        (&[0x02, 0x01, 0x07], &[(&[0x02], false, 1)]),
+        (&[0x30, 0x00], &[(&[0x10], true, 0)]),
+        (&[0x30, 0x80, 0x00, 0x00], &[(&[0x10], true, 0)]),
+        (
+            &[0x30, 0x06, 0x02, 0x01, 0x01, 0x02, 0x01, 0x02],
+            &[(&[0x10], true, 6), (&[0x02], false, 1), (&[0x02], false, 1)],
+        ),
+        (
+            &[
+                0x24, 0x80, 0x24, 0x03, 0x04, 0x01, 0x61, 0x04, 0x01, 0x62, 0x00, 0x00,
+            ],
+            &[
+                (&[0x04], true, 8),
+                (&[0x04], true, 3),
+                (&[0x04], false, 1),
+                (&[0x04], false, 1),
+            ],
+        ),
+        (
+            &[0xA0, 0x03, 0x80, 0x01, 0xFF],
+            &[(&[0x80], true, 3), (&[0x80], false, 1)],
+        ),
+        (
+            &[0x31, 0x80, 0x30, 0x80, 0x00, 0x00, 0x05, 0x00, 0x00, 0x00],
+            &[(&[0x11], true, 6), (&[0x10], true, 0), (&[0x05], false, 0)],
+        ),
+        (
+            &[0x30, 0x81, 0x03, 0x04, 0x81, 0x00],
+            &[(&[0x10], true, 3), (&[0x04], false, 0)],
+        ),
+        (
+            &[0x3F, 0x81, 0x01, 0x02, 0x05, 0x00],
+            &[(&[0x1F, 0x81, 0x01], true, 2), (&[0x05], false, 0)],
+        ),
+        (
+            &[0x30, 0x08, 0x30, 0x06, 0x30, 0x04, 0x30, 0x02, 0x30, 0x00],
+            &[
+                (&[0x10], true, 8),
+                (&[0x10], true, 6),
+                (&[0x10], true, 4),
+                (&[0x10], true, 2),
+                (&[0x10], true, 0),
+            ],
+        ),
+    ];
+    for (octets, nodes) in rows {
+        let Ok((tree, size)) = read_tree(alloc, Mode::Ber, octets) else {
+            return Err(Fail::new("a tree"));
+        };
+        assert_eq!(rt; size, octets.len());
+        assert!(rt; is_listed(alloc, &tree, nodes)?);
+    }
+    Ok(())
+}
+
 // How many octets the value at the beginning has; 0 where there is none.
 fn size_in(alloc: Global, mode: Mode, octets: &[u8]) -> usize {
     match read_tree(alloc, mode, octets) {

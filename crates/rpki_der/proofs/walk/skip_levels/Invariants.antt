@@ -1,5 +1,5 @@
 use Rattle.std.proofs.Common.{◌+◌, ◌≤◌, length}
-use Rattle.rpki_der.specs.Walk.{levels_of, left_in}
+use Rattle.rpki_der.specs.Walk.{left_in}
 use Rattle.rpki_der.specs.Ticks.{behind}
 use Rattle.rpki_der.proofs.Walks.{LeadsTo}
 use Rattle.rpki_der.proofs.ExactWalks.{LeadsExactly}
@@ -8,10 +8,10 @@ use Rattle.rpki_der.proofs.walk.skip_levels.Given as goal
 -- what completes the levels from the octets on is what completes those that are still open
 abbrev pub invariant-levels : goal.invariant-levels
 invariant-levels g l = record {
-  onward : LeadsTo l.mode l.octets (levels_of l.fn.opened.items) l.here (levels_of l.opened.items);
-  counted : LeadsExactly l.mode l.octets (levels_of l.fn.opened.items) l.fn.steps l.here (levels_of l.opened.items) l.steps;
-  most : l.steps + length l.here + behind (levels_of l.opened.items) ≤ l.fn.steps + length l.octets + behind (levels_of l.fn.opened.items);
+  onward : LeadsTo l.mode l.octets l.fn.opened l.here l.opened;
+  counted : LeadsExactly l.mode l.octets l.fn.opened l.fn.steps l.here l.opened l.steps;
+  most : l.steps + length l.here + behind l.opened ≤ l.fn.steps + length l.octets + behind l.fn.opened;
 }
 
 abbrev pub decreases-levels : goal.decreases-levels
-decreases-levels g l = length l.here + left_in (levels_of l.opened.items)
+decreases-levels g l = length l.here + left_in l.opened
