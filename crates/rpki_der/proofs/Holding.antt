@@ -1,18 +1,18 @@
 -- The octets of a level's values, with counted calls.
-use Rattle.std.proofs.Common.{◌≡◌, ℕ, ◌+◌, ◌-◌, Option, None, Some, Result, Ok, Err, Bor, List, ◌∷◌, length, refl, sym, ap, ◌∙◌, arith, length-append}
+use Rattle.std.proofs.Common.{◌≡◌, ℕ, ◌+◌, ◌-◌, Option, None, Some, Result, Ok, Err, Bor, List, ◌∷◌, ◌++◌, length, refl, sym, ap, ◌∙◌, arith, length-append}
 use Rattle.std.specs.Prelude.{IfOk, OnOk, MatchResult}
 use Rattle.std.proofs.lemmas.List.{take_at, take_all}
 use Rattle.rpki_common.specs.Chaining.{◌>>=◌}
 use Rattle.rpki_der.specs.declared.error.DecodeError.{DecodeError}
 use Rattle.rpki_der.specs.declared.error.DecodeError.TheVariants.{Malformed, OutOfMemory}
 use Rattle.rpki_der.specs.declared.mode.Mode.{Mode}
-use Rattle.rpki_der.specs.Value.{Values, spellings}
+use Rattle.rpki_der.specs.Value.{Value, spelling, Values, spellings}
 use Rattle.rpki_der.specs.Level.{Level, Sized, Marked, Ends, Holds}
 use Rattle.rpki_der.specs.Position.{Position, top, AtEnd, Leaves}
 use Rattle.rpki_der.specs.Grammar.{any, every, anything}
-use Rattle.rpki_der.specs.Takes.{RefusesToLeave, Stops}
-use Rattle.rpki_der.specs.Ticks.{marks, CountedReads, CountedStops, TakesRestCounted}
-use Rattle.rpki_der.specs.Held.{held, as_octets, up_to}
+use Rattle.rpki_der.specs.Takes.{Refuses, RefusesToLeave, Stops}
+use Rattle.rpki_der.specs.Ticks.{marks, CountedOne, CountedRefuses, CountedReads, CountedStops, TakesRestCounted}
+use Rattle.rpki_der.specs.Held.{held, as_octets, octets_of, with_octets, up_to}
 use Rattle.rpki_der.proofs.Counting.{CountedContinues, reads_end}
 use Rattle.rpki_der.proofs.Leftovers.{passed_over}
 
@@ -79,3 +79,50 @@ pub rest_left : (p e q : Position) (b m a : ℕ) (start : List ℕ) (r : Result 
 rest_left p e q b m a start (Ok x) w n s l is t = rest_octets p e q b m a x.now w l t (is ∙ ap (λ o. up_to o e.here) s)
 rest_left p e q b m a start (Err Malformed) w n s l is t = absurd (l n)
 rest_left p e q b m a start (Err OutOfMemory) w n s l is t = absurd l
+
+-- ---- one value, with its octets: the cursor stood at p before it, and stands at q behind it
+
+value_octets : (here : List ℕ) (v : Value) (rest : List ℕ) → here ≡ spelling v ++ rest → up_to here rest ≡ spelling v
+value_octets here v rest e =
+    let size : length here - length rest ≡ length (spelling v) = rw e (omega (arith, length-append (spelling v) rest)) in
+    rw (size, e) (take_at (spelling v) rest (length (spelling v)) refl)
+
+pub takes_octets_of : {X : Type 0} (c : ℕ) (grammar : Value → Option X) (p q : Position) (b a : ℕ) (x : X) (octets : List ℕ) → octets ≡ up_to p.here q.here → CountedOne c grammar p q b a x → CountedOne c (octets_of grammar) p q b a octets
+unfolding octets_of ◌>>=◌
+takes_octets_of c grammar p q b a x octets e t = record {
+  value = t.value;
+  begins = t.begins;
+  reads = rw t.reads (ap Some (sym (e ∙ value_octets p.here t.value q.here t.begins.parts)));
+  levels = t.levels;
+  mode = t.mode;
+  least = t.least;
+  most = t.most;
+}
+
+pub takes_with_octets : {X : Type 0} (c : ℕ) (grammar : Value → Option X) (p q : Position) (b a : ℕ) (x : X) (octets : List ℕ) → octets ≡ up_to p.here q.here → CountedOne c grammar p q b a x → CountedOne c (with_octets grammar) p q b a (octets, x)
+unfolding with_octets ◌>>=◌
+takes_with_octets c grammar p q b a x octets e t = record {
+  value = t.value;
+  begins = t.begins;
+  reads = rw t.reads (ap (λ o. Some (o, x)) (sym (e ∙ value_octets p.here t.value q.here t.begins.parts)));
+  levels = t.levels;
+  mode = t.mode;
+  least = t.least;
+  most = t.most;
+}
+
+none_octets_of : {X : Type 0} (grammar : Value → Option X) (p : Position) (e : DecodeError) → Refuses grammar p e → Refuses (octets_of grammar) p e
+unfolding octets_of Refuses ◌>>=◌
+none_octets_of grammar p Malformed n = λ v rest h. rw (n v rest h) refl
+none_octets_of grammar p OutOfMemory n = tt
+
+none_with_octets : {X : Type 0} (grammar : Value → Option X) (p : Position) (e : DecodeError) → Refuses grammar p e → Refuses (with_octets grammar) p e
+unfolding with_octets Refuses ◌>>=◌
+none_with_octets grammar p Malformed n = λ v rest h. rw (n v rest h) refl
+none_with_octets grammar p OutOfMemory n = tt
+
+pub refuses_octets_of : {X : Type 0} (c : ℕ) (grammar : Value → Option X) (p : Position) (b a : ℕ) (e : DecodeError) → CountedRefuses c grammar p b a e → CountedRefuses c (octets_of grammar) p b a e
+refuses_octets_of c grammar p b a e n = record { refuses = none_octets_of grammar p e n.refuses; most = n.most }
+
+pub refuses_with_octets : {X : Type 0} (c : ℕ) (grammar : Value → Option X) (p : Position) (b a : ℕ) (e : DecodeError) → CountedRefuses c grammar p b a e → CountedRefuses c (with_octets grammar) p b a e
+refuses_with_octets c grammar p b a e n = record { refuses = none_with_octets grammar p e n.refuses; most = n.most }

@@ -20,6 +20,13 @@ impl<'a> Cursor<'a> {
         self.here
     }
 
+    /// The octets that were passed at this level since `start`, which is what `here` gave before.
+    pub fn since(&self, start: &'a [u8]) -> &'a [u8]
+        ensures { result.now ≡ up_to start.now self.now.here }
+    {
+        &start[..start.len().saturating_sub(self.here.len())]
+    }
+
     /// Goes out of the innermost constructed value, and gives its contents from `start` on, which is what `here` gave
     /// before; an end mark isn't among them. It ticks once where it passes an end mark.
     pub fn leave_since_counted<L: Ledger>(
@@ -34,9 +41,9 @@ impl<'a> Cursor<'a> {
         ensures ticks { OnOk result (steps.new ≡ steps.old + marks (top self.old.levels)) }
         ensures refused { OnErr result (steps.new ≡ steps.old) }
     {
-        let size = start.len().saturating_sub(self.here.len());
+        let contents = self.since(start);
         self.leave_counted(steps)?;
-        Ok(&start[..size])
+        Ok(contents)
     }
 
     fn leave_since_within<L: Ledger>(
