@@ -2,5 +2,7 @@
 #![tactic(auto)]
 
 mod errors;
+mod name;
 
 pub use errors::{SignatureVerificationError, VerificationError};
+pub use name::Name;
