@@ -69,7 +69,7 @@ def text_of_entities(size):
 
 
 def text_in_parts(size):
-    return b"<a>" + b"x<??>" * (size // 5 - 2) + b"</a>", 1
+    return b"<a>" + b"x<?i?>" * (size // 6 - 2) + b"</a>", 1
 
 
 def attributes(size):
@@ -145,7 +145,7 @@ def allocations(path, shape):
     if found is None:
         return "-"
     count = int(found.group(1).replace(",", ""))
-    return f"{count} ({count / elements:.2f})"
+    return f"{count} ({count / elements:.4f})"
 
 
 def answer(path, layer):

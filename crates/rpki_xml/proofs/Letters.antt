@@ -12,7 +12,7 @@ use Rattle.rpki_xml.specs.Element.{Attribute, Elements, none, first, Element, al
 use Rattle.rpki_xml.specs.Content.{Tag, Piece, run, passed_over, leaf, start, end, Content, nothing, and_run, and_passed_over, and_leaf, and_element, pieces, behind, is_declaration, declares, declared, not_empty, namespace_of, handed_on, is_white, without_white, trimmed, characters, text_of, head_of, elements_in}
 use Rattle.rpki_xml.specs.Lettered.{AreOctets, IsLetteredAttribute, IsLetteredHead, AreLettered}
 use Rattle.rpki_xml.specs.Lexing.{front_of, back_of, or_else, entity_at, any_entity_at, character_at, name_at, past_white, end_at, repeated, until, ends_at, value_in, quoted_at, attribute_at, no_attribute, closed_at, tag_at, past_next, passed_at, behind_front, run_at, markup_at, piece_at, Repeats, is_octet, IsDocument}
-use Rattle.rpki_xml.specs.Name.{is_name, is_name_octet, behind_colon, local_name}
+use Rattle.rpki_xml.specs.Name.{is_name, is_name_octet, behind_colon, prefix_of, local_name}
 
 -- ---- text
 
@@ -237,9 +237,9 @@ all_pieces b (p ∷ list) rest h o =
 
 -- ---- elements
 
-declared_octets : (name : List ℕ) (list : List Attribute) → AllByRecursion IsLetteredAttribute list → IfSome (declared name list) AreOctets
-declared_octets name [] h = tt
-declared_octets name (a ∷ list) h = either (λ o. IfSome o AreOctets) (declares a.name name) (Some a.value) (declared name list) h.0.value (declared_octets name list h.1)
+declared_octets : (prefix : Option (List ℕ)) (list : List Attribute) → AllByRecursion IsLetteredAttribute list → IfSome (declared prefix list) AreOctets
+declared_octets prefix [] h = tt
+declared_octets prefix (a ∷ list) h = either (λ o. IfSome o AreOctets) (declares prefix a.name) (Some a.value) (declared prefix list) h.0.value (declared_octets prefix list h.1)
 
 not_empty_octets : (o : Option (List ℕ)) → IfSome o AreOctets → IfSome (not_empty o) AreOctets
 not_empty_octets None h = tt
@@ -255,7 +255,7 @@ head_lettered : (tag : Tag) (text : List ℕ) → IsLetteredTag tag → AreOctet
 unfolding namespace_of
 head_lettered tag text t h = record {
   name = t.0;
-  namespace = not_empty_octets (declared tag.name tag.attributes) (declared_octets tag.name tag.attributes t.1);
+  namespace = not_empty_octets (declared (prefix_of tag.name) tag.attributes) (declared_octets (prefix_of tag.name) tag.attributes t.1);
   attributes = handed_on_lettered tag.attributes t.1;
   text = h;
 }
