@@ -7,7 +7,7 @@ use Rattle.std.proofs.lemmas.Str.{IsUtf8-from_ascii}
 use Rattle.std.specs.Prelude.{codes, unwrap_or}
 use Rattle.std.specs.Str.{IsUtf8, IsAscii}
 use Rattle.std.specs.List.{list_all, AllByRecursion}
-use Rattle.rpki_xml.specs.Chaining.{◌>>=◌}
+use Rattle.rpki_common.specs.Chaining.{◌>>=◌}
 use Rattle.rpki_xml.specs.Element.{Attribute, Elements, none, first, Element, alone}
 use Rattle.rpki_xml.specs.Content.{Tag, Piece, run, passed_over, leaf, start, end, Content, nothing, and_run, and_passed_over, and_leaf, and_element, pieces, behind, is_declaration, declares, declared, not_empty, namespace_of, handed_on, is_white, without_white, trimmed, characters, text_of, head_of, elements_in}
 use Rattle.rpki_xml.specs.Lettered.{AreOctets, IsLetteredAttribute, IsLetteredHead, AreLettered}
@@ -81,10 +81,12 @@ Finds P None = Unit {0}
 Finds P (Some x) = P x.0 × AreOctets x.1
 
 then_rests : {Y : Type 0} (P : Y → Type 0) (o : Option (List ℕ)) (f : List ℕ → Option (Y × List ℕ)) → Rests o → ((b : List ℕ) → AreOctets b → Finds P (f b)) → Finds P (o >>= f)
+unfolding ◌>>=◌
 then_rests P None f h k = tt
 then_rests P (Some b) f h k = k b h
 
 then_finds : {X Y : Type 0} (Q : X → Type 0) (P : Y → Type 0) (o : Option (X × List ℕ)) (f : X × List ℕ → Option (Y × List ℕ)) → Finds Q o → ((x : X) (b : List ℕ) → Q x → AreOctets b → Finds P (f (x, b))) → Finds P (o >>= f)
+unfolding ◌>>=◌
 then_finds Q P None f h k = tt
 then_finds Q P (Some x) f h k = k x.0 x.1 h.0 h.1
 
