@@ -8,7 +8,8 @@ each SEQUENCE and each constructed OCTET STRING. Printed are, for each shape and
 
 - seconds: the best of three runs of the whole program, with its start and the reading of standard input;
 - MB/s: millions of octets of input a second;
-- peak MB: the most memory that the program held, in millions of octets, the input among it;
+- peak MB: the most memory that the program held, in millions of octets, the input among it. It shows no less than the
+  measuring process holds when it starts the program, some 14;
 - etree s: the best of three times that xml.etree.ElementTree.fromstring takes on the same octets, without the start of
   Python and the reading of the file; `refused` where it doesn't give an element;
 - allocs: how often memory was taken, and how often for each element, by valgrind on an input of 100000 octets, with what
