@@ -10,7 +10,8 @@ import os
 import subprocess
 import sys
 import tempfile
-import time
+
+from measuring import run
 
 TOP = os.path.dirname(os.path.dirname(os.path.abspath(__file__)))
 PROGRAM = os.path.join(TOP, "crates", "rpkica", "out", "rpkica")
@@ -72,27 +73,7 @@ def deep(size):
     return message(b"a", certificate=nested(size - 300))
 
 
-def measure(path):
-    """Prints seconds, status and peak memory of one run; in a small process, since a child's peak counts its parent's memory."""
-    with open(path, "rb") as source:
-        start = time.perf_counter()
-        child = subprocess.Popen([PROGRAM, "content"], stdin=source, stdout=subprocess.DEVNULL)
-        _, status, usage = os.wait4(child.pid, 0)
-        seconds = time.perf_counter() - start
-    child.returncode = os.waitstatus_to_exitcode(status)
-    print(seconds, child.returncode, usage.ru_maxrss * 1024)
-
-
-def run(path):
-    words = [sys.executable, os.path.abspath(__file__), "--measure", path]
-    seconds, status, peak = subprocess.run(words, capture_output=True, text=True, check=True).stdout.split()
-    return float(seconds), int(status), int(peak)
-
-
 def main():
-    if sys.argv[1:2] == ["--measure"]:
-        measure(sys.argv[2])
-        return
     sizes = [int(word) for word in sys.argv[1:]] or [1, 4, 16, 64]
     if not os.path.exists(PROGRAM):
         subprocess.run([os.path.join(TOP, "rpkica"), "content"], stdin=subprocess.DEVNULL, stdout=subprocess.DEVNULL, check=False)
@@ -104,7 +85,7 @@ def main():
                 text = shape(size * 2**20 // 2).hex()
                 with open(path, "w", encoding="ascii") as target:
                     target.write(text)
-                best = min(run(path) for _ in range(3))
+                best = min(run(path, PROGRAM, "content") for _ in range(3))
                 seconds, status, peak = best
                 print(f"{shape.__name__:<10} {size:>4} {status:>6} {seconds:>8.3f} {len(text) / seconds / 1e6:>8.1f} "
                       f"{peak / 1e6:>8.1f} {(peak - 32e6) / len(text):>10.2f}")

@@ -80,6 +80,27 @@ fn the_longest_uri_has_65535_octets(rt: HostRuntime) -> Result<(), Fail> {
     Ok(())
 }
 
+/// `front` with as many letters behind it as make `size` octets.
+fn filled(alloc: Global, front: &str, size: usize) -> Result<String, Fail> {
+    let mut text = String::from_str(alloc, front)?;
+    while text.len() < size {
+        text.push('a')?;
+    }
+    Ok(text)
+}
+
+#[test]
+fn a_longer_uri_text_is_too_long(rt: HostRuntime) -> Result<(), Fail> {
+    let alloc = rt.alloc();
+    for (size, answer) in [(65535, None), (65536, Some(Error::TooLong))] {
+        let text = filled(alloc, "rsync://localhost/repo/", size)?;
+        assert_eq!(rt; rsync_error(alloc, text.as_str()), answer);
+        let text = filled(alloc, "https://localhost/", size)?;
+        assert_eq!(rt; https_error(alloc, text.as_str()), answer);
+    }
+    Ok(())
+}
+
 #[test]
 fn a_key_identifier_is_twenty_octets(rt: HostRuntime) -> Result<(), Fail> {
     let alloc = rt.alloc();

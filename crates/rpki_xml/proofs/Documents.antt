@@ -5,7 +5,8 @@ use Rattle.std.specs.List.{list_all}
 use Rattle.rpki_xml.specs.Element.{Element, alone}
 use Rattle.rpki_xml.specs.Content.{Piece, IsElement, is_white}
 use Rattle.rpki_xml.specs.Stack.{Open, whole, step, steps}
-use Rattle.rpki_xml.specs.Chaining.{◌>>=◌}
+use Rattle.rpki_common.specs.Chaining.{◌>>=◌}
+use Rattle.rpki_common.proofs.Collected.{bind_under, bind_assoc}
 use Rattle.rpki_xml.specs.Lexing.{piece_at, Repeats, is_octet, IsDocument}
 use Rattle.rpki_xml.proofs.Stacks.{element_reads, reads_element, one_element}
 
@@ -46,18 +47,19 @@ Repeats-push : {X : Type 0} (at : List ℕ → Option (X × List ℕ)) (b : List
 Repeats-push at b [] rest x next h e = (next, ap at h ∙ e, refl)
 Repeats-push at b (y ∷ list) rest x next h e = (h.0, h.1, Repeats-push at h.0 list rest x next h.2 e)
 
-bind_assoc : (s : Option (List Open)) (list more : List Piece) → ((after : List Open) → steps (list ++ more) after ≡ (steps list after >>= λ x. steps more x)) → (s >>= λ after. steps (list ++ more) after) ≡ ((s >>= λ after. steps list after) >>= λ after. steps more after)
-bind_assoc (Some after) list more h = h after
-bind_assoc None list more h = refl
-
 steps-append : (list more : List Piece) (opens : List Open) → steps (list ++ more) opens ≡ (steps list opens >>= λ after. steps more after)
+unfolding ◌>>=◌
 steps-append [] more opens = refl
-steps-append (p ∷ list) more opens = bind_assoc (step p opens) list more (λ after. steps-append list more after)
+steps-append (p ∷ list) more opens =
+    bind_under (step p opens) (λ after. steps (list ++ more) after) (λ after. steps list after >>= λ x. steps more x) (λ after. steps-append list more after)
+    ∙ sym (bind_assoc (step p opens) (λ after. steps list after) (λ after. steps more after))
 
 steps-one : (p : Piece) (opens after : List Open) → step p opens ≡ Some after → steps (p ∷ []) opens ≡ Some after
+unfolding ◌>>=◌
 steps-one p opens after e = rw e refl
 
 pub one_more : (b rest next : List ℕ) (p : Piece) (opens after : List Open) → Reached b rest opens → piece_at rest ≡ Some (p, next) → step p opens ≡ Some after → Reached b next after
+unfolding ◌>>=◌
 one_more b rest next p opens after h e s = record {
   list = h.list ++ p ∷ [];
   pieces = Repeats-push piece_at b h.list rest p next h.pieces e;
@@ -67,6 +69,7 @@ one_more b rest next p opens after h e s = record {
 -- what a document is from there on
 goes_on : (b rest : List ℕ) (opens : List Open) (x : Element) → Reached b rest opens → IsDocument b x
     → (more : List Piece) × (Repeats piece_at rest more []) × ((d : Open) × (steps more opens ≡ Some (d ∷ [])) × (d.done ≡ alone x) × (list_all is_white d.head.text ≡ true))
+unfolding ◌>>=◌
 goes_on b rest opens x h doc =
     let c = continues piece_at b h.list rest doc.list no_piece h.pieces doc.pieces in
     let r = element_reads doc.list x doc.element in
@@ -81,6 +84,7 @@ no_piece_there b rest opens x h none more doc = go (goes_on b rest opens x h doc
     go (p ∷ list) e = none_some (p, e.0) (sym none ∙ e.1)
 
 pub no_step_there : (b rest next : List ℕ) (p : Piece) (opens : List Open) (x : Element) → Reached b rest opens → piece_at rest ≡ Some (p, next) → step p opens ≡ None → IsDocument b x → ⊥
+unfolding ◌>>=◌
 no_step_there b rest next p opens x h e none doc =
     let g = goes_on b rest opens x h doc in go g.0 g.1 g.2.1
   where

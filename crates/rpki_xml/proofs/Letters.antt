@@ -7,12 +7,12 @@ use Rattle.std.proofs.lemmas.Str.{IsUtf8-from_ascii}
 use Rattle.std.specs.Prelude.{codes, unwrap_or}
 use Rattle.std.specs.Str.{IsUtf8, IsAscii}
 use Rattle.std.specs.List.{list_all, AllByRecursion}
-use Rattle.rpki_xml.specs.Chaining.{◌>>=◌}
+use Rattle.rpki_common.specs.Chaining.{◌>>=◌}
 use Rattle.rpki_xml.specs.Element.{Attribute, Elements, none, first, Element, alone}
 use Rattle.rpki_xml.specs.Content.{Tag, Piece, run, passed_over, leaf, start, end, Content, nothing, and_run, and_passed_over, and_leaf, and_element, pieces, behind, is_declaration, declares, declared, not_empty, namespace_of, handed_on, is_white, without_white, trimmed, characters, text_of, head_of, elements_in}
 use Rattle.rpki_xml.specs.Lettered.{AreOctets, IsLetteredAttribute, IsLetteredHead, AreLettered}
 use Rattle.rpki_xml.specs.Lexing.{front_of, back_of, or_else, entity_at, any_entity_at, character_at, name_at, past_white, end_at, repeated, until, ends_at, value_in, quoted_at, attribute_at, no_attribute, closed_at, tag_at, past_next, passed_at, behind_front, run_at, markup_at, piece_at, Repeats, is_octet, IsDocument}
-use Rattle.rpki_xml.specs.Name.{is_name, is_name_octet, behind_colon, local_name}
+use Rattle.rpki_xml.specs.Name.{is_name, is_name_octet, behind_colon, prefix_of, local_name}
 
 -- ---- text
 
@@ -81,10 +81,12 @@ Finds P None = Unit {0}
 Finds P (Some x) = P x.0 × AreOctets x.1
 
 then_rests : {Y : Type 0} (P : Y → Type 0) (o : Option (List ℕ)) (f : List ℕ → Option (Y × List ℕ)) → Rests o → ((b : List ℕ) → AreOctets b → Finds P (f b)) → Finds P (o >>= f)
+unfolding ◌>>=◌
 then_rests P None f h k = tt
 then_rests P (Some b) f h k = k b h
 
 then_finds : {X Y : Type 0} (Q : X → Type 0) (P : Y → Type 0) (o : Option (X × List ℕ)) (f : X × List ℕ → Option (Y × List ℕ)) → Finds Q o → ((x : X) (b : List ℕ) → Q x → AreOctets b → Finds P (f (x, b))) → Finds P (o >>= f)
+unfolding ◌>>=◌
 then_finds Q P None f h k = tt
 then_finds Q P (Some x) f h k = k x.0 x.1 h.0 h.1
 
@@ -237,9 +239,9 @@ all_pieces b (p ∷ list) rest h o =
 
 -- ---- elements
 
-declared_octets : (name : List ℕ) (list : List Attribute) → AllByRecursion IsLetteredAttribute list → IfSome (declared name list) AreOctets
-declared_octets name [] h = tt
-declared_octets name (a ∷ list) h = either (λ o. IfSome o AreOctets) (declares a.name name) (Some a.value) (declared name list) h.0.value (declared_octets name list h.1)
+declared_octets : (prefix : Option (List ℕ)) (list : List Attribute) → AllByRecursion IsLetteredAttribute list → IfSome (declared prefix list) AreOctets
+declared_octets prefix [] h = tt
+declared_octets prefix (a ∷ list) h = either (λ o. IfSome o AreOctets) (declares prefix a.name) (Some a.value) (declared prefix list) h.0.value (declared_octets prefix list h.1)
 
 not_empty_octets : (o : Option (List ℕ)) → IfSome o AreOctets → IfSome (not_empty o) AreOctets
 not_empty_octets None h = tt
@@ -255,7 +257,7 @@ head_lettered : (tag : Tag) (text : List ℕ) → IsLetteredTag tag → AreOctet
 unfolding namespace_of
 head_lettered tag text t h = record {
   name = t.0;
-  namespace = not_empty_octets (declared tag.name tag.attributes) (declared_octets tag.name tag.attributes t.1);
+  namespace = not_empty_octets (declared (prefix_of tag.name) tag.attributes) (declared_octets (prefix_of tag.name) tag.attributes t.1);
   attributes = handed_on_lettered tag.attributes t.1;
   text = h;
 }

@@ -4,7 +4,7 @@ use Rattle.std.proofs.lemmas.Bool.{eqb-true}
 use Rattle.std.proofs.lemmas.List.{length-append}
 use Rattle.std.specs.List.{list_all, flat_map, AllByRecursion}
 use Rattle.rpki_xml.specs.Element.{Attribute}
-use Rattle.rpki_xml.specs.Chaining.{◌>>=◌}
+use Rattle.rpki_common.specs.Chaining.{◌>>=◌}
 use Rattle.rpki_xml.specs.Content.{run, leaf, start, end, is_white}
 use Rattle.rpki_xml.specs.Lexing.{any_entity_at, character_at, ends_at, repeated, until, value_in, quoted_at, front_of, back_of, past_white, name_at, attribute_at, begins_close, no_attribute, tag_at, end_at, run_at, markup_at, piece_at}
 use Rattle.rpki_xml.specs.Name.{is_letter, is_name_octet, ends_name, is_name}
@@ -24,7 +24,7 @@ by_three P x y z c px py pz other = go (eqb c x) refl (eqb c y) refl (eqb c z) r
     go false e false f false g = other e f g
 
 text_again : (c : ℕ) (rest : List ℕ) → character_at (text_character c ++ rest) ≡ Some (c, rest)
-unfolding character_at any_entity_at
+unfolding character_at any_entity_at ◌>>=◌
 text_again c rest =
     let P : ℕ → Type 0 = λ k. character_at (text_character k ++ rest) ≡ Some (k, rest) in
     by_three P 38 60 62 c refl refl refl (λ e f g. rw (e, f, g) (rw (e, f) refl))
@@ -44,6 +44,7 @@ text_no_shorter [] = omega arith
 text_no_shorter (c ∷ t) = omega (arith, text_no_shorter t, text_longer c, length-append (text_character c) (flat_map text_character t))
 
 texts_again : (t : List ℕ) (rest : List ℕ) (n : ℕ) → length t < n → repeated (ends_at true 60) character_at n (flat_map text_character t ++ 60 ∷ rest) ≡ Some (t, 60 ∷ rest)
+unfolding ◌>>=◌
 texts_again [] rest zero lt = absurd (omega arith)
 texts_again [] rest (suc n) lt = refl
 texts_again (c ∷ t) rest zero lt = absurd (omega arith)
@@ -54,7 +55,7 @@ texts_again (c ∷ t) rest (suc n) lt =
 
 -- a text in front of a `<` is one run
 text_run_again : (t rest : List ℕ) → run_at (flat_map text_character t ++ 60 ∷ rest) ≡ Some (run t, 60 ∷ rest)
-unfolding run_at until
+unfolding run_at until ◌>>=◌
 text_run_again t rest = rw (texts_again t rest (suc (length (flat_map text_character t ++ 60 ∷ rest))) (omega (arith, text_no_shorter t, length-append (flat_map text_character t) (60 ∷ rest)))) refl
 
 piece_is_run : (c : ℕ) (b : List ℕ) → piece_at (text_character c ++ b) ≡ run_at (text_character c ++ b)
@@ -69,7 +70,7 @@ run_again c t rest =
     ∙ ap run_at (sym (append_assoc (text_character c) (flat_map text_character t) (60 ∷ rest))) ∙ text_run_again (c ∷ t) rest
 
 pub value_again : (c : ℕ) (rest : List ℕ) → character_at (value_character c ++ rest) ≡ Some (c, rest)
-unfolding character_at any_entity_at
+unfolding character_at any_entity_at ◌>>=◌
 value_again c rest =
     let P : ℕ → Type 0 = λ k. character_at (value_character k ++ rest) ≡ Some (k, rest) in
     by_three P 38 60 62 c refl refl refl (λ e f g. by_three P 34 39 39 c refl refl refl (λ h i j. rw (h, i, e, f, g) (rw (e, f) refl)))
@@ -89,6 +90,7 @@ no_shorter [] = omega arith
 no_shorter (c ∷ v) = omega (arith, no_shorter v, longer c, length-append (value_character c) (flat_map value_character v))
 
 values_again : (v : List ℕ) (rest : List ℕ) (n : ℕ) → length v < n → repeated (ends_at false 34) character_at n (flat_map value_character v ++ 34 ∷ rest) ≡ Some (v, 34 ∷ rest)
+unfolding ◌>>=◌
 values_again [] rest zero lt = absurd (omega arith)
 values_again [] rest (suc n) lt = refl
 values_again (c ∷ v) rest zero lt = absurd (omega arith)
@@ -98,7 +100,7 @@ values_again (c ∷ v) rest (suc n) lt =
     ∙ rw (value_goes_on c more, value_again c more, values_again v rest n (omega arith)) refl
 
 value_in_again : (v rest : List ℕ) → value_in 34 (spelled_value v ++ 34 ∷ rest) ≡ Some (v, rest)
-unfolding value_in until spelled_value
+unfolding value_in until spelled_value ◌>>=◌
 value_in_again v rest = rw (values_again v rest (suc (length (flat_map value_character v ++ 34 ∷ rest))) (omega (arith, no_shorter v, length-append (flat_map value_character v) (34 ∷ rest)))) refl
 
 -- ---- names
@@ -154,10 +156,11 @@ past_white_name n rest h =
 
 one_more_read : (stop : Bool) (read : Option (Attribute × List ℕ)) (a : Attribute) (more : List ℕ) (rest : List Attribute) (end_of : List ℕ) (k : ℕ) (b : List ℕ) → stop ≡ false → read ≡ Some (a, more) → repeated no_attribute attribute_at k more ≡ Some (rest, end_of)
     → cond {A = Option (List Attribute × List ℕ)} stop (Some ([], b)) (read >>= λ x. repeated no_attribute attribute_at k x.1 >>= λ others. Some (x.0 ∷ others.0, others.1)) ≡ Some (a ∷ rest, end_of)
+unfolding ◌>>=◌
 one_more_read stop read a more rest end_of k b on is others = rw (on, is, others) refl
 
 attribute_again : (n v rest : List ℕ) → IsPlainName n → attribute_at (spelled_attribute n v ++ rest) ≡ Some (record { name = n; value = v }, rest)
-unfolding attribute_at quoted_at
+unfolding attribute_at quoted_at ◌>>=◌
 attribute_again n v rest h =
     let tail = 61 ∷ 34 ∷ (spelled_value v ++ 34 ∷ rest) in
     let regroup : spelled_attribute n v ++ rest ≡ 32 ∷ (n ++ tail) = ap (λ (l : List ℕ). 32 ∷ l) (append_assoc n (61 ∷ 34 ∷ (spelled_value v ++ 34 ∷ [])) rest ∙ ap (λ (l : List ℕ). n ++ 61 ∷ 34 ∷ l) (append_assoc (spelled_value v) (34 ∷ []) rest)) in
@@ -210,15 +213,15 @@ markup n rest h =
     ap (λ (l : List ℕ). piece_at (60 ∷ (l ++ rest))) f.2 ∙ rw (unlike 47 f.0 refl f.3, unlike 33 f.0 refl f.3, unlike 63 f.0 refl f.3) refl ∙ ap (λ (l : List ℕ). tag_at (l ++ rest)) (sym f.2)
 
 pub leaf_again : (n : List ℕ) (list : List Attribute) (rest : List ℕ) → IsPlainName n → ArePlainAttributes list → piece_at (60 ∷ (n ++ (spelled_attributes list ++ 47 ∷ 62 ∷ rest))) ≡ Some (leaf (record { name = n; attributes = list }), rest)
-unfolding tag_at
+unfolding tag_at ◌>>=◌
 leaf_again n list rest h as_plain =
     markup n (spelled_attributes list ++ 47 ∷ 62 ∷ rest) h.lawful ∙ rw (name_again n (spelled_attributes list ++ 47 ∷ 62 ∷ rest) h (stops_there list (47 ∷ 62 ∷ rest) (refl, refl)), until_again list (47 ∷ 62 ∷ rest) as_plain refl) refl
 
 pub start_again : (n : List ℕ) (list : List Attribute) (rest : List ℕ) → IsPlainName n → ArePlainAttributes list → piece_at (60 ∷ (n ++ (spelled_attributes list ++ 62 ∷ rest))) ≡ Some (start (record { name = n; attributes = list }), rest)
-unfolding tag_at
+unfolding tag_at ◌>>=◌
 start_again n list rest h as_plain =
     markup n (spelled_attributes list ++ 62 ∷ rest) h.lawful ∙ rw (name_again n (spelled_attributes list ++ 62 ∷ rest) h (stops_there list (62 ∷ rest) (refl, refl)), until_again list (62 ∷ rest) as_plain refl) refl
 
 pub end_again : (n rest : List ℕ) → IsPlainName n → piece_at (spelled_end n ++ rest) ≡ Some (end n, rest)
-unfolding piece_at markup_at end_at
+unfolding piece_at markup_at end_at ◌>>=◌
 end_again n rest h = ap (λ (l : List ℕ). piece_at (60 ∷ 47 ∷ l)) (append_assoc n (62 ∷ []) rest) ∙ rw (name_again n (62 ∷ rest) h (refl, refl)) refl

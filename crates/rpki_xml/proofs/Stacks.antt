@@ -5,7 +5,7 @@ use Rattle.std.proofs.lemmas.Slice.Eq.{bytes_eq-Decides}
 use Rattle.std.specs.List.{list_all}
 use Rattle.std.specs.Str.{bytes_eq}
 use Rattle.rpki_xml.specs.Element.{Head, Elements, none, first, Element, alone, joined}
-use Rattle.rpki_xml.specs.Chaining.{◌>>=◌}
+use Rattle.rpki_common.specs.Chaining.{◌>>=◌}
 use Rattle.rpki_xml.specs.Content.{Tag, Piece, run, passed_over, leaf, start, end, Content, nothing, and_run, and_passed_over, and_leaf, and_element, pieces, characters, elements_in, head_of, fits, is_distinct, IsLawful, IsElement, is_white}
 use Rattle.rpki_xml.specs.Stack.{Open, whole, opened, and_more, closed, with_text, add_run, add_element, begin_element, end_element, step, steps}
 
@@ -37,7 +37,7 @@ same_bytes xs = (bytes_eq-Decides xs xs).1 refl
 -- ---- every lawful content is read
 
 pub reads : (c : Content) (rest : List Piece) (o : Open) (outer : List Open) → IsLawful c → steps (pieces c ++ rest) (o ∷ outer) ≡ steps rest (after c o ∷ outer)
-unfolding add_run add_element begin_element end_element
+unfolding add_run add_element begin_element end_element ◌>>=◌
 reads nothing rest o outer law = ap (λ (x : Open). steps rest (x ∷ outer)) (sym (no_more o))
 reads (and_run t c) rest o outer law = reads c rest (and_more t none o) outer law ∙ ap (λ (x : Open). steps rest (x ∷ outer)) (more_more t (characters c) none (elements_in c) o)
 reads (and_passed_over c) rest o outer law = reads c rest o outer law
@@ -80,12 +80,12 @@ absorb f front text children e list o (p ∷ outer) final h =
     )
 
 chosen : {A : Type 0} (b : Bool) (x y : Option A) (z : A) → (cond b x None >>= λ (a : A). Some a) ≡ Some z → b ≡ true
-unfolding add_run add_element begin_element end_element
+unfolding add_run add_element begin_element end_element ◌>>=◌
 chosen true x y z e = refl
 chosen false x y z e = absurd cc
 
 step_some : (piece : Piece) (o : Open) (outer : List Open) (more : List Piece) (d : List Open) → steps (piece ∷ more) (o ∷ outer) ≡ Some d → (s : List Open) × (step piece (o ∷ outer) ≡ Some s) × (steps more s ≡ Some d)
-unfolding add_run add_element begin_element end_element
+unfolding add_run add_element begin_element end_element ◌>>=◌
 step_some piece o outer more d e = go (step piece (o ∷ outer)) refl e
   where
     go : (x : Option (List Open)) → step piece (o ∷ outer) ≡ x → (x >>= λ s. steps more s) ≡ Some d → (s : List Open) × (step piece (o ∷ outer) ≡ Some s) × (steps more s ≡ Some d)
@@ -131,7 +131,7 @@ with_inner tag inside distinct law fit = record {
 }
 
 pub ended : (list : List Piece) (o : Open) (outer : List Open) (d : Open) → steps list (o ∷ outer) ≡ Some (d ∷ []) → Ends list o outer (d ∷ [])
-unfolding add_run add_element begin_element end_element
+unfolding add_run add_element begin_element end_element ◌>>=◌
 ended [] o [] d e = let same : o ∷ [] ≡ d ∷ [] = cc in (nothing, refl, tt, sym same ∙ ap (λ (x : Open). x ∷ []) (sym (no_more o)))
 ended [] o (p ∷ outer) d e = absurd cc
 ended (run t ∷ list) o outer d e =

@@ -6,7 +6,6 @@ use Rattle.std.specs.List.{list_all, flat_map, AllByRecursion}
 use Rattle.std.specs.Str.{bytes_eq}
 use Rattle.std.specs.Prelude.{codes, IfSome}
 use Rattle.rpki_xml.specs.Element.{Attribute, Head, Elements, none, first, Element, alone, is_none, is_nil}
-use Rattle.rpki_xml.specs.Name.{behind_colon}
 use Rattle.rpki_xml.specs.Content.{Tag, Piece, run, end, Content, pieces, characters, elements_in, text_of, head_of, fits, is_distinct, is_declaration, handed_on, namespace_of, declares, declared, trimmed, is_white, IsLawful}
 use Rattle.rpki_xml.specs.Lexing.{piece_at, Repeats, is_octet, IsDocument}
 use Rattle.rpki_xml.specs.Spelling.{text_character, spelled_text, spelled_attributes, spelled_namespace, spelled_start, spelled_inside, spelled_end, spelled_all, spelled}
@@ -103,12 +102,12 @@ other_way xs ys h = go (bytes_eq xs ys) refl
     go false e = e
     go true e = let same : bytes_eq ys xs ≡ true = (bytes_eq-Decides ys xs).1 (sym ((bytes_eq-Decides xs ys).0 e)) in absurd (true_false (sym same ∙ h))
 
-none_declared : (name : List ℕ) (list : List Attribute) → behind_colon name ≡ None → AllByRecursion IsPlainAttribute list → declared name list ≡ None
+none_declared : (list : List Attribute) → AllByRecursion IsPlainAttribute list → declared None list ≡ None
 unfolding declares is_declaration
-none_declared name [] plain h = refl
-none_declared name (a ∷ list) plain h =
+none_declared [] h = refl
+none_declared (a ∷ list) h =
     let no_xmlns = (neither (bytes_eq a.name (codes "xmlns")) _ h.0.handed_on).0 in
-    rw (plain, no_xmlns) (none_declared name list plain h.1)
+    rw no_xmlns (none_declared list h.1)
 
 all_handed_on : (list : List Attribute) → AllByRecursion IsPlainAttribute list → handed_on list ≡ list
 all_handed_on [] h = refl
@@ -119,7 +118,7 @@ unfolding namespace_of declares
 namespace_again h p = go h.namespace p.namespace
   where
     go : (uri : Option (List ℕ)) → IfSome uri (λ u. (is_nil u ≡ false) × (list_all is_octet u ≡ true)) → namespace_of (record { name = h.name; attributes = declaration uri ++ h.attributes }) ≡ uri
-    go None q = rw (none_declared h.name h.attributes p.name.plain p.attributes) refl
+    go None q = rw (p.name.plain, none_declared h.attributes p.attributes) refl
     go (Some []) q = absurd (true_false q.0)
     go (Some (c ∷ u)) q = rw p.name.plain refl
 

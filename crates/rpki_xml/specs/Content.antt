@@ -3,7 +3,7 @@ use Rattle.std.specs.Prelude.{◌≡◌, ℕ, List, [], ◌∷◌, ◌++◌, Boo
 use Rattle.std.specs.List.{list_all}
 use Rattle.std.specs.Str.{bytes_eq}
 use Rattle.rpki_xml.specs.Element.{Attribute, Head, Elements, none, first, Element, alone}
-use Rattle.rpki_xml.specs.Name.{behind_colon, before_colon}
+use Rattle.rpki_xml.specs.Name.{prefix_of}
 
 -- an element's whole name, and all its attributes as they stand in its start
 pub record Tag : Type 0 where
@@ -51,19 +51,20 @@ abbrev pub is_none_of : Option (List ℕ) → Bool
 is_none_of None = true
 is_none_of (Some text) = false
 
--- whether an attribute's name declares the namespace of a name: `xmlns`, or `xmlns:p` for the prefix p
-abbrev pub is_prefix_of : Option (List ℕ) → Option (List ℕ) → List ℕ → Bool
-is_prefix_of None behind_xmlns name = false
-is_prefix_of (Some local) None name = false
-is_prefix_of (Some local) (Some p) name = bytes_eq p (before_colon name)
+-- whether a text is there, and is this one
+abbrev pub is_text : List ℕ → Option (List ℕ) → Bool
+is_text text None = false
+is_text text (Some other) = bytes_eq other text
 
-unfoldable pub declares : List ℕ → List ℕ → Bool
-declares declaration name = if is_none_of (behind_colon name) then bytes_eq declaration (codes "xmlns") else is_prefix_of (behind_colon name) (behind (codes "xmlns:") declaration) name
+-- whether an attribute's name declares the namespace of a prefix, or of names without one: `xmlns:p` for the prefix p, or `xmlns`
+unfoldable pub declares : Option (List ℕ) → List ℕ → Bool
+declares None declaration = bytes_eq declaration (codes "xmlns")
+declares (Some prefix) declaration = is_text prefix (behind (codes "xmlns:") declaration)
 
--- the first value that declares a name's namespace
-abbrev pub declared : List ℕ → List Attribute → Option (List ℕ)
-declared name [] = None
-declared name (a ∷ more) = if declares a.name name then Some a.value else declared name more
+-- the first value that declares a prefix's namespace
+abbrev pub declared : Option (List ℕ) → List Attribute → Option (List ℕ)
+declared prefix [] = None
+declared prefix (a ∷ more) = if declares prefix a.name then Some a.value else declared prefix more
 
 -- a declaration of the empty text declares nothing
 abbrev pub not_empty : Option (List ℕ) → Option (List ℕ)
@@ -73,7 +74,7 @@ not_empty (Some (c ∷ text)) = Some (c ∷ text)
 
 -- the namespace of an element by its own declarations, where there is one and it is not empty
 unfoldable pub namespace_of : Tag → Option (List ℕ)
-namespace_of tag = not_empty (declared tag.name tag.attributes)
+namespace_of tag = not_empty (declared (prefix_of tag.name) tag.attributes)
 
 -- whether an attribute is `xmlns` or has that prefix
 unfoldable pub is_declaration : Attribute → Bool

@@ -2,7 +2,7 @@
 use Rattle.std.specs.Prelude.{◌≡◌, ℕ, zero, suc, List, [], ◌∷◌, Bool, true, false, ◌&&◌, ◌||◌, not, Option, Some, None, nat_eq, nat_le, if◌then◌else◌, codes, length}
 use Rattle.std.specs.List.{list_all}
 use Rattle.rpki_xml.specs.Element.{Attribute, Element}
-use Rattle.rpki_xml.specs.Chaining.{◌>>=◌}
+use Rattle.rpki_common.specs.Chaining.{◌>>=◌}
 use Rattle.rpki_xml.specs.Name.{is_name_octet, is_name}
 use Rattle.rpki_xml.specs.Content.{Tag, Piece, run, passed_over, leaf, start, end, IsElement, is_white, behind}
 

@@ -1,4 +1,3 @@
-pub mod Chaining
 pub mod Content
 pub mod Draft
 pub mod Element

@@ -1,5 +1,5 @@
 -- Names, whole and local, and the prefix that stands before a colon.
-use Rattle.std.specs.Prelude.{ℕ, List, [], ◌∷◌, Bool, true, false, ◌&&◌, ◌||◌, not, Option, Some, None, nat_eq, nat_le, unwrap_or, if◌then◌else◌}
+use Rattle.std.specs.Prelude.{ℕ, List, [], ◌∷◌, Bool, true, false, ◌&&◌, ◌||◌, not, Option, Some, None, is_some, nat_eq, nat_le, unwrap_or, if◌then◌else◌}
 use Rattle.rpki_xml.specs.Element.{is_nil}
 
 abbrev pub is_letter : ℕ → Bool
@@ -28,6 +28,10 @@ behind_colon (c ∷ name) = if nat_eq c 58 then Some name else behind_colon name
 abbrev pub before_colon : List ℕ → List ℕ
 before_colon [] = []
 before_colon (c ∷ name) = if nat_eq c 58 then [] else c ∷ before_colon name
+
+-- the part before the first colon, where there is one
+abbrev pub prefix_of : List ℕ → Option (List ℕ)
+prefix_of name = if is_some (behind_colon name) then Some (before_colon name) else None
 
 -- the part of a name behind its colon, or the whole
 abbrev pub local_name : List ℕ → List ℕ

@@ -7,7 +7,7 @@ use Rattle.rpki_xml.specs.Element.{Head, Elements, none, Element, alone, joined}
 use Rattle.rpki_xml.specs.Nodes.{Slot, flat, tree_of}
 use Rattle.rpki_xml.specs.Views.{slots}
 use Rattle.rpki_xml.specs.declared.element.Node.{Node}
-use Rattle.rpki_xml.specs.Chaining.{◌>>=◌}
+use Rattle.rpki_common.specs.Chaining.{◌>>=◌}
 use Rattle.rpki_xml.specs.Content.{Piece, run, passed_over, leaf, start, end, head_of, text_of, fits, is_distinct, is_white, trimmed}
 
 -- an element that is still open: its head, whose text is the text so far, and its children so far

@@ -138,7 +138,6 @@ fn name_at(b: &[u8]) -> Option<(&[u8], &[u8])>
     }
 }
 
-#[tactic(auto, unfolding(crate::specs::Lexing::any_entity_at))]
 fn any_entity_at(b: &[u8]) -> Option<(u8, &[u8])>
     ensures value { option_map (λ x. (x.0, x.1.now)) result ≡ any_entity_at b.now }
     ensures shorter { IfSome result (λ x. length x.1.now ≤ length b.now) }
@@ -171,7 +170,6 @@ fn character_at(b: &[u8]) -> Option<(u8, &[u8])>
     }
 }
 
-#[tactic(auto, unfolding(crate::specs::Lexing::end_at))]
 fn end_at(b: &[u8]) -> Result<(Piece<'_>, &[u8]), XmlError>
     ensures value { Gives (λ x. (piece x.0, x.1.now)) result (end_at b.now) }
     ensures shorter { IfOk result (λ x. length x.1.now ≤ length b.now) }
@@ -262,7 +260,6 @@ fn resolved_until<'a>(
     Ok((Bytes::from_vec(value)?, rest))
 }
 
-#[tactic(auto, unfolding(crate::specs::Lexing::value_in))]
 fn value_in<'a>(
     alloc: Global,
     source: &Bytes,
@@ -296,7 +293,6 @@ fn quoted_at<'a>(alloc: Global, source: &Bytes, b: &'a [u8]) -> Result<(Bytes, &
     }
 }
 
-#[tactic(auto, unfolding(crate::specs::Lexing::attribute_at))]
 fn attribute_at<'a>(
     alloc: Global,
     source: &Bytes,
@@ -358,7 +354,6 @@ fn attributes_at<'a>(
     Ok((attributes, rest))
 }
 
-#[tactic(auto, unfolding(crate::specs::Lexing::tag_at))]
 fn tag_at<'a>(alloc: Global, source: &Bytes, b: &'a [u8]) -> Result<(Piece<'a>, &'a [u8]), XmlError>
     ensures value { Gives (λ x. (piece x.0, x.1.now)) result (tag_at b.now) }
     ensures shorter { IfOk result (λ x. length x.1.now ≤ length b.now) }
@@ -393,7 +388,6 @@ fn past_next<'a>(close: &[u8], b: &'a [u8]) -> Option<&'a [u8]>
     None
 }
 
-#[tactic(auto, unfolding(crate::specs::Lexing::passed_at))]
 fn passed_at<'a>(close: &[u8], b: &'a [u8]) -> Result<(Piece<'a>, &'a [u8]), XmlError>
     ensures value { Gives (λ x. (piece x.0, x.1.now)) result (passed_at close.now b.now) }
     ensures shorter { IfOk result (λ x. length x.1.now ≤ length b.now) }
@@ -404,7 +398,6 @@ fn passed_at<'a>(close: &[u8], b: &'a [u8]) -> Result<(Piece<'a>, &'a [u8]), Xml
     }
 }
 
-#[tactic(auto, unfolding(crate::specs::Lexing::run_at))]
 fn run_at<'a>(alloc: Global, source: &Bytes, b: &'a [u8]) -> Result<(Piece<'a>, &'a [u8]), XmlError>
     ensures value { Gives (λ x. (piece x.0, x.1.now)) result (run_at b.now) }
     ensures moved { IfOk result (λ x. ends_at true 60 b.now ≡ false → length x.1.now < length b.now) }

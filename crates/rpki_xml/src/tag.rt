@@ -1,9 +1,9 @@
 //! The element that a start begins.
 
-ghost use Rattle.std.specs.Prelude.{◌≡◌, Some, [], IfOk, IfSome};
-ghost use Rattle.std.specs.Option.{option_copied, option_map};
+ghost use Rattle.std.specs.Prelude.{◌≡◌, Some, [], IfOk};
+ghost use Rattle.std.specs.Option.{option_copied};
 ghost use Rattle.rpki_xml.specs.Content.{declares, declared, is_declaration, handed_on, namespace_of, head_of as tag_head};
-ghost use Rattle.rpki_xml.specs.Name.{behind_colon, before_colon};
+ghost use Rattle.rpki_xml.specs.Name.{prefix_of};
 ghost use Rattle.rpki_xml.specs.Pieces.{tag as tag_of};
 ghost use Rattle.rpki_xml.specs.Reading.{Gives};
 ghost use Rattle.rpki_xml.specs.Views.{head_of};
@@ -14,28 +14,28 @@ use crate::joined::Joined;
 use crate::lexing::{Tag, behind};
 use bytes::Bytes;
 
-// The parts before and behind the first colon, where there is one.
-fn split_colon(name: &[u8]) -> Option<(&[u8], &[u8])>
-    ensures behind { option_map (λ x. x.1.now) result ≡ behind_colon name.now }
-    ensures before { IfSome result (λ x. x.0.now ≡ before_colon name.now) }
+// The part before the first colon, where there is one.
+fn prefix_of(name: &[u8]) -> Option<&[u8]>
+    ensures { option_copied result ≡ prefix_of name.now }
 {
     for (i, c) in name.iter().enumerate() {
         if *c == b':' {
-            return Some((&name[..i], &name[i + 1..]));
+            return Some(&name[..i]);
         }
     }
     None
 }
 
+// Whether an attribute's name declares the namespace of a prefix, or of names without one.
 #[tactic(auto, unfolding(crate::specs::Content::declares))]
-fn declares(declaration: &[u8], name: &[u8]) -> bool
-    ensures { result ≡ declares declaration.now name.now }
+fn declares(prefix: Option<&[u8]>, declaration: &[u8]) -> bool
+    ensures { result ≡ declares (option_copied prefix.entry) declaration.now }
 {
-    match split_colon(name) {
+    match prefix {
         None => declaration == b"xmlns".as_slice(),
-        Some((prefix, _)) => match behind(b"xmlns:", declaration) {
+        Some(prefix) => match behind(b"xmlns:", declaration) {
             None => false,
-            Some(p) => p == prefix,
+            Some(declared) => declared == prefix,
         },
     }
 }
@@ -48,11 +48,13 @@ fn is_declaration(attribute: &Attribute) -> bool
     name == b"xmlns".as_slice() || behind(b"xmlns:", name).is_some()
 }
 
+// The first value that declares the namespace of a name. The name is looked through once, for all attributes.
 fn declared<'a>(name: &[u8], attributes: &'a [Attribute]) -> Option<&'a Bytes>
-    ensures { option_copied result ≡ declared name.now attributes.now }
+    ensures { option_copied result ≡ declared (prefix_of name.now) attributes.now }
 {
+    let prefix = prefix_of(name);
     for attribute in attributes {
-        if declares(attribute.name.as_slice(), name) {
+        if declares(prefix, attribute.name.as_slice()) {
             return Some(&attribute.value);
         }
     }

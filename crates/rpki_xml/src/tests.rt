@@ -26,6 +26,7 @@ fn documents(rt: HostRuntime) -> Result<(), Fail> {
         "<!----><a/>",
         "<!--->--><a/>",
         "<??><a/>",
+        "<a/><?xml version='1.0'?>",
         // Names.
         "<_/>",
         "<Z9-_./>",
@@ -45,6 +46,7 @@ fn documents(rt: HostRuntime) -> Result<(), Fail> {
         "<a xmlns='urn:x'/>",
         "<a xmlns=''/>",
         "<p:a xmlns:p='urn:x'/>",
+        "<p:a xmlns:p=''/>",
         "<p:a xmlns='urn:x'/>",
         "<a xmlns='urn:x' xmlns:p='urn:y' xmlns:q='urn:z'/>",
         // Content.
@@ -58,6 +60,8 @@ fn documents(rt: HostRuntime) -> Result<(), Fail> {
         "<a> <b/> <!-- c --> <?i?> <b></b> </a>",
         "<a><b><c>x</c></b><b>y</b></a>",
         "<a><!----></a>",
+        "<a><??></a>",
+        "<a> \t\r\n</a>",
         "<a>~</a>",
     ] {
         assert_eq!(rt; reads(alloc, text), Some(true));
@@ -99,8 +103,14 @@ fn no_documents(rt: HostRuntime) -> Result<(), Fail> {
         "<!--><a/>",
         "<!-- <a/>",
         "<a/><!-- --",
+        "<a><!-- </a>",
+        "<a>x<!-</a>",
         "<?><a/>",
         "<? <a/>",
+        "<a/><?i",
+        "<a><?i </a>",
+        "<a <!-- c --> b='1'/>",
+        "<a <?i?>/>",
         // An octet that no document has.
         "<a>\u{7f}</a>",
         "<a>\u{e9}</a>",
@@ -131,6 +141,7 @@ fn no_documents(rt: HostRuntime) -> Result<(), Fail> {
         "<a>&</a>",
         "<a>& amp;</a>",
         "<a>&amp</a>",
+        "<a>&AMP;</a>",
         "<a>&nbsp;</a>",
         "<a>&#65;</a>",
         "<a>&#x41;</a>",
@@ -170,6 +181,57 @@ fn an_element_is_read(rt: HostRuntime) -> Result<(), Fail> {
     assert!(rt; d.is_childless() && !d.is_textless() && !d.is_empty());
     assert_eq!(rt; d.text(), "x < y");
     assert!(rt; children.is_empty() && children.next().is_none());
+    Ok(())
+}
+
+#[test]
+fn each_octet_in_a_document(rt: HostRuntime) -> Result<(), Fail> {
+    let alloc = rt.alloc();
+    for octet in 0..=255u8 {
+        let lawful = octet == 9 || octet == 10 || octet == 13 || (octet >= 32 && octet < 127);
+        for (front, back, fits) in [
+            (
+                b"<a>".as_slice(),
+                b"</a>".as_slice(),
+                octet != b'<' && octet != b'&',
+            ),
+            (
+                b"<a b='".as_slice(),
+                b"'/>".as_slice(),
+                !b"<&'".contains(&octet),
+            ),
+            (b"<!-- ".as_slice(), b" --><a/>".as_slice(), true),
+            (b"<? ".as_slice(), b" ?><a/>".as_slice(), true),
+        ] {
+            let mut text = front.to_vec(alloc)?;
+            text.push(octet)?;
+            text.extend_from_slice(back)?;
+            assert_eq!(rt; read_document(alloc, &text).is_ok(), lawful && fits);
+        }
+    }
+    Ok(())
+}
+
+#[test]
+fn a_namespace_is_declared_by_the_element_itself(rt: HostRuntime) -> Result<(), Fail> {
+    let alloc = rt.alloc();
+    for (text, namespace) in [
+        ("<a/>", None),
+        ("<a xmlns='urn:x'/>", Some("urn:x")),
+        ("<a xmlns='&lt;'/>", Some("<")),
+        ("<a xmlns=''/>", None),
+        ("<a xmlns:a='urn:x'/>", None),
+        ("<p:a/>", None),
+        ("<p:a xmlns='urn:x'/>", None),
+        ("<p:a xmlns:p='urn:x'/>", Some("urn:x")),
+        ("<p:a xmlns:p=''/>", None),
+        ("<p:a xmlns:pp='urn:x'/>", None),
+        ("<p:a xmlns='1' xmlns:q='2' xmlns:p='3'/>", Some("3")),
+    ] {
+        let element = read_document(alloc, text.as_bytes())?;
+        assert!(rt; element.namespace() == namespace);
+        assert!(rt; element.attributes().is_empty());
+    }
     Ok(())
 }
 
@@ -255,5 +317,23 @@ fn many_attributes_are_read(rt: HostRuntime) -> Result<(), Fail> {
     text.pop();
     text.extend_from_slice(b" b7=''/>")?;
     assert!(rt; matches!(read_document(alloc, &text), Err(XmlError::Malformed)));
+    Ok(())
+}
+
+#[test]
+fn a_long_name_with_many_attributes_is_read(rt: HostRuntime) -> Result<(), Fail> {
+    let alloc = rt.alloc();
+    let mut text = Vec::new(alloc);
+    text.push(b'<')?;
+    for _ in 0..1_000_000u32 {
+        text.push(b'a')?;
+    }
+    for i in 0..50_000u32 {
+        text.extend_from_slice(format!(in alloc; " b{i}=''")?.as_bytes())?;
+    }
+    text.extend_from_slice(b"/>")?;
+    let element = read_document(alloc, &text)?;
+    assert!(rt; element.namespace() == None);
+    assert_eq!(rt; element.name().len(), 1_000_000);
     Ok(())
 }

@@ -1,7 +1,8 @@
 use Rattle.std.proofs.Common.{sym, arith, refl, ◌<◌, length}
 use Rattle.rpki_xml.specs.Lexing.{ends_at, character_at}
 use Rattle.rpki_xml.specs.Plain.{is_plain}
-use Rattle.rpki_xml.proofs.Until.{until_starts, until_more}
+use Rattle.rpki_xml.specs.declared.error.XmlError.TheVariants as errors
+use Rattle.rpki_xml.proofs.Until.{until_starts, until_more, until_fails, until_done}
 use Rattle.rpki_xml.proofs.Plains.{until_plain, back_smaller}
 use Rattle.rpki_xml.proofs.lexing.resolved_until.Goals as goal
 
@@ -33,3 +34,9 @@ characters-preserved c =
       shorter = omega (arith, less, c.characters.invariant.shorter);
       same = λ e. absurd (omega (arith, e, less, c.characters.invariant.shorter));
     }
+
+pub returns-in_default-clause-value : goal.returns-in_default-clause-value
+returns-in_default-clause-value c = until_fails (ends_at c.args.at_end c.args.stop) character_at c.args.b.now c.characters.value.items c.characters.rest.now errors.Malformed c.characters.invariant.read (sym c.characters-test.ensures) (sym c.in_default.ensures.value)
+
+pub returns-clause-value : goal.returns-clause-value
+returns-clause-value c = rw c.in_ok-from_vec.ensures.ok (until_done (ends_at c.args.at_end c.args.stop) character_at c.args.b.now c.characters.value.items c.characters.rest.now c.characters.invariant.read (sym c.characters-test.ensures))

@@ -1,6 +1,7 @@
 use Rattle.std.proofs.Common.{◌≡◌, drop}
 use Rattle.rpki_xml.specs.Content.{declared}
+use Rattle.rpki_xml.specs.Name.{prefix_of}
 use Rattle.rpki_xml.proofs.tag.declared.Given as goal
 
 abbrev pub invariant-loop-attribute : goal.invariant-loop-attribute
-invariant-loop-attribute l = declared l.name (drop l.attribute-index l.attributes) ≡ declared l.name l.attributes
+invariant-loop-attribute l = declared (prefix_of l.name) (drop l.attribute-index l.attributes) ≡ declared (prefix_of l.name) l.attributes

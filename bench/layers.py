@@ -1,0 +1,186 @@
+#!/usr/bin/env python3
+"""Times the layers of the library alone, by the program crates/layers, on inputs that are made in a temporary folder.
+
+    bench/layers.py [document|tree|walk ..]
+
+`document` reads an XML document, `tree` reads a BER value with all that is in it, `walk` goes through it with a cursor, into
+each SEQUENCE and each constructed OCTET STRING. Printed are, for each shape and size (1 MB is 2^20 octets):
+
+- seconds: the best of three runs of the whole program, with its start and the reading of standard input;
+- MB/s: millions of octets of input a second;
+- peak MB: the most memory that the program held, in millions of octets, the input among it. It shows no less than the
+  measuring process holds when it starts the program, some 14;
+- etree s: the best of three times that xml.etree.ElementTree.fromstring takes on the same octets, without the start of
+  Python and the reading of the file; `refused` where it doesn't give an element;
+- allocs: how often memory was taken, and how often for each element, by valgrind on an input of 100000 octets, with what
+  the program's start takes.
+
+The last two are left out where Python has no xml.etree or the machine no valgrind."""
+import os
+import re
+import shutil
+import subprocess
+import sys
+import tempfile
+
+from content import TOP, nested, value
+from measuring import run
+
+PROGRAM = os.path.join(TOP, "crates", "layers", "out", "layers")
+
+ETREE = """
+import sys, time
+import xml.etree.ElementTree as etree
+octets = open(sys.argv[1], "rb").read()
+start = time.perf_counter()
+root = etree.fromstring(octets)
+print(time.perf_counter() - start, flush=True)
+import os
+os._exit(0)
+"""
+
+# ---- documents: each shape gives the octets, and how many elements they hold
+
+
+def many(piece, size):
+    """As many pieces, made from a number, as fit into the size"""
+    pieces, total = [], 0
+    while total < size:
+        pieces.append(piece(len(pieces)))
+        total += len(pieces[-1])
+    return pieces
+
+
+def small_elements(size):
+    count = size // 4 - 2
+    return b"<a>" + b"<b/>" * count + b"</a>", count + 1
+
+
+def deep_elements(size):
+    count = size // 7
+    return b"<a>" * count + b"</a>" * count, count
+
+
+def long_text(size):
+    return b"<a>" + b"x" * (size - 7) + b"</a>", 1
+
+
+def text_of_entities(size):
+    return b"<a>" + b"&lt;" * (size // 4 - 2) + b"</a>", 1
+
+
+def text_in_parts(size):
+    return b"<a>" + b"x<?i?>" * (size // 6 - 2) + b"</a>", 1
+
+
+def attributes(size):
+    return b"<a" + b"".join(many(lambda i: b" b%d=''" % i, size - 4)) + b"/>", 1
+
+
+def long_name(size):
+    """Half of it a name, half of it attributes"""
+    return b"<" + b"a" * (size // 2) + b"".join(many(lambda i: b" b%d=''" % i, size // 2)) + b"/>", 1
+
+
+def declarations(size):
+    return b"<p:a" + b"".join(many(lambda i: b" xmlns:b%d='x'" % i, size - 20)) + b" xmlns:p='x'/>", 1
+
+
+# ---- values
+
+
+def large_content(size):
+    return value(0x30, value(0x04, b"x" * (size - 12)))
+
+
+def many_segments(size):
+    return b"\x24\x80" + value(0x04, b"x" * 8) * ((size - 4) // 10) + b"\0\0"
+
+
+def small_values(size):
+    return value(0x30, b"\x02\x01\x05" * ((size - 6) // 3))
+
+
+def indefinite_levels(size):
+    return b"\x30\x80" * (size // 4) + b"\0\0" * (size // 4)
+
+
+DOCUMENTS = [(shape, [1, 4, 16]) for shape in (small_elements, deep_elements, long_text, text_of_entities, text_in_parts)]
+DOCUMENTS += [(attributes, [1, 4, 16, 32]), (declarations, [1, 4, 16]), (long_name, [1, 4, 16])]
+VALUES = [(large_content, [1, 4, 16]), (many_segments, [1, 4, 16]), (nested, [1, 4, 16]), (indefinite_levels, [4e6 / 2**20]),
+          (small_values, [16])]
+
+
+def program_seconds(path, layer):
+    seconds, status, peak = min(run(path, PROGRAM, layer) for _ in range(3))
+    if status != 0:
+        sys.exit(f"layers {layer}: status {status}")
+    return seconds, peak
+
+
+def etree_seconds(path):
+    """What xml.etree takes, as a text"""
+    try:
+        import xml.etree.ElementTree  # noqa: F401
+    except ImportError:
+        return "-"
+    times = []
+    for _ in range(3):
+        done = subprocess.run([sys.executable, "-c", ETREE, path], capture_output=True, text=True, check=False)
+        if done.returncode != 0:
+            return "refused"
+        times.append(float(done.stdout))
+    return f"{min(times):.3f}"
+
+
+def allocations(path, shape):
+    """How often memory is taken on a small input, in all and for each element, as a text"""
+    if shutil.which("valgrind") is None:
+        return "-"
+    octets, elements = shape(100000)
+    with open(path, "wb") as target:
+        target.write(octets)
+    with open(path, "rb") as source:
+        done = subprocess.run(["valgrind", PROGRAM, "document"], stdin=source, capture_output=True, text=True, check=False)
+    found = re.search(r"total heap usage: ([\d,]+) allocs", done.stderr)
+    if found is None:
+        return "-"
+    count = int(found.group(1).replace(",", ""))
+    return f"{count} ({count / elements:.4f})"
+
+
+def answer(path, layer):
+    with open(path, "rb") as source:
+        return subprocess.run([PROGRAM, layer], stdin=source, capture_output=True, text=True, check=True).stdout.strip()
+
+
+def row(folder, layer, shape, size):
+    made = shape(int(size * 2**20))
+    octets = made[0] if layer == "document" else made
+    path = os.path.join(folder, "input")
+    with open(path, "wb") as target:
+        target.write(octets)
+    said = answer(path, layer)
+    seconds, peak = program_seconds(path, layer)
+    line = f"{layer:<9} {shape.__name__:<18} {size:>5.1f} {said:<16} {seconds:>8.3f} {len(octets) / seconds / 1e6:>8.1f} {peak / 1e6:>8.1f}"
+    if layer == "document":
+        line += f" {etree_seconds(path):>8}"
+        if size == 1:
+            line += f" {allocations(path, shape):>16}"
+    print(line, flush=True)
+
+
+def main():
+    layers = sys.argv[1:] or ["document", "tree", "walk"]
+    if not os.path.exists(PROGRAM):
+        subprocess.run(["rt", "run"], cwd=os.path.join(TOP, "crates", "layers"), stdout=subprocess.DEVNULL, check=False)
+    print(f"{'layer':<9} {'shape':<18} {'MB':>5} {'answer':<16} {'seconds':>8} {'MB/s':>8} {'peak MB':>8} {'etree s':>8} {'allocs':>16}")
+    with tempfile.TemporaryDirectory() as folder:
+        for layer in layers:
+            for shape, sizes in DOCUMENTS if layer == "document" else VALUES:
+                for size in sizes:
+                    row(folder, layer, shape, size)
+
+
+if __name__ == "__main__":
+    main()
