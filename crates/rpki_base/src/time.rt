@@ -1,0 +1,140 @@
+//! Times.
+
+ghost use Rattle.std.specs.Prelude.{◌≡◌, ◌↔◌, ◌<◌, ◌≤◌, IsSome, IfSome};
+ghost use Rattle.rpki_der.specs.Takes.{Takes};
+ghost use Rattle.rpki_der.specs.Ticks.{TakesCounted};
+ghost use Rattle.rpki_base.specs.Civil.{IsMoment};
+ghost use Rattle.rpki_base.specs.Time as spec;
+
+use crate::civil::Civil;
+use crate::digits::{ended, four_digits, past, two_digits};
+use rpki_der::{Cursor, DecodeError, Steps, Tag};
+use std::marker::{Brand, Model};
+use std::sync::ledger::{Blank, Ledger};
+
+/// A time in whole seconds (RFC 5280, 4.1.2.5), in the years 0 to 9999.
+///
+/// In a clause it is the seconds since 1970-01-01T00:00:00Z, leap seconds not counted.
+#[derive(Clone, Copy, Debug, PartialEq, Eq, PartialOrd, Ord, Hash)]
+pub struct Time {
+    seconds: i64,
+}
+
+impl Model for Time {
+    ghost use Rattle.std.specs.Prelude.{ℤ};
+    ghost use Rattle.rpki_base.specs.Civil.{IsMoment};
+
+    ghost Value = { ℤ };
+
+    ghost view = { λ t. t.seconds };
+
+    ghost invariant = { λ t. IsMoment t.seconds };
+
+    ghost inverse = { λ s. record { seconds = s } };
+}
+
+impl Time {
+    /// The time at so many seconds since 1970; None exactly outside of the years 0 to 9999, which begin at -62167219200 and
+    /// end with 253402300799.
+    pub fn new(seconds: i64) -> Option<Time>
+        ensures some { IsSome result ↔ IsMoment seconds }
+        ensures value { IfSome result (λ t. t ≡ seconds) }
+    {
+        if seconds < -62_167_219_200 || seconds > 253_402_300_799 {
+            return None;
+        }
+        Some(Time { seconds })
+    }
+
+    /// The seconds since 1970.
+    pub fn seconds(&self) -> i64
+        ensures value { result ≡ self.now }
+        ensures range { IsMoment result }
+    {
+        self.seconds
+    }
+
+    /// The time that stands next. It ticks once for each header that it reads.
+    pub fn take_from_counted<L: Ledger>(
+        cursor: &mut Cursor<'_>,
+        steps: &mut Steps<L>,
+    ) -> Result<Time, DecodeError>
+        ensures { TakesCounted 1 spec.time (λ x. x) cursor.old cursor.new steps.old steps.new result }
+    {
+        match cursor.take_primitive_counted(Tag::UTC_TIME, steps) {
+            Ok(text) => match utc_time(text) {
+                Some(time) => Ok(time),
+                None => Err(DecodeError::Malformed),
+            },
+            Err(DecodeError::OutOfMemory) => Err(DecodeError::OutOfMemory),
+            Err(DecodeError::Malformed) => {
+                let text = cursor.take_primitive_counted(Tag::GENERALIZED_TIME, steps)?;
+                match generalized_time(text) {
+                    Some(time) => Ok(time),
+                    None => Err(DecodeError::Malformed),
+                }
+            }
+        }
+    }
+
+    fn take_from_within<L: Ledger>(
+        cursor: &mut Cursor<'_>,
+        blank: Blank,
+    ) -> Result<Time, DecodeError>
+        requires name { blank.name ≡ L.name }
+        requires parts { blank.parts ≡ L.parts }
+        requires some { 0 < blank.parts }
+        ensures { Takes spec.time (λ x. x) cursor.old cursor.new result }
+    {
+        let mut steps = Steps::<L>::new(blank);
+        Time::take_from_counted(cursor, &mut steps)
+    }
+
+    /// The time that stands next (RFC 5280, 4.1.2.5): a UTCTime `YYMMDDHHMMSSZ` or a GeneralizedTime `YYYYMMDDHHMMSSZ`,
+    /// primitive in both modes, of a date that exists and a clock from 00:00:00 to 23:59:59.
+    pub fn take_from(cursor: &mut Cursor<'_>) -> Result<Time, DecodeError>
+        ensures { Takes spec.time (λ x. x) cursor.old cursor.new result }
+    {
+        Time::take_from_within::<Brand>(cursor, Blank::new(1))
+    }
+}
+
+// The time that MMDDHHMMSSZ is in a year.
+fn in_year(year: u16, text: &[u8]) -> Option<Time>
+    ensures { result ≡ spec.in_year year text.now }
+{
+    let (month, behind) = two_digits(text)?;
+    let (day, behind) = two_digits(behind)?;
+    let (hour, behind) = two_digits(behind)?;
+    let (minute, behind) = two_digits(behind)?;
+    let (second, behind) = two_digits(behind)?;
+    let behind = past(b'Z', behind)?;
+    ended(behind)?;
+    let civil = Civil {
+        year,
+        month,
+        day,
+        hour,
+        minute,
+        second,
+    };
+    let seconds = civil.moment()?;
+    Some(Time { seconds })
+}
+
+// The time that the contents of a UTCTime are.
+fn utc_time(text: &[u8]) -> Option<Time>
+    ensures { result ≡ spec.utc_time text.now }
+{
+    let (year, behind) = two_digits(text)?;
+    let century = if year < 50 { 2000 } else { 1900 };
+    in_year(century + u16::from(year), behind)
+}
+
+// The time that the contents of a GeneralizedTime are.
+fn generalized_time(text: &[u8]) -> Option<Time>
+    ensures { result ≡ spec.generalized_time text.now }
+{
+    let (year, behind) = four_digits(text)?;
+    in_year(year, behind)
+}
