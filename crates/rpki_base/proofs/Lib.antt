@@ -1,2 +1,5 @@
 pub mod Years
 pub mod Choosing
+pub mod Upper
+pub mod Serials
+pub mod Civils

@@ -13,7 +13,7 @@ use Rattle.jiff_core.proofs.DateLemmas.{civil, epoch_day_injective, epoch_day_ra
 use Rattle.jiff_core.proofs.SignedLemmas.{signed_arith}
 use Rattle.rpki_base.specs.Civil.{IsMoment}
 
-day_count-zero : day_count (pos 0) 1 1 ≡ 3652425
+pub day_count-zero : day_count (pos 0) 1 1 ≡ 3652425
 day_count-zero = day_count-early (pos 0) 9999 1 1 refl (omega arith) (omega arith) (omega arith)
 
 -- a date from 0000-01-01 on has no negative year
@@ -41,7 +41,7 @@ day_from d h =
 pub moment_range : (d : Date) (n : ℕ) → pos 0 ≤ℤ d.year → n < 86400 → IsMoment (epoch_day d *ℤ pos 86400 +ℤ pos n)
 moment_range d n h lt = let low = day_from d h in let range = epoch_day_range d in omega (arith, signed_arith, low, range.1, lt)
 
-both : (x y : Bool) → x && y ≡ true → (x ≡ true) × (y ≡ true)
+pub both : (x y : Bool) → x && y ≡ true → (x ≡ true) × (y ≡ true)
 both x y h = (Decides-and x y (λ e. e, λ e. e) (λ e. e, λ e. e)).0 h
 
 -- a clock's second of the day

@@ -1,6 +1,6 @@
 -- Dates with a time of day, and the seconds since 1970 at which they are.
-use Rattle.std.specs.Prelude.{ℕ, ◌+◌, ◌*◌, ◌&&◌, nat_le, Bool, if◌then◌else◌, Option, None, Some, ℤ, pos, neg_ℤ, ◌+ℤ◌, ◌*ℤ◌}
-use Rattle.jiff_core.specs.Calendar.{days_from_civil, days_in_month, IsBetween}
+use Rattle.std.specs.Prelude.{ℕ, zero, suc, ◌+◌, ◌-◌, ◌*◌, ◌/◌, ◌%◌, ◌&&◌, nat_le, nat_lt, unsigned_abs, Bool, if◌then◌else◌, Option, None, Some, ℤ, pos, neg_ℤ, ◌+ℤ◌, ◌*ℤ◌}
+use Rattle.jiff_core.specs.Calendar.{days_from_civil, days_in_month, days_in_year, IsBetween}
 use Rattle.rpki_base.specs.declared.civil.Civil.{Civil}
 
 -- the calendar has this date, in years 0 to 9999
@@ -22,3 +22,26 @@ moment c = if is_date c && is_clock c then Some (seconds_of c) else None
 -- the seconds of the years 0 to 9999
 abbrev pub IsMoment : ℤ → Type 0
 IsMoment seconds = IsBetween (neg_ℤ (pos 62167219200)) (pos 253402300799) seconds
+
+-- ---- back to the date, by taking whole years and then whole months off; known by its law, `civil_at_is`
+
+-- the year that a day lies in, by the days from 1 January of a year up to it, and the days from 1 January of that one
+unfoldable pub year_and_days : ℕ → ℕ → ℕ → ℕ × ℕ
+year_and_days zero year days = (year, days)
+year_and_days (suc k) year days = if nat_lt days (days_in_year (pos year)) then (year, days) else year_and_days k (suc year) (days - days_in_year (pos year))
+
+-- the same of months
+unfoldable pub month_and_days : ℕ → ℕ → ℕ → ℕ → ℕ × ℕ
+month_and_days zero year month days = (month, days)
+month_and_days (suc k) year month days = if nat_lt days (days_in_month (pos year) month) then (month, days) else month_and_days k year (suc month) (days - days_in_month (pos year) month)
+
+-- this date, and this second of the day
+abbrev pub civil_on : ℕ → ℕ × ℕ → ℕ → Civil
+civil_on year (month, days) second = record { year = year; month = month; day = days + 1; hour = second / 3600; minute = second / 60 % 60; second = second % 60 }
+
+abbrev pub civil_in : ℕ × ℕ → ℕ → Civil
+civil_in (year, days) second = civil_on year (month_and_days 12 year 1 days) second
+
+-- the date and the time of day at so many seconds since 1970, for a moment of the years 0 to 9999
+unfoldable pub civil_at : ℤ → Civil
+civil_at seconds = civil_in (year_and_days 10000 0 (unsigned_abs (seconds +ℤ pos 62167219200) / 86400)) (unsigned_abs (seconds +ℤ pos 62167219200) % 86400)

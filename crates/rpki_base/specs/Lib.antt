@@ -1,3 +1,6 @@
 pub mod Digits
 pub mod Civil
 pub mod Time
+pub mod Validity
+pub mod Serial
+pub mod KeyIdentifier

@@ -2,6 +2,7 @@
 
 ghost use Rattle.std.specs.Prelude.{◌≡◌, ◌+◌, ◌*◌, ◌<◌, ◌^◌, pos, ◌+ℤ◌, ◌*ℤ◌, ◌≤ℤ◌};
 ghost use Rattle.jiff_core.specs.Date.{epoch_day};
+ghost use Rattle.rpki_base.specs.Civil.{IsMoment};
 
 use jiff_core::civil::Date;
 
@@ -30,7 +31,7 @@ fn seconds_at(date: Date, second: u32) -> i64
 
 impl Civil {
     ghost use Rattle.std.specs.Prelude.{◌↔◌, IsTrue, IsSome, IfSome};
-    ghost use Rattle.rpki_base.specs.Civil.{is_date, is_clock, moment, IsMoment};
+    ghost use Rattle.rpki_base.specs.Civil.{is_date, is_clock, moment, civil_at};
     ghost use Rattle.jiff_core.specs.Calendar.{days_from_civil};
 
     // The date, where the calendar has it.
@@ -70,4 +71,32 @@ impl Civil {
         let date = self.date()?;
         Some(seconds_at(date, self.second_of_day()))
     }
+
+    /// The date and the time of day at so many seconds since 1970.
+    pub(crate) fn at(seconds: i64) -> Civil
+        requires { IsMoment seconds }
+        ensures { result ≡ civil_at seconds }
+    {
+        let (date, second) = day_at(seconds);
+        Civil {
+            year: date.year as u16,
+            month: date.month,
+            day: date.day,
+            hour: (second / 3600) as u8,
+            minute: (second / 60 % 60) as u8,
+            second: (second % 60) as u8,
+        }
+    }
+}
+
+// The date and the second of the day at so many seconds since 1970.
+fn day_at(seconds: i64) -> (Date, u32)
+    requires { IsMoment seconds }
+    ensures whole { epoch_day result.0 *ℤ pos 86400 +ℤ pos result.1 ≡ seconds }
+    ensures second { result.1 < 86400 }
+    ensures year { pos 0 ≤ℤ result.0.year }
+{
+    let total = (seconds + BEFORE_EPOCH) as u64;
+    let date = Date::from_days_since_min((total / 86400) as u32);
+    (date, (total % 86400) as u32)
 }

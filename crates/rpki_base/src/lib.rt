@@ -4,7 +4,15 @@
 mod civil;
 mod digits;
 mod errors;
+mod key_identifier;
+mod law;
+mod serial;
 mod time;
+mod validity;
 
 pub use errors::{SignatureVerificationError, VerificationError};
+pub use key_identifier::KeyIdentifier;
+pub use law::serial_is_read_again;
+pub use serial::Serial;
 pub use time::Time;
+pub use validity::Validity;
