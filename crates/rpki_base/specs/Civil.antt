@@ -36,11 +36,11 @@ month_and_days zero year month days = (month, days)
 month_and_days (suc k) year month days = if nat_lt days (days_in_month (pos year) month) then (month, days) else month_and_days k year (suc month) (days - days_in_month (pos year) month)
 
 -- this date, and this second of the day
-abbrev pub civil_on : ℕ → ℕ × ℕ → ℕ → Civil
-civil_on year (month, days) second = record { year = year; month = month; day = days + 1; hour = second / 3600; minute = second / 60 % 60; second = second % 60 }
+abbrev pub civil_on : ℕ → ℕ → ℕ → ℕ → Civil
+civil_on year month day second = record { year = year; month = month; day = day; hour = second / 3600; minute = second / 60 % 60; second = second % 60 }
 
 abbrev pub civil_in : ℕ × ℕ → ℕ → Civil
-civil_in (year, days) second = civil_on year (month_and_days 12 year 1 days) second
+civil_in y second = let m = month_and_days 12 y.0 1 y.1 in civil_on y.0 m.0 (m.1 + 1) second
 
 -- the date and the time of day at so many seconds since 1970, for a moment of the years 0 to 9999
 unfoldable pub civil_at : ℤ → Civil

@@ -33,6 +33,7 @@ impl Civil {
     ghost use Rattle.std.specs.Prelude.{◌↔◌, IsTrue, IsSome, IfSome};
     ghost use Rattle.rpki_base.specs.Civil.{is_date, is_clock, moment, civil_at};
     ghost use Rattle.jiff_core.specs.Calendar.{days_from_civil};
+    ghost use Rattle.rpki_base.specs.TimeText.{FitsDigits};
 
     // The date, where the calendar has it.
     fn date(self) -> Option<Date>
@@ -75,7 +76,8 @@ impl Civil {
     /// The date and the time of day at so many seconds since 1970.
     pub(crate) fn at(seconds: i64) -> Civil
         requires { IsMoment seconds }
-        ensures { result ≡ civil_at seconds }
+        ensures value { result ≡ civil_at seconds }
+        ensures digits { FitsDigits result }
     {
         let (date, second) = day_at(seconds);
         Civil {

@@ -7,6 +7,7 @@ mod errors;
 mod key_identifier;
 mod law;
 mod serial;
+mod text;
 mod time;
 mod validity;
 

@@ -1,14 +1,16 @@
 //! Times.
 
-ghost use Rattle.std.specs.Prelude.{◌≡◌, ◌↔◌, ◌<◌, ◌≤◌, IsSome, IfSome};
+ghost use Rattle.std.specs.Prelude.{◌≡◌, ◌↔◌, ◌<◌, ◌≤◌, ◌++◌, IsSome, IfSome, OnOk, OnErr};
 ghost use Rattle.rpki_der.specs.Takes.{Takes};
 ghost use Rattle.rpki_der.specs.Ticks.{TakesCounted};
 ghost use Rattle.rpki_base.specs.Civil.{IsMoment};
 ghost use Rattle.rpki_base.specs.Time as spec;
+ghost use Rattle.rpki_base.specs.TimeText.{der_time};
 
 use crate::civil::Civil;
 use crate::digits::{ended, four_digits, past, two_digits};
-use rpki_der::{Cursor, DecodeError, Steps, Tag};
+use crate::text::generalized_text;
+use rpki_der::{Cursor, DecodeError, OutOfMemory, Steps, Tag, Writer};
 use std::marker::{Brand, Model};
 use std::sync::ledger::{Blank, Ledger};
 
@@ -52,6 +54,21 @@ impl Time {
         ensures range { IsMoment result }
     {
         self.seconds
+    }
+
+    /// Appends the time as a UTCTime from 1950 to 2049 and as a GeneralizedTime otherwise (RFC 5280, 4.1.2.5). After a
+    /// refusal nothing is appended.
+    pub fn to_der_varied(&self, out: &mut Writer) -> Result<(), OutOfMemory>
+        ensures ok { OnOk result (out.new ≡ out.old ++ der_time self.now) }
+        ensures err { OnErr result (out.new ≡ out.old) }
+    {
+        let civil = Civil::at(self.seconds);
+        let text = generalized_text(&civil);
+        if civil.year >= 1950 && civil.year <= 2049 {
+            out.primitive(Tag::UTC_TIME, &text[2..])
+        } else {
+            out.primitive(Tag::GENERALIZED_TIME, &text)
+        }
     }
 
     /// The time that stands next. It ticks once for each header that it reads.
