@@ -34,7 +34,7 @@ not_generalized (Constructed i f vs) text e = refl
 
 -- ---- a UTCTime
 
-utc_reads : (v : Value) (text : List ℕ) (t : ℤ) → primitive utc_time_tag v ≡ Some text → utc_time text ≡ Some t → time v ≡ Some t
+pub utc_reads : (v : Value) (text : List ℕ) (t : ℤ) → primitive utc_time_tag v ≡ Some text → utc_time text ≡ Some t → time v ≡ Some t
 unfolding time so ◌>>=◌
 utc_reads v text t e h = rw (e, h) refl
 
@@ -54,7 +54,7 @@ utc_refuses p q b a text c e = record {
 
 -- ---- a GeneralizedTime, where no UTCTime stands
 
-generalized_reads : (v : Value) → primitive utc_time_tag v ≡ None → time v ≡ so (primitive generalized_time_tag) generalized_time v
+pub generalized_reads : (v : Value) → primitive utc_time_tag v ≡ None → time v ≡ so (primitive generalized_time_tag) generalized_time v
 unfolding time so ◌>>=◌
 generalized_reads v e = rw e refl
 

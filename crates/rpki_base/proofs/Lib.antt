@@ -3,3 +3,4 @@ pub mod Choosing
 pub mod Upper
 pub mod Serials
 pub mod Civils
+pub mod Times

@@ -20,6 +20,13 @@ fn ones(number: u8) -> u8
     b'0' + number % 10
 }
 
+/// Whether UTCTime spells the year.
+pub(crate) fn is_utc_year(year: u16) -> bool
+    ensures { result ≡ spec.is_utc_year year }
+{
+    1950 <= year && year <= 2049
+}
+
 /// YYYYMMDDHHMMSSZ.
 pub(crate) fn generalized_text(civil: &Civil) -> [u8; 15]
     requires { spec.FitsDigits civil.now }

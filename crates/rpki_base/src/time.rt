@@ -9,7 +9,7 @@ ghost use Rattle.rpki_base.specs.TimeText.{der_time};
 
 use crate::civil::Civil;
 use crate::digits::{ended, four_digits, past, two_digits};
-use crate::text::generalized_text;
+use crate::text::{generalized_text, is_utc_year};
 use rpki_der::{Cursor, DecodeError, OutOfMemory, Steps, Tag, Writer};
 use std::marker::{Brand, Model};
 use std::sync::ledger::{Blank, Ledger};
@@ -64,7 +64,7 @@ impl Time {
     {
         let civil = Civil::at(self.seconds);
         let text = generalized_text(&civil);
-        if civil.year >= 1950 && civil.year <= 2049 {
+        if is_utc_year(civil.year) {
             out.primitive(Tag::UTC_TIME, &text[2..])
         } else {
             out.primitive(Tag::GENERALIZED_TIME, &text)
