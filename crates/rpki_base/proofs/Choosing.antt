@@ -11,6 +11,8 @@ use Rattle.rpki_der.specs.Identifier.{tag_of, has_tag}
 use Rattle.rpki_der.specs.Tags.{utc_time_tag, generalized_time_tag}
 use Rattle.rpki_der.specs.Grammar.{primitive, so}
 use Rattle.rpki_der.specs.Position.{Position}
+use Rattle.rpki_der.specs.declared.mode.Mode.{Mode}
+use Rattle.rpki_der.specs.Whole.{alone, whole_of}
 use Rattle.rpki_der.specs.Takes.{Refuses}
 use Rattle.rpki_der.specs.Ticks.{left, nodes, CountedOne, CountedRefuses}
 use Rattle.rpki_der.proofs.Counting.{value_left, takes_so}
@@ -83,3 +85,40 @@ generalized_refuses p b m a error none i j n = record { refuses = neither p erro
 pub refuses_memory : (p : Position) (b a : ℕ) → a ≡ b + 1 → CountedRefuses 1 time p b a OutOfMemory
 unfolding Refuses
 refuses_memory p b a i = record { refuses = tt; most = omega (arith, i) }
+
+-- ---- the one value that octets are
+
+or_none : {X : Type 0} (o p : Option X) → p ≡ None → option_or o p ≡ o
+or_none None p e = e
+or_none (Some x) p e = refl
+
+utc_is : (v : Value) (text : List ℕ) → primitive utc_time_tag v ≡ Some text → time v ≡ utc_time text
+unfolding time so ◌>>=◌
+utc_is v text e = let n = not_generalized v text e in rw e (or_none (utc_time text) (so (primitive generalized_time_tag) generalized_time v) n)
+
+utc_alone : (o : Option Value) (text : List ℕ) → Some text ≡ (o >>= primitive utc_time_tag) → utc_time text ≡ (o >>= time)
+unfolding ◌>>=◌
+utc_alone None text e = absurd (let k : Some text ≡ None = e in cc)
+utc_alone (Some v) text e = sym (utc_is v text (sym e))
+
+generalized_alone : (o : Option Value) (text : List ℕ) → None ≡ (o >>= primitive utc_time_tag) → Some text ≡ (o >>= primitive generalized_time_tag) → generalized_time text ≡ (o >>= time)
+unfolding so ◌>>=◌
+generalized_alone None text n e = absurd (let k : Some text ≡ None = e in cc)
+generalized_alone (Some v) text n e = sym (generalized_reads v (sym n) ∙ ap (λ (o : Option (List ℕ)). o >>= generalized_time) (sym e))
+
+neither_alone : (o : Option Value) → None ≡ (o >>= primitive utc_time_tag) → None ≡ (o >>= primitive generalized_time_tag) → None ≡ (o >>= time)
+unfolding so ◌>>=◌
+neither_alone None n e = refl
+neither_alone (Some v) n e = sym (generalized_reads v (sym n) ∙ ap (λ (o : Option (List ℕ)). o >>= generalized_time) (sym e))
+
+pub utc_whole : (mode : Mode) (octets text : List ℕ) → Some text ≡ whole_of (primitive utc_time_tag) mode octets → utc_time text ≡ whole_of time mode octets
+unfolding whole_of
+utc_whole mode octets text e = utc_alone (alone mode octets) text e
+
+pub generalized_whole : (mode : Mode) (octets text : List ℕ) → None ≡ whole_of (primitive utc_time_tag) mode octets → Some text ≡ whole_of (primitive generalized_time_tag) mode octets → generalized_time text ≡ whole_of time mode octets
+unfolding whole_of
+generalized_whole mode octets text n e = generalized_alone (alone mode octets) text n e
+
+pub neither_whole : (mode : Mode) (octets : List ℕ) → None ≡ whole_of (primitive utc_time_tag) mode octets → None ≡ whole_of (primitive generalized_time_tag) mode octets → None ≡ whole_of time mode octets
+unfolding whole_of
+neither_whole mode octets n e = neither_alone (alone mode octets) n e

@@ -1,5 +1,5 @@
 -- Moments and their dates: each moment of the years 0 to 9999 has one date with a time of day.
-use Rattle.std.proofs.Common.{◌≡◌, ℕ, zero, suc, ◌+◌, ◌-◌, ◌*◌, ◌/◌, ◌%◌, ◌<◌, ◌≤◌, Bool, true, false, Option, None, Some, ℤ, pos, negsuc, neg_ℤ, ◌≤ℤ◌, ◌+ℤ◌, ◌*ℤ◌, ◌⊎◌, inl, inr, refl, sym, ap, subst, ◌∙◌, arith}
+use Rattle.std.proofs.Common.{◌≡◌, ℕ, zero, suc, ◌+◌, ◌-◌, ◌*◌, ◌/◌, ◌%◌, ◌<◌, ◌≤◌, Bool, true, false, Option, None, Some, ℤ, pos, negsuc, neg_ℤ, ◌≤ℤ◌, ◌+ℤ◌, ◌*ℤ◌, ◌⊎◌, inl, inr, refl, sym, ap, subst, ◌∙◌, arith, w64, to_z, of_z}
 use Rattle.std.specs.Prelude.{nat_lt, nat_le, ◌&&◌, if◌then◌else◌, unsigned_abs}
 use Rattle.std.specs.Int.{IsInRange}
 use Rattle.std.proofs.lemmas.Bool.{leb-true, le-leb}
@@ -9,7 +9,7 @@ use Rattle.jiff_core.specs.Calendar.{day_count, days_from_civil, days_in_year, d
 use Rattle.jiff_core.specs.Date.{epoch_day}
 use Rattle.jiff_core.proofs.CalendarLemmas.{days_from_civil-day_count, day_count-next_year, day_count-next_month, day_count-day, day_count-end, day_count-last_of_year, days_in_month_bounds}
 use Rattle.jiff_core.proofs.DateLemmas.{epoch_day_injective}
-use Rattle.jiff_core.proofs.SignedLemmas.{signed_arith}
+use Rattle.jiff_core.proofs.SignedLemmas.{signed_arith, back_small, one_part, unsigned_abs-parts}
 use Rattle.rpki_base.specs.declared.civil.Civil.{Civil}
 use Rattle.rpki_base.specs.Civil.{is_date, is_clock, seconds_of, moment, IsMoment, year_and_days, month_and_days, civil_on, civil_in, civil_at}
 use Rattle.rpki_base.proofs.Years.{day_count-zero, clock_below, both}
@@ -193,3 +193,7 @@ at_date d y n s e lt t h =
       seconds = omega (arith, signed_arith, days, t);
     })
     (civil_at_is s h)
+
+-- a moment as the machine's number is itself
+pub moment_back : (s : ℤ) → IsMoment s → to_z w64 (of_z w64 s) ≡ s
+moment_back s h = back_small w64 s (elim (one_part s) [ inl e ↦ omega (arith, signed_arith, unsigned_abs-parts s, e, h.0, h.1) | inr e ↦ omega (arith, signed_arith, unsigned_abs-parts s, e, h.0, h.1) ])

@@ -1,6 +1,6 @@
 -- Serial numbers in twenty octets.
 use Rattle.std.proofs.Common.{◌≡◌, ℕ, zero, suc, ◌+◌, ◌-◌, ◌<◌, ◌≤◌, Bool, true, false, Option, None, Some, List, [], ◌∷◌, ◌++◌, length, take, drop, replicate, refl, sym, ap, subst, ◌∙◌, arith, append-nil}
-use Rattle.std.specs.Prelude.{⊤, nat_lt, nat_le, ◌==◌, if◌then◌else◌}
+use Rattle.std.specs.Prelude.{⊤, option_and_then, nat_lt, nat_le, ◌==◌, if◌then◌else◌}
 use Rattle.std.proofs.Common.{get_or, ◌≢◌, ◌⊎◌, inl, inr, add-one, length-append}
 use Rattle.std.proofs.lemmas.Bool.{lt-ltb, le-ltb, le-leb, ne_eqb}
 use Rattle.std.proofs.lemmas.Bool.Decides.{eqb_tells, leb_tells}
@@ -12,7 +12,8 @@ use Rattle.rpki_der.specs.Grammar.{primitive, so}
 use Rattle.rpki_common.specs.Chaining.{◌>>=◌}
 use Rattle.rpki_der.specs.Writing.{primitive_value, der_primitive}
 use Rattle.rpki_der.specs.declared.mode.Mode.{Mode}
-use Rattle.rpki_der.specs.Value.{Begins}
+use Rattle.rpki_der.specs.Value.{Value, Begins}
+use Rattle.rpki_der.specs.Whole.{alone, whole_of}
 use Rattle.rpki_der.specs.Identifier.{IsTag}
 use Rattle.rpki_der.proofs.Written.{begins_primitive}
 use Rattle.rpki_base.specs.Serial.{significant, unsigned_content, serial_content, serial, in_twenty, serial_number, without_zero}
@@ -139,3 +140,28 @@ serial_begins mode l rest e =
     let w = in_front l in
     let long : w.0 + length (significant l) ≡ 20 = omega (arith, simp (length-append, length-replicate) at (ap length w.1), e) in
     begins_primitive mode integer_tag (serial_content l) rest integer_is_tag (omega (arith, content_short (significant l), long))
+
+-- ---- the one value that octets are
+
+chained : (o : Option (List ℕ)) → option_and_then serial_number o ≡ (o >>= serial_number)
+unfolding ◌>>=◌
+chained None = refl
+chained (Some x) = refl
+
+alone_some : (o : Option Value) (content : List ℕ) → Some content ≡ (o >>= primitive integer_tag) → option_and_then serial_number (minimal content) ≡ (o >>= serial)
+unfolding serial integer so ◌>>=◌
+alone_some None content e = absurd (let k : Some content ≡ None = e in cc)
+alone_some (Some v) content e = rw (sym e) (chained (minimal content))
+
+pub whole_some : (mode : Mode) (octets content : List ℕ) → Some content ≡ whole_of (primitive integer_tag) mode octets → option_and_then serial_number (minimal content) ≡ whole_of serial mode octets
+unfolding whole_of
+whole_some mode octets content e = alone_some (alone mode octets) content e
+
+alone_none : (o : Option Value) → None ≡ (o >>= primitive integer_tag) → None ≡ (o >>= serial)
+unfolding serial integer so ◌>>=◌
+alone_none None e = refl
+alone_none (Some v) e = rw (sym e) refl
+
+pub whole_none : (mode : Mode) (octets : List ℕ) → None ≡ whole_of (primitive integer_tag) mode octets → None ≡ whole_of serial mode octets
+unfolding whole_of
+whole_none mode octets e = alone_none (alone mode octets) e

@@ -1,5 +1,5 @@
 -- Times that are written are read again.
-use Rattle.std.proofs.Common.{◌≡◌, ℕ, ◌+◌, ◌*◌, ◌/◌, ◌%◌, ◌<◌, ◌≤◌, Bool, true, false, Option, None, Some, ℤ, pos, List, [], ◌∷◌, ◌++◌, length, drop, ◌⊎◌, inl, inr, refl, sym, ap, subst, ◌∙◌, arith}
+use Rattle.std.proofs.Common.{◌≡◌, ℕ, ◌+◌, ◌*◌, ◌/◌, ◌%◌, ◌<◌, ◌≤◌, Bool, true, false, Option, None, Some, ℤ, pos, List, [], ◌∷◌, ◌++◌, length, take, drop, ◌⊎◌, inl, inr, refl, sym, ap, subst, ◌∙◌, arith}
 use Rattle.std.specs.Prelude.{nat_lt, nat_le, ◌&&◌, if◌then◌else◌, codes}
 use Rattle.std.specs.Char.{is_ascii_digit, digit_value}
 use Rattle.std.proofs.lemmas.Bool.{leb-true, le-leb, lt-ltb, le-ltb}
@@ -98,7 +98,7 @@ time_begins mode s rest = chosen_begins (is_utc_year (civil_at s).year) mode (ci
 
 -- ---- what is written
 
-pub utc_written : (c : Civil) (s : ℤ) (text : List ℕ) → c ≡ civil_at s → text ≡ generalized_text c → is_utc_year c.year ≡ true → der_primitive utc_time_tag (drop 2 text) ≡ der_time s
+pub utc_written : (c : Civil) (s : ℤ) (text : List ℕ) → c ≡ civil_at s → text ≡ generalized_text c → is_utc_year c.year ≡ true → der_primitive utc_time_tag (take 13 (drop 2 text)) ≡ der_time s
 unfolding der_time time_value
 utc_written c s text e t u = rw (sym e, t, u) refl
 

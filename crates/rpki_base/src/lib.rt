@@ -6,6 +6,7 @@ mod digits;
 mod errors;
 mod key_identifier;
 mod law;
+mod rfc3339;
 mod serial;
 mod text;
 mod time;

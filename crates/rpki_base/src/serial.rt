@@ -1,13 +1,18 @@
 //! Serial numbers.
 
-ghost use Rattle.std.specs.Prelude.{◌≡◌, ◌+◌, ◌-◌, ◌<◌, ◌≤◌, ◌∷◌, ◌++◌, drop, take, length, replicate, OnOk, OnErr};
+ghost use Rattle.std.specs.Prelude.{◌≡◌, ◌+◌, ◌-◌, ◌<◌, ◌≤◌, ◌∷◌, ◌++◌, drop, take, length, replicate, option_and_then, OnOk, OnErr};
 ghost use Rattle.rpki_der.specs.Takes.{Takes};
 ghost use Rattle.rpki_der.specs.Tags.{integer_tag};
 ghost use Rattle.rpki_der.specs.Ticks.{TakesCounted};
+ghost use Rattle.rpki_der.specs.Number.{minimal};
+ghost use Rattle.rpki_der.specs.Whole.{whole_of};
 ghost use Rattle.rpki_der.specs.Writing.{der_primitive};
 ghost use Rattle.rpki_base.specs.Serial as spec;
 
-use rpki_der::{Cursor, DecodeError, OutOfMemory, Steps, Tag, Writer, take_integer_counted};
+use rpki_der::{
+    Cursor, DecodeError, Mode, OutOfMemory, Steps, Tag, Writer, take_integer_counted,
+    take_whole_primitive,
+};
 use std::marker::{Brand, Model};
 use std::sync::ledger::{Blank, Ledger};
 
@@ -65,6 +70,17 @@ fn serial_number(octets: &[u8]) -> Option<Serial>
     })
 }
 
+// The same, if no octet of the contents could go.
+fn shortest_number(octets: &[u8]) -> Option<Serial>
+    ensures { result ≡ option_and_then spec.serial_number (minimal octets.now) }
+{
+    match octets {
+        [] => None,
+        [0, second, ..] if *second < 0x80 => None,
+        _ => serial_number(octets),
+    }
+}
+
 impl From<u64> for Serial {
     ghost use Rattle.rpki_base.specs.Serial.{serial_of};
 
@@ -106,6 +122,14 @@ impl Serial {
         ensures { result.now ≡ self.now }
     {
         &self.octets
+    }
+
+    /// The serial number that the octets are, as `take_from` reads it, with nothing behind it; None where they are none.
+    pub fn take(mode: Mode, octets: &[u8]) -> Option<Serial>
+        ensures { result ≡ whole_of spec.serial mode octets.now }
+    {
+        let octets = take_whole_primitive(mode, octets, Tag::INTEGER)?;
+        shortest_number(octets)
     }
 
     /// The serial number that stands next. It ticks once.

@@ -2,6 +2,7 @@
 
 ghost use Rattle.std.specs.Prelude.{◌≡◌, ◌↔◌, ◌<◌, ◌≤◌, ◌++◌, IsSome, IfSome, OnOk, OnErr};
 ghost use Rattle.rpki_der.specs.Takes.{Takes};
+ghost use Rattle.rpki_der.specs.Whole.{whole_of};
 ghost use Rattle.rpki_der.specs.Ticks.{TakesCounted};
 ghost use Rattle.rpki_base.specs.Civil.{IsMoment};
 ghost use Rattle.rpki_base.specs.Time as spec;
@@ -10,7 +11,9 @@ ghost use Rattle.rpki_base.specs.TimeText.{der_time};
 use crate::civil::Civil;
 use crate::digits::{ended, four_digits, past, two_digits};
 use crate::text::{generalized_text, is_utc_year};
-use rpki_der::{Cursor, DecodeError, OutOfMemory, Steps, Tag, Writer};
+use rpki_der::{
+    Cursor, DecodeError, Mode, OutOfMemory, Steps, Tag, Writer, take_whole_primitive,
+};
 use std::marker::{Brand, Model};
 use std::sync::ledger::{Blank, Ledger};
 
@@ -62,12 +65,25 @@ impl Time {
         ensures ok { OnOk result (out.new ≡ out.old ++ der_time self.now) }
         ensures err { OnErr result (out.new ≡ out.old) }
     {
-        let civil = Civil::at(self.seconds);
+        let civil = Civil::at(self.seconds());
         let text = generalized_text(&civil);
         if is_utc_year(civil.year) {
             out.primitive(Tag::UTC_TIME, &text[2..])
         } else {
             out.primitive(Tag::GENERALIZED_TIME, &text)
+        }
+    }
+
+    /// The time that the octets are, in the form that `take_from` reads, with nothing behind it; None where they are none.
+    pub fn take(mode: Mode, octets: &[u8]) -> Option<Time>
+        ensures { result ≡ whole_of spec.time mode octets.now }
+    {
+        match take_whole_primitive(mode, octets, Tag::UTC_TIME) {
+            Some(text) => utc_time(text),
+            None => {
+                let text = take_whole_primitive(mode, octets, Tag::GENERALIZED_TIME)?;
+                generalized_time(text)
+            }
         }
     }
 
