@@ -4,3 +4,4 @@ pub mod Upper
 pub mod Serials
 pub mod Civils
 pub mod Times
+pub mod Offsets

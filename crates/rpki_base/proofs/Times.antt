@@ -68,7 +68,7 @@ generalized_read c h = rw (four_read c.year (month_to_second c) h.0) (in_year_re
 
 -- ---- as values
 
-fits_digits : (c : Civil) (s : ℤ) → IsMomentOf c s → FitsDigits c
+pub fits_digits : (c : Civil) (s : ℤ) → IsMomentOf c s → FitsDigits c
 fits_digits c s h =
     let p = h.civil' in
     (omega (arith, p.year), omega (arith, p.month.1), omega (arith, p.day.1, (days_in_month_bounds (pos c.year) c.month).0), omega (arith, p.hour), omega (arith, p.minute), omega (arith, p.second))

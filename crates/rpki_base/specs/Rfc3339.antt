@@ -1,7 +1,7 @@
 -- Times in the form of RFC 3339 (5.6), with `T` and `Z` in upper case, and a fraction of a second that is cut off.
-use Rattle.std.specs.Prelude.{◌≡◌, ℕ, ◌+◌, ◌*◌, ◌&&◌, ◌==◌, nat_le, Bool, if◌then◌else◌, Option, None, Some, List, [], ◌∷◌, ℤ, pos, neg_ℤ, ◌-ℤ◌}
-use Rattle.std.specs.Int.{int_le}
+use Rattle.std.specs.Prelude.{◌≡◌, ℕ, ◌+◌, ◌*◌, ◌&&◌, ◌==◌, nat_le, int_le, Bool, if◌then◌else◌, Option, None, Some, List, [], ◌∷◌, ℤ, pos, neg_ℤ, ◌-ℤ◌}
 use Rattle.std.specs.Char.{is_ascii_digit}
+use Rattle.std.specs.Option.{option_map}
 use Rattle.rpki_common.specs.Chaining.{◌>>=◌}
 use Rattle.rpki_base.specs.declared.civil.Civil.{Civil}
 use Rattle.rpki_base.specs.Civil.{moment}
@@ -31,13 +31,16 @@ offset_seconds text = do
   nothing ← ended minute.1
   if nat_le hour.0 23 && nat_le minute.0 59 then Some (hour.0 * 3600 + minute.0 * 60) else None
 
+abbrev pub minus : ℕ → ℤ
+minus n = neg_ℤ (pos n)
+
 -- how many seconds the local time is ahead of UTC: `Z` (90), or `+` (43) or `-` (45) and HH:MM
 abbrev pub offset : List ℕ → Option ℤ
 offset [] = None
 offset (c ∷ more) =
-    if c == 90 then (ended more >>= λ nothing. Some (pos 0))
-    else if c == 43 then (offset_seconds more >>= λ seconds. Some (pos seconds))
-    else if c == 45 then (offset_seconds more >>= λ seconds. Some (neg_ℤ (pos seconds))) else None
+    if c == 90 then option_map (λ nothing. pos 0) (ended more)
+    else if c == 43 then option_map pos (offset_seconds more)
+    else if c == 45 then option_map minus (offset_seconds more) else None
 
 -- a moment in the years 0 to 9999
 abbrev pub in_range : ℤ → Option ℤ

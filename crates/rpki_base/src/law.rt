@@ -3,9 +3,10 @@
 ghost use Rattle.std.specs.Prelude.{◌≡◌, ℕ, List, ◌++◌, length, Some, ℤ};
 ghost use Rattle.rpki_der.specs.declared.mode.Mode.{Mode};
 ghost use Rattle.rpki_der.specs.Value.{Begins};
-ghost use Rattle.rpki_base.specs.Civil.{IsMoment};
+ghost use Rattle.rpki_base.specs.Civil.{IsMoment, civil_at};
+ghost use Rattle.rpki_base.specs.Rfc3339.{rfc3339_time};
 ghost use Rattle.rpki_base.specs.Time.{time};
-ghost use Rattle.rpki_base.specs.TimeText.{time_value, der_time};
+ghost use Rattle.rpki_base.specs.TimeText.{time_value, der_time, rfc3339_text};
 ghost use Rattle.rpki_base.specs.Serial.{serial, serial_value, der_serial};
 
 /// What `Serial::encode` writes is read as the same serial number, in both modes.
@@ -18,4 +19,9 @@ pub fn serial_is_read_again()
 pub fn time_is_read_again()
     ensures value { (seconds : ℤ) → IsMoment seconds → time (time_value seconds) ≡ Some seconds }
     ensures begins { (mode : Mode) (seconds : ℤ) (rest : List ℕ) → Begins mode (der_time seconds ++ rest) (time_value seconds) rest }
+{}
+
+/// What `Time::to_rfc3339` prints is read by `Time::from_rfc3339` as the same time.
+pub fn printed_time_is_read_again()
+    ensures { (seconds : ℤ) → IsMoment seconds → rfc3339_time (rfc3339_text (civil_at seconds)) ≡ Some seconds }
 {}

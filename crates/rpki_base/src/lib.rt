@@ -14,7 +14,7 @@ mod validity;
 
 pub use errors::{SignatureVerificationError, VerificationError};
 pub use key_identifier::KeyIdentifier;
-pub use law::{serial_is_read_again, time_is_read_again};
+pub use law::{printed_time_is_read_again, serial_is_read_again, time_is_read_again};
 pub use serial::Serial;
 pub use time::Time;
 pub use validity::Validity;

@@ -1,19 +1,22 @@
 //! Times.
 
-ghost use Rattle.std.specs.Prelude.{◌≡◌, ◌↔◌, ◌<◌, ◌≤◌, ◌++◌, IsSome, IfSome, OnOk, OnErr};
+ghost use Rattle.std.specs.Prelude.{◌≡◌, ◌↔◌, ◌<◌, ◌≤◌, ◌++◌, IsSome, IfSome, IfOk, OnOk, OnErr, string_bytes};
 ghost use Rattle.rpki_der.specs.Takes.{Takes};
 ghost use Rattle.rpki_der.specs.Whole.{whole_of};
 ghost use Rattle.rpki_der.specs.Ticks.{TakesCounted};
-ghost use Rattle.rpki_base.specs.Civil.{IsMoment};
+ghost use Rattle.rpki_base.specs.Civil.{IsMoment, civil_at};
 ghost use Rattle.rpki_base.specs.Time as spec;
-ghost use Rattle.rpki_base.specs.TimeText.{der_time};
+ghost use Rattle.rpki_base.specs.TimeText.{der_time, rfc3339_text};
+ghost use Rattle.rpki_base.specs.Rfc3339.{rfc3339_time};
 
 use crate::civil::Civil;
 use crate::digits::{ended, four_digits, past, two_digits};
-use crate::text::{generalized_text, is_utc_year};
+use crate::rfc3339::rfc3339_time;
+use crate::text::{generalized_text, is_utc_year, rfc3339_text};
 use rpki_der::{
     Cursor, DecodeError, Mode, OutOfMemory, Steps, Tag, Writer, take_whole_primitive,
 };
+use std::alloc::Global;
 use std::marker::{Brand, Model};
 use std::sync::ledger::{Blank, Ledger};
 
@@ -57,6 +60,27 @@ impl Time {
         ensures range { IsMoment result }
     {
         self.seconds
+    }
+
+    /// The time that a text says in the form of RFC 3339 (5.6): `YYYY-MM-DDTHH:MM:SS` of a date that exists and a clock to
+    /// 23:59:59, then `.` and digits, which are cut off, or none, and then `Z`, `+HH:MM` or `-HH:MM` to 23:59. None where
+    /// the text has another form, or where the time is outside of the years 0 to 9999.
+    pub fn from_rfc3339(text: &str) -> Option<Time>
+        ensures { result ≡ rfc3339_time text.now }
+    {
+        rfc3339_time(text.as_bytes())
+    }
+
+    /// The time as `YYYY-MM-DDTHH:MM:SSZ`.
+    pub fn to_rfc3339(&self, alloc: Global) -> Result<String, OutOfMemory>
+        ensures { IfOk result (λ s. string_bytes s ≡ rfc3339_text (civil_at self.now)) }
+    {
+        let civil = Civil::at(self.seconds());
+        let digits = rfc3339_text(&civil);
+        let Ok(text) = str::from_utf8(&digits) else {
+            unreachable!()
+        };
+        Ok(String::from_str(alloc, text)?)
     }
 
     /// Appends the time as a UTCTime from 1950 to 2049 and as a GeneralizedTime otherwise (RFC 5280, 4.1.2.5). After a
