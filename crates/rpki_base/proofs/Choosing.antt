@@ -1,12 +1,12 @@
 -- A value that is of one kind or of another.
-use Rattle.std.proofs.Common.{◌≡◌, ℕ, ◌+◌, ◌≤◌, Bool, true, false, ℤ, Option, None, Some, List, [], ◌∷◌, refl, sym, ap, subst, ◌∙◌, arith}
+use Rattle.std.proofs.Common.{◌≡◌, ℕ, ◌+◌, Bool, true, false, ℤ, Option, None, Some, List, refl, sym, ap, subst, ◌∙◌, arith}
 use Rattle.std.specs.Prelude.{bytes_eq, if◌then◌else◌}
 use Rattle.std.proofs.lemmas.Slice.Eq.{bytes_eq-Decides}
 use Rattle.std.specs.Option.{option_or}
 use Rattle.rpki_common.specs.Chaining.{◌>>=◌}
 use Rattle.rpki_der.specs.declared.error.DecodeError.{DecodeError}
 use Rattle.rpki_der.specs.declared.error.DecodeError.TheVariants.{Malformed, OutOfMemory}
-use Rattle.rpki_der.specs.Value.{Value, Primitive, Constructed, Begins}
+use Rattle.rpki_der.specs.Value.{Value, Primitive, Constructed}
 use Rattle.rpki_der.specs.Identifier.{tag_of, has_tag}
 use Rattle.rpki_der.specs.Tags.{utc_time_tag, generalized_time_tag}
 use Rattle.rpki_der.specs.Grammar.{primitive, so}
@@ -14,7 +14,7 @@ use Rattle.rpki_der.specs.Position.{Position}
 use Rattle.rpki_der.specs.declared.mode.Mode.{Mode}
 use Rattle.rpki_der.specs.Whole.{alone, whole_of}
 use Rattle.rpki_der.specs.Takes.{Refuses}
-use Rattle.rpki_der.specs.Ticks.{left, nodes, CountedOne, CountedRefuses}
+use Rattle.rpki_der.specs.Ticks.{CountedOne, CountedRefuses}
 use Rattle.rpki_der.proofs.Counting.{value_left, takes_so}
 use Rattle.rpki_der.proofs.Parts.{at_most_one}
 use Rattle.rpki_base.specs.Time.{utc_time, generalized_time, time}

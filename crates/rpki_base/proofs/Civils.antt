@@ -1,5 +1,5 @@
 -- Moments and their dates: each moment of the years 0 to 9999 has one date with a time of day.
-use Rattle.std.proofs.Common.{◌≡◌, ℕ, zero, suc, ◌+◌, ◌-◌, ◌*◌, ◌/◌, ◌%◌, ◌<◌, ◌≤◌, Bool, true, false, Option, None, Some, ℤ, pos, negsuc, neg_ℤ, ◌≤ℤ◌, ◌+ℤ◌, ◌*ℤ◌, ◌⊎◌, inl, inr, refl, sym, ap, subst, ◌∙◌, arith, w64, to_z, of_z}
+use Rattle.std.proofs.Common.{◌≡◌, ℕ, zero, suc, ◌+◌, ◌-◌, ◌*◌, ◌/◌, ◌%◌, ◌<◌, ◌≤◌, Bool, true, false, None, Some, ℤ, pos, negsuc, ◌≤ℤ◌, ◌+ℤ◌, ◌*ℤ◌, ◌⊎◌, inl, inr, refl, sym, ap, subst, ◌∙◌, arith, w64, to_z, of_z}
 use Rattle.std.specs.Prelude.{nat_lt, nat_le, ◌&&◌, if◌then◌else◌, unsigned_abs}
 use Rattle.std.specs.Int.{IsInRange}
 use Rattle.std.proofs.lemmas.Bool.{leb-true, le-leb}
@@ -7,12 +7,12 @@ use Rattle.std.proofs.lemmas.Bool.Decides.{leb_tells}
 use Rattle.jiff_core.specs.declared.civil.date.Date.{Date}
 use Rattle.jiff_core.specs.Calendar.{day_count, days_from_civil, days_in_year, days_in_month}
 use Rattle.jiff_core.specs.Date.{epoch_day}
-use Rattle.jiff_core.proofs.CalendarLemmas.{days_from_civil-day_count, day_count-next_year, day_count-next_month, day_count-day, day_count-end, day_count-last_of_year, days_in_month_bounds}
+use Rattle.jiff_core.proofs.CalendarLemmas.{days_from_civil-day_count, day_count-next_year, day_count-next_month, day_count-day, day_count-end, day_count-last_of_year}
 use Rattle.jiff_core.proofs.DateLemmas.{epoch_day_injective}
 use Rattle.jiff_core.proofs.SignedLemmas.{signed_arith, back_small, one_part, unsigned_abs-parts}
 use Rattle.rpki_base.specs.declared.civil.Civil.{Civil}
-use Rattle.rpki_base.specs.Civil.{is_date, is_clock, seconds_of, moment, IsMoment, year_and_days, month_and_days, civil_on, civil_in, civil_at}
-use Rattle.rpki_base.proofs.Years.{day_count-zero, clock_below, both}
+use Rattle.rpki_base.specs.Civil.{is_date, is_clock, seconds_of, moment, IsMoment, year_and_days, month_and_days, civil_on, civil_at}
+use Rattle.rpki_base.proofs.Years.{day_count-zero, both}
 
 -- ---- a date that exists, and a clock
 
@@ -119,12 +119,12 @@ year_found zero y last days e lt =
     absurd (omega (arith, lt, same))
 year_found (suc k) y last days e lt =
     elim (tells days (days_in_year (pos y))) [
-    | inl h ↦ rw h.0 (record { whole = refl; short = h.1; before = omega (arith, e) })
-    | inr h ↦
-      let next = next_year y in
-      let same : day_count (pos (suc y)) 1 1 + (days - days_in_year (pos y)) ≡ day_count (pos y) 1 1 + days = omega (arith, next, h.1) in
-      let w = year_found k (suc y) last (days - days_in_year (pos y)) (omega (arith, e)) (omega (arith, same, lt)) in
-      rw h.0 (record { whole = w.whole ∙ same; short = w.short; before = w.before })
+      | inl h ↦ rw h.0 (record { whole = refl; short = h.1; before = omega (arith, e) })
+      | inr h ↦
+          let next = next_year y in
+          let same : day_count (pos (suc y)) 1 1 + (days - days_in_year (pos y)) ≡ day_count (pos y) 1 1 + days = omega (arith, next, h.1) in
+          let w = year_found k (suc y) last (days - days_in_year (pos y)) (omega (arith, e)) (omega (arith, same, lt)) in
+          rw h.0 (record { whole = w.whole ∙ same; short = w.short; before = w.before })
     ]
 
 record InMonth (count last year month days : ℕ) : Type 0 where
@@ -144,12 +144,12 @@ month_found zero y m last days some e lt =
     absurd (omega (arith, lt, same))
 month_found (suc k) y m last days some e lt =
     elim (tells days (days_in_month (pos y) m)) [
-    | inl h ↦ rw h.0 (record { whole = refl; short = h.1; some = some; before = omega (arith, e) })
-    | inr h ↦
-      let next = next_month y m some in
-      let same : day_count (pos y) (suc m) 1 + (days - days_in_month (pos y) m) ≡ day_count (pos y) m 1 + days = omega (arith, next, h.1) in
-      let w = month_found k y (suc m) last (days - days_in_month (pos y) m) (omega arith) (omega (arith, e)) (omega (arith, same, lt)) in
-      rw h.0 (record { whole = w.whole ∙ same; short = w.short; some = w.some; before = w.before })
+      | inl h ↦ rw h.0 (record { whole = refl; short = h.1; some = some; before = omega (arith, e) })
+      | inr h ↦
+          let next = next_month y m some in
+          let same : day_count (pos y) (suc m) 1 + (days - days_in_month (pos y) m) ≡ day_count (pos y) m 1 + days = omega (arith, next, h.1) in
+          let w = month_found k y (suc m) last (days - days_in_month (pos y) m) (omega arith) (omega (arith, e)) (omega (arith, same, lt)) in
+          rw h.0 (record { whole = w.whole ∙ same; short = w.short; some = w.some; before = w.before })
     ]
 
 year_end : (y : ℕ) → day_count (pos y) 13 1 ≡ day_count (pos y) 1 1 + days_in_year (pos y)

@@ -1,6 +1,6 @@
 -- Times in the form of RFC 3339.
-use Rattle.std.proofs.Common.{◌≡◌, ℕ, suc, ◌+◌, ◌<◌, ◌≤◌, true, false, List, [], ◌∷◌, length, drop, get_or, refl, sym, ap, ◌∙◌, arith, add-one, take, length-drop, ◌-◌, ◌++◌, ◌/◌, ◌%◌, Option, Some, ℤ, pos, neg_ℤ, ◌-ℤ◌, ◌≤ℤ◌, w64, to_z, of_z, inl, inr}
-use Rattle.std.specs.Prelude.{codes, int_le, ◌&&◌, if◌then◌else◌}
+use Rattle.std.proofs.Common.{◌≡◌, ℕ, ◌+◌, ◌<◌, ◌≤◌, true, false, List, [], ◌∷◌, length, drop, get_or, refl, ap, ◌∙◌, arith, add-one, take, length-drop, ◌-◌, ◌++◌, ◌/◌, ◌%◌, Some, ℤ, pos, neg_ℤ, ◌-ℤ◌, w64, to_z, of_z, inl, inr}
+use Rattle.std.specs.Prelude.{codes, int_le}
 use Rattle.std.specs.Str.{IsAscii}
 use Rattle.std.proofs.lemmas.Str.Ascii.{IsAscii-cons, IsAscii-nil}
 use Rattle.jiff_core.specs.Calendar.{IsWithin}

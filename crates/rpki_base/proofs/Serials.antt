@@ -1,13 +1,13 @@
 -- Serial numbers in twenty octets.
-use Rattle.std.proofs.Common.{◌≡◌, ℕ, zero, suc, ◌+◌, ◌-◌, ◌<◌, ◌≤◌, Bool, true, false, Option, None, Some, List, [], ◌∷◌, ◌++◌, length, take, drop, replicate, refl, sym, ap, subst, ◌∙◌, arith, append-nil}
-use Rattle.std.specs.Prelude.{⊤, option_and_then, nat_lt, nat_le, ◌==◌, if◌then◌else◌}
+use Rattle.std.proofs.Common.{◌≡◌, ℕ, suc, ◌+◌, ◌-◌, ◌<◌, ◌≤◌, true, false, Option, None, Some, List, [], ◌∷◌, ◌++◌, length, take, drop, replicate, refl, sym, ap, ◌∙◌, arith, append-nil}
+use Rattle.std.specs.Prelude.{⊤, option_and_then, nat_lt}
 use Rattle.std.proofs.Common.{get_or, ◌≢◌, ◌⊎◌, inl, inr, add-one, length-append}
 use Rattle.std.proofs.lemmas.Bool.{lt-ltb, le-ltb, le-leb, ne_eqb}
 use Rattle.std.proofs.lemmas.Bool.Decides.{eqb_tells, leb_tells}
 use Rattle.std.proofs.Math.Seq.{drop-cons}
 use Rattle.std.proofs.lemmas.List.{drop_all}
 use Rattle.rpki_der.specs.Tags.{integer_tag}
-use Rattle.rpki_der.specs.Number.{minimal, integer, small_number, is_not_negative}
+use Rattle.rpki_der.specs.Number.{minimal, integer}
 use Rattle.rpki_der.specs.Grammar.{primitive, so}
 use Rattle.rpki_common.specs.Chaining.{◌>>=◌}
 use Rattle.rpki_der.specs.Writing.{primitive_value, der_primitive}
@@ -16,7 +16,7 @@ use Rattle.rpki_der.specs.Value.{Value, Begins}
 use Rattle.rpki_der.specs.Whole.{alone, whole_of}
 use Rattle.rpki_der.specs.Identifier.{IsTag}
 use Rattle.rpki_der.proofs.Written.{begins_primitive}
-use Rattle.rpki_base.specs.Serial.{significant, unsigned_content, serial_content, serial, in_twenty, serial_number, without_zero}
+use Rattle.rpki_base.specs.Serial.{significant, unsigned_content, serial_content, serial, in_twenty, serial_number}
 use native.Mathlib.Numerals.{unary_clauses}
 use borrow.Rule.Slice.PartMut.{put_mid}
 use Rattle.std.proofs.lemmas.List.{take-replicate, drop-replicate, take-append-drop, length-replicate}
@@ -92,8 +92,8 @@ in_front [] = (0, refl, tt)
 in_front (a ∷ m) =
     let w = in_front m in
     elim (eqb_tells a 0) [
-    | inl h ↦ (suc w.0, (let e : a ∷ m ≡ 0 ∷ (replicate w.0 0 ++ significant m) = cc (h.1, w.1) in rw h.0 e), rw h.0 w.2)
-    | inr h ↦ (0, rw h.0 refl, rw h.0 h.1)
+      | inl h ↦ (suc w.0, (let e : a ∷ m ≡ 0 ∷ (replicate w.0 0 ++ significant m) = cc (h.1, w.1) in rw h.0 e), rw h.0 w.2)
+      | inr h ↦ (0, rw h.0 refl, rw h.0 h.1)
     ]
 
 minimal_small : (a : ℕ) (m : List ℕ) → a ≢ 0 → a < 128 → minimal (a ∷ m) ≡ Some (a ∷ m)
@@ -117,8 +117,8 @@ unfolding serial integer so ◌>>=◌
 read_trimmed k [] e t = fills k [] e
 read_trimmed k (a ∷ m) e t =
     elim (sign_tells a) [
-    | inl h ↦ rw (h.0, minimal_small a m t h.1, h.0, ne_eqb a 0 t) (fills k (a ∷ m) e)
-    | inr h ↦ rw (h.0, minimal_big a m h.1) (fills k (a ∷ m) e)
+      | inl h ↦ rw (h.0, minimal_small a m t h.1, h.0, ne_eqb a 0 t) (fills k (a ∷ m) e)
+      | inr h ↦ rw (h.0, minimal_big a m h.1) (fills k (a ∷ m) e)
     ]
 
 pub serial_again : (l : List ℕ) → length l ≡ 20 → serial (primitive_value integer_tag (serial_content l)) ≡ Some l

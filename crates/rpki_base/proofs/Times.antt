@@ -1,6 +1,6 @@
 -- Times that are written are read again.
-use Rattle.std.proofs.Common.{◌≡◌, ℕ, ◌+◌, ◌*◌, ◌/◌, ◌%◌, ◌<◌, ◌≤◌, Bool, true, false, Option, None, Some, ℤ, pos, List, [], ◌∷◌, ◌++◌, length, take, drop, ◌⊎◌, inl, inr, refl, sym, ap, subst, ◌∙◌, arith}
-use Rattle.std.specs.Prelude.{nat_lt, nat_le, ◌&&◌, if◌then◌else◌, codes}
+use Rattle.std.proofs.Common.{◌≡◌, ℕ, ◌+◌, ◌*◌, ◌/◌, ◌%◌, ◌<◌, ◌≤◌, Bool, true, false, Some, ℤ, pos, List, ◌++◌, take, drop, inl, inr, refl, sym, ◌∙◌, arith}
+use Rattle.std.specs.Prelude.{nat_le, if◌then◌else◌, codes}
 use Rattle.std.specs.Char.{is_ascii_digit, digit_value}
 use Rattle.std.proofs.lemmas.Bool.{leb-true, le-leb, lt-ltb, le-ltb}
 use Rattle.rpki_common.specs.Chaining.{◌>>=◌}
@@ -8,14 +8,14 @@ use Rattle.rpki_der.specs.declared.mode.Mode.{Mode}
 use Rattle.rpki_der.specs.Identifier.{IsTag}
 use Rattle.rpki_der.specs.Tags.{utc_time_tag, generalized_time_tag}
 use Rattle.rpki_der.specs.Value.{Value, Begins, spelling}
-use Rattle.rpki_der.specs.Grammar.{primitive, so}
+use Rattle.rpki_der.specs.Grammar.{so}
 use Rattle.rpki_der.specs.Writing.{primitive_value, der_primitive}
 use Rattle.rpki_der.proofs.Written.{begins_primitive}
 use Rattle.rpki_base.specs.declared.civil.Civil.{Civil}
-use Rattle.rpki_base.specs.Digits.{two_digits, four_digits, past, ended}
+use Rattle.rpki_base.specs.Digits.{two_digits, four_digits}
 use Rattle.rpki_base.specs.Civil.{moment, IsMoment, civil_at}
 use Rattle.rpki_base.specs.Time.{in_year, full_year, utc_time, generalized_time, time}
-use Rattle.rpki_base.specs.TimeText.{two, four, FitsDigits, month_to_second, utc_text, generalized_text, is_utc_year, civil_value, time_value, der_time}
+use Rattle.rpki_base.specs.TimeText.{two, four, FitsDigits, month_to_second, utc_text, generalized_text, is_utc_year, time_value, der_time}
 use Rattle.jiff_core.proofs.CalendarLemmas.{days_in_month_bounds}
 use Rattle.rpki_base.proofs.Years.{both}
 use Rattle.rpki_base.proofs.Civils.{IsMomentOf, moment_some, civil_at_is, tells}

@@ -1,9 +1,8 @@
 -- Times in the form of RFC 3339 (5.6), with `T` and `Z` in upper case, and a fraction of a second that is cut off.
-use Rattle.std.specs.Prelude.{◌≡◌, ℕ, ◌+◌, ◌*◌, ◌&&◌, ◌==◌, nat_le, int_le, Bool, if◌then◌else◌, Option, None, Some, List, [], ◌∷◌, ℤ, pos, neg_ℤ, ◌-ℤ◌}
+use Rattle.std.specs.Prelude.{ℕ, ◌+◌, ◌*◌, ◌&&◌, ◌==◌, nat_le, int_le, if◌then◌else◌, Option, None, Some, List, [], ◌∷◌, ℤ, pos, neg_ℤ, ◌-ℤ◌}
 use Rattle.std.specs.Char.{is_ascii_digit}
 use Rattle.std.specs.Option.{option_map}
 use Rattle.rpki_common.specs.Chaining.{◌>>=◌}
-use Rattle.rpki_base.specs.declared.civil.Civil.{Civil}
 use Rattle.rpki_base.specs.Civil.{moment}
 use Rattle.rpki_base.specs.Digits.{two_digits, four_digits, past, ended}
 

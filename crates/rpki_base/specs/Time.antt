@@ -1,5 +1,5 @@
 -- Times (RFC 5280, 4.1.2.5): seconds since 1970, spelled as UTCTime or as GeneralizedTime.
-use Rattle.std.specs.Prelude.{ℕ, ◌+◌, nat_lt, if◌then◌else◌, Option, None, Some, List, ℤ}
+use Rattle.std.specs.Prelude.{ℕ, ◌+◌, nat_lt, if◌then◌else◌, Option, List, ℤ}
 use Rattle.std.specs.Option.{option_or}
 use Rattle.rpki_common.specs.Chaining.{◌>>=◌}
 use Rattle.rpki_der.specs.Tags.{utc_time_tag, generalized_time_tag}
@@ -7,7 +7,6 @@ use Rattle.rpki_der.specs.Value.{Value}
 use Rattle.rpki_der.specs.Grammar.{primitive, so}
 use Rattle.rpki_base.specs.Digits.{two_digits, four_digits, past, ended}
 use Rattle.rpki_base.specs.Civil.{moment}
-use Rattle.rpki_base.specs.declared.civil.Civil.{Civil}
 
 -- MMDDHHMMSSZ in a year; 90 is Z
 unfoldable pub in_year : ℕ → List ℕ → Option ℤ

@@ -1,5 +1,5 @@
 -- How times are written: as UTCTime or GeneralizedTime (RFC 5280, 4.1.2.5), and in the form of RFC 3339 (5.6).
-use Rattle.std.specs.Prelude.{◌≡◌, ℕ, ◌+◌, ◌/◌, ◌%◌, ◌<◌, ◌&&◌, nat_le, Bool, if◌then◌else◌, ℤ, List, [], ◌∷◌, ◌++◌, codes}
+use Rattle.std.specs.Prelude.{ℕ, ◌+◌, ◌/◌, ◌%◌, ◌<◌, ◌&&◌, nat_le, Bool, if◌then◌else◌, ℤ, List, [], ◌∷◌, ◌++◌, codes}
 use Rattle.rpki_der.specs.Tags.{utc_time_tag, generalized_time_tag}
 use Rattle.rpki_der.specs.Value.{Value, spelling}
 use Rattle.rpki_der.specs.Writing.{primitive_value}

@@ -18,3 +18,6 @@ pub use law::{printed_time_is_read_again, serial_is_read_again, time_is_read_aga
 pub use serial::Serial;
 pub use time::Time;
 pub use validity::Validity;
+
+#[cfg(test)]
+mod time_tests;

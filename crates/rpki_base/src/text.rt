@@ -59,7 +59,21 @@ pub(crate) fn rfc3339_text(civil: &Civil) -> [u8; 20]
     ensures { result ≡ spec.rfc3339_text civil.now }
 {
     let [
-        y1, y2, y3, y4, mo1, mo2, d1, d2, h1, h2, mi1, mi2, s1, s2, z,
+        y1,
+        y2,
+        y3,
+        y4,
+        mo1,
+        mo2,
+        d1,
+        d2,
+        h1,
+        h2,
+        mi1,
+        mi2,
+        s1,
+        s2,
+        z,
     ] = generalized_text(civil);
     [
         y1, y2, y3, y4, b'-', mo1, mo2, b'-', d1, d2, b'T', h1, h2, b':', mi1, mi2, b':', s1, s2, z,

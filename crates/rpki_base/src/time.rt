@@ -13,9 +13,7 @@ use crate::civil::Civil;
 use crate::digits::{ended, four_digits, past, two_digits};
 use crate::rfc3339::rfc3339_time;
 use crate::text::{generalized_text, is_utc_year, rfc3339_text};
-use rpki_der::{
-    Cursor, DecodeError, Mode, OutOfMemory, Steps, Tag, Writer, take_whole_primitive,
-};
+use rpki_der::{Cursor, DecodeError, Mode, OutOfMemory, Steps, Tag, Writer, take_whole_primitive};
 use std::alloc::Global;
 use std::marker::{Brand, Model};
 use std::sync::ledger::{Blank, Ledger};

@@ -1,7 +1,6 @@
-use Rattle.std.proofs.Common.{arith, rules}
+use Rattle.std.proofs.Common.{rules}
 use Rattle.rpki_base.specs.Digits.{four_digits}
 use Rattle.rpki_common.specs.Chaining.{◌>>=◌}
-use Rattle.std.proofs.lemmas.Grind.{common_steps}
 use Rattle.rpki_base.proofs.digits.four_digits.Goals as goal
 
 pub returns-in_err-high-clause-value : goal.returns-in_err-high-clause-value

@@ -1,4 +1,3 @@
-use Rattle.std.proofs.Common.{arith}
 use Rattle.rpki_base.proofs.Serials.{serial_again, serial_begins}
 use Rattle.rpki_base.proofs.law.serial_is_read_again.Goals as goal
 

@@ -1,7 +1,6 @@
-use Rattle.std.proofs.Common.{arith, rules}
+use Rattle.std.proofs.Common.{rules}
 use Rattle.rpki_base.specs.Rfc3339.{offset_seconds}
 use Rattle.rpki_common.specs.Chaining.{◌>>=◌}
-use Rattle.std.proofs.lemmas.Grind.{common_steps}
 use Rattle.rpki_base.proofs.rfc3339.offset_seconds.Goals as goal
 
 pub returns-in_err-hour : goal.returns-in_err-hour

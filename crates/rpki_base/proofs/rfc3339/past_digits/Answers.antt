@@ -1,4 +1,4 @@
-use Rattle.std.proofs.Common.{sym, ◌∙◌, arith}
+use Rattle.std.proofs.Common.{sym, ◌∙◌}
 use Rattle.rpki_base.proofs.Offsets.{digit_goes, digits_end, all_digits}
 use Rattle.rpki_base.proofs.rfc3339.past_digits.Goals as goal
 

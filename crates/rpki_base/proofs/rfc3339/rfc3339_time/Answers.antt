@@ -1,8 +1,7 @@
-use Rattle.std.proofs.Common.{◌≡◌, ◌-ℤ◌, ap, ◌∙◌, arith, rules}
+use Rattle.std.proofs.Common.{◌≡◌, ◌-ℤ◌, ap, ◌∙◌, rules}
 use Rattle.rpki_base.specs.Rfc3339.{rfc3339_time, in_range}
 use Rattle.rpki_base.proofs.Offsets.{difference_back}
 use Rattle.rpki_common.specs.Chaining.{◌>>=◌}
-use Rattle.std.proofs.lemmas.Grind.{common_steps}
 use Rattle.rpki_base.proofs.rfc3339.rfc3339_time.Goals as goal
 
 pub returns-in_err-year : goal.returns-in_err-year

@@ -1,4 +1,4 @@
-use Rattle.std.proofs.Common.{◌≡◌, ◌<◌, ◌≤◌, suc, length, get_or, refl, sym, ap, ◌∙◌, arith}
+use Rattle.std.proofs.Common.{◌≡◌, ◌<◌, suc, get_or, refl, sym, ap, ◌∙◌, arith}
 use Rattle.rpki_base.specs.Serial.{significant, unsigned_content}
 use Rattle.rpki_base.proofs.Serials.{stop_first, stop_second, stop_last, zero_goes}
 use Rattle.rpki_base.proofs.serial.contents.Goals as goal
@@ -12,8 +12,8 @@ pub returns-then-longer-start-ne0-clause-contents : goal.returns-then-longer-sta
 returns-then-longer-start-ne0-clause-contents c =
     let inv = c.loop-start.invariant in
     elim c.then-longer-start-ne0.branch [
-    | then-longer-start-ne0-via-then-longer-start-ne0 w ↦ sym (stop_first c.behind_zero-longer.result c.loop-start.start (omega (arith, inv.0)) inv.1 w.if-longer-start-ne0.true) ∙ inv.2
-    | then-longer-start-ne0-via-else-longer-start-ne0+then-longer-start-ge128 w ↦ sym (stop_second c.behind_zero-longer.result c.loop-start.start (omega (arith, inv.0, c.loop-start-test.true)) w.if-longer-start-ne0.false w.if-longer-start-ge128.true) ∙ inv.2
+      | then-longer-start-ne0-via-then-longer-start-ne0 w ↦ sym (stop_first c.behind_zero-longer.result c.loop-start.start (omega (arith, inv.0)) inv.1 w.if-longer-start-ne0.true) ∙ inv.2
+      | then-longer-start-ne0-via-else-longer-start-ne0+then-longer-start-ge128 w ↦ sym (stop_second c.behind_zero-longer.result c.loop-start.start (omega (arith, inv.0, c.loop-start-test.true)) w.if-longer-start-ne0.false w.if-longer-start-ge128.true) ∙ inv.2
     ]
 
 pub loop-start-preserved : goal.loop-start-preserved

@@ -1,7 +1,6 @@
-use Rattle.std.proofs.Common.{arith, rules}
+use Rattle.std.proofs.Common.{rules}
 use Rattle.rpki_base.specs.Time.{in_year}
 use Rattle.rpki_common.specs.Chaining.{◌>>=◌}
-use Rattle.std.proofs.lemmas.Grind.{common_steps}
 use Rattle.rpki_base.proofs.time.in_year.Goals as goal
 
 pub returns-in_err-month : goal.returns-in_err-month

@@ -1,7 +1,6 @@
-use Rattle.std.proofs.Common.{arith, rules}
+use Rattle.std.proofs.Common.{rules}
 use Rattle.rpki_base.specs.Time.{utc_time}
 use Rattle.rpki_common.specs.Chaining.{◌>>=◌}
-use Rattle.std.proofs.lemmas.Grind.{common_steps}
 use Rattle.rpki_base.proofs.time.utc_time.Goals as goal
 
 pub returns-in_err-year : goal.returns-in_err-year

@@ -1,5 +1,5 @@
 use Rattle.std.proofs.Common.{arith}
-use Rattle.jiff_core.proofs.SignedLemmas.{signed_casts, back_small}
+use Rattle.jiff_core.proofs.SignedLemmas.{signed_casts}
 use Rattle.jiff_core.proofs.CalendarLemmas.{days_in_month_bounds}
 use Rattle.rpki_base.proofs.Civils.{at_date}
 use Rattle.rpki_base.proofs.civil.Civil.at.Goals as goal

@@ -2,7 +2,6 @@ use Rattle.std.proofs.Common.{◌<◌, ◌∙◌, sym, arith, rules}
 use Rattle.jiff_core.proofs.SignedLemmas.{signed_casts}
 use Rattle.rpki_base.proofs.Years.{moment_range, clock_below}
 use Rattle.rpki_base.specs.Civil.{moment, seconds_of}
-use Rattle.std.proofs.lemmas.Grind.{common_steps}
 use Rattle.rpki_base.proofs.civil.Civil.moment.Goals as goal
 
 pub returns-then-not-has_clock : goal.returns-then-not-has_clock

@@ -1,6 +1,4 @@
 use Rattle.std.proofs.lemmas.Str.{IsUtf8-from_ascii}
-use Rattle.std.proofs.Common.{ap, ◌∙◌}
-use Rattle.rpki_base.specs.Civil.{civil_at}
 use Rattle.rpki_base.proofs.Offsets.{text_is_ascii}
 use Rattle.rpki_base.proofs.time.Time.to_rfc3339.Goals as goal
 
