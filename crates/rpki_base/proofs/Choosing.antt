@@ -21,7 +21,7 @@ use Rattle.rpki_base.specs.Time.{utc_time, generalized_time, time}
 
 -- ---- one tag isn't the other
 
-other_tag : (i : List ℕ) → has_tag utc_time_tag i ≡ true → has_tag generalized_time_tag i ≡ false
+pub other_tag : (i : List ℕ) → has_tag utc_time_tag i ≡ true → has_tag generalized_time_tag i ≡ false
 other_tag i h = subst (λ (t : List ℕ). bytes_eq t generalized_time_tag ≡ false) (sym ((bytes_eq-Decides (tag_of i) utc_time_tag).0 h)) refl
 
 chosen : (utc generalized : Bool) (contents text : List ℕ) → (utc ≡ true → generalized ≡ false) → (if utc then Some contents else None) ≡ Some text → ((if generalized then Some contents else None) >>= generalized_time) ≡ None
@@ -88,7 +88,7 @@ refuses_memory p b a i = record { refuses = tt; most = omega (arith, i) }
 
 -- ---- the one value that octets are
 
-or_none : {X : Type 0} (o p : Option X) → p ≡ None → option_or o p ≡ o
+pub or_none : {X : Type 0} (o p : Option X) → p ≡ None → option_or o p ≡ o
 or_none None p e = e
 or_none (Some x) p e = refl
 

@@ -5,3 +5,4 @@ pub mod Serials
 pub mod Civils
 pub mod Times
 pub mod Offsets
+pub mod Pairs

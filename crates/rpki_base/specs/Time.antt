@@ -1,8 +1,9 @@
 -- Times (RFC 5280, 4.1.2.5): seconds since 1970, spelled as UTCTime or as GeneralizedTime.
-use Rattle.std.specs.Prelude.{ℕ, ◌+◌, nat_lt, if◌then◌else◌, Option, List, ℤ}
+use Rattle.std.specs.Prelude.{ℕ, ◌+◌, nat_lt, bytes_eq, if◌then◌else◌, Option, None, List, ℤ}
 use Rattle.std.specs.Option.{option_or}
 use Rattle.rpki_common.specs.Chaining.{◌>>=◌}
 use Rattle.rpki_der.specs.Tags.{utc_time_tag, generalized_time_tag}
+use Rattle.rpki_der.specs.Leaf.{LeafFields}
 use Rattle.rpki_der.specs.Value.{Value}
 use Rattle.rpki_der.specs.Grammar.{primitive, so}
 use Rattle.rpki_base.specs.Digits.{two_digits, four_digits, past, ended}
@@ -39,3 +40,7 @@ generalized_time text = do
 -- a UTCTime, or a GeneralizedTime
 unfoldable pub time : Value → Option ℤ
 time v = option_or (so (primitive utc_time_tag) utc_time v) (so (primitive generalized_time_tag) generalized_time v)
+
+-- the same of a primitive value, by its tag and its contents
+abbrev pub leaf_time : LeafFields → Option ℤ
+leaf_time leaf = if bytes_eq leaf.tag utc_time_tag then utc_time leaf.content else if bytes_eq leaf.tag generalized_time_tag then generalized_time leaf.content else None

@@ -13,7 +13,9 @@ use crate::civil::Civil;
 use crate::digits::{ended, four_digits, past, two_digits};
 use crate::rfc3339::rfc3339_time;
 use crate::text::{generalized_text, is_utc_year, rfc3339_text};
-use rpki_der::{Cursor, DecodeError, Mode, OutOfMemory, Steps, Tag, Writer, take_whole_primitive};
+use rpki_der::{
+    Cursor, DecodeError, Leaf, Mode, OutOfMemory, Steps, Tag, Writer, take_whole_primitive,
+};
 use std::alloc::Global;
 use std::marker::{Brand, Model};
 use std::sync::ledger::{Blank, Ledger};
@@ -192,4 +194,17 @@ fn generalized_time(text: &[u8]) -> Option<Time>
 {
     let (year, behind) = four_digits(text)?;
     in_year(year, behind)
+}
+
+// The time that a primitive value is.
+pub(crate) fn time_of(leaf: &Leaf<'_>) -> Option<Time>
+    ensures { result ≡ spec.leaf_time leaf.now }
+{
+    if leaf.tag.as_slice() == Tag::UTC_TIME.as_slice() {
+        utc_time(leaf.content)
+    } else if leaf.tag.as_slice() == Tag::GENERALIZED_TIME.as_slice() {
+        generalized_time(leaf.content)
+    } else {
+        None
+    }
 }

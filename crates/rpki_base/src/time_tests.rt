@@ -187,6 +187,8 @@ fn a_validity_holds_both_its_ends(rt: HostRuntime) -> Result<(), Fail> {
     let three =
         b"\x30\x2d\x17\x0d000101000000Z\x17\x0d000102000000Z\x17\x0d000103000000Z".as_slice();
     assert!(rt; Validity::take_from(&mut Cursor::new(alloc, Mode::Der, three)).is_err());
+    assert!(rt; Validity::take(Mode::Der, octets) == Some(validity));
+    assert!(rt; Validity::take(Mode::Ber, three).is_none());
     Ok(())
 }
 

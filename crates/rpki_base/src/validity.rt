@@ -3,11 +3,12 @@
 ghost use Rattle.std.specs.Prelude.{◌≡◌, ◌↔◌, ◌<◌, ◌≤ℤ◌, IsOk};
 ghost use Rattle.rpki_der.specs.Takes.{Takes};
 ghost use Rattle.rpki_der.specs.Ticks.{TakesCounted};
+ghost use Rattle.rpki_der.specs.Whole.{whole_of};
 ghost use Rattle.rpki_base.specs.Validity.{validity};
 
 use crate::errors::VerificationError;
-use crate::time::Time;
-use rpki_der::{Cursor, DecodeError, Steps, Tag};
+use crate::time::{Time, time_of};
+use rpki_der::{Cursor, DecodeError, Mode, Steps, Tag, take_whole_pair};
 use std::marker::{Brand, Model};
 use std::sync::ledger::{Blank, Ledger};
 
@@ -63,6 +64,17 @@ impl Validity {
             return Err(VerificationError);
         }
         Ok(())
+    }
+
+    /// The validity that the octets are, as `take_from` reads it, with nothing behind it; None where they are none.
+    pub fn take(mode: Mode, octets: &[u8]) -> Option<Validity>
+        ensures { result ≡ whole_of validity mode octets.now }
+    {
+        let (first, second) = take_whole_pair(mode, octets)?;
+        let second = second?;
+        let not_before = time_of(&first)?;
+        let not_after = time_of(&second)?;
+        Some(Validity::new(not_before, not_after))
     }
 
     /// The validity that stands next. It ticks once for each header and each end mark that it reads.
