@@ -1,0 +1,12 @@
+use Rattle.std.proofs.Common.{rules}
+use Rattle.rpki_base.specs.Time.{generalized_time}
+use Rattle.rpki_common.specs.Chaining.{◌>>=◌}
+use Rattle.rpki_base.proofs.time.generalized_time.Goals as goal
+
+pub returns-in_err-year : goal.returns-in_err-year
+unfolding generalized_time ◌>>=◌
+returns-in_err-year c = search rules
+
+pub returns : goal.returns
+unfolding generalized_time ◌>>=◌
+returns c = search rules

@@ -1,0 +1,27 @@
+//! What holds of everything that is written: it is read again.
+
+ghost use Rattle.std.specs.Prelude.{◌≡◌, ℕ, List, ◌++◌, length, Some, ℤ};
+ghost use Rattle.rpki_der.specs.declared.mode.Mode.{Mode};
+ghost use Rattle.rpki_der.specs.Value.{Begins};
+ghost use Rattle.rpki_base.specs.Civil.{IsMoment, civil_at};
+ghost use Rattle.rpki_base.specs.Rfc3339.{rfc3339_time};
+ghost use Rattle.rpki_base.specs.Time.{time};
+ghost use Rattle.rpki_base.specs.TimeText.{time_value, der_time, rfc3339_text};
+ghost use Rattle.rpki_base.specs.Serial.{serial, serial_value, der_serial};
+
+/// What `Serial::encode` writes is read as the same serial number, in both modes.
+pub fn serial_is_read_again()
+    ensures value { (octets : List ℕ) → length octets ≡ 20 → serial (serial_value octets) ≡ Some octets }
+    ensures begins { (mode : Mode) (octets rest : List ℕ) → length octets ≡ 20 → Begins mode (der_serial octets ++ rest) (serial_value octets) rest }
+{}
+
+/// What `Time::to_der_varied` writes is read as the same time, in both modes.
+pub fn time_is_read_again()
+    ensures value { (seconds : ℤ) → IsMoment seconds → time (time_value seconds) ≡ Some seconds }
+    ensures begins { (mode : Mode) (seconds : ℤ) (rest : List ℕ) → Begins mode (der_time seconds ++ rest) (time_value seconds) rest }
+{}
+
+/// What `Time::to_rfc3339` prints is read by `Time::from_rfc3339` as the same time.
+pub fn printed_time_is_read_again()
+    ensures { (seconds : ℤ) → IsMoment seconds → rfc3339_time (rfc3339_text (civil_at seconds)) ≡ Some seconds }
+{}
