@@ -1,3 +1,5 @@
 pub mod Names
 pub mod Algorithm
 pub mod PublicKey
+pub mod Signature
+pub mod SignedData

@@ -5,7 +5,13 @@ mod algorithm;
 mod errors;
 mod names;
 mod public_key;
+mod scheme;
+mod signature;
+mod signed_data;
 
 pub use algorithm::{PublicKeyFormat, SigningAlgorithm};
 pub use errors::{SignatureVerificationError, VerificationError};
 pub use public_key::PublicKey;
+pub use scheme::{Scheme, Verifier};
+pub use signature::{Signature, SignatureAlgorithm};
+pub use signed_data::SignedData;
