@@ -1,14 +1,16 @@
 -- Public keys: SubjectPublicKeyInfo (RFC 5280, 4.1.2.7; RFC 3279, 2.3.1; RFC 7935, 3; RFC 8208, 3.1).
-use Rattle.std.specs.Prelude.{ℕ, bytes_eq, if◌then◌else◌, Option, None, Some, List}
+use Rattle.std.specs.Prelude.{ℕ, ◌+◌, ◌^◌, ◌<◌, bytes_eq, if◌then◌else◌, Option, None, Some, List, [], ◌++◌, length}
 use Rattle.rpki_common.specs.Chaining.{◌>>=◌}
-use Rattle.rpki_der.specs.Tags.{sequence, null_tag}
+use Rattle.rpki_der.specs.Tags.{sequence, null_tag, oid_tag}
 use Rattle.rpki_der.specs.Value.{Value, Values}
 use Rattle.rpki_der.specs.Grammar.{within, first, optional, done, so}
 use Rattle.rpki_der.specs.Oid.{oid, oid_is}
 use Rattle.rpki_der.specs.Null.{null}
 use Rattle.rpki_der.specs.Bits.{bit_string}
+use Rattle.rpki_der.specs.Writing.{der_primitive, der_constructed}
 use Rattle.rpki_base.specs.declared.algorithm.PublicKeyFormat.{PublicKeyFormat}
 use Rattle.rpki_base.specs.declared.algorithm.PublicKeyFormat.TheVariants.{Rsa, EcdsaP256}
+use Rattle.rpki_base.specs.Bits.{spelled_bits}
 use Rattle.rpki_base.specs.Names.{rsa_encryption, ec_public_key, prime256v1}
 
 -- a format, and the octets of the key's bits
@@ -45,3 +47,17 @@ public_key = within sequence (λ vs. do
   format ← first key_algorithm vs
   bits ← first bit_string format.1
   done (record { format = format.0; bits = bits.0.octets }) bits.1)
+
+-- ---- as keys are written
+
+-- rsaEncryption with NULL, or ecPublicKey with its curve
+abbrev pub spelled_algorithm : PublicKeyFormat → List ℕ
+spelled_algorithm Rsa = der_constructed sequence (der_primitive oid_tag rsa_encryption ++ der_primitive null_tag [])
+spelled_algorithm EcdsaP256 = der_constructed sequence (der_primitive oid_tag ec_public_key ++ der_primitive oid_tag prime256v1)
+
+abbrev pub spelled_key : KeyFields → List ℕ
+spelled_key key = der_constructed sequence (spelled_algorithm key.format ++ spelled_bits key.bits)
+
+-- the key has a spelling, since its length octets can say how long it is
+abbrev pub CanBeSpelled : KeyFields → Type 0
+CanBeSpelled key = length key.bits + 64 < 2 ^ 32

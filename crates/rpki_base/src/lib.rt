@@ -2,6 +2,7 @@
 #![tactic(auto)]
 
 mod algorithm;
+mod bits;
 mod errors;
 mod names;
 mod public_key;
@@ -11,7 +12,7 @@ mod signed_data;
 
 pub use algorithm::{PublicKeyFormat, SigningAlgorithm};
 pub use errors::{SignatureVerificationError, VerificationError};
-pub use public_key::PublicKey;
+pub use public_key::{PublicKey, written_key_is_taken};
 pub use scheme::{Scheme, Verifier};
 pub use signature::{Signature, SignatureAlgorithm};
 pub use signed_data::SignedData;

@@ -8,3 +8,13 @@ pub(crate) const EC_PUBLIC_KEY: [u8; 7] = [42, 134, 72, 206, 61, 2, 1];
 
 /// prime256v1, 1.2.840.10045.3.1.7.
 pub(crate) const PRIME256V1: [u8; 8] = [42, 134, 72, 206, 61, 3, 1, 7];
+
+/// The algorithm identifier of RSA keys in DER, with NULL.
+pub(crate) const RSA_ALGORITHM: [u8; 15] = [
+    0x30, 13, 6, 9, 42, 134, 72, 134, 247, 13, 1, 1, 1, 5, 0,
+];
+
+/// The algorithm identifier of keys on prime256v1 in DER.
+pub(crate) const EC_ALGORITHM: [u8; 21] = [
+    0x30, 19, 6, 7, 42, 134, 72, 206, 61, 2, 1, 6, 8, 42, 134, 72, 206, 61, 3, 1, 7,
+];

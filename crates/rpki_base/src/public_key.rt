@@ -1,8 +1,10 @@
 //! Public keys.
 
-ghost use Rattle.std.specs.Prelude.{◌≡◌, ◌≢◌, ◌<◌, [], IfOk};
+ghost use Rattle.std.specs.Prelude.{◌≡◌, ◌≢◌, ◌<◌, ◌++◌, [], IfOk, OnOk, OnErr, ℕ, List, Some};
 ghost use Rattle.sha1.specs.Sha1.{sha1};
+ghost use Rattle.rpki_der.specs.declared.mode.Mode.{Mode};
 ghost use Rattle.rpki_der.specs.declared.mode.Mode.TheVariants.{Der};
+ghost use Rattle.rpki_der.specs.Value.{Value, Begins};
 ghost use Rattle.rpki_der.specs.Takes.{Takes, Decodes};
 ghost use Rattle.rpki_der.specs.Ticks.{TakesCounted, TakesRestCounted};
 ghost use Rattle.rpki_der.specs.Whole.{HoldsOne};
@@ -10,11 +12,12 @@ ghost use Rattle.rpki_base.specs.declared.algorithm.PublicKeyFormat.TheVariants.
 ghost use Rattle.rpki_base.specs.PublicKey as spec;
 
 use crate::algorithm::PublicKeyFormat;
-use crate::names::{EC_PUBLIC_KEY, PRIME256V1, RSA_ENCRYPTION};
+use crate::bits::write_bits;
+use crate::names::{EC_ALGORITHM, EC_PUBLIC_KEY, PRIME256V1, RSA_ALGORITHM, RSA_ENCRYPTION};
 use bytes::Bytes;
 use rpki_common::OutOfMemory;
 use rpki_der::{
-    Cursor, DecodeError, Mode, Steps, Tag, take_bits_counted, take_oid_counted,
+    Cursor, DecodeError, Mode, Steps, Tag, Writer, take_bits_counted, take_oid_counted,
     take_oid_if_counted, take_opt_null_counted,
 };
 use sha1::Sha1;
@@ -127,6 +130,37 @@ impl PublicKey {
         Ok(PublicKey { format, bits })
     }
 }
+
+/// # Encoding
+impl PublicKey {
+    /// Appends the key in DER, an RSA key with NULL behind rsaEncryption, and with no unused bits. After a refusal nothing is
+    /// appended.
+    pub fn encode_ref(&self, alloc: Global, out: &mut Writer) -> Result<(), OutOfMemory>
+        requires { spec.CanBeSpelled self.now }
+        ensures ok { OnOk result (out.new ≡ out.old ++ spec.spelled_key self.now) }
+        ensures err { OnErr result (out.new ≡ out.old) }
+    {
+        let mut inner = Writer::new(alloc);
+        write_algorithm(self.format, &mut inner)?;
+        write_bits(alloc, self.bits.as_slice(), &mut inner)?;
+        out.constructed(Tag::SEQUENCE, &inner)
+    }
+}
+
+fn write_algorithm(format: PublicKeyFormat, out: &mut Writer) -> Result<(), OutOfMemory>
+    ensures ok { OnOk result (out.new ≡ out.old ++ spec.spelled_algorithm format) }
+    ensures err { OnErr result (out.new ≡ out.old) }
+{
+    match format {
+        PublicKeyFormat::Rsa => out.raw(&RSA_ALGORITHM),
+        PublicKeyFormat::EcdsaP256 => out.raw(&EC_ALGORITHM),
+    }
+}
+
+/// What `encode_ref` writes of a key is taken again as the same key, in both modes and whatever stands behind it.
+pub fn written_key_is_taken()
+    ensures { (mode : Mode) (key : spec.KeyFields) (rest : List ℕ) → spec.CanBeSpelled key → (v : Value) × Begins mode (spec.spelled_key key ++ rest) v rest × (spec.public_key v ≡ Some key) }
+{}
 
 fn take_from_within<L: Ledger>(
     alloc: Global,
