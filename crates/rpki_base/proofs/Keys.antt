@@ -24,13 +24,13 @@ abbrev algorithm_value : PublicKeyFormat → Value
 algorithm_value Rsa = constructed_value sequence (primitive_value oid_tag rsa_encryption ▸ primitive_value null_tag [] ▸ End)
 algorithm_value EcdsaP256 = constructed_value sequence (primitive_value oid_tag ec_public_key ▸ primitive_value oid_tag prime256v1 ▸ End)
 
-abbrev bits_value : List ℕ → Value
+abbrev pub bits_value : List ℕ → Value
 bits_value octets = primitive_value bit_string_tag (0 ∷ octets)
 
 abbrev key_value : PublicKeyFormat → List ℕ → Value
 key_value format octets = constructed_value sequence (algorithm_value format ▸ bits_value octets ▸ End)
 
-is_sequence : IsTag sequence
+pub is_sequence : IsTag sequence
 is_sequence = ((λ e. omega (arith, e), λ e. omega (arith, e), λ e. omega (arith, e)), refl)
 
 is_oid : IsTag oid_tag

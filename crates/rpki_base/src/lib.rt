@@ -15,4 +15,4 @@ pub use errors::{SignatureVerificationError, VerificationError};
 pub use public_key::{PublicKey, written_key_is_taken};
 pub use scheme::{Scheme, Verifier};
 pub use signature::{Signature, SignatureAlgorithm};
-pub use signed_data::SignedData;
+pub use signed_data::{SignedData, written_data_are_taken};

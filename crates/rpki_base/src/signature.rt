@@ -60,7 +60,7 @@ pub trait SignatureAlgorithm: Copy + PartialEq {
 /// A signature: its octets, and the algorithm that made them.
 ///
 /// In a clause it is these two.
-#[derive(Drop)]
+#[derive(Drop, PartialEq)]
 pub struct Signature<Alg: SignatureAlgorithm> {
     algorithm: Alg,
     value: Bytes,
@@ -72,6 +72,8 @@ impl<Alg: SignatureAlgorithm> Model for Signature<Alg> {
     ghost Value = { SignatureParts Alg };
 
     ghost view = { λ s. record { algorithm = s.algorithm; value = s.value } };
+
+    ghost inverse = { λ s. record { algorithm = s.algorithm; value = s.value } };
 }
 
 impl<Alg: SignatureAlgorithm> Signature<Alg> {

@@ -1,17 +1,21 @@
 //! Signed data.
 
-ghost use Rattle.std.specs.Prelude.{◌≡◌, ◌↔◌, ◌<◌, IsOk};
+ghost use Rattle.std.specs.Prelude.{◌≡◌, ◌↔◌, ◌<◌, ◌++◌, [], ℕ, List, Some, IsOk, OnOk, OnErr};
+ghost use Rattle.rpki_der.specs.declared.mode.Mode.{Mode};
+ghost use Rattle.rpki_der.specs.Value.{Value, Begins};
 ghost use Rattle.rpki_der.specs.Takes.{Takes};
 ghost use Rattle.rpki_der.specs.Ticks.{TakesCounted};
 ghost use Rattle.rpki_der.specs.Whole.{HoldsOne};
-ghost use Rattle.rpki_base.specs.SignedData.{algorithm_in, signed_data};
+ghost use Rattle.rpki_base.specs.SignedData.{SignedParts, algorithm_in, signed_data, spelled_data, CanBeSpelled};
 
+use crate::bits::write_bits;
 use crate::errors::SignatureVerificationError;
 use crate::public_key::PublicKey;
 use crate::scheme::{Scheme, Verifier};
 use crate::signature::{Signature, SignatureAlgorithm};
 use bytes::Bytes;
-use rpki_der::{Cursor, DecodeError, Mode, Steps, Tag, take_bits_counted};
+use rpki_common::OutOfMemory;
+use rpki_der::{Cursor, DecodeError, Mode, Steps, Tag, Writer, take_bits_counted};
 use std::alloc::Global;
 use std::marker::{Brand, Model};
 use std::sync::ledger::{Blank, Ledger};
@@ -19,7 +23,7 @@ use std::sync::ledger::{Blank, Ledger};
 /// A signed value, as the exact octets that are signed, and its signature (RFC 5280, 4.1.1 and 5.1.1).
 ///
 /// In a clause it is these two.
-#[derive(Drop)]
+#[derive(Drop, PartialEq)]
 pub struct SignedData<Alg: SignatureAlgorithm> {
     slice: Bytes,
     signature: Signature<Alg>,
@@ -31,6 +35,8 @@ impl<Alg: SignatureAlgorithm> Model for SignedData<Alg> {
     ghost Value = { SignedParts Alg };
 
     ghost view = { λ d. record { slice = d.slice; signature = d.signature } };
+
+    ghost inverse = { λ d. record { slice = d.slice; signature = d.signature } };
 }
 
 /// # Data access
@@ -90,6 +96,29 @@ impl<Alg: SignatureAlgorithm> SignedData<Alg> {
         Ok(SignedData { slice, signature })
     }
 }
+
+/// # Encoding
+impl<Alg: SignatureAlgorithm> SignedData<Alg> {
+    /// Appends the signed data: the octets that were signed as they are, the algorithm, and the signature with no unused bits,
+    /// in a SEQUENCE in DER. After a refusal nothing is appended.
+    pub fn encode_ref(&self, alloc: Global, out: &mut Writer) -> Result<(), OutOfMemory>
+        requires { CanBeSpelled Alg.spelled self.now }
+        ensures ok { OnOk result (out.new ≡ out.old ++ spelled_data Alg.spelled self.now) }
+        ensures err { OnErr result (out.new ≡ out.old) }
+    {
+        let mut inner = Writer::new(alloc);
+        inner.raw(self.slice.as_slice())?;
+        self.signature.algorithm().x509_encode(&mut inner)?;
+        write_bits(alloc, self.signature.value().as_slice(), &mut inner)?;
+        out.constructed(Tag::SEQUENCE, &inner)
+    }
+}
+
+/// What `encode_ref` writes is taken again as the same signed data, in each mode in which the signed octets are one value, where
+/// the algorithm is a named one.
+pub fn written_data_are_taken<Alg: SignatureAlgorithm>()
+    ensures { (mode : Mode) (d : SignedParts Alg) (signed : Value) (rest : List ℕ) → CanBeSpelled Alg.spelled d → Begins mode d.slice signed [] → Alg.is_named d.signature.algorithm → (v : Value) × Begins mode (spelled_data Alg.spelled d ++ rest) v rest × (signed_data Alg.reads mode v ≡ Some d) }
+{}
 
 /// # Validation
 impl<Alg: SignatureAlgorithm> SignedData<Alg> {
