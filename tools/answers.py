@@ -66,20 +66,21 @@ def mode_at(i):
     return f"({term})" if len(before) > 1 else term
 
 
-def ok(i):
+def said(kind, lift, left_open, i):
+    """what the call said that took or refused field i, lifted where the field's grammar depends on the mode"""
     f = fields[i]
-    if f["word"]:
-        modes.add("takes_in")
-        return f"(takes_in _ {f['word']} _ _ _ _ _ _ {mode_at(i)} {cite('ok', f)})"
-    return cite("ok", f)
+    if not f["word"]:
+        return cite(kind, f)
+    modes.add(lift)
+    return f"({lift} _ {f['word']}{blanks(left_open)} {mode_at(i)} {cite(kind, f)})"
+
+
+def ok(i):
+    return said("ok", "takes_in", 6, i)
 
 
 def err(i):
-    f = fields[i]
-    if f["word"]:
-        modes.add("refuses_in")
-        return f"(refuses_in _ {f['word']} _ _ _ _ _ {mode_at(i)} {cite('err', f)})"
-    return cite("err", f)
+    return said("err", "refuses_in", 5, i)
 
 
 def chain(count, last, whole, first, other):

@@ -9,12 +9,12 @@ use Rattle.rpki_der.specs.declared.mode.Mode.{Mode}
 use Rattle.rpki_der.specs.Identifier.{IsIdentifier}
 use Rattle.rpki_der.specs.Lengths.{IsLength}
 use Rattle.rpki_der.specs.Value.{Definite, Indefinite, Value, Primitive, Constructed, Values, End, ◌▸◌, spelling, Begins}
-use Rattle.rpki_der.specs.Level.{Level, Sized, Marked, behind_level, Ends, Holds, Opens}
+use Rattle.rpki_der.specs.Level.{Level, Sized, Marked, behind_level, Ends, Opens}
 use Rattle.rpki_der.specs.Position.{Position, top, AtEnd, Leaves}
 use Rattle.rpki_common.specs.Chaining.{◌>>=◌}
 use Rattle.rpki_der.specs.Grammar.{any, so, within, first, done, every, optional, gather}
-use Rattle.rpki_der.specs.Takes.{TakesOne, TakesFields, Refuses, Takes, Goes, RefusesToEnter, RefusesToLeave, BeginsAs, RefusesOctets, Reads, Stops}
-use Rattle.rpki_der.specs.Ticks.{nodes, all_nodes, behind, left, marks, CountedOne, CountedRefuses, TakesCounted, CountedFields, CountedRefusesFields, TakesPartCounted, DecodesCounted, CountedReads, CountedStops}
+use Rattle.rpki_der.specs.Takes.{TakesOne, TakesFields, Refuses, Takes, Goes, RefusesToEnter, RefusesToLeave, BeginsAs, RefusesOctets, Stops}
+use Rattle.rpki_der.specs.Ticks.{nodes, behind, left, marks, CountedOne, CountedRefuses, TakesCounted, CountedFields, CountedRefusesFields, TakesPartCounted, DecodesCounted, CountedReads, CountedStops}
 use Rattle.rpki_der.specs.Reader.{decoded}
 use Rattle.rpki_der.proofs.Walks.{opens_back, holds_cons, holds_end, smaller_over}
 use Rattle.rpki_der.proofs.Cursors.{slice_of}

@@ -1,18 +1,17 @@
 -- Reading what is left of a level, up to its end, with counted calls.
-use Rattle.std.proofs.Common.{◌≡◌, ℕ, ◌+◌, ◌*◌, ◌≤◌, Bool, true, false, Option, None, Some, Result, Ok, Err, List, [], ◌∷◌, refl, sym, ap, subst, ◌∙◌, arith}
+use Rattle.std.proofs.Common.{◌≡◌, ℕ, ◌+◌, ◌*◌, Bool, true, false, Option, None, Some, Result, Ok, Err, List, [], ◌∷◌, refl, sym, subst, ◌∙◌, arith}
 use Rattle.std.specs.Prelude.{IsErrAnd, is_some, nat_lt, if◌then◌else◌, OnOk}
 use Rattle.rpki_common.specs.Chaining.{◌>>=◌}
 use Rattle.rpki_common.specs.Collecting.{collect, once}
 use Rattle.rpki_common.proofs.Collected.{bind_both, bind_under, bind_assoc, bind_none}
 use Rattle.rpki_der.specs.Identifier.{has_tag}
-use Rattle.rpki_der.specs.Tags.{set, sequence}
+use Rattle.rpki_der.specs.Tags.{set}
 use Rattle.rpki_der.specs.Value.{Value, Primitive, Constructed, Values, End, ◌▸◌, spelling}
 use Rattle.rpki_der.specs.Position.{Position, top, AtEnd, Leaves}
 use Rattle.rpki_der.specs.Grammar.{any, within, first, every, gather, anything, wrapped}
-use Rattle.rpki_der.specs.Entry.{entry, set_of}
-use Rattle.rpki_der.specs.Oid.{oid}
+use Rattle.rpki_der.specs.Entry.{set_of}
 use Rattle.rpki_der.specs.Takes.{Goes, GoesOut, RefusesToEnter, RefusesToLeave, Stops}
-use Rattle.rpki_der.specs.Ticks.{left, marks, CountedOne, CountedRefuses, CountedReads, CountedStops, TakesRestCounted, TakesCounted}
+use Rattle.rpki_der.specs.Ticks.{marks, CountedOne, CountedRefuses, CountedReads, CountedStops, TakesRestCounted, TakesCounted}
 use Rattle.rpki_der.proofs.Counting.{CountedContinues, reads_end, reads_first, reads_done, takes_within, refuses_within, refuses_inside, stops_first, stops_later, stops_done}
 use Rattle.rpki_der.specs.declared.error.DecodeError.{DecodeError}
 use Rattle.rpki_der.specs.declared.error.DecodeError.TheVariants.{Malformed, OutOfMemory}

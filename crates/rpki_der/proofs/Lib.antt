@@ -24,3 +24,4 @@ pub mod Wholes
 pub mod Holding
 pub mod Insides
 pub mod Dotted
+pub mod Flats

@@ -35,7 +35,7 @@ parts_of tag p q v rest g b =
     let w = opens_forth p.mode p.here g.identifier g.level q.here v rest g.opens b in
     rw (g.mode, g.levels) (subst (λ (vs : Values). Holds p.mode g.level q.here vs rest) (sym (ap inside w.is)) w.holds)
 
-pub whole_of : (tag : List ℕ) (p q : Position) (vs : Values) (rest : List ℕ) → Goes tag p q → Holds q.mode (top q.levels) q.here vs rest → (v : Value) × Begins p.mode p.here v rest × (inside v ≡ vs) × (has_tag tag (identifier_of v) ≡ true)
-whole_of tag p q vs rest g h =
+pub whole_around : (tag : List ℕ) (p q : Position) (vs : Values) (rest : List ℕ) → Goes tag p q → Holds q.mode (top q.levels) q.here vs rest → (v : Value) × Begins p.mode p.here v rest × (inside v ≡ vs) × (has_tag tag (identifier_of v) ≡ true)
+whole_around tag p q vs rest g h =
     let w = opens_back p.mode p.here g.identifier g.level q.here vs rest g.opens (rw (g.mode, g.levels) at h) in
     (Constructed g.identifier w.form vs, w.begins, refl, g.tagged)

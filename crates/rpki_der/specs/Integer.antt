@@ -1,5 +1,5 @@
 -- Small integers (X.690, 8.3).
-use Rattle.std.specs.Prelude.{ℕ, List, [], ◌∷◌, Option}
+use Rattle.std.specs.Prelude.{ℕ, [], ◌∷◌, Option}
 use Rattle.rpki_der.specs.Tags.{integer_tag}
 use Rattle.rpki_der.specs.Value.{Value}
 use Rattle.rpki_der.specs.Grammar.{primitive, so, exactly}

@@ -33,3 +33,5 @@ pub mod Whole
 pub mod Held
 pub mod InDer
 pub mod Arcs
+pub mod Leaf
+pub mod Flat

@@ -1,6 +1,6 @@
 -- What a call of a cursor says of the values that stand there: that it takes what a grammar reads, or refuses exactly where the
 -- grammar reads nothing.
-use Rattle.std.specs.Prelude.{◌≡◌, ℕ, true, false, Option, None, Some, Result, List, [], ◌∷◌, drop, MatchResult, ⊤}
+use Rattle.std.specs.Prelude.{◌≡◌, ℕ, true, false, Option, None, Some, Result, List, ◌∷◌, drop, MatchResult, ⊤}
 use Rattle.rpki_der.specs.declared.error.DecodeError.{DecodeError}
 use Rattle.rpki_der.specs.declared.error.DecodeError.TheVariants.{Malformed, OutOfMemory}
 use Rattle.rpki_der.specs.declared.mode.Mode.{Mode}

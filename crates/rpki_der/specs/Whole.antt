@@ -1,8 +1,10 @@
 -- Octets that hold exactly one value.
-use Rattle.std.specs.Prelude.{◌≡◌, ℕ, Option, None, Some, Result, List, [], MatchResult, ⊤}
+use Rattle.std.specs.Prelude.{◌≡◌, ℕ, Option, None, Some, Result, List, [], ◌∷◌, MatchResult, ⊤}
 use Rattle.rpki_der.specs.declared.error.DecodeError.{DecodeError}
 use Rattle.rpki_der.specs.declared.error.DecodeError.TheVariants.{Malformed, OutOfMemory}
 use Rattle.rpki_der.specs.declared.mode.Mode.{Mode}
+use Rattle.rpki_common.specs.Chaining.{◌>>=◌}
+use Rattle.rpki_der.specs.Reader.{value_at}
 use Rattle.rpki_der.specs.Value.{Value, Begins}
 
 -- The octets are one value, which the grammar reads as x, and nothing stands behind it.
@@ -18,3 +20,17 @@ RefusesWhole grammar mode octets OutOfMemory = ⊤
 -- The answer is the one value that the octets are, or Malformed exactly where they are none that the grammar reads.
 abbrev pub HoldsOne : {X Y : Type 0} → (Value → Option X) → (Y → X) → Mode → List ℕ → Result Y DecodeError → Type 0
 HoldsOne grammar view mode octets result = MatchResult result (λ y. IsWhole grammar mode octets (view y)) (RefusesWhole grammar mode octets)
+
+-- ---- the same as a function, for the calls that take no memory
+
+abbrev pub only : Value × List ℕ → Option Value
+only (v, []) = Some v
+only (v, a ∷ more) = None
+
+-- the one value that the octets are, with nothing behind it
+unfoldable pub alone : Mode → List ℕ → Option Value
+alone mode octets = value_at mode octets >>= only
+
+-- what the grammar reads of it
+unfoldable pub whole_of : {X : Type 0} → (Value → Option X) → Mode → List ℕ → Option X
+whole_of grammar mode octets = alone mode octets >>= grammar

@@ -13,6 +13,7 @@ mod bits;
 mod boolean;
 mod cursor;
 mod error;
+mod flat;
 mod header;
 mod held;
 mod index;
@@ -37,13 +38,14 @@ pub use bits::{take_bits, take_bits_counted};
 pub use boolean::{take_boolean, take_boolean_counted};
 pub use cursor::Cursor;
 pub use error::DecodeError;
+pub use flat::{Leaf, take_whole_pair, take_whole_primitive};
 pub use held::{take_rest, take_rest_counted};
 pub use index::read_tree;
 pub use integer::{take_integer_if, take_integer_if_counted};
 pub use item::Item;
 pub use law::{
-    at_most_one_value, strict_is_loose, value_at_is, whole_is_its_parts, whole_is_the_value,
-    written_in_turn, written_is_read,
+    alone_is, at_most_one_value, strict_is_loose, value_at_is, whole_is_its_parts,
+    whole_is_the_value, written_in_turn, written_is_read,
 };
 pub use leaf::{BitString, OctetString, Oid};
 pub use mode::Mode;

@@ -1,5 +1,4 @@
-use Rattle.std.proofs.Common.{◌≡◌, sym}
-use Rattle.rpki_der.specs.declared.mode.Mode.TheVariants.{Ber, Der}
+use Rattle.std.proofs.Common.{sym}
 use Rattle.rpki_der.proofs.Joining.{octets_in_ber, octets_in_der}
 use Rattle.rpki_der.proofs.octets.take_octets_counted.Goals as goal
 
