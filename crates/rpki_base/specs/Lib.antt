@@ -4,3 +4,7 @@ pub mod Bits
 pub mod PublicKey
 pub mod Signature
 pub mod SignedData
+pub mod AlgorithmIdentifier
+pub mod Leaves
+pub mod RpkiSignatureAlgorithm
+pub mod BgpsecSignatureAlgorithm
