@@ -12,6 +12,7 @@ use Rattle.rpki_der.specs.Oid.{subidentifiers, oid}
 use Rattle.rpki_der.specs.Null.{null, no_octets}
 use Rattle.rpki_der.specs.Whole.{alone, whole_of}
 use Rattle.rpki_base.specs.AlgorithmIdentifier.{algorithm_identifier}
+use Rattle.rpki_base.specs.WritingLaws.{bound_by, whole_so}
 use Rattle.rpki_base.specs.Leaves.{oid_contents, oid_leaf, null_leaf, identifier_leaves}
 
 -- ---- the fields of an algorithm identifier, and those of one or two primitive values
@@ -99,11 +100,6 @@ unfolding algorithm_identifier one_or_two within ◌>>=◌
 by_leaves (Primitive i l c) = refl
 by_leaves (Constructed i f vs) = inside (has_tag sequence i) vs
 
-bound_by : {X Y : Type 0} (o : Option Value) (f : Value → Option X) (g : X → Option Y) (h : Value → Option Y) → ((v : Value) → h v ≡ (f v >>= g)) → (o >>= h) ≡ ((o >>= f) >>= g)
-unfolding ◌>>=◌
-bound_by None f g h e = refl
-bound_by (Some v) f g h e = e v
-
 pub whole_by_leaves : (mode : Mode) (octets : List ℕ) → whole_of algorithm_identifier mode octets ≡ (whole_of one_or_two mode octets >>= identifier_leaves)
 unfolding whole_of
 whole_by_leaves mode octets = bound_by (alone mode octets) one_or_two identifier_leaves algorithm_identifier by_leaves
@@ -131,10 +127,6 @@ pub all_found : (mode : Mode) (octets n : List ℕ) (b : Bool) (name : LeafField
 unfolding ◌>>=◌
 all_found mode octets n b name parameter e f h =
     sym (with_pair mode octets name parameter e ∙ ap (λ o. o >>= λ x. null_leaf parameter >>= λ p. Some (x, p)) (sym f) ∙ ap (λ o. o >>= λ p. Some (n, p)) (sym h))
-
-pub whole_so : {X Y : Type 0} (grammar : Value → Option X) (convert : X → Option Y) (mode : Mode) (octets : List ℕ) → whole_of (so grammar convert) mode octets ≡ (whole_of grammar mode octets >>= convert)
-unfolding whole_of so
-whole_so grammar convert mode octets = bound_by (alone mode octets) grammar convert (λ v. grammar v >>= convert) (λ v. refl)
 
 pub not_meant : {X : Type 0} (meaning : List ℕ × Bool → Option X) (mode : Mode) (octets : List ℕ) → None ≡ whole_of algorithm_identifier mode octets → None ≡ whole_of (so algorithm_identifier meaning) mode octets
 unfolding ◌>>=◌

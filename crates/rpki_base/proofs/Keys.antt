@@ -16,7 +16,7 @@ use Rattle.rpki_base.specs.declared.algorithm.PublicKeyFormat.TheVariants.{Rsa, 
 use Rattle.rpki_base.specs.Bits.{spelled_bits}
 use Rattle.rpki_base.specs.Names.{rsa_encryption, ec_public_key, prime256v1}
 use Rattle.rpki_base.specs.PublicKey.{KeyFields, parameters, named_format, key_algorithm, public_key, spelled_algorithm, spelled_key, CanBeSpelled}
-use Rattle.rpki_base.proofs.Lengths.{length-der_length}
+use Rattle.rpki_base.specs.WritingLaws.{length-der_length, is_sequence, is_oid, is_null, is_bits}
 
 -- the values that the two formats and the bits are written as
 
@@ -29,18 +29,6 @@ bits_value octets = primitive_value bit_string_tag (0 ∷ octets)
 
 abbrev key_value : PublicKeyFormat → List ℕ → Value
 key_value format octets = constructed_value sequence (algorithm_value format ▸ bits_value octets ▸ End)
-
-pub is_sequence : IsTag sequence
-is_sequence = ((λ e. omega (arith, e), λ e. omega (arith, e), λ e. omega (arith, e)), refl)
-
-is_oid : IsTag oid_tag
-is_oid = ((λ e. omega (arith, e), λ e. omega (arith, e), λ e. omega (arith, e)), refl)
-
-is_null : IsTag null_tag
-is_null = ((λ e. omega (arith, e), λ e. omega (arith, e), λ e. omega (arith, e)), refl)
-
-is_bits : IsTag bit_string_tag
-is_bits = ((λ e. omega (arith, e), λ e. omega (arith, e), λ e. omega (arith, e)), refl)
 
 algorithm_spells : (mode : Mode) (format : PublicKeyFormat) → Spells mode (spelled_algorithm format) (algorithm_value format ▸ End)
 algorithm_spells mode Rsa = spells_constructed mode sequence _ _ is_sequence (omega arith) (spells_followed mode _ _ _ _ (spells_primitive mode oid_tag rsa_encryption is_oid (omega arith)) (spells_primitive mode null_tag [] is_null (omega arith)))

@@ -1,4 +1,3 @@
-pub mod Lengths
 pub mod Keys
 pub mod SignedDataLemmas
 pub mod Identifiers

@@ -13,7 +13,8 @@ use Rattle.rpki_der.proofs.Written.{spells_followed, spells_one, begins_construc
 use Rattle.rpki_base.specs.Bits.{spelled_bits}
 use Rattle.rpki_base.specs.Signature.{SignatureParts}
 use Rattle.rpki_base.specs.SignedData.{SignedParts, algorithm_in, signed_data, spelled_data, CanBeSpelled}
-use Rattle.rpki_base.proofs.Keys.{is_sequence, bits_value, bits_spell, length-bits}
+use Rattle.rpki_base.specs.WritingLaws.{is_sequence}
+use Rattle.rpki_base.proofs.Keys.{bits_value, bits_spell, length-bits}
 
 -- octets that are one value
 alone : (octets : List ℕ) (v : Value) → octets ≡ spelling v ++ [] → octets ≡ spelling v

@@ -8,3 +8,5 @@ pub mod AlgorithmIdentifier
 pub mod Leaves
 pub mod RpkiSignatureAlgorithm
 pub mod BgpsecSignatureAlgorithm
+pub mod WritingLaws
+pub mod AlgorithmLaws

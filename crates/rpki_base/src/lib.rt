@@ -17,7 +17,7 @@ pub use algorithm::{PublicKeyFormat, SigningAlgorithm};
 pub use bgpsec_algorithm::BgpsecSignatureAlgorithm;
 pub use errors::{SignatureVerificationError, VerificationError};
 pub use public_key::{PublicKey, written_key_is_taken};
-pub use rpki_algorithm::{RpkiSignatureAlgorithm, RsaIdentifier};
+pub use rpki_algorithm::{RpkiSignatureAlgorithm, RsaIdentifier, written_algorithm_is_taken};
 pub use scheme::{Scheme, Verifier};
 pub use signature::{Signature, SignatureAlgorithm};
 pub use signed_data::{SignedData, written_data_are_taken};

@@ -21,8 +21,9 @@ pub(crate) const RSA_ALGORITHM: [u8; 15] = [
 ];
 
 /// The algorithm identifier of RSA in DER, without parameters.
-pub(crate) const RSA_ALGORITHM_ALONE: [u8; 13] =
-    [0x30, 11, 6, 9, 42, 134, 72, 134, 247, 13, 1, 1, 1];
+pub(crate) const RSA_ALGORITHM_ALONE: [u8; 13] = [
+    0x30, 11, 6, 9, 42, 134, 72, 134, 247, 13, 1, 1, 1,
+];
 
 /// The algorithm identifier of RSA over SHA-256 in DER, with NULL.
 pub(crate) const SHA256_RSA_ALGORITHM: [u8; 15] = [
@@ -30,8 +31,9 @@ pub(crate) const SHA256_RSA_ALGORITHM: [u8; 15] = [
 ];
 
 /// The algorithm identifier of RSA over SHA-256 in DER, without parameters.
-pub(crate) const SHA256_RSA_ALGORITHM_ALONE: [u8; 13] =
-    [0x30, 11, 6, 9, 42, 134, 72, 134, 247, 13, 1, 1, 11];
+pub(crate) const SHA256_RSA_ALGORITHM_ALONE: [u8; 13] = [
+    0x30, 11, 6, 9, 42, 134, 72, 134, 247, 13, 1, 1, 11,
+];
 
 /// The algorithm identifier of ECDSA over SHA-256 in DER.
 pub(crate) const ECDSA_ALGORITHM: [u8; 12] = [0x30, 10, 6, 8, 42, 134, 72, 206, 61, 4, 3, 2];

@@ -1,9 +1,11 @@
 //! The signature algorithm of the RPKI.
 
-ghost use Rattle.std.specs.Prelude.{◌≡◌, ◌++◌, true, OnOk, OnErr};
+ghost use Rattle.std.specs.Prelude.{◌≡◌, ◌++◌, ℕ, List, Some, true, OnOk, OnErr};
+ghost use Rattle.rpki_der.specs.declared.mode.Mode.{Mode};
+ghost use Rattle.rpki_der.specs.Value.{Value, Begins};
 ghost use Rattle.rpki_der.specs.Whole.{whole_of};
 ghost use Rattle.rpki_base.specs.declared.rpki_algorithm.RsaIdentifier.TheVariants as identifier_is;
-ghost use Rattle.rpki_base.specs.RpkiSignatureAlgorithm.{x509_meaning, cms_meaning, cms_algorithm, spelled_cms};
+ghost use Rattle.rpki_base.specs.RpkiSignatureAlgorithm.{RpkiAlgorithm, x509_meaning, cms_meaning, cms_algorithm, spelled_cms};
 
 use crate::algorithm::SigningAlgorithm;
 use crate::identifier::take_identifier;
@@ -106,6 +108,57 @@ impl RpkiSignatureAlgorithm {
             (RsaIdentifier::Sha256WithRsaEncryption, false) => {
                 out.raw(&SHA256_RSA_ALGORITHM_ALONE)
             }
+        }
+    }
+}
+
+/// What `cms_encode` writes is taken again as the same algorithm, in both modes, and is one value.
+pub fn written_algorithm_is_taken()
+    ensures again { (mode : Mode) (a : RpkiAlgorithm) → whole_of cms_algorithm mode (spelled_cms a) ≡ Some a }
+    ensures one_value { (mode : Mode) (a : RpkiAlgorithm) (rest : List ℕ) → (v : Value) × Begins mode (spelled_cms a ++ rest) v rest }
+{}
+
+impl SignatureAlgorithm for RpkiSignatureAlgorithm {
+    ghost use Rattle.std.specs.Prelude.{◌≡◌};
+    ghost use Rattle.std.proofs.Common.{rules};
+    ghost use Rattle.rpki_der.specs.Whole.{whole_of};
+    ghost use Rattle.rpki_base.specs.declared.algorithm.SigningAlgorithm.TheVariants.{RsaSha256};
+    ghost use Rattle.rpki_base.specs.declared.rpki_algorithm.RsaIdentifier.TheVariants.{RsaEncryption};
+    ghost use Rattle.rpki_base.specs.RpkiSignatureAlgorithm.{x509_algorithm, spelled_x509};
+    ghost use Rattle.rpki_base.specs.AlgorithmLaws.{x509_named, x509_again, x509_value};
+
+    ghost kind = { λ _. RsaSha256 };
+
+    ghost reads = { whole_of x509_algorithm };
+
+    ghost is_named = { λ a. a.identifier ≡ RsaEncryption };
+
+    ghost spelled = { spelled_x509 };
+
+    ghost named = { x509_named };
+
+    ghost again = { x509_again };
+
+    ghost one_value = { x509_value };
+
+    ghost same = { Prim.search rules };
+
+    ghost equal = { Prim.search rules };
+
+    fn signing_algorithm(&self) -> SigningAlgorithm {
+        SigningAlgorithm::RsaSha256
+    }
+
+    fn x509_take_from(mode: Mode, octets: &[u8]) -> Option<RpkiSignatureAlgorithm> {
+        let (name, null) = take_identifier(mode, octets)?;
+        x509_meaning(name, null)
+    }
+
+    fn x509_encode(&self, out: &mut Writer) -> Result<(), OutOfMemory> {
+        if self.null {
+            out.raw(&SHA256_RSA_ALGORITHM)
+        } else {
+            out.raw(&SHA256_RSA_ALGORITHM_ALONE)
         }
     }
 }
