@@ -1,3 +1,4 @@
 pub mod Keys
 pub mod SignedDataLemmas
 pub mod Identifiers
+pub mod Equality

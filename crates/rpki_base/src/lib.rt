@@ -20,4 +20,9 @@ pub use public_key::{PublicKey, written_key_is_taken};
 pub use rpki_algorithm::{RpkiSignatureAlgorithm, RsaIdentifier, written_algorithm_is_taken};
 pub use scheme::{Scheme, Verifier};
 pub use signature::{Signature, SignatureAlgorithm};
-pub use signed_data::{SignedData, written_data_are_taken};
+pub use signed_data::{SignedData, equal_data_are_the_same, written_data_are_taken};
+
+#[cfg(test)]
+mod key_tests;
+#[cfg(test)]
+mod signature_tests;

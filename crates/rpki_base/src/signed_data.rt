@@ -1,6 +1,6 @@
 //! Signed data.
 
-ghost use Rattle.std.specs.Prelude.{◌≡◌, ◌↔◌, ◌<◌, ◌++◌, [], ℕ, List, Some, IsOk, OnOk, OnErr};
+ghost use Rattle.std.specs.Prelude.{◌≡◌, ◌↔◌, ◌<◌, ◌++◌, [], ℕ, List, Some, true, IsOk, OnOk, OnErr};
 ghost use Rattle.rpki_der.specs.declared.mode.Mode.{Mode};
 ghost use Rattle.rpki_der.specs.Value.{Value, Begins};
 ghost use Rattle.rpki_der.specs.Takes.{Takes};
@@ -41,6 +41,13 @@ impl<Alg: SignatureAlgorithm> Model for SignedData<Alg> {
 
 /// # Data access
 impl<Alg: SignatureAlgorithm> SignedData<Alg> {
+    /// The octets of a value, its header among them, and a signature. It takes no memory, and looks at neither.
+    pub fn new(slice: Bytes, signature: Signature<Alg>) -> SignedData<Alg>
+        ensures { result ≡ record { slice = slice; signature = signature } }
+    {
+        SignedData { slice, signature }
+    }
+
     /// The exact octets of the signed value, its header among them.
     pub fn slice(&self) -> &Bytes
         ensures { result.now ≡ self.now.slice }
@@ -96,6 +103,12 @@ impl<Alg: SignatureAlgorithm> SignedData<Alg> {
         Ok(SignedData { slice, signature })
     }
 }
+
+/// `==` holds exactly between signed data whose octets that were signed, algorithms and octets of the signature are the same.
+pub fn equal_data_are_the_same<Alg: SignatureAlgorithm>()
+    ensures same { (a b : SignedParts Alg) → ⟦<SignedData<Alg> as PartialEq>⟧.eq a b ≡ true → a ≡ b }
+    ensures equal { (a b : SignedParts Alg) → a ≡ b → ⟦<SignedData<Alg> as PartialEq>⟧.eq a b ≡ true }
+{}
 
 /// # Encoding
 impl<Alg: SignatureAlgorithm> SignedData<Alg> {
