@@ -2,7 +2,6 @@
 use Rattle.std.proofs.Common.{◌≡◌, ℕ, Bool, true, false, List, [], ◌∷◌, refl, ap, ◌∙◌}
 use Rattle.std.specs.Prelude.{◌&&◌, bytes_eq}
 use Rattle.std.proofs.lemmas.Bool.{eqb-true, eq-eqb}
-use Rattle.rpki_base.specs.Signature.{SignatureParts}
 use Rattle.rpki_base.specs.SignedData.{SignedParts}
 
 both_true : (s t : Bool) → (s && t) ≡ true → (s ≡ true) × (t ≡ true)

@@ -1,15 +1,15 @@
 -- Algorithm identifiers, read as one or two primitive values.
-use Rattle.std.proofs.Common.{◌≡◌, ℕ, ◌<◌, ◌+◌, Bool, true, false, Option, None, Some, List, [], ◌∷◌, ◌++◌, length, refl, sym, ap, ◌∙◌, arith}
-use Rattle.std.specs.Prelude.{bytes_eq, if◌then◌else◌, is_some}
+use Rattle.std.proofs.Common.{◌≡◌, ℕ, Bool, true, false, Option, None, Some, List, [], ◌∷◌, refl, sym, ap, ◌∙◌}
+use Rattle.std.specs.Prelude.{if◌then◌else◌, is_some}
 use Rattle.rpki_common.specs.Chaining.{◌>>=◌}
 use Rattle.rpki_der.specs.declared.mode.Mode.{Mode}
 use Rattle.rpki_der.specs.Identifier.{has_tag, tag_of}
 use Rattle.rpki_der.specs.Tags.{sequence, null_tag, oid_tag}
 use Rattle.rpki_der.specs.Value.{Value, Primitive, Constructed, Values, End, ◌▸◌}
-use Rattle.rpki_der.specs.Grammar.{primitive, within, first, optional, done, so}
+use Rattle.rpki_der.specs.Grammar.{within, first, optional, done, so}
 use Rattle.rpki_der.specs.Leaf.{LeafFields, leaf, further, one_or_two}
 use Rattle.rpki_der.specs.Oid.{subidentifiers, oid}
-use Rattle.rpki_der.specs.Null.{null, no_octets}
+use Rattle.rpki_der.specs.Null.{null}
 use Rattle.rpki_der.specs.Whole.{alone, whole_of}
 use Rattle.rpki_base.specs.AlgorithmIdentifier.{algorithm_identifier}
 use Rattle.rpki_base.specs.WritingLaws.{bound_by, whole_so}

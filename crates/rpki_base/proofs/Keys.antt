@@ -2,14 +2,13 @@
 use Rattle.std.proofs.Common.{◌≡◌, ℕ, ◌+◌, ◌<◌, ◌≤◌, Some, List, [], ◌∷◌, ◌++◌, length, refl, arith, length-append}
 use Rattle.rpki_common.specs.Chaining.{◌>>=◌}
 use Rattle.rpki_der.specs.declared.mode.Mode.{Mode}
-use Rattle.rpki_der.specs.Identifier.{IsTag}
 use Rattle.rpki_der.specs.Tags.{sequence, null_tag, oid_tag, bit_string_tag}
-use Rattle.rpki_der.specs.Value.{Value, Values, End, ◌▸◌, Begins}
+use Rattle.rpki_der.specs.Value.{Value, End, ◌▸◌, Begins}
 use Rattle.rpki_der.specs.Grammar.{within, first, optional, done, so}
 use Rattle.rpki_der.specs.Oid.{oid, oid_is}
 use Rattle.rpki_der.specs.Null.{null}
 use Rattle.rpki_der.specs.Bits.{bit_string}
-use Rattle.rpki_der.specs.Writing.{primitive_value, der_primitive, constructed_value, der_constructed, der_length, Spells}
+use Rattle.rpki_der.specs.Writing.{primitive_value, constructed_value, der_length, Spells}
 use Rattle.rpki_der.proofs.Written.{spells_followed, spells_primitive, spells_constructed, begins_constructed}
 use Rattle.rpki_base.specs.declared.algorithm.PublicKeyFormat.{PublicKeyFormat}
 use Rattle.rpki_base.specs.declared.algorithm.PublicKeyFormat.TheVariants.{Rsa, EcdsaP256}

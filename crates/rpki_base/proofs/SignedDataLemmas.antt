@@ -1,18 +1,16 @@
 -- Signed data that are written are taken again as the same.
-use Rattle.std.proofs.Common.{◌≡◌, ℕ, ◌+◌, ◌<◌, ◌≤◌, Option, Some, List, [], ◌∷◌, ◌++◌, length, refl, sym, ap, subst, ◌∙◌, arith, length-append}
+use Rattle.std.proofs.Common.{◌≡◌, ℕ, ◌+◌, ◌<◌, Option, Some, List, [], ◌∷◌, ◌++◌, length, refl, sym, ap, subst, ◌∙◌, arith, length-append}
 use Rattle.std.proofs.lemmas.List.{append-nil}
 use Rattle.rpki_common.specs.Chaining.{◌>>=◌}
 use Rattle.rpki_der.specs.declared.mode.Mode.{Mode}
-use Rattle.rpki_der.specs.Identifier.{IsTag}
 use Rattle.rpki_der.specs.Tags.{sequence}
-use Rattle.rpki_der.specs.Value.{Value, Values, End, ◌▸◌, spelling, Begins}
-use Rattle.rpki_der.specs.Grammar.{any, within, first, done, so}
+use Rattle.rpki_der.specs.Value.{Value, End, ◌▸◌, spelling, Begins}
+use Rattle.rpki_der.specs.Grammar.{within, first, done, so}
 use Rattle.rpki_der.specs.Bits.{bit_string}
 use Rattle.rpki_der.specs.Writing.{constructed_value, Spells}
 use Rattle.rpki_der.proofs.Written.{spells_followed, spells_one, begins_constructed}
 use Rattle.rpki_base.specs.Bits.{spelled_bits}
-use Rattle.rpki_base.specs.Signature.{SignatureParts}
-use Rattle.rpki_base.specs.SignedData.{SignedParts, algorithm_in, signed_data, spelled_data, CanBeSpelled}
+use Rattle.rpki_base.specs.SignedData.{SignedParts, signed_data, spelled_data, CanBeSpelled}
 use Rattle.rpki_base.specs.WritingLaws.{is_sequence}
 use Rattle.rpki_base.proofs.Keys.{bits_value, bits_spell, length-bits}
 

@@ -1,7 +1,6 @@
 -- That the signature algorithms keep the laws of their trait: what is written of them is taken again. No clause cites this.
-use Rattle.std.proofs.Common.{◌≡◌, ℕ, ◌+◌, ◌<◌, ◌≤◌, Bool, true, false, Option, None, Some, List, [], ◌∷◌, ◌++◌, length, refl, sym, ap, subst, ◌∙◌, arith, length-append}
+use Rattle.std.proofs.Common.{◌≡◌, ℕ, ◌<◌, Bool, true, false, Option, None, Some, List, [], ◌++◌, length, refl, sym, ap, ◌∙◌, arith, length-append}
 use Rattle.std.specs.Prelude.{bytes_eq, if◌then◌else◌}
-use Rattle.std.proofs.lemmas.List.{append-nil}
 use Rattle.rpki_common.specs.Chaining.{◌>>=◌}
 use Rattle.rpki_der.specs.declared.mode.Mode.{Mode}
 use Rattle.rpki_der.specs.Tags.{sequence, null_tag, oid_tag}
@@ -9,11 +8,10 @@ use Rattle.rpki_der.specs.Value.{Value, Values, End, ◌▸◌, Begins}
 use Rattle.rpki_der.specs.Grammar.{within, first, optional, done, so}
 use Rattle.rpki_der.specs.Oid.{subidentifiers, oid}
 use Rattle.rpki_der.specs.Null.{null}
-use Rattle.rpki_der.specs.Whole.{alone, whole_of}
-use Rattle.rpki_der.specs.Writing.{primitive_value, der_primitive, constructed_value, der_constructed, der_length, Spells}
-use Rattle.rpki_der.proofs.Flats.{alone_begins}
+use Rattle.rpki_der.specs.Whole.{whole_of}
+use Rattle.rpki_der.specs.Writing.{primitive_value, der_primitive, constructed_value, der_length}
 use Rattle.rpki_der.proofs.Written.{spells_followed, spells_primitive, begins_constructed}
-use Rattle.rpki_base.specs.Names.{sha256_with_rsa, rsa_encryption, ecdsa_with_sha256}
+use Rattle.rpki_base.specs.Names.{sha256_with_rsa, ecdsa_with_sha256}
 use Rattle.rpki_base.specs.AlgorithmIdentifier.{algorithm_identifier, spelled_identifier}
 use Rattle.rpki_base.specs.declared.rpki_algorithm.RsaIdentifier.{RsaIdentifier}
 use Rattle.rpki_base.specs.declared.rpki_algorithm.RsaIdentifier.TheVariants.{RsaEncryption, Sha256WithRsaEncryption}

@@ -1,5 +1,5 @@
 -- Signed data: what was signed, as its exact octets, and the signature of it (RFC 5280, 4.1.1 and 5.1.1; RFC 2986, 4.2).
-use Rattle.std.specs.Prelude.{ℕ, ◌+◌, ◌^◌, ◌<◌, Option, Some, List, ◌++◌, length}
+use Rattle.std.specs.Prelude.{ℕ, ◌+◌, ◌^◌, ◌<◌, Option, List, ◌++◌, length}
 use Rattle.rpki_common.specs.Chaining.{◌>>=◌}
 use Rattle.rpki_der.specs.declared.mode.Mode.{Mode}
 use Rattle.rpki_der.specs.Tags.{sequence}

@@ -9,7 +9,7 @@ use Rattle.rpki_der.specs.Tags.{sequence, null_tag, oid_tag, bit_string_tag}
 use Rattle.rpki_der.specs.Value.{Value, Begins}
 use Rattle.rpki_der.specs.Grammar.{so}
 use Rattle.rpki_der.specs.Whole.{alone, whole_of}
-use Rattle.rpki_der.specs.Writing.{der_length, octets_of}
+use Rattle.rpki_der.specs.Writing.{der_length}
 use Rattle.rpki_der.proofs.Flats.{alone_begins}
 
 -- ---- how long length octets are at most

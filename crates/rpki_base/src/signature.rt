@@ -21,7 +21,7 @@ pub trait SignatureAlgorithm: Copy + PartialEq {
     /// What octets are read as: the value that they mean, if they are one algorithm identifier of this type.
     ghost reads: { Mode → List ℕ → Option Self };
 
-    /// The values for which the laws `again` and `one_value` hold.
+    /// The values for which the law `again` holds.
     ghost is_named: { Self → Type 0 };
 
     /// The octets that are written of a value.
@@ -47,10 +47,10 @@ pub trait SignatureAlgorithm: Copy + PartialEq {
     /// What is written of a named value is taken again as the same value, in both modes.
     ghost again: { (mode : Mode) (a : Self) → is_named a → reads mode (spelled a) ≡ Some a };
 
-    /// What is written of a value is one value.
+    /// What is written of a value is one value of X.690, whatever stands behind it.
     ghost one_value: { (mode : Mode) (a : Self) (rest : List ℕ) → (v : Value) × Begins mode (spelled a ++ rest) v rest };
 
-    /// Equal values are the same, and the same values are equal.
+    /// Equal values are the same.
     ghost same: { (a b : Self) → Self.eq a b ≡ true → a ≡ b };
 
     /// Each value equals itself.
