@@ -7,3 +7,7 @@ pub mod Civils
 pub mod Times
 pub mod Offsets
 pub mod Pairs
+pub mod Keys
+pub mod SignedDataLemmas
+pub mod Identifiers
+pub mod Equality

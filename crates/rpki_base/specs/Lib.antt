@@ -7,3 +7,15 @@ pub mod Rfc3339
 pub mod Validity
 pub mod Serial
 pub mod KeyIdentifier
+pub mod Names
+pub mod Algorithm
+pub mod Bits
+pub mod PublicKey
+pub mod Signature
+pub mod SignedData
+pub mod AlgorithmIdentifier
+pub mod Leaves
+pub mod RpkiSignatureAlgorithm
+pub mod BgpsecSignatureAlgorithm
+pub mod WritingLaws
+pub mod AlgorithmLaws

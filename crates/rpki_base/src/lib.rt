@@ -1,25 +1,50 @@
 //! What certificates, CRLs and signed messages are made of.
+//!
+//! - [`Time`], [`Validity`], [`Serial`], [`KeyIdentifier`] and [`Name`] are the leaves of certificates and CRLs.
+//! - [`PublicKey`], [`Signature`] and [`SignedData`] are generic over the algorithms of [`SignatureAlgorithm`].
+//! - [`Scheme`] says which signatures hold; a [`Verifier`] answers exactly that.
 #![tactic(auto)]
 
+mod algorithm;
+mod bgpsec_algorithm;
+mod bits;
 mod civil;
 mod digits;
 mod errors;
+mod identifier;
 mod key_identifier;
 mod law;
 mod name;
+mod names;
+mod public_key;
 mod rfc3339;
+mod rpki_algorithm;
+mod scheme;
 mod serial;
+mod signature;
+mod signed_data;
 mod text;
 mod time;
 mod validity;
 
+pub use algorithm::{PublicKeyFormat, SigningAlgorithm};
+pub use bgpsec_algorithm::BgpsecSignatureAlgorithm;
 pub use errors::{SignatureVerificationError, VerificationError};
 pub use key_identifier::KeyIdentifier;
 pub use law::{printed_time_is_read_again, serial_is_read_again, time_is_read_again};
 pub use name::Name;
+pub use public_key::{PublicKey, written_key_is_taken};
+pub use rpki_algorithm::{RpkiSignatureAlgorithm, RsaIdentifier, written_algorithm_is_taken};
+pub use scheme::{Scheme, Verifier};
 pub use serial::Serial;
+pub use signature::{Signature, SignatureAlgorithm};
+pub use signed_data::{SignedData, equal_data_are_the_same, written_data_are_taken};
 pub use time::Time;
 pub use validity::Validity;
 
+#[cfg(test)]
+mod key_tests;
+#[cfg(test)]
+mod signature_tests;
 #[cfg(test)]
 mod time_tests;

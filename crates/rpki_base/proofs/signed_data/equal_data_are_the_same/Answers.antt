@@ -1,0 +1,8 @@
+use Rattle.rpki_base.proofs.Equality.{equal_same, same_equal}
+use Rattle.rpki_base.proofs.signed_data.equal_data_are_the_same.Goals as goal
+
+pub returns-clause-same : goal.returns-clause-same
+returns-clause-same g c = λ a b. equal_same g.Alg.PartialEq.eq a b g.met.Alg.SignatureAlgorithm.same
+
+pub returns-clause-equal : goal.returns-clause-equal
+returns-clause-equal g c = λ a b. same_equal g.Alg.PartialEq.eq a b g.met.Alg.SignatureAlgorithm.equal

@@ -1,0 +1,22 @@
+-- The object identifiers of keys and signatures, by their contents octets (RFC 8017, C; RFC 5480, 2.1.1; RFC 5758, 3.2).
+use Rattle.std.specs.Prelude.{ℕ, List, [], ◌∷◌}
+
+-- 1.2.840.113549.1.1.1
+abbrev pub rsa_encryption : List ℕ
+rsa_encryption = 42 ∷ 134 ∷ 72 ∷ 134 ∷ 247 ∷ 13 ∷ 1 ∷ 1 ∷ 1 ∷ []
+
+-- sha256WithRSAEncryption, 1.2.840.113549.1.1.11
+abbrev pub sha256_with_rsa : List ℕ
+sha256_with_rsa = 42 ∷ 134 ∷ 72 ∷ 134 ∷ 247 ∷ 13 ∷ 1 ∷ 1 ∷ 11 ∷ []
+
+-- 1.2.840.10045.2.1
+abbrev pub ec_public_key : List ℕ
+ec_public_key = 42 ∷ 134 ∷ 72 ∷ 206 ∷ 61 ∷ 2 ∷ 1 ∷ []
+
+-- the curve, also named secp256r1, 1.2.840.10045.3.1.7
+abbrev pub prime256v1 : List ℕ
+prime256v1 = 42 ∷ 134 ∷ 72 ∷ 206 ∷ 61 ∷ 3 ∷ 1 ∷ 7 ∷ []
+
+-- 1.2.840.10045.4.3.2
+abbrev pub ecdsa_with_sha256 : List ℕ
+ecdsa_with_sha256 = 42 ∷ 134 ∷ 72 ∷ 206 ∷ 61 ∷ 4 ∷ 3 ∷ 2 ∷ []

@@ -1,0 +1,44 @@
+//! The contents octets of the object identifiers of keys and signatures.
+
+/// rsaEncryption, 1.2.840.113549.1.1.1.
+pub(crate) const RSA_ENCRYPTION: [u8; 9] = [42, 134, 72, 134, 247, 13, 1, 1, 1];
+
+/// sha256WithRSAEncryption, 1.2.840.113549.1.1.11.
+pub(crate) const SHA256_WITH_RSA: [u8; 9] = [42, 134, 72, 134, 247, 13, 1, 1, 11];
+
+/// ecPublicKey, 1.2.840.10045.2.1.
+pub(crate) const EC_PUBLIC_KEY: [u8; 7] = [42, 134, 72, 206, 61, 2, 1];
+
+/// prime256v1, 1.2.840.10045.3.1.7.
+pub(crate) const PRIME256V1: [u8; 8] = [42, 134, 72, 206, 61, 3, 1, 7];
+
+/// ecdsa-with-SHA256, 1.2.840.10045.4.3.2.
+pub(crate) const ECDSA_WITH_SHA256: [u8; 8] = [42, 134, 72, 206, 61, 4, 3, 2];
+
+/// The algorithm identifier of RSA in DER, with NULL.
+pub(crate) const RSA_ALGORITHM: [u8; 15] = [
+    0x30, 13, 6, 9, 42, 134, 72, 134, 247, 13, 1, 1, 1, 5, 0,
+];
+
+/// The algorithm identifier of RSA in DER, without parameters.
+pub(crate) const RSA_ALGORITHM_ALONE: [u8; 13] = [
+    0x30, 11, 6, 9, 42, 134, 72, 134, 247, 13, 1, 1, 1,
+];
+
+/// The algorithm identifier of RSA over SHA-256 in DER, with NULL.
+pub(crate) const SHA256_RSA_ALGORITHM: [u8; 15] = [
+    0x30, 13, 6, 9, 42, 134, 72, 134, 247, 13, 1, 1, 11, 5, 0,
+];
+
+/// The algorithm identifier of RSA over SHA-256 in DER, without parameters.
+pub(crate) const SHA256_RSA_ALGORITHM_ALONE: [u8; 13] = [
+    0x30, 11, 6, 9, 42, 134, 72, 134, 247, 13, 1, 1, 11,
+];
+
+/// The algorithm identifier of ECDSA over SHA-256 in DER.
+pub(crate) const ECDSA_ALGORITHM: [u8; 12] = [0x30, 10, 6, 8, 42, 134, 72, 206, 61, 4, 3, 2];
+
+/// The algorithm identifier of keys on prime256v1 in DER.
+pub(crate) const EC_ALGORITHM: [u8; 21] = [
+    0x30, 19, 6, 7, 42, 134, 72, 206, 61, 2, 1, 6, 8, 42, 134, 72, 206, 61, 3, 1, 7,
+];

@@ -1,0 +1,186 @@
+//! Signed data.
+
+ghost use Rattle.std.specs.Prelude.{◌≡◌, ◌↔◌, ◌<◌, ◌++◌, [], ℕ, List, Some, true, IsOk, OnOk, OnErr};
+ghost use Rattle.rpki_der.specs.declared.mode.Mode.{Mode};
+ghost use Rattle.rpki_der.specs.Value.{Value, Begins};
+ghost use Rattle.rpki_der.specs.Takes.{Takes};
+ghost use Rattle.rpki_der.specs.Ticks.{TakesCounted};
+ghost use Rattle.rpki_der.specs.Whole.{HoldsOne};
+ghost use Rattle.rpki_base.specs.SignedData.{SignedParts, algorithm_in, signed_data, spelled_data, CanBeSpelled};
+
+use crate::bits::write_bits;
+use crate::errors::SignatureVerificationError;
+use crate::public_key::PublicKey;
+use crate::scheme::{Scheme, Verifier};
+use crate::signature::{Signature, SignatureAlgorithm};
+use bytes::Bytes;
+use rpki_common::OutOfMemory;
+use rpki_der::{Cursor, DecodeError, Mode, Steps, Tag, Writer, take_bits_counted};
+use std::alloc::Global;
+use std::marker::{Brand, Model};
+use std::sync::ledger::{Blank, Ledger};
+
+/// A signed value, as the exact octets that are signed, and its signature (RFC 5280, 4.1.1 and 5.1.1).
+///
+/// In a clause it is these two.
+#[derive(Drop, PartialEq)]
+pub struct SignedData<Alg: SignatureAlgorithm> {
+    slice: Bytes,
+    signature: Signature<Alg>,
+}
+
+impl<Alg: SignatureAlgorithm> Model for SignedData<Alg> {
+    ghost use Rattle.rpki_base.specs.SignedData.{SignedParts};
+
+    ghost Value = { SignedParts Alg };
+
+    ghost view = { λ d. record { slice = d.slice; signature = d.signature } };
+
+    ghost inverse = { λ d. record { slice = d.slice; signature = d.signature } };
+}
+
+/// # Data access
+impl<Alg: SignatureAlgorithm> SignedData<Alg> {
+    /// The octets of a value, its header among them, and a signature. It takes no memory, and looks at neither.
+    pub fn new(slice: Bytes, signature: Signature<Alg>) -> SignedData<Alg>
+        ensures { result ≡ record { slice = slice; signature = signature } }
+    {
+        SignedData { slice, signature }
+    }
+
+    /// The exact octets of the signed value, its header among them.
+    pub fn slice(&self) -> &Bytes
+        ensures { result.now ≡ self.now.slice }
+    {
+        &self.slice
+    }
+
+    /// The signature.
+    pub fn signature(&self) -> &Signature<Alg>
+        ensures { result.now ≡ self.now.signature }
+    {
+        &self.signature
+    }
+}
+
+/// # Decoding
+impl<Alg: SignatureAlgorithm> SignedData<Alg> {
+    /// The signed data that the octets hold, with nothing behind it.
+    pub fn take(alloc: Global, mode: Mode, octets: &[u8]) -> Result<SignedData<Alg>, DecodeError>
+        ensures { HoldsOne (signed_data Alg.reads mode) (λ d. d) mode octets.now result }
+    {
+        let mut cursor = Cursor::new(alloc, mode, octets);
+        let signed = SignedData::<Alg>::take_from(alloc, &mut cursor)?;
+        if !cursor.end() {
+            return Err(DecodeError::Malformed);
+        }
+        Ok(signed)
+    }
+
+    /// The signed data that stands next.
+    pub fn take_from(alloc: Global, cursor: &mut Cursor<'_>) -> Result<SignedData<Alg>, DecodeError>
+        ensures { Takes (signed_data Alg.reads cursor.old.mode) (λ d. d) cursor.old cursor.new result }
+    {
+        take_from_within::<Alg, Brand>(alloc, cursor, Blank::new(1))
+    }
+
+    /// The signed data that stands next. It ticks once for each header and each end mark that it reads.
+    pub fn take_from_counted<L: Ledger>(
+        alloc: Global,
+        cursor: &mut Cursor<'_>,
+        steps: &mut Steps<L>,
+    ) -> Result<SignedData<Alg>, DecodeError>
+        ensures { TakesCounted 1 (signed_data Alg.reads cursor.old.mode) (λ d. d) cursor.old cursor.new steps.old steps.new result }
+    {
+        cursor.enter_counted(Tag::SEQUENCE, steps)?;
+        let octets = cursor.capture_counted(steps)?;
+        let algorithm = take_algorithm::<Alg, L>(cursor, steps)?;
+        let (_, bits) = take_bits_counted(cursor, steps)?;
+        let slice = Bytes::copy_from_slice(alloc, octets)?;
+        let value = Bytes::copy_from_slice(alloc, bits)?;
+        cursor.leave_counted(steps)?;
+        let signature = Signature::new(algorithm, value);
+        Ok(SignedData { slice, signature })
+    }
+}
+
+/// `==` holds exactly between signed data whose octets that were signed, algorithms and octets of the signature are the same.
+pub fn equal_data_are_the_same<Alg: SignatureAlgorithm>()
+    ensures same { (a b : SignedParts Alg) → ⟦<SignedData<Alg> as PartialEq>⟧.eq a b ≡ true → a ≡ b }
+    ensures equal { (a b : SignedParts Alg) → a ≡ b → ⟦<SignedData<Alg> as PartialEq>⟧.eq a b ≡ true }
+{}
+
+/// # Encoding
+impl<Alg: SignatureAlgorithm> SignedData<Alg> {
+    /// Appends the signed data: the octets that were signed as they are, the algorithm, and the signature with no unused bits,
+    /// in a SEQUENCE in DER. After a refusal nothing is appended.
+    pub fn encode_ref(&self, alloc: Global, out: &mut Writer) -> Result<(), OutOfMemory>
+        requires { CanBeSpelled Alg.spelled self.now }
+        ensures ok { OnOk result (out.new ≡ out.old ++ spelled_data Alg.spelled self.now) }
+        ensures err { OnErr result (out.new ≡ out.old) }
+    {
+        let mut inner = Writer::new(alloc);
+        inner.raw(self.slice.as_slice())?;
+        self.signature.algorithm().x509_encode(&mut inner)?;
+        write_bits(alloc, self.signature.value().as_slice(), &mut inner)?;
+        out.constructed(Tag::SEQUENCE, &inner)
+    }
+}
+
+/// What `encode_ref` writes is taken again as the same signed data, in each mode in which the signed octets are one value, where
+/// the algorithm is a named one.
+pub fn written_data_are_taken<Alg: SignatureAlgorithm>()
+    ensures { (mode : Mode) (d : SignedParts Alg) (signed : Value) (rest : List ℕ) → CanBeSpelled Alg.spelled d → Begins mode d.slice signed [] → Alg.is_named d.signature.algorithm → (v : Value) × Begins mode (spelled_data Alg.spelled d ++ rest) v rest × (signed_data Alg.reads mode v ≡ Some d) }
+{}
+
+/// # Validation
+impl<Alg: SignatureAlgorithm> SignedData<Alg> {
+    /// Refused exactly where the signature is none of the signed value under the key. It takes no memory.
+    pub fn verify_signature<P: Scheme, V: Verifier<P>>(
+        &self,
+        verifier: &V,
+        key: &PublicKey,
+    ) -> Result<(), SignatureVerificationError>
+        ensures { IsOk result ↔ P.checks (Alg.kind self.now.signature.algorithm) key.now self.now.slice self.now.signature.value }
+    {
+        let kind = self.signature.algorithm().signing_algorithm();
+        if verifier.verify(
+            kind,
+            key,
+            self.slice.as_slice(),
+            self.signature.value().as_slice(),
+        ) {
+            Ok(())
+        } else {
+            Err(SignatureVerificationError)
+        }
+    }
+}
+
+fn take_from_within<Alg: SignatureAlgorithm, L: Ledger>(
+    alloc: Global,
+    cursor: &mut Cursor<'_>,
+    blank: Blank,
+) -> Result<SignedData<Alg>, DecodeError>
+    requires name { blank.name ≡ L.name }
+    requires parts { blank.parts ≡ L.parts }
+    requires some { 0 < blank.parts }
+    ensures { Takes (signed_data Alg.reads cursor.old.mode) (λ d. d) cursor.old cursor.new result }
+{
+    let mut steps = Steps::<L>::new(blank);
+    SignedData::<Alg>::take_from_counted(alloc, cursor, &mut steps)
+}
+
+fn take_algorithm<Alg: SignatureAlgorithm, L: Ledger>(
+    cursor: &mut Cursor<'_>,
+    steps: &mut Steps<L>,
+) -> Result<Alg, DecodeError>
+    ensures { TakesCounted 1 (algorithm_in Alg.reads cursor.old.mode) (λ a. a) cursor.old cursor.new steps.old steps.new result }
+{
+    let mode = cursor.mode();
+    let octets = cursor.capture_counted(steps)?;
+    match Alg::x509_take_from(mode, octets) {
+        Some(algorithm) => Ok(algorithm),
+        None => Err(DecodeError::Malformed),
+    }
+}
