@@ -1,13 +1,13 @@
 -- A SEQUENCE of two times, as one of two primitive values.
-use Rattle.std.proofs.Common.{◌≡◌, ℕ, Bool, true, false, ℤ, Option, None, Some, List, [], ◌∷◌, refl, sym, ap, ◌∙◌, arith}
-use Rattle.std.specs.Prelude.{bytes_eq, if◌then◌else◌}
+use Rattle.std.proofs.Common.{◌≡◌, ℕ, Bool, true, false, ℤ, Option, None, Some, List, refl, sym, ◌∙◌}
+use Rattle.std.specs.Prelude.{if◌then◌else◌}
 use Rattle.std.specs.Option.{option_or}
 use Rattle.rpki_common.specs.Chaining.{◌>>=◌}
 use Rattle.rpki_der.specs.declared.mode.Mode.{Mode}
-use Rattle.rpki_der.specs.Identifier.{tag_of, has_tag}
+use Rattle.rpki_der.specs.Identifier.{has_tag}
 use Rattle.rpki_der.specs.Tags.{sequence, utc_time_tag, generalized_time_tag}
 use Rattle.rpki_der.specs.Value.{Value, Primitive, Constructed, Values, End, ◌▸◌}
-use Rattle.rpki_der.specs.Grammar.{primitive, so, within, first, done}
+use Rattle.rpki_der.specs.Grammar.{so, within, first, done}
 use Rattle.rpki_der.specs.Leaf.{LeafFields, leaf, further, one_or_two}
 use Rattle.rpki_der.specs.Whole.{alone, whole_of}
 use Rattle.rpki_base.specs.Time.{utc_time, generalized_time, time, leaf_time}
