@@ -11,3 +11,4 @@ pub mod Keys
 pub mod SignedDataLemmas
 pub mod Identifiers
 pub mod Equality
+pub mod MadeNames

@@ -20,3 +20,7 @@ prime256v1 = 42 ∷ 134 ∷ 72 ∷ 206 ∷ 61 ∷ 3 ∷ 1 ∷ 7 ∷ []
 -- 1.2.840.10045.4.3.2
 abbrev pub ecdsa_with_sha256 : List ℕ
 ecdsa_with_sha256 = 42 ∷ 134 ∷ 72 ∷ 206 ∷ 61 ∷ 4 ∷ 3 ∷ 2 ∷ []
+
+-- commonName, 2.5.4.3 (RFC 5280, A.1)
+abbrev pub common_name : List ℕ
+common_name = 85 ∷ 4 ∷ 3 ∷ []

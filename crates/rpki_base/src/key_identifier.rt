@@ -31,6 +31,20 @@ impl Model for KeyIdentifier {
 }
 
 impl KeyIdentifier {
+    /// The key identifier of twenty octets.
+    pub(crate) fn of(octets: [u8; 20]) -> KeyIdentifier
+        ensures { result ≡ octets }
+    {
+        KeyIdentifier { octets }
+    }
+
+    /// Its octets as hexadecimal digits in upper case, two each.
+    pub(crate) fn digits(&self) -> [u8; 40]
+        ensures { result ≡ encode_upper self.now }
+    {
+        upper_text(&self.octets)
+    }
+
     /// The key identifier of these octets; None exactly where they are not twenty.
     pub fn from_octets(octets: &[u8]) -> Option<KeyIdentifier>
         ensures { result ≡ spec.twenty octets.now }
@@ -142,7 +156,7 @@ impl fmt::Display for KeyIdentifier {
     ghost output = { λ k. Some (encode_upper k) };
 
     fn fmt<W: fmt::Write>(&self, f: &mut fmt::Formatter<W>) -> fmt::Result {
-        let text = upper_text(&self.octets);
+        let text = self.digits();
         let Ok(text) = str::from_utf8(&text) else {
             unreachable!()
         };

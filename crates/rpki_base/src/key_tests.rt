@@ -60,17 +60,11 @@ fn keys_are_decoded(rt: HostRuntime) -> Result<(), Fail> {
     let rsa = PublicKey::decode(alloc, &RSA)?;
     assert!(rt; rsa.format() == PublicKeyFormat::Rsa);
     assert_eq!(rt; rsa.bits_bytes().as_slice(), &RSA[20..]);
-    assert_eq!(rt;
-        rsa.key_identifier_octets().as_slice(),
-        RSA_IDENTIFIER.as_slice()
-    );
+    assert_eq!(rt; rsa.key_identifier().as_slice(), RSA_IDENTIFIER.as_slice());
     let ec = PublicKey::decode(alloc, &EC)?;
     assert!(rt; ec.format() == PublicKeyFormat::EcdsaP256);
     assert_eq!(rt; ec.bits_bytes().as_slice(), &EC[26..]);
-    assert_eq!(rt;
-        ec.key_identifier_octets().as_slice(),
-        EC_IDENTIFIER.as_slice()
-    );
+    assert_eq!(rt; ec.key_identifier().as_slice(), EC_IDENTIFIER.as_slice());
     assert!(rt; rsa != ec);
     assert!(rt; PublicKey::take(alloc, Mode::Ber, &RSA_OVERLONG)? == rsa);
     let strict = PublicKey::take(alloc, Mode::Der, &RSA_OVERLONG);

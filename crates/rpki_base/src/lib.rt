@@ -32,7 +32,7 @@ pub use bgpsec_algorithm::BgpsecSignatureAlgorithm;
 pub use errors::{SignatureVerificationError, VerificationError};
 pub use key_identifier::KeyIdentifier;
 pub use law::{printed_time_is_read_again, serial_is_read_again, time_is_read_again};
-pub use name::Name;
+pub use name::{Name, made_name_is_read};
 pub use public_key::{PublicKey, written_key_is_taken};
 pub use rpki_algorithm::{RpkiSignatureAlgorithm, RsaIdentifier, written_algorithm_is_taken};
 pub use scheme::{Scheme, Verifier};
@@ -44,6 +44,8 @@ pub use validity::Validity;
 
 #[cfg(test)]
 mod key_tests;
+#[cfg(test)]
+mod name_tests;
 #[cfg(test)]
 mod signature_tests;
 #[cfg(test)]

@@ -1,13 +1,18 @@
 //! Names.
 
-ghost use Rattle.std.specs.Prelude.{◌≡◌, ◌≢◌, ◌<◌, [], ◌++◌, OnOk, OnErr, IfOk};
+ghost use Rattle.std.specs.Prelude.{◌≡◌, ◌≢◌, ◌<◌, ℕ, List, [], ◌++◌, length, Some, OnOk, OnErr, IfOk};
+ghost use Rattle.hex.specs.Hex.{encode_upper};
+ghost use Rattle.sha1.specs.Sha1.{sha1};
+ghost use Rattle.rpki_der.specs.declared.mode.Mode.{Mode};
+ghost use Rattle.rpki_der.specs.Value.{Value, Begins};
 ghost use Rattle.rpki_der.specs.Grammar.{within};
 ghost use Rattle.rpki_der.specs.Tags.{sequence};
 ghost use Rattle.rpki_der.specs.Takes.{Takes};
 ghost use Rattle.rpki_der.specs.Ticks.{TakesCounted, TakesRestCounted};
 ghost use Rattle.rpki_der.specs.Whole.{HoldsOne};
-ghost use Rattle.rpki_base.specs.Name.{each, name_attribute, relative_name, name};
+ghost use Rattle.rpki_base.specs.Name.{each, name_attribute, relative_name, name, name_of_text};
 
+use crate::public_key::PublicKey;
 use bytes::Bytes;
 use rpki_common::OutOfMemory;
 use rpki_der::{Cursor, DecodeError, Mode, Steps, Tag, Writer, take_oid_counted};
@@ -93,6 +98,31 @@ fn pass_name<L: Ledger>(cursor: &mut Cursor<'_>, steps: &mut Steps<L>) -> Result
     cursor.enter_counted(Tag::SEQUENCE, steps)?;
     pass_relative_names(cursor, steps)
 }
+
+// The octets of a name whose one attribute, commonName, is a text of forty octets, in front of that text.
+const BEFORE_TEXT: [u8; 13] = [
+    0x30, 0x33, 0x31, 0x31, 0x30, 0x2F, 0x06, 0x03, 0x55, 0x04, 0x03, 0x13, 0x28,
+];
+
+/// # Making
+impl Name {
+    /// The name of a key: its one attribute is commonName, with the key identifier in upper case hexadecimal digits.
+    #[tactic(auto, using(crate::proofs::MadeNames::made_of_forty))]
+    pub fn from_pub_key(alloc: Global, key: &PublicKey) -> Result<Name, OutOfMemory>
+        ensures { IfOk result (λ n. n ≡ name_of_text (encode_upper (sha1 key.now.bits))) }
+    {
+        let mut octets = Vec::with_capacity(alloc, 53)?;
+        octets.extend_from_slice(&BEFORE_TEXT)?;
+        octets.extend_from_slice(&key.key_identifier().digits())?;
+        let octets = Bytes::from_vec(octets)?;
+        Ok(Name { octets })
+    }
+}
+
+/// What `from_pub_key` makes is read as that name, in both modes, whatever stands behind it.
+pub fn made_name_is_read()
+    ensures { (mode : Mode) (digits rest : List ℕ) → length digits ≡ 40 → (v : Value) × Begins mode (name_of_text digits ++ rest) v rest × (name v ≡ Some (name_of_text digits)) }
+{}
 
 /// # Decoding
 impl Name {

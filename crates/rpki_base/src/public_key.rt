@@ -13,6 +13,7 @@ ghost use Rattle.rpki_base.specs.PublicKey as spec;
 
 use crate::algorithm::PublicKeyFormat;
 use crate::bits::write_bits;
+use crate::key_identifier::KeyIdentifier;
 use crate::names::{EC_ALGORITHM, EC_PUBLIC_KEY, PRIME256V1, RSA_ALGORITHM, RSA_ENCRYPTION};
 use bytes::Bytes;
 use rpki_common::OutOfMemory;
@@ -74,12 +75,12 @@ impl PublicKey {
         &self.bits
     }
 
-    /// The octets of the key identifier: the SHA-1 of the octets of the bits, without the count of unused bits in front of
-    /// them (RFC 5280, 4.2.1.2, method 1).
-    pub(crate) fn key_identifier_octets(&self) -> [u8; 20]
+    /// The key identifier: the SHA-1 of the octets of the bits, without the count of unused bits in front of them (RFC 5280,
+    /// 4.2.1.2, method 1). It takes no memory.
+    pub fn key_identifier(&self) -> KeyIdentifier
         ensures { result ≡ sha1 self.now.bits }
     {
-        Sha1::digest(self.bits.as_slice())
+        KeyIdentifier::of(Sha1::digest(self.bits.as_slice()))
     }
 }
 

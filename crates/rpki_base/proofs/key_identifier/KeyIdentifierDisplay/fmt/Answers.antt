@@ -6,4 +6,4 @@ use Rattle.rpki_base.proofs.key_identifier.KeyIdentifierDisplay.fmt.Goals as goa
 
 pub unreachable-requires : goal.unreachable-requires
 unreachable-requires g c =
-    c.in_default.ensures.cases.0 (IsUtf8-from_ascii _ (rw c.upper_text-text.ensures (IsAscii-encode_with upper_digits _ upper_is_ascii)))
+    c.in_default.ensures.cases.0 (IsUtf8-from_ascii _ (rw c.digits-text.ensures (IsAscii-encode_with upper_digits _ upper_is_ascii)))
