@@ -11,3 +11,5 @@ pub mod Keys
 pub mod SignedDataLemmas
 pub mod Identifiers
 pub mod Equality
+pub mod Booleans
+pub mod Extensions
