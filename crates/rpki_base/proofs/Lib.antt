@@ -12,3 +12,5 @@ pub mod SignedDataLemmas
 pub mod Identifiers
 pub mod Equality
 pub mod MadeNames
+pub mod Booleans
+pub mod Extensions

@@ -19,3 +19,5 @@ pub mod RpkiSignatureAlgorithm
 pub mod BgpsecSignatureAlgorithm
 pub mod WritingLaws
 pub mod AlgorithmLaws
+pub mod Extension
+pub mod OptionalBoolean

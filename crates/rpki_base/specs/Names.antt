@@ -1,4 +1,4 @@
--- The object identifiers of keys and signatures, by their contents octets (RFC 8017, C; RFC 5480, 2.1.1; RFC 5758, 3.2).
+-- The object identifiers of keys, signatures and extensions, by their contents octets (RFC 8017, C; RFC 5480, 2.1.1; RFC 5758, 3.2).
 use Rattle.std.specs.Prelude.{ℕ, List, [], ◌∷◌}
 
 -- 1.2.840.113549.1.1.1
@@ -24,3 +24,29 @@ ecdsa_with_sha256 = 42 ∷ 134 ∷ 72 ∷ 206 ∷ 61 ∷ 4 ∷ 3 ∷ 2 ∷ []
 -- commonName, 2.5.4.3 (RFC 5280, A.1)
 abbrev pub common_name : List ℕ
 common_name = 85 ∷ 4 ∷ 3 ∷ []
+
+-- ---- extensions (RFC 5280, 4.2.1 and 5.2)
+
+-- 2.5.29.14
+abbrev pub subject_key_identifier : List ℕ
+subject_key_identifier = 85 ∷ 29 ∷ 14 ∷ []
+
+-- 2.5.29.15
+abbrev pub key_usage : List ℕ
+key_usage = 85 ∷ 29 ∷ 15 ∷ []
+
+-- 2.5.29.19
+abbrev pub basic_constraints : List ℕ
+basic_constraints = 85 ∷ 29 ∷ 19 ∷ []
+
+-- 2.5.29.20
+abbrev pub crl_number : List ℕ
+crl_number = 85 ∷ 29 ∷ 20 ∷ []
+
+-- 2.5.29.35
+abbrev pub authority_key_identifier : List ℕ
+authority_key_identifier = 85 ∷ 29 ∷ 35 ∷ []
+
+-- extKeyUsage, 2.5.29.37
+abbrev pub extended_key_usage : List ℕ
+extended_key_usage = 85 ∷ 29 ∷ 37 ∷ []

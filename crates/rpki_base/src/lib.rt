@@ -11,11 +11,13 @@ mod bits;
 mod civil;
 mod digits;
 mod errors;
+mod extension;
 mod identifier;
 mod key_identifier;
 mod law;
 mod name;
 mod names;
+mod optional;
 mod public_key;
 mod rfc3339;
 mod rpki_algorithm;
@@ -30,15 +32,23 @@ mod validity;
 pub use algorithm::{PublicKeyFormat, SigningAlgorithm};
 pub use bgpsec_algorithm::BgpsecSignatureAlgorithm;
 pub use errors::{SignatureVerificationError, VerificationError};
+pub use extension::{Extension, take_extension_counted};
 pub use key_identifier::KeyIdentifier;
 pub use law::{printed_time_is_read_again, serial_is_read_again, time_is_read_again};
 pub use name::{Name, made_name_is_read};
+pub use names::{
+    AUTHORITY_KEY_IDENTIFIER, BASIC_CONSTRAINTS, CRL_NUMBER, EXTENDED_KEY_USAGE, KEY_USAGE,
+    SUBJECT_KEY_IDENTIFIER,
+};
+pub use optional::take_opt_boolean_counted;
 pub use public_key::{PublicKey, written_key_is_taken};
 pub use rpki_algorithm::{RpkiSignatureAlgorithm, RsaIdentifier, written_algorithm_is_taken};
 pub use scheme::{Scheme, Verifier};
 pub use serial::Serial;
 pub use signature::{Signature, SignatureAlgorithm};
-pub use signed_data::{SignedData, equal_data_are_the_same, written_data_are_taken};
+pub use signed_data::{
+    SignedData, equal_data_are_the_same, take_algorithm, written_data_are_taken,
+};
 pub use time::Time;
 pub use validity::Validity;
 

@@ -1,4 +1,4 @@
-//! The contents octets of the object identifiers of keys and signatures.
+//! The contents octets of the object identifiers of keys, signatures and extensions.
 
 /// rsaEncryption, 1.2.840.113549.1.1.1.
 pub(crate) const RSA_ENCRYPTION: [u8; 9] = [42, 134, 72, 134, 247, 13, 1, 1, 1];
@@ -42,3 +42,21 @@ pub(crate) const ECDSA_ALGORITHM: [u8; 12] = [0x30, 10, 6, 8, 42, 134, 72, 206, 
 pub(crate) const EC_ALGORITHM: [u8; 21] = [
     0x30, 19, 6, 7, 42, 134, 72, 206, 61, 2, 1, 6, 8, 42, 134, 72, 206, 61, 3, 1, 7,
 ];
+
+/// subjectKeyIdentifier, 2.5.29.14 (RFC 5280, 4.2.1.2), as the contents octets of the object identifier.
+pub const SUBJECT_KEY_IDENTIFIER: [u8; 3] = [85, 29, 14];
+
+/// keyUsage, 2.5.29.15 (RFC 5280, 4.2.1.3), as the contents octets of the object identifier.
+pub const KEY_USAGE: [u8; 3] = [85, 29, 15];
+
+/// basicConstraints, 2.5.29.19 (RFC 5280, 4.2.1.9), as the contents octets of the object identifier.
+pub const BASIC_CONSTRAINTS: [u8; 3] = [85, 29, 19];
+
+/// cRLNumber, 2.5.29.20 (RFC 5280, 5.2.3), as the contents octets of the object identifier.
+pub const CRL_NUMBER: [u8; 3] = [85, 29, 20];
+
+/// authorityKeyIdentifier, 2.5.29.35 (RFC 5280, 4.2.1.1), as the contents octets of the object identifier.
+pub const AUTHORITY_KEY_IDENTIFIER: [u8; 3] = [85, 29, 35];
+
+/// extKeyUsage, 2.5.29.37 (RFC 5280, 4.2.1.12), as the contents octets of the object identifier.
+pub const EXTENDED_KEY_USAGE: [u8; 3] = [85, 29, 37];

@@ -171,7 +171,9 @@ fn take_from_within<Alg: SignatureAlgorithm, L: Ledger>(
     SignedData::<Alg>::take_from_counted(alloc, cursor, &mut steps)
 }
 
-fn take_algorithm<Alg: SignatureAlgorithm, L: Ledger>(
+/// The algorithm identifier that stands next, as `x509_take_from` reads it. It ticks once for each header and each end mark in
+/// it.
+pub fn take_algorithm<Alg: SignatureAlgorithm, L: Ledger>(
     cursor: &mut Cursor<'_>,
     steps: &mut Steps<L>,
 ) -> Result<Alg, DecodeError>

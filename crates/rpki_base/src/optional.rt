@@ -1,0 +1,51 @@
+//! Optional BOOLEANs.
+
+ghost use Rattle.std.specs.Prelude.{◌≡◌};
+ghost use Rattle.rpki_der.specs.Grammar.{optional};
+ghost use Rattle.rpki_der.specs.Tags.{boolean_tag};
+ghost use Rattle.rpki_der.specs.Boolean.{truth, boolean};
+ghost use Rattle.rpki_der.specs.Ticks.{TakesPartCounted};
+ghost use Rattle.rpki_base.specs.OptionalBoolean.{boolean_shown};
+
+use rpki_der::{Cursor, DecodeError, Item, Mode, Steps, Tag};
+use std::sync::ledger::Ledger;
+
+// What the contents of a BOOLEAN say.
+fn truth(mode: Mode, octets: &[u8]) -> Option<bool>
+    ensures { result ≡ truth mode octets.now }
+{
+    match (mode, octets) {
+        (_, [0]) => Some(false),
+        (Mode::Ber, [_]) | (Mode::Der, [0xFF]) => Some(true),
+        _ => None,
+    }
+}
+
+// What a value with the tag of BOOLEAN says, if it is one.
+fn shown(mode: Mode, item: &Item<'_>) -> Option<bool>
+    ensures { result ≡ boolean_shown mode item.now }
+{
+    if item.constructed {
+        None
+    } else {
+        truth(mode, item.content)
+    }
+}
+
+/// The BOOLEAN that stands next (X.690, 8.2), which is then passed; None where no value with its tag does. A value with its
+/// tag that isn't a BOOLEAN is malformed. It ticks once at least where it reads a header.
+pub fn take_opt_boolean_counted<L: Ledger>(
+    cursor: &mut Cursor<'_>,
+    steps: &mut Steps<L>,
+) -> Result<Option<bool>, DecodeError>
+    ensures { TakesPartCounted 1 1 (optional boolean_tag (boolean cursor.old.mode)) (λ x. x) cursor.old cursor.new steps.old steps.new result }
+{
+    let mode = cursor.mode();
+    match cursor.take_opt_if_counted(Tag::BOOLEAN, steps)? {
+        None => Ok(None),
+        Some(item) => match shown(mode, &item) {
+            Some(value) => Ok(Some(value)),
+            None => Err(DecodeError::Malformed),
+        },
+    }
+}
