@@ -83,7 +83,7 @@ fn the_longest_uri_has_65535_octets(rt: HostRuntime) -> Result<(), Fail> {
 /// `front` with as many letters behind it as make `size` octets.
 fn filled(alloc: Global, front: &str, size: usize) -> Result<String, Fail> {
     let mut text = String::from_str(alloc, front)?;
-    while text.len() < size {
+    for _ in text.len()..size {
         text.push('a')?;
     }
     Ok(text)
