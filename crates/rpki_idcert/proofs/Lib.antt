@@ -1,0 +1,3 @@
+pub mod Fields
+pub mod Giving
+pub mod Gathering
