@@ -1,2 +1,4 @@
 pub mod Extensions
 pub mod Shown
+pub mod TbsIdCert
+pub mod IdCert

@@ -26,11 +26,11 @@ use std::sync::ledger::Ledger;
 #[derive(Clone, Copy)]
 pub(crate) struct Known {
     /// The key identifier of the subject.
-    pub(crate) subject: KeyIdentifier,
+    subject: KeyIdentifier,
     /// Whether the subject is an authority, if that is said.
-    pub(crate) basic_ca: Option<bool>,
+    basic_ca: Option<bool>,
     /// The key identifier of the issuer, if it is there.
-    pub(crate) authority: Option<KeyIdentifier>,
+    authority: Option<KeyIdentifier>,
 }
 
 impl Model for Known {
@@ -41,6 +41,15 @@ impl Model for Known {
     ghost view = { λ k. record { subject = k.subject; basic_ca = k.basic_ca; authority = k.authority } };
 
     ghost inverse = { λ k. record { subject = k.subject; basic_ca = k.basic_ca; authority = k.authority } };
+}
+
+impl Known {
+    /// The key identifier of the subject, whether the subject is an authority, and the key identifier of the issuer.
+    pub(crate) fn parts(self) -> (KeyIdentifier, Option<bool>, Option<KeyIdentifier>)
+        ensures { result ≡ (self.subject, self.basic_ca, self.authority) }
+    {
+        (self.subject, self.basic_ca, self.authority)
+    }
 }
 
 // What was found so far.
