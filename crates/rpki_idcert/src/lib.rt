@@ -7,6 +7,7 @@
 
 mod extensions;
 mod id_cert;
+mod spelling;
 mod tbs;
 
 pub use id_cert::IdCert;

@@ -49,6 +49,13 @@ impl TbsIdCert {
         self.serial
     }
 
+    /// The algorithm that the certificate names inside what is signed.
+    pub fn algorithm(&self) -> RpkiSignatureAlgorithm
+        ensures { result ≡ self.now.algorithm }
+    {
+        self.algorithm
+    }
+
     /// The name of the issuer.
     pub fn issuer(&self) -> &Name
         ensures { result.now ≡ self.now.issuer }
