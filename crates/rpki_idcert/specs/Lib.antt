@@ -2,3 +2,4 @@ pub mod Extensions
 pub mod Shown
 pub mod TbsIdCert
 pub mod IdCert
+pub mod Checks

@@ -1,10 +1,12 @@
 //! Identity certificates.
 
-ghost use Rattle.std.specs.Prelude.{◌≡◌, ◌↔◌, ◌<◌, ◌≤ℤ◌, IsOk};
+ghost use Rattle.std.specs.Prelude.{◌≡◌, ◌↔◌, ◌<◌, ◌≤ℤ◌, ◌++◌, IsOk, OnOk, OnErr};
 ghost use Rattle.rpki_der.specs.declared.mode.Mode.TheVariants.{Der};
 ghost use Rattle.rpki_der.specs.Takes.{Takes, Decodes};
 ghost use Rattle.rpki_der.specs.Ticks.{TakesCounted};
 ghost use Rattle.rpki_der.specs.Whole.{HoldsOne};
+ghost use Rattle.rpki_base.specs.SignedData.{CanBeSpelled, spelled_data};
+ghost use Rattle.rpki_base.specs.RpkiSignatureAlgorithm.{spelled_x509};
 ghost use Rattle.rpki_idcert.specs.IdCert.{identity_certificate};
 
 use crate::tbs::{TbsIdCert, take_held};
@@ -12,7 +14,7 @@ use bytes::Bytes;
 use rpki_base::{
     RpkiSignatureAlgorithm, Signature, SignedData, Time, VerificationError, take_algorithm,
 };
-use rpki_der::{Cursor, DecodeError, Mode, Steps, Tag, take_bits_counted};
+use rpki_der::{Cursor, DecodeError, Mode, OutOfMemory, Steps, Tag, Writer, take_bits_counted};
 use std::alloc::Global;
 use std::marker::{Brand, Model};
 use std::sync::ledger::{Blank, Ledger};
@@ -126,6 +128,18 @@ impl IdCert {
         let signature = Signature::new(algorithm, value);
         let signed = SignedData::new(slice, signature);
         Ok(IdCert { signed, tbs })
+    }
+}
+
+/// # Encoding
+impl IdCert {
+    /// Appends the certificate in DER, with the octets that are signed as they are. After a refusal nothing is appended.
+    pub fn encode_ref(&self, alloc: Global, out: &mut Writer) -> Result<(), OutOfMemory>
+        requires { CanBeSpelled spelled_x509 self.now.signed }
+        ensures ok { OnOk result (out.new ≡ out.old ++ spelled_data spelled_x509 self.now.signed) }
+        ensures err { OnErr result (out.new ≡ out.old) }
+    {
+        self.signed.encode_ref(alloc, out)
     }
 }
 

@@ -8,6 +8,8 @@
 mod extensions;
 mod id_cert;
 mod tbs;
+mod validation;
 
 pub use id_cert::IdCert;
 pub use tbs::TbsIdCert;
+pub use validation::{ValidationError, ValidationKind};
