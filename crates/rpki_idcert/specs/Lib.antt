@@ -3,3 +3,4 @@ pub mod Shown
 pub mod TbsIdCert
 pub mod IdCert
 pub mod Spelling
+pub mod Checks

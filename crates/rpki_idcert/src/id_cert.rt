@@ -1,10 +1,12 @@
 //! Identity certificates.
 
-ghost use Rattle.std.specs.Prelude.{◌≡◌, ◌↔◌, ◌<◌, ◌≤ℤ◌, IsOk};
+ghost use Rattle.std.specs.Prelude.{◌≡◌, ◌↔◌, ◌<◌, ◌≤ℤ◌, ◌++◌, IsTrue, IsOk, IfOk, OnOk, OnErr};
 ghost use Rattle.rpki_der.specs.declared.mode.Mode.TheVariants.{Der};
 ghost use Rattle.rpki_der.specs.Takes.{Takes, Decodes};
 ghost use Rattle.rpki_der.specs.Ticks.{TakesCounted};
 ghost use Rattle.rpki_der.specs.Whole.{HoldsOne};
+ghost use Rattle.rpki_base.specs.SignedData.{CanBeSpelled, spelled_data};
+ghost use Rattle.rpki_base.specs.RpkiSignatureAlgorithm.{spelled_x509};
 ghost use Rattle.rpki_idcert.specs.IdCert.{identity_certificate};
 
 use crate::tbs::{TbsIdCert, take_held};
@@ -12,7 +14,9 @@ use bytes::Bytes;
 use rpki_base::{
     RpkiSignatureAlgorithm, Signature, SignedData, Time, VerificationError, take_algorithm,
 };
-use rpki_der::{Cursor, DecodeError, Mode, Steps, Tag, take_bits_counted};
+use rpki_der::{
+    Captured, Cursor, DecodeError, Mode, OutOfMemory, Steps, Tag, Writer, take_bits_counted,
+};
 use std::alloc::Global;
 use std::marker::{Brand, Model};
 use std::sync::ledger::{Blank, Ledger};
@@ -126,6 +130,57 @@ impl IdCert {
         let signature = Signature::new(algorithm, value);
         let signed = SignedData::new(slice, signature);
         Ok(IdCert { signed, tbs })
+    }
+}
+
+/// # Encoding
+impl IdCert {
+    /// Appends the certificate in DER, with the octets that are signed as they are. After a refusal nothing is appended.
+    pub fn encode_ref(&self, alloc: Global, out: &mut Writer) -> Result<(), OutOfMemory>
+        requires { CanBeSpelled spelled_x509 self.now.signed }
+        ensures ok { OnOk result (out.new ≡ out.old ++ spelled_data spelled_x509 self.now.signed) }
+        ensures err { OnErr result (out.new ≡ out.old) }
+    {
+        self.signed.encode_ref(alloc, out)
+    }
+
+    /// What `encode_ref` appends, by itself.
+    pub fn to_captured(&self, alloc: Global) -> Result<Captured, OutOfMemory>
+        requires { CanBeSpelled spelled_x509 self.now.signed }
+        ensures { IfOk result (λ c. c ≡ spelled_data spelled_x509 self.now.signed) }
+    {
+        let mut out = Writer::new(alloc);
+        self.encode_ref(alloc, &mut out)?;
+        out.into_captured()
+    }
+
+    /// The same as shared octets.
+    pub fn to_bytes(&self, alloc: Global) -> Result<Bytes, OutOfMemory>
+        requires { CanBeSpelled spelled_x509 self.now.signed }
+        ensures { IfOk result (λ b. b ≡ spelled_data spelled_x509 self.now.signed) }
+    {
+        Ok(self.to_captured(alloc)?.into_bytes())
+    }
+
+    /// An equal certificate that shares its octets with this one.
+    pub fn clone(&self, alloc: Global) -> Result<IdCert, OutOfMemory>
+        ensures { IfOk result (λ c. c ≡ self.now) }
+    {
+        let signed = self.signed.clone(alloc)?;
+        let tbs = self.tbs.clone(alloc)?;
+        Ok(IdCert { signed, tbs })
+    }
+}
+
+/// Certificates are equal where what is signed, the algorithm and the octets of the signature are the same.
+impl PartialEq for IdCert {
+    fn eq(&self, other: &IdCert) -> bool
+        ensures { IsTrue result ↔ (self.now.signed ≡ other.now.signed) }
+    {
+        let (signature, other_signature) = (self.signed.signature(), other.signed.signature());
+        self.signed.slice() == other.signed.slice()
+            && signature.algorithm() == other_signature.algorithm()
+            && signature.value() == other_signature.value()
     }
 }
 

@@ -9,6 +9,8 @@ mod extensions;
 mod id_cert;
 mod spelling;
 mod tbs;
+mod validation;
 
 pub use id_cert::IdCert;
 pub use tbs::TbsIdCert;
+pub use validation::{ValidationError, ValidationKind, first_false_decides};

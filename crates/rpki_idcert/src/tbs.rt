@@ -1,6 +1,7 @@
 //! What is signed of an identity certificate.
 
-ghost use Rattle.std.specs.Prelude.{◌≡◌};
+ghost use Rattle.std.specs.Prelude.{◌≡◌, ◌<◌, IfOk};
+ghost use Rattle.rpki_der.specs.Takes.{Takes};
 ghost use Rattle.rpki_der.specs.Held.{with_octets};
 ghost use Rattle.rpki_der.specs.Ticks.{TakesCounted};
 ghost use Rattle.rpki_idcert.specs.TbsIdCert.{version, tbs_certificate};
@@ -9,10 +10,10 @@ use crate::extensions::take_extensions;
 use rpki_base::{
     KeyIdentifier, Name, PublicKey, RpkiSignatureAlgorithm, Serial, Validity, take_algorithm,
 };
-use rpki_der::{Cursor, DecodeError, Steps, Tag, take_integer_if_counted};
+use rpki_der::{Cursor, DecodeError, OutOfMemory, Steps, Tag, take_integer_if_counted};
 use std::alloc::Global;
-use std::marker::Model;
-use std::sync::ledger::Ledger;
+use std::marker::{Brand, Model};
+use std::sync::ledger::{Blank, Ledger};
 
 /// What is signed of an identity certificate (RFC 5280, 4.1.2).
 ///
@@ -120,6 +121,28 @@ impl TbsIdCert {
     }
 }
 
+impl TbsIdCert {
+    /// Equal fields that share their octets with these.
+    pub fn clone(&self, alloc: Global) -> Result<TbsIdCert, OutOfMemory>
+        ensures { IfOk result (λ t. t ≡ self.now) }
+    {
+        let issuer = self.issuer.clone(alloc)?;
+        let subject = self.subject.clone(alloc)?;
+        let key = self.key.clone(alloc)?;
+        Ok(TbsIdCert {
+            serial: self.serial,
+            algorithm: self.algorithm,
+            issuer,
+            validity: self.validity,
+            subject,
+            key,
+            basic_ca: self.basic_ca,
+            subject_key_id: self.subject_key_id,
+            authority_key_id: self.authority_key_id,
+        })
+    }
+}
+
 // Passes the version.
 fn take_version<L: Ledger>(cursor: &mut Cursor<'_>, steps: &mut Steps<L>) -> Result<(), DecodeError>
     ensures { TakesCounted 1 version (λ x. x) cursor.old cursor.new steps.old steps.new result }
@@ -162,6 +185,29 @@ impl TbsIdCert {
             subject_key_id,
             authority_key_id,
         })
+    }
+}
+
+impl TbsIdCert {
+    fn take_from_within<L: Ledger>(
+        alloc: Global,
+        cursor: &mut Cursor<'_>,
+        blank: Blank,
+    ) -> Result<TbsIdCert, DecodeError>
+        requires name { blank.name ≡ L.name }
+        requires parts { blank.parts ≡ L.parts }
+        requires some { 0 < blank.parts }
+        ensures { Takes (tbs_certificate cursor.old.mode) (λ x. x) cursor.old cursor.new result }
+    {
+        let mut steps = Steps::<L>::new(blank);
+        TbsIdCert::take_from_counted(alloc, cursor, &mut steps)
+    }
+
+    /// What stands next.
+    pub fn take_from(alloc: Global, cursor: &mut Cursor<'_>) -> Result<TbsIdCert, DecodeError>
+        ensures { Takes (tbs_certificate cursor.old.mode) (λ x. x) cursor.old cursor.new result }
+    {
+        TbsIdCert::take_from_within::<Brand>(alloc, cursor, Blank::new(1))
     }
 }
 
