@@ -1,5 +1,5 @@
 -- Names that are made.
-use Rattle.std.proofs.Common.{◌≡◌, ℕ, Some, List, [], ◌∷◌, ◌++◌, length, refl, sym, ap, ◌∙◌, arith}
+use Rattle.std.proofs.Common.{◌≡◌, ℕ, Option, None, Some, List, [], ◌∷◌, ◌++◌, length, refl, sym, ap, ◌∙◌, arith}
 use Rattle.std.proofs.lemmas.List.{append-nil}
 use Rattle.rpki_common.specs.Chaining.{◌>>=◌}
 use Rattle.rpki_der.specs.declared.mode.Mode.{Mode}
@@ -69,3 +69,14 @@ made_name mode text rest e =
     let alone = begins_constructed mode sequence _ [] _ is_sequence (omega (arith, e, n)) (spells_names mode text e) in
     let is : name_of_text text ≡ spelling (made_value text) = sym (append-nil (name_of_text text)) ∙ alone.parts ∙ append-nil (spelling (made_value text)) in
     (made_value text, begins, value_reads text ∙ ap Some (sym is))
+
+-- ---- a name that was read
+
+from_octets : {X : Type 0} (o : Option X) (octets n : List ℕ) → (o >>= λ x. Some octets) ≡ Some n → n ≡ octets
+unfolding ◌>>=◌
+from_octets None octets n e = absurd cc
+from_octets (Some x) octets n e = cc
+
+pub read_again : (mode : Mode) (v : Value) (octets rest more : List ℕ) → Begins mode octets v rest → (n : List ℕ) → name v ≡ Some n → Begins mode (n ++ more) v more
+unfolding name octets_of
+read_again mode v octets rest more b n e = record { lawful = b.lawful; parts = ap (λ (o : List ℕ). o ++ more) (from_octets (within sequence (each relative_name) v) (spelling v) n e) }

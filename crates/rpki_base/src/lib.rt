@@ -31,11 +31,11 @@ mod validity;
 
 pub use algorithm::{PublicKeyFormat, SigningAlgorithm};
 pub use bgpsec_algorithm::BgpsecSignatureAlgorithm;
-pub use errors::{SignatureVerificationError, VerificationError};
+pub use errors::{SignatureVerificationError, ToyFault, VerificationError};
 pub use extension::{Extension, take_extension_counted};
 pub use key_identifier::KeyIdentifier;
 pub use law::{printed_time_is_read_again, serial_is_read_again, time_is_read_again};
-pub use name::{Name, made_name_is_read};
+pub use name::{Name, made_name_is_read, read_name_is_read_again};
 pub use names::{
     AUTHORITY_KEY_IDENTIFIER, BASIC_CONSTRAINTS, CRL_NUMBER, EXTENDED_KEY_USAGE, KEY_USAGE,
     SUBJECT_KEY_IDENTIFIER,

@@ -191,8 +191,8 @@ impl Name {
         out.raw(self.octets.as_slice())
     }
 
-    /// A copy of the name.
-    pub fn clone(&self) -> Result<Name, OutOfMemory>
+    /// An equal name that shares its octets with this one.
+    pub fn clone(&self, _alloc: Global) -> Result<Name, OutOfMemory>
         ensures { IfOk result (λ n. n ≡ self.now) }
     {
         Ok(Name {
@@ -200,3 +200,8 @@ impl Name {
         })
     }
 }
+
+/// What `encode_ref` writes of a name that was read is read again as that name, by the rules that it was read by.
+pub fn read_name_is_read_again()
+    ensures { (mode : Mode) (v : Value) (octets rest more : List ℕ) → Begins mode octets v rest → (n : List ℕ) → name v ≡ Some n → Begins mode (n ++ more) v more }
+{}

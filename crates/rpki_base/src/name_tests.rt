@@ -1,4 +1,5 @@
 use super::*;
+use bytes::Bytes;
 use rpki_der::{DecodeError, Mode, Writer};
 use std::test::Fail;
 
@@ -18,7 +19,7 @@ fn names_are_read_as_they_stand(rt: HostRuntime) -> Result<(), Fail> {
     ] {
         let name = Name::take(alloc, Mode::Der, octets)?;
         assert_eq!(rt; name.as_slice(), octets);
-        assert!(rt; name == name.clone()?);
+        assert!(rt; name == name.clone(alloc)?);
     }
     Ok(())
 }
@@ -44,11 +45,25 @@ fn a_name_is_made_of_a_key(rt: HostRuntime) -> Result<(), Fail> {
     let alloc = rt.alloc();
     let bits = b"\x00\x00\x00\x00\x00\x00\x00\x01\x00\x00\x00\x00\x00\x00\x00\x00";
     let key = PublicKey::new(alloc, PublicKeyFormat::Rsa, bits)?;
+    assert!(rt; key == key.clone(alloc)?);
     let name = Name::from_pub_key(alloc, &key)?;
     assert_eq!(rt; name.as_slice(), MADE);
     let mut out = Writer::new(alloc);
     name.encode_ref(&mut out)?;
     assert_eq!(rt; out.as_slice(), MADE);
     assert!(rt; Name::take(alloc, Mode::Der, MADE)? == name);
+    Ok(())
+}
+
+#[test]
+fn signed_data_are_cloned_and_a_fault_is_printed(rt: HostRuntime) -> Result<(), Fail> {
+    let alloc = rt.alloc();
+    let value = Bytes::copy_from_slice(alloc, b"\x01\x02")?;
+    let signature = Signature::new(RpkiSignatureAlgorithm::default(), value);
+    let slice = Bytes::copy_from_slice(alloc, b"\x05\x00")?;
+    let data = SignedData::new(slice, signature);
+    assert!(rt; data == data.clone(alloc)?);
+    let text = format!(in alloc; "{}", ToyFault)?;
+    assert_eq!(rt; text.as_str(), "toy fault");
     Ok(())
 }

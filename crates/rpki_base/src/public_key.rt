@@ -57,6 +57,17 @@ impl PublicKey {
         let bits = Bytes::copy_from_slice(alloc, bits)?;
         Ok(PublicKey { format, bits })
     }
+
+    /// An equal key that shares its octets with this one.
+    pub fn clone(&self, _alloc: Global) -> Result<PublicKey, OutOfMemory>
+        ensures { IfOk result (λ k. k ≡ self.now) }
+    {
+        let bits = self.bits.clone()?;
+        Ok(PublicKey {
+            format: self.format,
+            bits,
+        })
+    }
 }
 
 /// # Data access

@@ -1,11 +1,12 @@
 //! Signatures, and the algorithms that make them.
 
-ghost use Rattle.std.specs.Prelude.{◌≡◌, ◌++◌, OnOk, OnErr};
+ghost use Rattle.std.specs.Prelude.{◌≡◌, ◌++◌, IfOk, OnOk, OnErr};
 
 use crate::algorithm::SigningAlgorithm;
 use bytes::Bytes;
 use rpki_common::OutOfMemory;
 use rpki_der::{Mode, Writer};
+use std::alloc::Global;
 use std::marker::Model;
 
 /// A signature algorithm, as certificates, CRLs and requests name it (RFC 5280, 4.1.1.2).
@@ -96,5 +97,16 @@ impl<Alg: SignatureAlgorithm> Signature<Alg> {
         ensures { result.now ≡ self.now.value }
     {
         &self.value
+    }
+
+    /// An equal signature that shares its octets with this one.
+    pub fn clone(&self, _alloc: Global) -> Result<Signature<Alg>, OutOfMemory>
+        ensures { IfOk result (λ s. s ≡ self.now) }
+    {
+        let value = self.value.clone()?;
+        Ok(Signature {
+            algorithm: self.algorithm,
+            value,
+        })
     }
 }

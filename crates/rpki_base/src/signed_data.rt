@@ -1,6 +1,6 @@
 //! Signed data.
 
-ghost use Rattle.std.specs.Prelude.{◌≡◌, ◌↔◌, ◌<◌, ◌++◌, [], ℕ, List, Some, true, IsOk, OnOk, OnErr};
+ghost use Rattle.std.specs.Prelude.{◌≡◌, ◌↔◌, ◌<◌, ◌++◌, [], ℕ, List, Some, true, IsOk, IfOk, OnOk, OnErr};
 ghost use Rattle.rpki_der.specs.declared.mode.Mode.{Mode};
 ghost use Rattle.rpki_der.specs.Value.{Value, Begins};
 ghost use Rattle.rpki_der.specs.Takes.{Takes};
@@ -60,6 +60,17 @@ impl<Alg: SignatureAlgorithm> SignedData<Alg> {
         ensures { result.now ≡ self.now.signature }
     {
         &self.signature
+    }
+}
+
+impl<Alg: SignatureAlgorithm> SignedData<Alg> {
+    /// Equal signed data that share their octets with these.
+    pub fn clone(&self, alloc: Global) -> Result<SignedData<Alg>, OutOfMemory>
+        ensures { IfOk result (λ d. d ≡ self.now) }
+    {
+        let slice = self.slice.clone()?;
+        let signature = self.signature.clone(alloc)?;
+        Ok(SignedData { slice, signature })
     }
 }
 

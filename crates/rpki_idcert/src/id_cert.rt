@@ -1,6 +1,6 @@
 //! Identity certificates.
 
-ghost use Rattle.std.specs.Prelude.{◌≡◌, ◌↔◌, ◌<◌, ◌≤ℤ◌, ◌++◌, IsTrue, IsOk, IfOk, OnOk, OnErr};
+ghost use Rattle.std.specs.Prelude.{◌≡◌, ◌↔◌, ◌<◌, ◌≤ℤ◌, ◌++◌, IsOk, IfOk, OnOk, OnErr};
 ghost use Rattle.rpki_der.specs.declared.mode.Mode.TheVariants.{Der};
 ghost use Rattle.rpki_der.specs.Takes.{Takes, Decodes};
 ghost use Rattle.rpki_der.specs.Ticks.{TakesCounted};
@@ -24,7 +24,7 @@ use std::sync::ledger::{Blank, Ledger};
 /// An identity certificate: the exact octets that are signed with their signature, and what they say (RFC 5280, 4.1).
 ///
 /// In a clause it is these two.
-#[derive(Drop)]
+#[derive(Drop, PartialEq)]
 pub struct IdCert {
     signed: SignedData<RpkiSignatureAlgorithm>,
     tbs: TbsIdCert,
@@ -169,18 +169,6 @@ impl IdCert {
         let signed = self.signed.clone(alloc)?;
         let tbs = self.tbs.clone(alloc)?;
         Ok(IdCert { signed, tbs })
-    }
-}
-
-/// Certificates are equal where what is signed, the algorithm and the octets of the signature are the same.
-impl PartialEq for IdCert {
-    fn eq(&self, other: &IdCert) -> bool
-        ensures { IsTrue result ↔ (self.now.signed ≡ other.now.signed) }
-    {
-        let (signature, other_signature) = (self.signed.signature(), other.signed.signature());
-        self.signed.slice() == other.signed.slice()
-            && signature.algorithm() == other_signature.algorithm()
-            && signature.value() == other_signature.value()
     }
 }
 

@@ -1,13 +1,14 @@
 -- A signed message whose certificate, CRL and signature algorithm are each any SEQUENCE, unread (RFC 5652, 3, 5.1, 5.2 and 5.3).
-use Rattle.std.specs.Prelude.{ℕ, ◌==◌, if◌then◌else◌, Option, None, Some, List, length}
+use Rattle.std.specs.Prelude.{ℕ, Option, List}
 use Rattle.rpki_common.specs.Chaining.{◌>>=◌}
 use Rattle.rpki_der.specs.declared.mode.Mode.{Mode}
 use Rattle.rpki_der.specs.Tags.{sequence, set, context}
 use Rattle.rpki_der.specs.Value.{Value}
-use Rattle.rpki_der.specs.Grammar.{within, first, done, so, wrapped}
+use Rattle.rpki_der.specs.Grammar.{within, first, done, wrapped}
 use Rattle.rpki_der.specs.Integer.{integer_is}
 use Rattle.rpki_der.specs.Oid.{oid_is}
-use Rattle.rpki_der.specs.OctetString.{octet_string, octets_under}
+use Rattle.rpki_der.specs.OctetString.{octet_string}
+use Rattle.rpki_base.specs.KeyIdentifier.{key_identifier_under}
 use Rattle.rpki_sigmsg.specs.Names.{signed_data, xml_content}
 use Rattle.rpki_sigmsg.specs.Algorithm.{digest_algorithm, any_sequence}
 use Rattle.rpki_sigmsg.specs.Attributes.{signed_attributes}
@@ -23,13 +24,6 @@ encapsulated_content mode = within sequence (λ vs. do
   type ← first (oid_is xml_content) vs
   content ← first (wrapped (context 0) (octet_string mode)) type.1
   done content.0 content.1)
-
--- a key identifier under this tag: twenty octets (RFC 5280, 4.2.1.2)
-abbrev pub twenty : List ℕ → Option (List ℕ)
-twenty octets = if length octets == 20 then Some octets else None
-
-unfoldable pub key_identifier_under : List ℕ → Mode → Value → Option (List ℕ)
-key_identifier_under tag mode = so (octets_under tag mode) twenty
 
 -- one signer, of version 3, named by its key identifier: the signed digest (RFC 5652, 5.3)
 unfoldable pub signer_info : Mode → Value → Option (List ℕ)

@@ -1,18 +1,18 @@
 //! The parts of a signed message.
 
 ghost use Rattle.std.specs.Prelude.{◌≡◌, ◌<◌};
-ghost use Rattle.std.specs.Option.{option_map};
 ghost use Rattle.rpki_der.specs.Grammar.{wrapped};
 ghost use Rattle.rpki_der.specs.OctetString.{octet_string};
 ghost use Rattle.rpki_der.specs.Tags.{context, set};
 ghost use Rattle.rpki_der.specs.Ticks.{TakesCounted};
 ghost use Rattle.rpki_sigmsg.specs.Algorithm.{digest_algorithm, any_sequence};
-ghost use Rattle.rpki_sigmsg.specs.Message.{encapsulated_content, twenty, key_identifier_under, signer_info};
+ghost use Rattle.rpki_sigmsg.specs.Message.{encapsulated_content, signer_info};
 
 use crate::algorithm::{pass_digest_algorithm, pass_sequence};
 use crate::attributes::{take_shared_octets, take_signed_attributes};
 use crate::names::CT_XML;
 use bytes::Bytes;
+use rpki_base::KeyIdentifier;
 use rpki_der::{
     Cursor, DecodeError, Steps, Tag, take_integer_if_counted, take_octets_counted,
     take_oid_if_counted,
@@ -87,32 +87,6 @@ pub(crate) fn pass_crls<L: Ledger>(
     Ok(())
 }
 
-// The octets, if they have the length of a key identifier.
-fn key_identifier_octets(octets: Vec<u8>) -> Option<Vec<u8>>
-    ensures { option_map (λ v. v.items) result ≡ twenty octets.items }
-{
-    if octets.len() == 20 {
-        Some(octets)
-    } else {
-        None
-    }
-}
-
-// The key identifier that names the signer.
-fn take_signer_identifier<L: Ledger>(
-    alloc: Global,
-    cursor: &mut Cursor<'_>,
-    steps: &mut Steps<L>,
-) -> Result<Vec<u8>, DecodeError>
-    ensures { TakesCounted 1 (key_identifier_under (context 0) cursor.old.mode) (λ x. x.items) cursor.old cursor.new steps.old steps.new result }
-{
-    let octets = take_octets_counted(alloc, cursor, Tag::CTX_0, steps)?;
-    match key_identifier_octets(octets) {
-        Some(octets) => Ok(octets),
-        None => Err(DecodeError::Malformed),
-    }
-}
-
 fn take_signer_info<L: Ledger>(
     alloc: Global,
     cursor: &mut Cursor<'_>,
@@ -122,7 +96,7 @@ fn take_signer_info<L: Ledger>(
 {
     cursor.enter_counted(Tag::SEQUENCE, steps)?;
     take_integer_if_counted(cursor, 3, steps)?;
-    take_signer_identifier(alloc, cursor, steps)?;
+    KeyIdentifier::take_under_counted(alloc, cursor, Tag::CTX_0, steps)?;
     pass_digest_algorithm(cursor, steps)?;
     let digest = take_signed_attributes(alloc, cursor, steps)?;
     pass_sequence(cursor, steps)?;

@@ -3,7 +3,7 @@ use Rattle.rpki_sigmsg.specs.Message.{signer_info}
 use Rattle.rpki_der.specs.OctetString.{octet_string}
 use Rattle.rpki_der.specs.Tags.{context}
 use Rattle.rpki_sigmsg.specs.Attributes.{signed_attributes}
-use Rattle.rpki_sigmsg.specs.Message.{key_identifier_under}
+use Rattle.rpki_base.specs.KeyIdentifier.{key_identifier_under}
 use Rattle.rpki_der.proofs.Counting.{reads_done, reads_first, refuses_inside, refuses_within, stops_done, stops_first, stops_later, takes_err, takes_within}
 use Rattle.rpki_der.proofs.Modes.{refuses_in, takes_in}
 use Rattle.rpki_sigmsg.proofs.parts.take_signer_info.Goals as goal
@@ -16,30 +16,30 @@ pub returns-in_err-take_integer_if_counted : goal.returns-in_err-take_integer_if
 unfolding signer_info
 returns-in_err-take_integer_if_counted g c = takes_err _ _ _ _ _ _ _ _ _ c.from_residual-in_err-take_integer_if_counted.ensures.1 (refuses_inside _ _ _ _ _ _ _ _ _ _ refl c.in_ok-enter_counted.ensures.place c.in_ok-enter_counted.ensures.ticks (stops_first _ _ _ _ _ _ _ _ refl c.in_err-take_integer_if_counted.ensures))
 
-pub returns-in_err-take_signer_identifier : goal.returns-in_err-take_signer_identifier
+pub returns-in_err-take_under_counted : goal.returns-in_err-take_under_counted
 unfolding signer_info
-returns-in_err-take_signer_identifier g c = takes_err _ _ _ _ _ _ _ _ _ c.from_residual-in_err-take_signer_identifier.ensures.1 (refuses_inside _ _ _ _ _ _ _ _ _ _ refl c.in_ok-enter_counted.ensures.place c.in_ok-enter_counted.ensures.ticks (stops_later _ _ _ _ _ _ _ _ _ _ _ _ refl c.in_ok-take_integer_if_counted.ensures (stops_first _ _ _ _ _ _ _ _ refl (refuses_in _ (key_identifier_under (context 0)) _ _ _ _ _ (c.in_ok-take_integer_if_counted.ensures.mode ∙ c.in_ok-enter_counted.ensures.place.mode) c.in_err-take_signer_identifier.ensures))))
+returns-in_err-take_under_counted g c = takes_err _ _ _ _ _ _ _ _ _ c.from_residual-in_err-take_under_counted.ensures.1 (refuses_inside _ _ _ _ _ _ _ _ _ _ refl c.in_ok-enter_counted.ensures.place c.in_ok-enter_counted.ensures.ticks (stops_later _ _ _ _ _ _ _ _ _ _ _ _ refl c.in_ok-take_integer_if_counted.ensures (stops_first _ _ _ _ _ _ _ _ refl (refuses_in _ (key_identifier_under (context 0)) _ _ _ _ _ (c.in_ok-take_integer_if_counted.ensures.mode ∙ c.in_ok-enter_counted.ensures.place.mode) c.in_err-take_under_counted.ensures))))
 
 pub returns-in_err-pass_digest_algorithm : goal.returns-in_err-pass_digest_algorithm
 unfolding signer_info
-returns-in_err-pass_digest_algorithm g c = takes_err _ _ _ _ _ _ _ _ _ c.from_residual-in_err-pass_digest_algorithm.ensures.1 (refuses_inside _ _ _ _ _ _ _ _ _ _ refl c.in_ok-enter_counted.ensures.place c.in_ok-enter_counted.ensures.ticks (stops_later _ _ _ _ _ _ _ _ _ _ _ _ refl c.in_ok-take_integer_if_counted.ensures (stops_later _ _ _ _ _ _ _ _ _ _ _ _ refl (takes_in _ (key_identifier_under (context 0)) _ _ _ _ _ _ (c.in_ok-take_integer_if_counted.ensures.mode ∙ c.in_ok-enter_counted.ensures.place.mode) c.in_ok-take_signer_identifier.ensures) (stops_first _ _ _ _ _ _ _ _ refl c.in_err-pass_digest_algorithm.ensures))))
+returns-in_err-pass_digest_algorithm g c = takes_err _ _ _ _ _ _ _ _ _ c.from_residual-in_err-pass_digest_algorithm.ensures.1 (refuses_inside _ _ _ _ _ _ _ _ _ _ refl c.in_ok-enter_counted.ensures.place c.in_ok-enter_counted.ensures.ticks (stops_later _ _ _ _ _ _ _ _ _ _ _ _ refl c.in_ok-take_integer_if_counted.ensures (stops_later _ _ _ _ _ _ _ _ _ _ _ _ refl (takes_in _ (key_identifier_under (context 0)) _ _ _ _ _ _ (c.in_ok-take_integer_if_counted.ensures.mode ∙ c.in_ok-enter_counted.ensures.place.mode) c.in_ok-take_under_counted.ensures) (stops_first _ _ _ _ _ _ _ _ refl c.in_err-pass_digest_algorithm.ensures))))
 
 pub returns-in_err-digest : goal.returns-in_err-digest
 unfolding signer_info
-returns-in_err-digest g c = takes_err _ _ _ _ _ _ _ _ _ c.from_residual-in_err-digest.ensures.1 (refuses_inside _ _ _ _ _ _ _ _ _ _ refl c.in_ok-enter_counted.ensures.place c.in_ok-enter_counted.ensures.ticks (stops_later _ _ _ _ _ _ _ _ _ _ _ _ refl c.in_ok-take_integer_if_counted.ensures (stops_later _ _ _ _ _ _ _ _ _ _ _ _ refl (takes_in _ (key_identifier_under (context 0)) _ _ _ _ _ _ (c.in_ok-take_integer_if_counted.ensures.mode ∙ c.in_ok-enter_counted.ensures.place.mode) c.in_ok-take_signer_identifier.ensures) (stops_later _ _ _ _ _ _ _ _ _ _ _ _ refl c.in_ok-pass_digest_algorithm.ensures (stops_first _ _ _ _ _ _ _ _ refl (refuses_in _ signed_attributes _ _ _ _ _ (c.in_ok-pass_digest_algorithm.ensures.mode ∙ c.in_ok-take_signer_identifier.ensures.mode ∙ c.in_ok-take_integer_if_counted.ensures.mode ∙ c.in_ok-enter_counted.ensures.place.mode) c.in_err-digest.ensures))))))
+returns-in_err-digest g c = takes_err _ _ _ _ _ _ _ _ _ c.from_residual-in_err-digest.ensures.1 (refuses_inside _ _ _ _ _ _ _ _ _ _ refl c.in_ok-enter_counted.ensures.place c.in_ok-enter_counted.ensures.ticks (stops_later _ _ _ _ _ _ _ _ _ _ _ _ refl c.in_ok-take_integer_if_counted.ensures (stops_later _ _ _ _ _ _ _ _ _ _ _ _ refl (takes_in _ (key_identifier_under (context 0)) _ _ _ _ _ _ (c.in_ok-take_integer_if_counted.ensures.mode ∙ c.in_ok-enter_counted.ensures.place.mode) c.in_ok-take_under_counted.ensures) (stops_later _ _ _ _ _ _ _ _ _ _ _ _ refl c.in_ok-pass_digest_algorithm.ensures (stops_first _ _ _ _ _ _ _ _ refl (refuses_in _ signed_attributes _ _ _ _ _ (c.in_ok-pass_digest_algorithm.ensures.mode ∙ c.in_ok-take_under_counted.ensures.mode ∙ c.in_ok-take_integer_if_counted.ensures.mode ∙ c.in_ok-enter_counted.ensures.place.mode) c.in_err-digest.ensures))))))
 
 pub returns-in_err-pass_sequence : goal.returns-in_err-pass_sequence
 unfolding signer_info
-returns-in_err-pass_sequence g c = takes_err _ _ _ _ _ _ _ _ _ c.from_residual-in_err-pass_sequence.ensures.1 (refuses_inside _ _ _ _ _ _ _ _ _ _ refl c.in_ok-enter_counted.ensures.place c.in_ok-enter_counted.ensures.ticks (stops_later _ _ _ _ _ _ _ _ _ _ _ _ refl c.in_ok-take_integer_if_counted.ensures (stops_later _ _ _ _ _ _ _ _ _ _ _ _ refl (takes_in _ (key_identifier_under (context 0)) _ _ _ _ _ _ (c.in_ok-take_integer_if_counted.ensures.mode ∙ c.in_ok-enter_counted.ensures.place.mode) c.in_ok-take_signer_identifier.ensures) (stops_later _ _ _ _ _ _ _ _ _ _ _ _ refl c.in_ok-pass_digest_algorithm.ensures (stops_later _ _ _ _ _ _ _ _ _ _ _ _ refl (takes_in _ signed_attributes _ _ _ _ _ _ (c.in_ok-pass_digest_algorithm.ensures.mode ∙ c.in_ok-take_signer_identifier.ensures.mode ∙ c.in_ok-take_integer_if_counted.ensures.mode ∙ c.in_ok-enter_counted.ensures.place.mode) c.in_ok-digest.ensures) (stops_first _ _ _ _ _ _ _ _ refl c.in_err-pass_sequence.ensures))))))
+returns-in_err-pass_sequence g c = takes_err _ _ _ _ _ _ _ _ _ c.from_residual-in_err-pass_sequence.ensures.1 (refuses_inside _ _ _ _ _ _ _ _ _ _ refl c.in_ok-enter_counted.ensures.place c.in_ok-enter_counted.ensures.ticks (stops_later _ _ _ _ _ _ _ _ _ _ _ _ refl c.in_ok-take_integer_if_counted.ensures (stops_later _ _ _ _ _ _ _ _ _ _ _ _ refl (takes_in _ (key_identifier_under (context 0)) _ _ _ _ _ _ (c.in_ok-take_integer_if_counted.ensures.mode ∙ c.in_ok-enter_counted.ensures.place.mode) c.in_ok-take_under_counted.ensures) (stops_later _ _ _ _ _ _ _ _ _ _ _ _ refl c.in_ok-pass_digest_algorithm.ensures (stops_later _ _ _ _ _ _ _ _ _ _ _ _ refl (takes_in _ signed_attributes _ _ _ _ _ _ (c.in_ok-pass_digest_algorithm.ensures.mode ∙ c.in_ok-take_under_counted.ensures.mode ∙ c.in_ok-take_integer_if_counted.ensures.mode ∙ c.in_ok-enter_counted.ensures.place.mode) c.in_ok-digest.ensures) (stops_first _ _ _ _ _ _ _ _ refl c.in_err-pass_sequence.ensures))))))
 
 pub returns-in_err-take_octets_counted : goal.returns-in_err-take_octets_counted
 unfolding signer_info
-returns-in_err-take_octets_counted g c = takes_err _ _ _ _ _ _ _ _ _ c.from_residual-in_err-take_octets_counted.ensures.1 (refuses_inside _ _ _ _ _ _ _ _ _ _ refl c.in_ok-enter_counted.ensures.place c.in_ok-enter_counted.ensures.ticks (stops_later _ _ _ _ _ _ _ _ _ _ _ _ refl c.in_ok-take_integer_if_counted.ensures (stops_later _ _ _ _ _ _ _ _ _ _ _ _ refl (takes_in _ (key_identifier_under (context 0)) _ _ _ _ _ _ (c.in_ok-take_integer_if_counted.ensures.mode ∙ c.in_ok-enter_counted.ensures.place.mode) c.in_ok-take_signer_identifier.ensures) (stops_later _ _ _ _ _ _ _ _ _ _ _ _ refl c.in_ok-pass_digest_algorithm.ensures (stops_later _ _ _ _ _ _ _ _ _ _ _ _ refl (takes_in _ signed_attributes _ _ _ _ _ _ (c.in_ok-pass_digest_algorithm.ensures.mode ∙ c.in_ok-take_signer_identifier.ensures.mode ∙ c.in_ok-take_integer_if_counted.ensures.mode ∙ c.in_ok-enter_counted.ensures.place.mode) c.in_ok-digest.ensures) (stops_later _ _ _ _ _ _ _ _ _ _ _ _ refl c.in_ok-pass_sequence.ensures (stops_first _ _ _ _ _ _ _ _ refl (refuses_in _ octet_string _ _ _ _ _ (c.in_ok-pass_sequence.ensures.mode ∙ c.in_ok-digest.ensures.mode ∙ c.in_ok-pass_digest_algorithm.ensures.mode ∙ c.in_ok-take_signer_identifier.ensures.mode ∙ c.in_ok-take_integer_if_counted.ensures.mode ∙ c.in_ok-enter_counted.ensures.place.mode) c.in_err-take_octets_counted.ensures))))))))
+returns-in_err-take_octets_counted g c = takes_err _ _ _ _ _ _ _ _ _ c.from_residual-in_err-take_octets_counted.ensures.1 (refuses_inside _ _ _ _ _ _ _ _ _ _ refl c.in_ok-enter_counted.ensures.place c.in_ok-enter_counted.ensures.ticks (stops_later _ _ _ _ _ _ _ _ _ _ _ _ refl c.in_ok-take_integer_if_counted.ensures (stops_later _ _ _ _ _ _ _ _ _ _ _ _ refl (takes_in _ (key_identifier_under (context 0)) _ _ _ _ _ _ (c.in_ok-take_integer_if_counted.ensures.mode ∙ c.in_ok-enter_counted.ensures.place.mode) c.in_ok-take_under_counted.ensures) (stops_later _ _ _ _ _ _ _ _ _ _ _ _ refl c.in_ok-pass_digest_algorithm.ensures (stops_later _ _ _ _ _ _ _ _ _ _ _ _ refl (takes_in _ signed_attributes _ _ _ _ _ _ (c.in_ok-pass_digest_algorithm.ensures.mode ∙ c.in_ok-take_under_counted.ensures.mode ∙ c.in_ok-take_integer_if_counted.ensures.mode ∙ c.in_ok-enter_counted.ensures.place.mode) c.in_ok-digest.ensures) (stops_later _ _ _ _ _ _ _ _ _ _ _ _ refl c.in_ok-pass_sequence.ensures (stops_first _ _ _ _ _ _ _ _ refl (refuses_in _ octet_string _ _ _ _ _ (c.in_ok-pass_sequence.ensures.mode ∙ c.in_ok-digest.ensures.mode ∙ c.in_ok-pass_digest_algorithm.ensures.mode ∙ c.in_ok-take_under_counted.ensures.mode ∙ c.in_ok-take_integer_if_counted.ensures.mode ∙ c.in_ok-enter_counted.ensures.place.mode) c.in_err-take_octets_counted.ensures))))))))
 
 pub returns-in_err-leave_counted : goal.returns-in_err-leave_counted
 unfolding signer_info
-returns-in_err-leave_counted g c = takes_err _ _ _ _ _ _ _ _ _ c.from_residual-in_err-leave_counted.ensures.1 (refuses_inside _ _ _ _ _ _ _ _ _ _ refl c.in_ok-enter_counted.ensures.place c.in_ok-enter_counted.ensures.ticks (stops_later _ _ _ _ _ _ _ _ _ _ _ _ refl c.in_ok-take_integer_if_counted.ensures (stops_later _ _ _ _ _ _ _ _ _ _ _ _ refl (takes_in _ (key_identifier_under (context 0)) _ _ _ _ _ _ (c.in_ok-take_integer_if_counted.ensures.mode ∙ c.in_ok-enter_counted.ensures.place.mode) c.in_ok-take_signer_identifier.ensures) (stops_later _ _ _ _ _ _ _ _ _ _ _ _ refl c.in_ok-pass_digest_algorithm.ensures (stops_later _ _ _ _ _ _ _ _ _ _ _ _ refl (takes_in _ signed_attributes _ _ _ _ _ _ (c.in_ok-pass_digest_algorithm.ensures.mode ∙ c.in_ok-take_signer_identifier.ensures.mode ∙ c.in_ok-take_integer_if_counted.ensures.mode ∙ c.in_ok-enter_counted.ensures.place.mode) c.in_ok-digest.ensures) (stops_later _ _ _ _ _ _ _ _ _ _ _ _ refl c.in_ok-pass_sequence.ensures (stops_later _ _ _ _ _ _ _ _ _ _ _ _ refl (takes_in _ octet_string _ _ _ _ _ _ (c.in_ok-pass_sequence.ensures.mode ∙ c.in_ok-digest.ensures.mode ∙ c.in_ok-pass_digest_algorithm.ensures.mode ∙ c.in_ok-take_signer_identifier.ensures.mode ∙ c.in_ok-take_integer_if_counted.ensures.mode ∙ c.in_ok-enter_counted.ensures.place.mode) c.in_ok-take_octets_counted.ensures) (stops_done _ _ _ _ _ _ c.in_err-leave_counted.ensures.place c.in_err-leave_counted.ensures.refused))))))))
+returns-in_err-leave_counted g c = takes_err _ _ _ _ _ _ _ _ _ c.from_residual-in_err-leave_counted.ensures.1 (refuses_inside _ _ _ _ _ _ _ _ _ _ refl c.in_ok-enter_counted.ensures.place c.in_ok-enter_counted.ensures.ticks (stops_later _ _ _ _ _ _ _ _ _ _ _ _ refl c.in_ok-take_integer_if_counted.ensures (stops_later _ _ _ _ _ _ _ _ _ _ _ _ refl (takes_in _ (key_identifier_under (context 0)) _ _ _ _ _ _ (c.in_ok-take_integer_if_counted.ensures.mode ∙ c.in_ok-enter_counted.ensures.place.mode) c.in_ok-take_under_counted.ensures) (stops_later _ _ _ _ _ _ _ _ _ _ _ _ refl c.in_ok-pass_digest_algorithm.ensures (stops_later _ _ _ _ _ _ _ _ _ _ _ _ refl (takes_in _ signed_attributes _ _ _ _ _ _ (c.in_ok-pass_digest_algorithm.ensures.mode ∙ c.in_ok-take_under_counted.ensures.mode ∙ c.in_ok-take_integer_if_counted.ensures.mode ∙ c.in_ok-enter_counted.ensures.place.mode) c.in_ok-digest.ensures) (stops_later _ _ _ _ _ _ _ _ _ _ _ _ refl c.in_ok-pass_sequence.ensures (stops_later _ _ _ _ _ _ _ _ _ _ _ _ refl (takes_in _ octet_string _ _ _ _ _ _ (c.in_ok-pass_sequence.ensures.mode ∙ c.in_ok-digest.ensures.mode ∙ c.in_ok-pass_digest_algorithm.ensures.mode ∙ c.in_ok-take_under_counted.ensures.mode ∙ c.in_ok-take_integer_if_counted.ensures.mode ∙ c.in_ok-enter_counted.ensures.place.mode) c.in_ok-take_octets_counted.ensures) (stops_done _ _ _ _ _ _ c.in_err-leave_counted.ensures.place c.in_err-leave_counted.ensures.refused))))))))
 
 pub returns : goal.returns
 unfolding signer_info
-returns g c = takes_within _ _ _ _ _ _ _ _ _ _ _ refl c.in_ok-enter_counted.ensures.place c.in_ok-enter_counted.ensures.ticks (reads_first _ _ _ _ _ _ _ _ _ _ _ _ _ refl c.in_ok-take_integer_if_counted.ensures (reads_first _ _ _ _ _ _ _ _ _ _ _ _ _ refl (takes_in _ (key_identifier_under (context 0)) _ _ _ _ _ _ (c.in_ok-take_integer_if_counted.ensures.mode ∙ c.in_ok-enter_counted.ensures.place.mode) c.in_ok-take_signer_identifier.ensures) (reads_first _ _ _ _ _ _ _ _ _ _ _ _ _ refl c.in_ok-pass_digest_algorithm.ensures (reads_first _ _ _ _ _ _ _ _ _ _ _ _ _ refl (takes_in _ signed_attributes _ _ _ _ _ _ (c.in_ok-pass_digest_algorithm.ensures.mode ∙ c.in_ok-take_signer_identifier.ensures.mode ∙ c.in_ok-take_integer_if_counted.ensures.mode ∙ c.in_ok-enter_counted.ensures.place.mode) c.in_ok-digest.ensures) (reads_first _ _ _ _ _ _ _ _ _ _ _ _ _ refl c.in_ok-pass_sequence.ensures (reads_first _ _ _ _ _ _ _ _ _ _ _ _ _ refl (takes_in _ octet_string _ _ _ _ _ _ (c.in_ok-pass_sequence.ensures.mode ∙ c.in_ok-digest.ensures.mode ∙ c.in_ok-pass_digest_algorithm.ensures.mode ∙ c.in_ok-take_signer_identifier.ensures.mode ∙ c.in_ok-take_integer_if_counted.ensures.mode ∙ c.in_ok-enter_counted.ensures.place.mode) c.in_ok-take_octets_counted.ensures) (reads_done _ _ _ _ _ _ refl c.in_ok-leave_counted.ensures.place c.in_ok-leave_counted.ensures.ticks)))))))
+returns g c = takes_within _ _ _ _ _ _ _ _ _ _ _ refl c.in_ok-enter_counted.ensures.place c.in_ok-enter_counted.ensures.ticks (reads_first _ _ _ _ _ _ _ _ _ _ _ _ _ refl c.in_ok-take_integer_if_counted.ensures (reads_first _ _ _ _ _ _ _ _ _ _ _ _ _ refl (takes_in _ (key_identifier_under (context 0)) _ _ _ _ _ _ (c.in_ok-take_integer_if_counted.ensures.mode ∙ c.in_ok-enter_counted.ensures.place.mode) c.in_ok-take_under_counted.ensures) (reads_first _ _ _ _ _ _ _ _ _ _ _ _ _ refl c.in_ok-pass_digest_algorithm.ensures (reads_first _ _ _ _ _ _ _ _ _ _ _ _ _ refl (takes_in _ signed_attributes _ _ _ _ _ _ (c.in_ok-pass_digest_algorithm.ensures.mode ∙ c.in_ok-take_under_counted.ensures.mode ∙ c.in_ok-take_integer_if_counted.ensures.mode ∙ c.in_ok-enter_counted.ensures.place.mode) c.in_ok-digest.ensures) (reads_first _ _ _ _ _ _ _ _ _ _ _ _ _ refl c.in_ok-pass_sequence.ensures (reads_first _ _ _ _ _ _ _ _ _ _ _ _ _ refl (takes_in _ octet_string _ _ _ _ _ _ (c.in_ok-pass_sequence.ensures.mode ∙ c.in_ok-digest.ensures.mode ∙ c.in_ok-pass_digest_algorithm.ensures.mode ∙ c.in_ok-take_under_counted.ensures.mode ∙ c.in_ok-take_integer_if_counted.ensures.mode ∙ c.in_ok-enter_counted.ensures.place.mode) c.in_ok-take_octets_counted.ensures) (reads_done _ _ _ _ _ _ refl c.in_ok-leave_counted.ensures.place c.in_ok-leave_counted.ensures.ticks)))))))

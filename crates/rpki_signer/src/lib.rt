@@ -1,0 +1,11 @@
+//! A signature scheme without any security, which stands in where no real one is handed in.
+//!
+//! [`ToyScheme`] says which signatures hold: the SHA-256 of the key's bits and the message. [`ToyVerifier`] answers that.
+#![tactic(auto)]
+
+mod toy;
+
+pub use toy::{ToyScheme, ToyVerifier};
+
+#[cfg(test)]
+mod tests;
