@@ -13,3 +13,6 @@ mod validation;
 pub use id_cert::IdCert;
 pub use tbs::TbsIdCert;
 pub use validation::{ValidationError, ValidationKind};
+
+#[cfg(test)]
+mod tests;
