@@ -1,6 +1,6 @@
 //! Identity certificates.
 
-ghost use Rattle.std.specs.Prelude.{◌≡◌, ◌↔◌, ◌<◌, ◌≤ℤ◌, ◌++◌, IsOk, IfOk, OnOk, OnErr};
+ghost use Rattle.std.specs.Prelude.{◌≡◌, ◌↔◌, ◌<◌, ◌≤ℤ◌, ◌++◌, IsTrue, IsOk, IfOk, OnOk, OnErr};
 ghost use Rattle.rpki_der.specs.declared.mode.Mode.TheVariants.{Der};
 ghost use Rattle.rpki_der.specs.Takes.{Takes, Decodes};
 ghost use Rattle.rpki_der.specs.Ticks.{TakesCounted};
@@ -135,18 +135,29 @@ impl IdCert {
 
 /// # Encoding
 impl IdCert {
-    /// Appends the certificate in DER, with the octets that are signed as they are. After a refusal nothing is appended.
+    // Whether length octets can say how long the certificate is.
+    fn can_be_spelled(&self) -> bool
+        ensures { IsTrue result → CanBeSpelled spelled_x509 self.now.signed }
+    {
+        let most = 1 << 30;
+        self.signed.slice().as_slice().len() < most
+            && self.signed.signature().value().as_slice().len() < most
+    }
+
+    /// Appends the certificate in DER, with the octets that are signed as they are. After a refusal nothing is appended; a
+    /// certificate of 2^30 octets or more is refused as want of memory.
     pub fn encode_ref(&self, alloc: Global, out: &mut Writer) -> Result<(), OutOfMemory>
-        requires { CanBeSpelled spelled_x509 self.now.signed }
         ensures ok { OnOk result (out.new ≡ out.old ++ spelled_data spelled_x509 self.now.signed) }
         ensures err { OnErr result (out.new ≡ out.old) }
     {
+        if !self.can_be_spelled() {
+            return Err(OutOfMemory);
+        }
         self.signed.encode_ref(alloc, out)
     }
 
     /// What `encode_ref` appends, by itself.
     pub fn to_captured(&self, alloc: Global) -> Result<Captured, OutOfMemory>
-        requires { CanBeSpelled spelled_x509 self.now.signed }
         ensures { IfOk result (λ c. c ≡ spelled_data spelled_x509 self.now.signed) }
     {
         let mut out = Writer::new(alloc);
@@ -156,7 +167,6 @@ impl IdCert {
 
     /// The same as shared octets.
     pub fn to_bytes(&self, alloc: Global) -> Result<Bytes, OutOfMemory>
-        requires { CanBeSpelled spelled_x509 self.now.signed }
         ensures { IfOk result (λ b. b ≡ spelled_data spelled_x509 self.now.signed) }
     {
         Ok(self.to_captured(alloc)?.into_bytes())

@@ -14,3 +14,6 @@ mod validation;
 pub use id_cert::IdCert;
 pub use tbs::TbsIdCert;
 pub use validation::{ValidationError, ValidationKind, first_false_decides};
+
+#[cfg(test)]
+mod tests;

@@ -1,6 +1,6 @@
 //! Writing what is signed of an identity certificate.
 
-ghost use Rattle.std.specs.Prelude.{◌≡◌, ◌+◌, ◌^◌, ◌<◌, ◌++◌, length, OnOk, OnErr};
+ghost use Rattle.std.specs.Prelude.{◌≡◌, ◌+◌, ◌^◌, ◌<◌, ◌++◌, length, IsTrue, OnOk, OnErr};
 ghost use Rattle.rpki_der.specs.Tags.{sequence, context};
 ghost use Rattle.rpki_der.specs.Writing.{der_constructed};
 ghost use Rattle.rpki_idcert.specs.Spelling as spec;
@@ -99,6 +99,16 @@ fn write_authority_key(
     )
 }
 
+// Whether a key identifier, if it is there, is short.
+fn is_short(identifier: Option<KeyIdentifier>) -> bool
+    ensures { IsTrue result → spec.size_of identifier < 2 ^ 28 }
+{
+    match identifier {
+        None => true,
+        Some(identifier) => identifier.as_slice().len() < 1 << 28,
+    }
+}
+
 // Appends a validity.
 fn write_validity(alloc: Global, validity: Validity, out: &mut Writer) -> Result<(), OutOfMemory>
     ensures ok { OnOk result (out.new ≡ out.old ++ spec.spelled_validity validity) }
@@ -148,13 +158,29 @@ impl TbsIdCert {
         self.write_tagged_extensions(alloc, out)
     }
 
+    // Whether length octets can say how long the fields are.
+    fn can_be_spelled(&self) -> bool
+        ensures { IsTrue result → spec.CanBeSpelled self.now }
+    {
+        let most = 1 << 28;
+        self.serial_number().as_slice().len() < most
+            && self.issuer().as_slice().len() < most
+            && self.subject().as_slice().len() < most
+            && self.public_key().bits_bytes().as_slice().len() < most
+            && self.subject_key_identifier().as_slice().len() < most
+            && is_short(self.authority_key_id())
+    }
+
     /// Appends what is held, in DER: basicConstraints where cA is there, critical in both cases; the key identifier of the
-    /// subject; that of the issuer where it is there. Whatever else was read isn't written. After a refusal nothing is appended.
+    /// subject; that of the issuer where it is there. Whatever else was read isn't written. After a refusal nothing is appended;
+    /// names or a key of 2^28 octets or more are refused as want of memory.
     pub fn encode_ref(&self, alloc: Global, out: &mut Writer) -> Result<(), OutOfMemory>
-        requires short { spec.CanBeSpelled self.now }
         ensures ok { OnOk result (out.new ≡ out.old ++ spec.spelled_tbs self.now) }
         ensures err { OnErr result (out.new ≡ out.old) }
     {
+        if !self.can_be_spelled() {
+            return Err(OutOfMemory);
+        }
         let mut fields = Writer::new(alloc);
         self.write_fields(alloc, &mut fields)?;
         out.constructed(Tag::SEQUENCE, &fields)
