@@ -1,0 +1,5 @@
+pub mod Fields
+pub mod Giving
+pub mod Gathering
+pub mod Sizes
+pub mod Checking

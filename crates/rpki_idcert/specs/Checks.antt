@@ -1,0 +1,92 @@
+-- Checks in their order, and the first that fails; those of identity certificates (RFC 5280, 6.1.3; RFC 6492, 3.1.2; RFC 8183, 5).
+use Rattle.std.specs.Prelude.{◌≡◌, ◌↔◌, ℕ, ◌+◌, All, length, ℤ, int_le, Bool, true, false, ◌&&◌, ◌||◌, ◌==◌, nat_le, if◌then◌else◌, not, is_some, bytes_eq, Decides, Option, None, Some, Result, Ok, Err, List, [], ◌∷◌, ◌++◌}
+use Rattle.sha1.specs.Sha1.{sha1}
+use Rattle.rpki_base.specs.PublicKey.{KeyFields}
+use Rattle.rpki_base.specs.declared.algorithm.SigningAlgorithm.{SigningAlgorithm}
+use Rattle.rpki_base.specs.declared.algorithm.SigningAlgorithm.TheVariants.{RsaSha256}
+use Rattle.rpki_base.specs.Validity.{ValidityFields}
+use Rattle.rpki_idcert.specs.TbsIdCert.{TbsFields}
+use Rattle.rpki_idcert.specs.IdCert.{CertificateFields}
+use Rattle.rpki_idcert.specs.declared.validation.ValidationKind.{ValidationKind}
+use Rattle.rpki_idcert.specs.declared.validation.ValidationKind.TheVariants.{Inspection, Verification}
+use Rattle.rpki_idcert.specs.declared.validation.ValidationError.{ValidationError}
+
+-- the first false value, if any is, by its number; the first of the list has number n
+abbrev pub first_failure : ℕ → List Bool → Result (Unit {0}) ℕ
+first_failure n [] = Ok tt
+first_failure n (true ∷ more) = first_failure (n + 1) more
+first_failure n (false ∷ more) = Err n
+
+-- all values before this place are true, and it holds false
+pub record FirstFalse (n k : ℕ) (list : List Bool) : Type 0 where
+  pub before : List Bool
+  pub after : List Bool
+  pub parts : list ≡ before ++ false ∷ after
+  pub holds : All (λ b. b ≡ true) before
+  pub place : k ≡ n + length before
+
+-- the answer to a failing check is its number and its kind
+abbrev pub failing : (ℕ → ValidationKind) → Result (Unit {0}) ℕ → Result (Unit {0}) ValidationError
+failing kind (Ok u) = Ok u
+failing kind (Err n) = Err (record { kind = kind n; check = n })
+
+-- ---- what is asked of a certificate
+
+-- the subject's key identifier is that of its key
+abbrev pub has_own_identifier : TbsFields → Bool
+has_own_identifier c = bytes_eq c.subject_key_id (sha1 c.key.bits)
+
+-- the moment lies in the validity, both ends in
+abbrev pub is_within : ValidityFields → ℤ → Bool
+is_within v when = int_le v.not_before when && int_le when v.not_after
+
+-- an authority key identifier, if it is there, is that of the issuer's key
+abbrev pub names_issuer : Option (List ℕ) → KeyFields → Bool
+names_issuer None issuer = true
+names_issuer (Some id) issuer = bytes_eq id (sha1 issuer.bits)
+
+abbrev pub is_true : Option Bool → Bool
+is_true None = false
+is_true (Some b) = b
+
+-- an authority key identifier is there, and is the subject's
+abbrev pub is_itself : Option (List ℕ) → List ℕ → Bool
+is_itself None subject = false
+is_itself (Some id) subject = bytes_eq id subject
+
+abbrev pub names_itself : TbsFields → Bool
+names_itself c = is_itself c.authority_key_id c.subject_key_id
+
+-- the question to the scheme: whether the certificate's signature holds under a key
+abbrev pub IsSigned : (SigningAlgorithm → KeyFields → List ℕ → List ℕ → Type 0) → CertificateFields → KeyFields → Type 0
+IsSigned scheme c key = scheme RsaSha256 key c.signed.slice c.signed.signature.value
+
+-- ---- an end entity's certificate, under the issuer's key; q: it is signed under that
+
+abbrev pub ee_checks : CertificateFields → KeyFields → ℤ → Bool → List Bool
+ee_checks c issuer when q =
+    has_own_identifier c.tbs
+    ∷ is_within c.tbs.validity when
+    ∷ names_issuer c.tbs.authority_key_id issuer
+    ∷ not (is_true c.tbs.basic_ca)
+    ∷ q
+    ∷ []
+
+-- the first is an inspection
+abbrev pub ee_kind : ℕ → ValidationKind
+ee_kind n = if n == 1 then Inspection else Verification
+
+-- ---- a trust anchor's certificate; q: it is signed under its own key, which is asked where it names itself as its issuer
+
+abbrev pub ta_checks : CertificateFields → ℤ → Bool → List Bool
+ta_checks c when q =
+    has_own_identifier c.tbs
+    ∷ is_some c.tbs.basic_ca
+    ∷ is_true c.tbs.basic_ca
+    ∷ is_within c.tbs.validity when
+    ∷ (not (names_itself c.tbs) || q)
+    ∷ []
+
+-- the first three are inspections
+abbrev pub ta_kind : ℕ → ValidationKind
+ta_kind n = if nat_le n 3 then Inspection else Verification

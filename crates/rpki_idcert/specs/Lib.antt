@@ -1,0 +1,6 @@
+pub mod Extensions
+pub mod Shown
+pub mod TbsIdCert
+pub mod IdCert
+pub mod Spelling
+pub mod Checks

@@ -1,0 +1,59 @@
+-- How the fields of an identity certificate are written in DER (RFC 5280, 4.1.2; X.690, 10 and 11).
+use Rattle.std.specs.Prelude.{ℕ, ◌+◌, ◌^◌, ◌<◌, Bool, true, false, Option, None, Some, List, [], ◌∷◌, ◌++◌, length}
+use Rattle.rpki_der.specs.Tags.{sequence, context, oid_tag, boolean_tag, integer_tag, octet_string_tag}
+use Rattle.rpki_der.specs.Writing.{der_primitive, der_constructed}
+use Rattle.rpki_base.specs.Names as names
+use Rattle.rpki_base.specs.PublicKey.{spelled_key}
+use Rattle.rpki_base.specs.RpkiSignatureAlgorithm.{spelled_x509}
+use Rattle.rpki_base.specs.Serial.{der_serial}
+use Rattle.rpki_base.specs.TimeText.{der_time}
+use Rattle.rpki_base.specs.Validity.{ValidityFields}
+use Rattle.rpki_idcert.specs.TbsIdCert.{TbsFields}
+
+-- an extension; the flag is written only where it is true
+abbrev pub critical_flag : Bool → List ℕ
+critical_flag true = der_primitive boolean_tag (255 ∷ [])
+critical_flag false = []
+
+abbrev pub spelled_extension : List ℕ → Bool → List ℕ → List ℕ
+spelled_extension identifier critical value = der_constructed sequence (der_primitive oid_tag identifier ++ (critical_flag critical ++ der_primitive octet_string_tag value))
+
+-- basicConstraints, critical: a SEQUENCE of TRUE, or an empty one
+abbrev pub authority_flag : Bool → List ℕ
+authority_flag ca = der_constructed sequence (critical_flag ca)
+
+abbrev pub spelled_constraints : Option Bool → List ℕ
+spelled_constraints None = []
+spelled_constraints (Some ca) = spelled_extension names.basic_constraints true (authority_flag ca)
+
+abbrev pub spelled_subject_key : List ℕ → List ℕ
+spelled_subject_key identifier = spelled_extension names.subject_key_identifier false (der_primitive octet_string_tag identifier)
+
+abbrev pub spelled_authority_key : Option (List ℕ) → List ℕ
+spelled_authority_key None = []
+spelled_authority_key (Some identifier) = spelled_extension names.authority_key_identifier false (der_constructed sequence (der_primitive (context 0) identifier))
+
+abbrev pub spelled_extensions : TbsFields → List ℕ
+spelled_extensions t = spelled_constraints t.basic_ca ++ (spelled_subject_key t.subject_key_id ++ spelled_authority_key t.authority_key_id)
+
+abbrev pub spelled_validity : ValidityFields → List ℕ
+spelled_validity v = der_constructed sequence (der_time v.not_before ++ der_time v.not_after)
+
+abbrev pub spelled_version : List ℕ
+spelled_version = der_constructed (context 0) (der_primitive integer_tag (2 ∷ []))
+
+-- the fields in their order; the names as they are held
+abbrev pub spelled_fields : TbsFields → List ℕ
+spelled_fields t =
+    spelled_version ++ (der_serial t.serial ++ (spelled_x509 t.algorithm ++ (t.issuer ++ (spelled_validity t.validity ++ (t.subject ++ (spelled_key t.key ++ der_constructed (context 3) (der_constructed sequence (spelled_extensions t))))))))
+
+abbrev pub spelled_tbs : TbsFields → List ℕ
+spelled_tbs t = der_constructed sequence (spelled_fields t)
+
+abbrev pub size_of : Option (List ℕ) → ℕ
+size_of None = 0
+size_of (Some octets) = length octets
+
+-- the fields have a spelling, since length octets can say how long they are
+abbrev pub CanBeSpelled : TbsFields → Type 0
+CanBeSpelled t = length t.serial + length t.issuer + length t.subject + length t.key.bits + length t.subject_key_id + size_of t.authority_key_id + 1024 < 2 ^ 32

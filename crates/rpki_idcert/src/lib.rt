@@ -1,0 +1,19 @@
+//! Identity certificates: those by which CAs, publication servers and their clients know each other (RFC 6492, 4; RFC 8181, 2;
+//! RFC 8183, 5), in the profile of RFC 5280.
+//!
+//! - [`IdCert`] is a certificate: it is decoded in DER or BER, and keeps the exact octets that are signed.
+//! - [`TbsIdCert`] is what they say.
+#![tactic(auto)]
+
+mod extensions;
+mod id_cert;
+mod spelling;
+mod tbs;
+mod validation;
+
+pub use id_cert::IdCert;
+pub use tbs::TbsIdCert;
+pub use validation::{ValidationError, ValidationKind, first_false_decides};
+
+#[cfg(test)]
+mod tests;

@@ -1,0 +1,226 @@
+//! What is signed of an identity certificate.
+
+ghost use Rattle.std.specs.Prelude.{◌≡◌, ◌<◌, IfOk};
+ghost use Rattle.rpki_der.specs.Takes.{Takes};
+ghost use Rattle.rpki_der.specs.Held.{with_octets};
+ghost use Rattle.rpki_der.specs.Ticks.{TakesCounted};
+ghost use Rattle.rpki_idcert.specs.TbsIdCert.{version, tbs_certificate};
+
+use crate::extensions::take_extensions;
+use rpki_base::{
+    KeyIdentifier, Name, PublicKey, RpkiSignatureAlgorithm, Serial, Validity, take_algorithm,
+};
+use rpki_der::{Cursor, DecodeError, OutOfMemory, Steps, Tag, take_integer_if_counted};
+use std::alloc::Global;
+use std::marker::{Brand, Model};
+use std::sync::ledger::{Blank, Ledger};
+
+/// What is signed of an identity certificate (RFC 5280, 4.1.2).
+///
+/// In a clause it is the record of its fields.
+#[derive(Drop, PartialEq, Eq)]
+pub struct TbsIdCert {
+    serial: Serial,
+    algorithm: RpkiSignatureAlgorithm,
+    issuer: Name,
+    validity: Validity,
+    subject: Name,
+    key: PublicKey,
+    basic_ca: Option<bool>,
+    subject_key_id: KeyIdentifier,
+    authority_key_id: Option<KeyIdentifier>,
+}
+
+impl Model for TbsIdCert {
+    ghost use Rattle.rpki_idcert.specs.TbsIdCert.{TbsFields};
+
+    ghost Value = { TbsFields };
+
+    ghost view = { λ t. record { serial = t.serial; algorithm = t.algorithm; issuer = t.issuer; validity = t.validity; subject = t.subject; key = t.key; basic_ca = t.basic_ca; subject_key_id = t.subject_key_id; authority_key_id = t.authority_key_id } };
+
+    ghost inverse = { λ t. record { serial = t.serial; algorithm = t.algorithm; issuer = t.issuer; validity = t.validity; subject = t.subject; key = t.key; basic_ca = t.basic_ca; subject_key_id = t.subject_key_id; authority_key_id = t.authority_key_id } };
+}
+
+/// # Data access
+impl TbsIdCert {
+    /// The serial number.
+    pub fn serial_number(&self) -> Serial
+        ensures { result ≡ self.now.serial }
+    {
+        self.serial
+    }
+
+    /// The algorithm that the certificate names inside what is signed.
+    pub fn algorithm(&self) -> RpkiSignatureAlgorithm
+        ensures { result ≡ self.now.algorithm }
+    {
+        self.algorithm
+    }
+
+    /// The name of the issuer.
+    pub fn issuer(&self) -> &Name
+        ensures { result.now ≡ self.now.issuer }
+    {
+        &self.issuer
+    }
+
+    /// The time in which the certificate is valid.
+    pub fn validity(&self) -> Validity
+        ensures { result ≡ self.now.validity }
+    {
+        self.validity
+    }
+
+    /// The name of the subject.
+    pub fn subject(&self) -> &Name
+        ensures { result.now ≡ self.now.subject }
+    {
+        &self.subject
+    }
+
+    /// The key of the subject.
+    pub fn public_key(&self) -> &PublicKey
+        ensures { result.now ≡ self.now.key }
+    {
+        &self.key
+    }
+
+    /// The key of the subject, under the name that RFC 5280, 4.1.2.7, gives it.
+    pub fn subject_public_key_info(&self) -> &PublicKey
+        ensures { result.now ≡ self.now.key }
+    {
+        &self.key
+    }
+
+    /// What basicConstraints say of whether the subject is an authority (RFC 5280, 4.2.1.9); None where they aren't there.
+    pub fn basic_ca(&self) -> Option<bool>
+        ensures { result ≡ self.now.basic_ca }
+    {
+        self.basic_ca
+    }
+
+    /// The key identifier of the subject (RFC 5280, 4.2.1.2).
+    pub fn subject_key_identifier(&self) -> KeyIdentifier
+        ensures { result ≡ self.now.subject_key_id }
+    {
+        self.subject_key_id
+    }
+
+    /// The same as `subject_key_identifier`.
+    pub fn subject_key_id(&self) -> KeyIdentifier
+        ensures { result ≡ self.now.subject_key_id }
+    {
+        self.subject_key_id
+    }
+
+    /// The key identifier of the issuer (RFC 5280, 4.2.1.1), if the last authorityKeyIdentifier has one.
+    pub fn authority_key_id(&self) -> Option<KeyIdentifier>
+        ensures { result ≡ self.now.authority_key_id }
+    {
+        self.authority_key_id
+    }
+}
+
+impl TbsIdCert {
+    /// Equal fields that share their octets with these.
+    pub fn clone(&self, alloc: Global) -> Result<TbsIdCert, OutOfMemory>
+        ensures { IfOk result (λ t. t ≡ self.now) }
+    {
+        let issuer = self.issuer.clone(alloc)?;
+        let subject = self.subject.clone(alloc)?;
+        let key = self.key.clone(alloc)?;
+        Ok(TbsIdCert {
+            serial: self.serial,
+            algorithm: self.algorithm,
+            issuer,
+            validity: self.validity,
+            subject,
+            key,
+            basic_ca: self.basic_ca,
+            subject_key_id: self.subject_key_id,
+            authority_key_id: self.authority_key_id,
+        })
+    }
+}
+
+// Passes the version.
+fn take_version<L: Ledger>(cursor: &mut Cursor<'_>, steps: &mut Steps<L>) -> Result<(), DecodeError>
+    ensures { TakesCounted 1 version (λ x. x) cursor.old cursor.new steps.old steps.new result }
+{
+    cursor.enter_counted(Tag::CTX_0, steps)?;
+    take_integer_if_counted(cursor, 2, steps)?;
+    cursor.leave_counted(steps)?;
+    Ok(())
+}
+
+/// # Decoding
+impl TbsIdCert {
+    /// What stands next. It ticks once for each header and each end mark that it reads.
+    pub fn take_from_counted<L: Ledger>(
+        alloc: Global,
+        cursor: &mut Cursor<'_>,
+        steps: &mut Steps<L>,
+    ) -> Result<TbsIdCert, DecodeError>
+        ensures { TakesCounted 2 (tbs_certificate cursor.old.mode) (λ x. x) cursor.old cursor.new steps.old steps.new result }
+    {
+        cursor.enter_counted(Tag::SEQUENCE, steps)?;
+        take_version(cursor, steps)?;
+        let serial = Serial::take_from_counted(cursor, steps)?;
+        let algorithm = take_algorithm::<RpkiSignatureAlgorithm, L>(cursor, steps)?;
+        let issuer = Name::take_from_counted(alloc, cursor, steps)?;
+        let validity = Validity::take_from_counted(cursor, steps)?;
+        let subject = Name::take_from_counted(alloc, cursor, steps)?;
+        let key = PublicKey::take_from_counted(alloc, cursor, steps)?;
+        let known = take_extensions(alloc, cursor, steps)?;
+        cursor.leave_counted(steps)?;
+        let (subject_key_id, basic_ca, authority_key_id) = known.parts();
+        Ok(TbsIdCert {
+            serial,
+            algorithm,
+            issuer,
+            validity,
+            subject,
+            key,
+            basic_ca,
+            subject_key_id,
+            authority_key_id,
+        })
+    }
+}
+
+impl TbsIdCert {
+    fn take_from_within<L: Ledger>(
+        alloc: Global,
+        cursor: &mut Cursor<'_>,
+        blank: Blank,
+    ) -> Result<TbsIdCert, DecodeError>
+        requires name { blank.name ≡ L.name }
+        requires parts { blank.parts ≡ L.parts }
+        requires some { 0 < blank.parts }
+        ensures { Takes (tbs_certificate cursor.old.mode) (λ x. x) cursor.old cursor.new result }
+    {
+        let mut steps = Steps::<L>::new(blank);
+        TbsIdCert::take_from_counted(alloc, cursor, &mut steps)
+    }
+
+    /// What stands next.
+    pub fn take_from(alloc: Global, cursor: &mut Cursor<'_>) -> Result<TbsIdCert, DecodeError>
+        ensures { Takes (tbs_certificate cursor.old.mode) (λ x. x) cursor.old cursor.new result }
+    {
+        TbsIdCert::take_from_within::<Brand>(alloc, cursor, Blank::new(1))
+    }
+}
+
+/// The octets of what stands next, and what they say.
+pub(crate) fn take_held<'a, L: Ledger>(
+    alloc: Global,
+    cursor: &mut Cursor<'a>,
+    steps: &mut Steps<L>,
+) -> Result<(&'a [u8], TbsIdCert), DecodeError>
+    ensures { TakesCounted 2 (with_octets (tbs_certificate cursor.old.mode)) (λ x. (x.0.now, x.1)) cursor.old cursor.new steps.old steps.new result }
+{
+    let start = cursor.here();
+    let tbs = TbsIdCert::take_from_counted(alloc, cursor, steps)?;
+    let octets = cursor.since(start);
+    Ok((octets, tbs))
+}

@@ -1,0 +1,199 @@
+//! Whether an identity certificate may be believed.
+
+ghost use Rattle.std.specs.Prelude.{◌≡◌, ◌∷◌, ◌++◌, [], ℕ, List, Bool, true, not, ◌||◌, All, Decides, Ok, Err, Some, codes};
+ghost use Rattle.std.specs.Fmt.{decimal};
+ghost use Rattle.sha1.specs.Sha1.{sha1};
+ghost use Rattle.rpki_idcert.specs.Checks as spec;
+
+use crate::id_cert::IdCert;
+use crate::tbs::TbsIdCert;
+use rpki_base::{PublicKey, Scheme, Time, Verifier};
+use std::fmt;
+
+/// What a check looks at.
+#[derive(Clone, Copy, Debug, PartialEq, Eq)]
+pub enum ValidationKind {
+    /// What a certificate says of itself.
+    Inspection,
+    /// What it says of a key or a moment.
+    Verification,
+}
+
+/// The first check of a call's list that fails, by its number from 1, and its kind. It prints as `check n failed`.
+#[derive(Clone, Copy, Debug, PartialEq, Eq)]
+pub struct ValidationError {
+    /// What the check looks at.
+    pub kind: ValidationKind,
+    /// Its number.
+    pub check: u8,
+}
+
+impl fmt::Display for ValidationError {
+    ghost output = { λ e. Some (codes "check " ++ (decimal e.check ++ codes " failed")) };
+
+    fn fmt<W: fmt::Write>(&self, f: &mut fmt::Formatter<W>) -> fmt::Result {
+        write!(f, "check {} failed", self.check)
+    }
+}
+
+// Fails with the number where the check doesn't hold.
+fn require(number: u8, holds: bool) -> Result<(), u8>
+    ensures { result ≡ spec.first_failure number (holds ∷ []) }
+{
+    if holds { Ok(()) } else { Err(number) }
+}
+
+fn ee_kind(check: u8) -> ValidationKind
+    ensures { result ≡ spec.ee_kind check }
+{
+    match check {
+        1 => ValidationKind::Inspection,
+        _ => ValidationKind::Verification,
+    }
+}
+
+fn ta_kind(check: u8) -> ValidationKind
+    ensures { result ≡ spec.ta_kind check }
+{
+    if check <= 3 {
+        ValidationKind::Inspection
+    } else {
+        ValidationKind::Verification
+    }
+}
+
+impl TbsIdCert {
+    fn has_own_identifier(&self) -> bool
+        ensures { result ≡ spec.has_own_identifier self.now }
+    {
+        self.subject_key_identifier().as_slice() == self.public_key().key_identifier().as_slice()
+    }
+
+    fn is_within(&self, when: Time) -> bool
+        ensures { result ≡ spec.is_within self.now.validity when }
+    {
+        let validity = self.validity();
+        validity.not_before() <= when && when <= validity.not_after()
+    }
+
+    fn names_issuer(&self, issuer_key: &PublicKey) -> bool
+        ensures { result ≡ spec.names_issuer self.now.authority_key_id issuer_key.now }
+    {
+        match self.authority_key_id() {
+            Some(identifier) => identifier.as_slice() == issuer_key.key_identifier().as_slice(),
+            None => true,
+        }
+    }
+
+    fn is_ca(&self) -> bool
+        ensures { result ≡ spec.is_true self.now.basic_ca }
+    {
+        match self.basic_ca() {
+            Some(ca) => ca,
+            None => false,
+        }
+    }
+
+    fn names_itself(&self) -> bool
+        ensures { result ≡ spec.names_itself self.now }
+    {
+        match self.authority_key_id() {
+            Some(identifier) => identifier.as_slice() == self.subject_key_identifier().as_slice(),
+            None => false,
+        }
+    }
+}
+
+/// # Validation
+impl IdCert {
+    // Whether the signature holds under a key.
+    fn is_signed<P: Scheme, V: Verifier<P>>(&self, verifier: &V, key: &PublicKey) -> bool
+        ensures { Decides result (spec.IsSigned P.checks self.now key.now) }
+    {
+        self.signed_data().verify_signature(verifier, key).is_ok()
+    }
+
+    fn ee_failure<P: Scheme, V: Verifier<P>>(
+        &self,
+        verifier: &V,
+        issuer_key: &PublicKey,
+        when: Time,
+    ) -> Result<(), u8>
+        ensures { (q : Bool) → Decides q (spec.IsSigned P.checks self.now issuer_key.now) → result ≡ spec.first_failure 1 (spec.ee_checks self.now issuer_key.now when q) }
+    {
+        require(1, self.tbs().has_own_identifier())?;
+        require(2, self.tbs().is_within(when))?;
+        require(3, self.tbs().names_issuer(issuer_key))?;
+        require(4, !self.tbs().is_ca())?;
+        require(5, self.is_signed(verifier, issuer_key))
+    }
+
+    /// Whether this is an end entity's certificate that the key issued for the moment; if not, the first of these checks that
+    /// fails: (1) the subject's key identifier is that of its key, (2) the moment lies in the validity, both ends in, (3) the
+    /// authority key identifier, if it is there, is that of the issuer's key, (4) cA isn't true, (5) the signature holds under
+    /// the issuer's key. The first is an inspection, the others are verifications. It takes no memory.
+    pub fn validate_ee_at<P: Scheme, V: Verifier<P>>(
+        &self,
+        verifier: &V,
+        issuer_key: &PublicKey,
+        when: Time,
+    ) -> Result<(), ValidationError>
+        ensures { (q : Bool) → Decides q (spec.IsSigned P.checks self.now issuer_key.now) → result ≡ spec.failing spec.ee_kind (spec.first_failure 1 (spec.ee_checks self.now issuer_key.now when q)) }
+    {
+        match self.ee_failure(verifier, issuer_key, when) {
+            Ok(()) => Ok(()),
+            Err(check) => Err(ValidationError {
+                kind: ee_kind(check),
+                check,
+            }),
+        }
+    }
+
+    // Whether the signature holds under its own key, where the certificate names itself as its issuer.
+    fn is_own<P: Scheme, V: Verifier<P>>(&self, verifier: &V) -> bool
+        ensures { (q : Bool) → Decides q (spec.IsSigned P.checks self.now self.now.tbs.key) → result ≡ (not (spec.names_itself self.now.tbs) || q) }
+    {
+        if self.tbs().names_itself() {
+            self.is_signed(verifier, self.tbs().public_key())
+        } else {
+            true
+        }
+    }
+
+    fn ta_failure<P: Scheme, V: Verifier<P>>(&self, verifier: &V, when: Time) -> Result<(), u8>
+        ensures { (q : Bool) → Decides q (spec.IsSigned P.checks self.now self.now.tbs.key) → result ≡ spec.first_failure 1 (spec.ta_checks self.now when q) }
+    {
+        require(1, self.tbs().has_own_identifier())?;
+        require(2, self.tbs().basic_ca().is_some())?;
+        require(3, self.tbs().is_ca())?;
+        require(4, self.tbs().is_within(when))?;
+        require(5, self.is_own(verifier))
+    }
+
+    /// Whether this is a trust anchor's certificate at the moment; if not, the first of these checks that fails: (1) the subject's
+    /// key identifier is that of its key, (2) cA is there, (3) cA is true, (4) the moment lies in the validity, both ends in,
+    /// (5) where the authority key identifier is there and is the subject's, the signature holds under the certificate's own
+    /// key. The first three are inspections, the others are verifications. It takes no memory.
+    pub fn validate_ta_at<P: Scheme, V: Verifier<P>>(
+        &self,
+        verifier: &V,
+        when: Time,
+    ) -> Result<(), ValidationError>
+        ensures { (q : Bool) → Decides q (spec.IsSigned P.checks self.now self.now.tbs.key) → result ≡ spec.failing spec.ta_kind (spec.first_failure 1 (spec.ta_checks self.now when q)) }
+    {
+        match self.ta_failure(verifier, when) {
+            Ok(()) => Ok(()),
+            Err(check) => Err(ValidationError {
+                kind: ta_kind(check),
+                check,
+            }),
+        }
+    }
+}
+
+/// A list of checks passes exactly where all its values are true, and fails at the first false one.
+pub fn first_false_decides()
+    ensures passes { (n : ℕ) (list : List Bool) → All (λ b. b ≡ true) list → spec.first_failure n list ≡ Ok tt }
+    ensures fails { (n k : ℕ) (list : List Bool) → spec.first_failure n list ≡ Err k → spec.FirstFalse n k list }
+    ensures first { (n k : ℕ) (list : List Bool) → spec.FirstFalse n k list → spec.first_failure n list ≡ Err k }
+{}
