@@ -12,5 +12,4 @@ pub mod SignedDataLemmas
 pub mod Identifiers
 pub mod Equality
 pub mod MadeNames
-pub mod Booleans
 pub mod Extensions

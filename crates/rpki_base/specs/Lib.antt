@@ -20,4 +20,3 @@ pub mod BgpsecSignatureAlgorithm
 pub mod WritingLaws
 pub mod AlgorithmLaws
 pub mod Extension
-pub mod OptionalBoolean

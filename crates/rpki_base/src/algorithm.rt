@@ -26,9 +26,10 @@ impl SigningAlgorithm {
     pub fn public_key_format(self) -> PublicKeyFormat
         ensures { result ≡ format_of self }
     {
-        match self {
-            SigningAlgorithm::RsaSha256 => PublicKeyFormat::Rsa,
-            SigningAlgorithm::EcdsaP256Sha256 => PublicKeyFormat::EcdsaP256,
+        if self == Self::RsaSha256 {
+            PublicKeyFormat::Rsa
+        } else {
+            PublicKeyFormat::EcdsaP256
         }
     }
 }

@@ -4,8 +4,10 @@ ghost use Rattle.std.specs.Prelude.{◌≡◌, ◌+◌, ◌≤◌, length, IfOk}
 ghost use Rattle.rpki_der.specs.Ticks.{TakesCounted, left};
 ghost use Rattle.rpki_base.specs.Extension.{extension};
 
-use crate::optional::take_opt_boolean_counted;
-use rpki_der::{Cursor, DecodeError, Steps, Tag, take_octets_counted, take_oid_counted};
+use rpki_der::{
+    Cursor, DecodeError, Steps, Tag, take_octets_counted, take_oid_counted,
+    take_opt_boolean_counted,
+};
 use std::alloc::Global;
 use std::marker::Model;
 use std::sync::ledger::Ledger;

@@ -2,29 +2,18 @@
 
 ghost use Rattle.std.specs.Prelude.{◌≡◌};
 ghost use Rattle.std.specs.Option.{option_copied, option_map};
-ghost use Rattle.rpki_der.specs.Oid.{subidentifiers};
 ghost use Rattle.rpki_der.specs.Whole.{whole_of};
 ghost use Rattle.rpki_base.specs.AlgorithmIdentifier.{algorithm_identifier};
 ghost use Rattle.rpki_base.specs.Leaves.{oid_contents, oid_leaf, null_without_octets, null_contents, null_leaf};
 
-use rpki_der::{Leaf, Mode, Tag, take_whole_pair};
-
-// The octets, if they are the contents of an object identifier.
-fn lawful_contents(octets: &[u8]) -> Option<&[u8]>
-    ensures { option_copied result ≡ subidentifiers octets.now }
-{
-    match octets {
-        [.., last] if *last < 0x80 => Some(octets),
-        _ => None,
-    }
-}
+use rpki_der::{Leaf, Mode, Tag, lawful_oid_contents, take_whole_pair};
 
 // The contents of the value, if it is an object identifier.
 fn oid_contents(tag: Tag, content: &[u8]) -> Option<&[u8]>
     ensures { option_copied result ≡ oid_contents tag content.now }
 {
     if tag.as_slice() == Tag::OID.as_slice() {
-        lawful_contents(content)
+        lawful_oid_contents(content)
     } else {
         None
     }

@@ -17,7 +17,6 @@ mod key_identifier;
 mod law;
 mod name;
 mod names;
-mod optional;
 mod public_key;
 mod rfc3339;
 mod rpki_algorithm;
@@ -40,7 +39,6 @@ pub use names::{
     AUTHORITY_KEY_IDENTIFIER, BASIC_CONSTRAINTS, CRL_NUMBER, EXTENDED_KEY_USAGE, KEY_USAGE,
     SUBJECT_KEY_IDENTIFIER,
 };
-pub use optional::take_opt_boolean_counted;
 pub use public_key::{PublicKey, written_key_is_taken};
 pub use rpki_algorithm::{RpkiSignatureAlgorithm, RsaIdentifier, written_algorithm_is_taken};
 pub use scheme::{Scheme, Verifier};

@@ -14,6 +14,7 @@ pub mod Modes
 pub mod Leftovers
 pub mod Items
 pub mod Nulls
+pub mod Booleans
 pub mod Strict
 pub mod Nodes
 pub mod Growing
@@ -23,6 +24,7 @@ pub mod Numbers
 pub mod Wholes
 pub mod Holding
 pub mod Insides
+pub mod Giving
 pub mod Dotted
 pub mod Flats
 pub mod Depths

@@ -6,7 +6,7 @@ use Rattle.rpki_der.specs.Value.{Value, Values}
 use Rattle.rpki_der.specs.Position.{Position}
 use Rattle.rpki_der.specs.Takes.{Takes, Decodes}
 use Rattle.rpki_der.proofs.Reading.{decodes}
-use Rattle.rpki_der.specs.Ticks.{CountedOne, CountedRefuses, CountedReads, CountedStops, TakesCounted, TakesRestCounted}
+use Rattle.rpki_der.specs.Ticks.{CountedOne, CountedRefuses, CountedFields, CountedRefusesFields, CountedReads, CountedStops, TakesCounted, TakesRestCounted}
 
 pub takes_in : {X : Type 0} (c : ℕ) (grammar : Mode → Value → Option X) (mode : Mode) (p q : Position) (b a : ℕ) (x : X) → p.mode ≡ mode → CountedOne c (grammar p.mode) p q b a x → CountedOne c (grammar mode) p q b a x
 takes_in c grammar mode p q b a x e t = subst (λ (m : Mode). CountedOne c (grammar m) p q b a x) e t
@@ -19,6 +19,14 @@ reads_in c k fields mode p q b a x e r = subst (λ (m : Mode). CountedReads c k 
 
 pub stops_in : {X : Type 0} (c k : ℕ) (fields : Mode → Values → Option X) (mode : Mode) (p : Position) (b a : ℕ) (error : DecodeError) → p.mode ≡ mode → CountedStops c k (fields p.mode) p b a error → CountedStops c k (fields mode) p b a error
 stops_in c k fields mode p b a error e n = subst (λ (m : Mode). CountedStops c k (fields m) p b a error) e n
+
+-- ---- fields that are not one value
+
+pub part_in : {X : Type 0} (c k : ℕ) (fields : Mode → Values → Option (X × Values)) (mode : Mode) (p q : Position) (b a : ℕ) (x : X) → p.mode ≡ mode → CountedFields c k (fields p.mode) p q b a x → CountedFields c k (fields mode) p q b a x
+part_in c k fields mode p q b a x e t = subst (λ (m : Mode). CountedFields c k (fields m) p q b a x) e t
+
+pub refuses_part_in : {X : Type 0} (c k : ℕ) (fields : Mode → Values → Option (X × Values)) (mode : Mode) (p : Position) (b a : ℕ) (error : DecodeError) → p.mode ≡ mode → CountedRefusesFields c k (fields p.mode) p b a error → CountedRefusesFields c k (fields mode) p b a error
+refuses_part_in c k fields mode p b a error e n = subst (λ (m : Mode). CountedRefusesFields c k (fields m) p b a error) e n
 
 -- ---- the same of a whole answer
 

@@ -27,6 +27,7 @@ pub mod Entries
 pub mod Growth
 pub mod Writing
 pub mod Boolean
+pub mod OptionalBoolean
 pub mod Number
 pub mod Bits
 pub mod Whole

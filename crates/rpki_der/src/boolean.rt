@@ -2,11 +2,15 @@
 
 ghost use Rattle.std.specs.Prelude.{◌≡◌, ◌<◌};
 ghost use Rattle.rpki_der.specs.Takes.{Takes};
-ghost use Rattle.rpki_der.specs.Ticks.{TakesCounted};
+ghost use Rattle.rpki_der.specs.Ticks.{TakesCounted, TakesPartCounted};
+ghost use Rattle.rpki_der.specs.Grammar.{optional};
+ghost use Rattle.rpki_der.specs.Tags.{boolean_tag};
+ghost use Rattle.rpki_der.specs.OptionalBoolean.{boolean_shown};
 ghost use Rattle.rpki_der.specs.Boolean as spec;
 
 use crate::cursor::Cursor;
 use crate::error::DecodeError;
+use crate::item::Item;
 use crate::mode::Mode;
 use crate::steps::Steps;
 use crate::tag::Tag;
@@ -57,4 +61,33 @@ pub fn take_boolean(cursor: &mut Cursor<'_>) -> Result<bool, DecodeError>
     ensures { Takes (spec.boolean cursor.old.mode) (λ x. x) cursor.old cursor.new result }
 {
     take_boolean_within::<Brand>(cursor, Blank::new(1))
+}
+
+// What a value with the tag of BOOLEAN says, if it is one.
+fn shown(mode: Mode, item: &Item<'_>) -> Option<bool>
+    ensures { result ≡ boolean_shown mode item.now }
+{
+    if item.constructed {
+        None
+    } else {
+        truth(mode, item.content)
+    }
+}
+
+/// The BOOLEAN that stands next (X.690, 8.2), which is then passed; None where no value with its tag does. A value with its
+/// tag that isn't a BOOLEAN is malformed. It ticks once at least where it reads a header.
+pub fn take_opt_boolean_counted<L: Ledger>(
+    cursor: &mut Cursor<'_>,
+    steps: &mut Steps<L>,
+) -> Result<Option<bool>, DecodeError>
+    ensures { TakesPartCounted 1 1 (optional boolean_tag (spec.boolean cursor.old.mode)) (λ x. x) cursor.old cursor.new steps.old steps.new result }
+{
+    let mode = cursor.mode();
+    match cursor.take_opt_if_counted(Tag::BOOLEAN, steps)? {
+        None => Ok(None),
+        Some(item) => match shown(mode, &item) {
+            Some(value) => Ok(Some(value)),
+            None => Err(DecodeError::Malformed),
+        },
+    }
 }

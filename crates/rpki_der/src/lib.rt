@@ -36,7 +36,7 @@ mod walk;
 mod writer;
 
 pub use bits::{take_bits, take_bits_counted};
-pub use boolean::{take_boolean, take_boolean_counted};
+pub use boolean::{take_boolean, take_boolean_counted, take_opt_boolean_counted};
 pub use cursor::Cursor;
 pub use error::DecodeError;
 pub use flat::{Leaf, take_whole_pair, take_whole_primitive};
@@ -53,7 +53,9 @@ pub use mode::Mode;
 pub use null::{take_opt_null, take_opt_null_counted};
 pub use number::{take_integer, take_integer_counted, take_u64, take_u64_counted};
 pub use octets::{take_octets, take_octets_counted};
-pub use oid::{take_oid, take_oid_counted, take_oid_if, take_oid_if_counted};
+pub use oid::{
+    lawful_oid_contents, take_oid, take_oid_counted, take_oid_if, take_oid_if_counted,
+};
 pub use rest::{pass_rest, pass_rest_counted};
 pub use rpki_common::OutOfMemory;
 pub use steps::Steps;

@@ -14,8 +14,8 @@ use crate::tag::Tag;
 use std::marker::Brand;
 use std::sync::ledger::{Blank, Ledger};
 
-// The octets, if they are the contents of an object identifier.
-fn lawful_contents(octets: &[u8]) -> Option<&[u8]>
+/// The octets, if they are the contents of an object identifier (X.690, 8.19): not empty, with bit 8 of the last one clear.
+pub fn lawful_oid_contents(octets: &[u8]) -> Option<&[u8]>
     ensures { option_copied result ≡ subidentifiers octets.now }
 {
     match octets {
@@ -39,7 +39,7 @@ pub fn take_oid_counted<'a, L: Ledger>(
     ensures { TakesCounted 1 oid (λ x. x.now) cursor.old cursor.new steps.old steps.new result }
 {
     let octets = cursor.take_primitive_counted(Tag::OID, steps)?;
-    match lawful_contents(octets) {
+    match lawful_oid_contents(octets) {
         Some(octets) => Ok(octets),
         None => Err(DecodeError::Malformed),
     }

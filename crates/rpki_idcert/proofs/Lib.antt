@@ -1,5 +1,4 @@
 pub mod Fields
-pub mod Giving
 pub mod Gathering
 pub mod Sizes
 pub mod Checking

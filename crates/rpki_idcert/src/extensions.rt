@@ -13,9 +13,12 @@ ghost use Rattle.rpki_idcert.specs.Shown.{key_shown};
 
 use rpki_base::{
     AUTHORITY_KEY_IDENTIFIER, BASIC_CONSTRAINTS, Extension, KeyIdentifier, SUBJECT_KEY_IDENTIFIER,
-    take_extension_counted, take_opt_boolean_counted,
+    take_extension_counted,
 };
-use rpki_der::{Cursor, DecodeError, Item, Mode, Steps, Tag, pass_rest_counted, take_u64_counted};
+use rpki_der::{
+    Cursor, DecodeError, Item, Mode, Steps, Tag, pass_rest_counted, take_opt_boolean_counted,
+    take_u64_counted,
+};
 use std::alloc::Global;
 use std::marker::Model;
 use std::sync::ledger::Ledger;

@@ -7,7 +7,7 @@ use Rattle.rpki_der.specs.Grammar.{optional}
 use Rattle.rpki_der.specs.Tags.{boolean_tag}
 use Rattle.rpki_der.specs.Boolean.{boolean}
 use Rattle.rpki_base.proofs.Extensions.{held_within}
-use Rattle.rpki_base.proofs.Booleans.{part_in, refuses_part_in}
+use Rattle.rpki_der.proofs.Modes.{part_in, refuses_part_in}
 use Rattle.rpki_base.proofs.extension.take_extension_counted.Goals as goal
 
 pub returns-in_err-enter_counted-clause-value : goal.returns-in_err-enter_counted-clause-value

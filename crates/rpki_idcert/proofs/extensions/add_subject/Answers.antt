@@ -1,7 +1,7 @@
 use Rattle.std.proofs.Common.{sym}
 use Rattle.rpki_base.specs.KeyIdentifier.{key_identifier}
 use Rattle.rpki_der.proofs.Insides.{gives_counted_err}
-use Rattle.rpki_idcert.proofs.Giving.{refuses_second, given_once, lacks_once, in_der_ok, in_der_err}
+use Rattle.rpki_der.proofs.Giving.{refuses_second, given_once, lacks_once, in_der_ok, in_der_err}
 use Rattle.rpki_idcert.proofs.extensions.add_subject.Goals as goal
 
 pub returns-then-is_some : goal.returns-then-is_some

@@ -4,7 +4,7 @@ use Rattle.rpki_der.specs.Tags.{boolean_tag}
 use Rattle.rpki_der.specs.Boolean.{boolean}
 use Rattle.rpki_der.proofs.Counting.{takes_err, refuses_within, refuses_inside, takes_within, reads_part, stops_part, stops_behind}
 use Rattle.rpki_der.proofs.Leftovers.{reads_bind, stops_bind}
-use Rattle.rpki_base.proofs.Booleans.{part_in, refuses_part_in}
+use Rattle.rpki_der.proofs.Modes.{part_in, refuses_part_in}
 use Rattle.rpki_idcert.specs.Extensions.{basic_constraints}
 use Rattle.rpki_idcert.proofs.extensions.take_basic_constraints.Goals as goal
 

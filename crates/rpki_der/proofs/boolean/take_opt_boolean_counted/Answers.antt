@@ -1,9 +1,9 @@
 use Rattle.std.proofs.Common.{◌≡◌, None, Some, sym, ap, ◌∙◌}
 use Rattle.rpki_der.proofs.Counting.{takes_part_err}
 use Rattle.rpki_der.proofs.Items.{takes_optional_absent, takes_optional, refuses_converted, refuses_optional_field}
-use Rattle.rpki_base.specs.OptionalBoolean.{boolean_shown}
-use Rattle.rpki_base.proofs.Booleans.{boolean_converts}
-use Rattle.rpki_base.proofs.optional.take_opt_boolean_counted.Goals as goal
+use Rattle.rpki_der.specs.OptionalBoolean.{boolean_shown}
+use Rattle.rpki_der.proofs.Booleans.{boolean_converts}
+use Rattle.rpki_der.proofs.boolean.take_opt_boolean_counted.Goals as goal
 
 pub returns-in_err-take_opt_if_counted : goal.returns-in_err-take_opt_if_counted
 returns-in_err-take_opt_if_counted g c = takes_part_err _ _ _ _ _ _ _ _ _ _ c.from_residual.ensures.1 (refuses_optional_field _ _ _ _ _ _ _ c.in_err-take_opt_if_counted.ensures.value)
