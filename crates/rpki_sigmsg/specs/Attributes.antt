@@ -1,17 +1,26 @@
--- Signed attributes (RFC 5652, 5.3, 11.1 and 11.2).
-use Rattle.std.specs.Prelude.{ℕ, filter, Option, List}
+-- Signed attributes (RFC 5652, 5.3 and 11.1 to 11.3; RFC 6019).
+use Rattle.std.specs.Prelude.{ℕ, ℤ, filter, Option, Some, List}
 use Rattle.rpki_common.specs.Chaining.{◌>>=◌}
-use Rattle.rpki_common.specs.Items.{the_one}
+use Rattle.rpki_common.specs.Items.{the_one, at_most_one}
 use Rattle.rpki_common.specs.Collecting.{slot, both}
 use Rattle.rpki_der.specs.declared.mode.Mode.{Mode}
-use Rattle.rpki_der.specs.Tags.{context, sequence}
+use Rattle.rpki_der.specs.Tags.{context, sequence, set}
 use Rattle.rpki_der.specs.Value.{Value, Values}
 use Rattle.rpki_der.specs.Grammar.{within, first, every}
+use Rattle.rpki_der.specs.Held.{held}
+use Rattle.rpki_der.specs.Number.{u64}
 use Rattle.rpki_der.specs.Oid.{oid, oid_is}
 use Rattle.rpki_der.specs.OctetString.{octet_string}
 use Rattle.rpki_der.specs.Entry.{entry, is, set_of}
-use Rattle.rpki_sigmsg.specs.Names.{content_type, message_digest, xml_content}
+use Rattle.rpki_der.specs.Writing.{der_constructed}
+use Rattle.rpki_base.specs.Time.{time}
+use Rattle.rpki_sigmsg.specs.Names.{content_type, message_digest, signing_time, binary_signing_time, xml_content}
 use Rattle.rpki_sigmsg.specs.declared.attributes.Found.{Found}
+
+-- the signed digest, and the time of signing, if it is said
+pub record AttributeFields : Type 0 where
+  pub digest : List ℕ
+  pub signing_time : Option ℤ
 
 -- the value of contentType: XML
 unfoldable pub type_in : List ℕ × Values → Option (Unit {0})
@@ -21,27 +30,50 @@ type_in attribute = set_of (oid_is xml_content) attribute.1
 unfoldable pub digest_in : Mode → List ℕ × Values → Option (List ℕ)
 digest_in mode attribute = set_of (octet_string mode) attribute.1
 
--- contentType and messageDigest are there exactly once each; others may be there. They say the signed digest.
-unfoldable pub attributes : Mode → List (List ℕ × Values) → Option (List ℕ)
+-- the value of signingTime
+unfoldable pub time_in : List ℕ × Values → Option ℤ
+time_in attribute = set_of time attribute.1
+
+-- the value of binarySigningTime: seconds since 1970
+unfoldable pub binary_in : List ℕ × Values → Option ℕ
+binary_in attribute = set_of u64 attribute.1
+
+-- contentType and messageDigest are there exactly once each, signingTime and binarySigningTime at most once each; others may be there
+unfoldable pub attributes : Mode → List (List ℕ × Values) → Option AttributeFields
 attributes mode all = do
   type ← the_one type_in (filter (is content_type) all)
-  the_one (digest_in mode) (filter (is message_digest) all)
+  digest ← the_one (digest_in mode) (filter (is message_digest) all)
+  time ← at_most_one time_in (filter (is signing_time) all)
+  binary ← at_most_one binary_in (filter (is binary_signing_time) all)
+  Some (record { digest = digest; signing_time = time })
 
--- [0] with attributes, each a SEQUENCE of an identifier and any values
-unfoldable pub signed_attributes : Mode → Value → Option (List ℕ)
-signed_attributes mode = within (context 0) (λ vs. every entry vs >>= attributes mode)
+-- [0] with attributes, each a SEQUENCE of an identifier and any values: their octets as they stand there, and what they say
+unfoldable pub signed_attributes : Mode → Value → Option (List ℕ × AttributeFields)
+signed_attributes mode = within (context 0) (held (λ vs. every entry vs >>= attributes mode))
 
--- ---- while they are read, the content type and the digest as far as they were found: a means for the loop, tied to the above by
--- proofs/Adding.antt
+-- what the signature of the attributes covers: their octets as they stand, in a SET with a DER length in place of [0] (5.4)
+abbrev pub covered : List ℕ → List ℕ
+covered octets = der_constructed set octets
 
-unfoldable pub add : Mode → Option (Unit {0}) × Option (List ℕ) → List ℕ × Values → Option (Option (Unit {0}) × Option (List ℕ))
-add mode = both (slot (is content_type) type_in) (slot (is message_digest) (digest_in mode))
+-- ---- while they are read, what was found so far: a means for the loop, tied to the above by proofs/Adding.antt
 
-unfoldable pub add_value : Mode → Option (Unit {0}) × Option (List ℕ) → Value → Option (Option (Unit {0}) × Option (List ℕ))
+abbrev pub TimesFound : Type 0
+TimesFound = Option ℤ × Option ℕ
+
+abbrev pub FoundSoFar : Type 0
+FoundSoFar = Option (Unit {0}) × (Option (List ℕ) × TimesFound)
+
+unfoldable pub add_times : TimesFound → List ℕ × Values → Option TimesFound
+add_times = both (slot (is signing_time) time_in) (slot (is binary_signing_time) binary_in)
+
+unfoldable pub add : Mode → FoundSoFar → List ℕ × Values → Option FoundSoFar
+add mode = both (slot (is content_type) type_in) (both (slot (is message_digest) (digest_in mode)) add_times)
+
+unfoldable pub add_value : Mode → FoundSoFar → Value → Option FoundSoFar
 add_value mode found = within sequence (λ vs. first oid vs >>= add mode found)
 
-unfoldable pub complete : Option (Unit {0}) × Option (List ℕ) → Option (List ℕ)
-complete found = found.0 >>= λ type. found.1
+unfoldable pub complete : FoundSoFar → Option AttributeFields
+complete found = found.0 >>= λ type. found.1.0 >>= λ digest. Some (record { digest = digest; signing_time = found.1.1.0 })
 
-abbrev pub shown : Found → Option (Unit {0}) × Option (List ℕ)
-shown f = (f.content_type, f.digest)
+abbrev pub shown : Found → FoundSoFar
+shown f = (f.content_type, (f.digest, (f.times.signing, f.times.binary)))

@@ -1,4 +1,4 @@
 pub mod Names
 pub mod Algorithm
 pub mod Attributes
-pub mod Message
+pub mod Signer

@@ -1,4 +1,5 @@
--- The object identifiers of signed messages, by their contents octets (RFC 5652, 5.1, 11.1 and 11.2; RFC 5754, 2.2; RFC 6492, 3.1.1.3).
+-- The object identifiers of signed messages, by their contents octets (RFC 5652, 5.1 and 11.1 to 11.3;
+-- RFC 5754, 2.2; RFC 6019, 2; RFC 6492, 3.1.1.3).
 use Rattle.std.specs.Prelude.{ℕ, List, [], ◌∷◌}
 
 -- 1.2.840.113549.1.7.2
@@ -12,6 +13,14 @@ content_type = 42 ∷ 134 ∷ 72 ∷ 134 ∷ 247 ∷ 13 ∷ 1 ∷ 9 ∷ 3 ∷ []
 -- 1.2.840.113549.1.9.4
 abbrev pub message_digest : List ℕ
 message_digest = 42 ∷ 134 ∷ 72 ∷ 134 ∷ 247 ∷ 13 ∷ 1 ∷ 9 ∷ 4 ∷ []
+
+-- signingTime, 1.2.840.113549.1.9.5
+abbrev pub signing_time : List ℕ
+signing_time = 42 ∷ 134 ∷ 72 ∷ 134 ∷ 247 ∷ 13 ∷ 1 ∷ 9 ∷ 5 ∷ []
+
+-- binarySigningTime, 1.2.840.113549.1.9.16.2.46
+abbrev pub binary_signing_time : List ℕ
+binary_signing_time = 42 ∷ 134 ∷ 72 ∷ 134 ∷ 247 ∷ 13 ∷ 1 ∷ 9 ∷ 16 ∷ 2 ∷ 46 ∷ []
 
 -- id-ct-xml, 1.2.840.113549.1.9.16.1.28
 abbrev pub xml_content : List ℕ

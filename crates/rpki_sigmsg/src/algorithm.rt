@@ -2,9 +2,10 @@
 
 ghost use Rattle.std.specs.Prelude.{◌≡◌, ◌<◌};
 ghost use Rattle.rpki_der.specs.Ticks.{TakesCounted};
-ghost use Rattle.rpki_sigmsg.specs.Algorithm.{digest_algorithm, any_sequence};
+ghost use Rattle.rpki_sigmsg.specs.Algorithm.{digest_algorithm, signature_algorithm, any_sequence};
 
 use crate::names::SHA256;
+use rpki_base::RpkiSignatureAlgorithm;
 use rpki_der::{
     Cursor, DecodeError, Steps, Tag, pass_rest_counted, take_oid_if_counted, take_opt_null_counted,
 };
@@ -22,6 +23,22 @@ pub(crate) fn pass_digest_algorithm<L: Ledger>(
     take_opt_null_counted(cursor, steps)?;
     cursor.leave_counted(steps)?;
     Ok(())
+}
+
+/// The algorithm of a signer's signature that stands next: rsaEncryption or sha256WithRSAEncryption, with NULL or without
+/// parameters.
+pub(crate) fn take_signature_algorithm<L: Ledger>(
+    cursor: &mut Cursor<'_>,
+    steps: &mut Steps<L>,
+) -> Result<RpkiSignatureAlgorithm, DecodeError>
+    ensures { TakesCounted 1 (signature_algorithm cursor.old.mode) (λ a. a) cursor.old cursor.new steps.old steps.new result }
+{
+    let mode = cursor.mode();
+    let octets = cursor.capture_counted(steps)?;
+    match RpkiSignatureAlgorithm::cms_take_from(mode, octets) {
+        Some(algorithm) => Ok(algorithm),
+        None => Err(DecodeError::Malformed),
+    }
 }
 
 /// Passes any SEQUENCE.

@@ -9,12 +9,6 @@
 
 mod algorithm;
 mod attributes;
-mod message;
 mod names;
-mod parts;
-
-pub use message::SignedMessage;
-pub use rpki_der::{DecodeError, OutOfMemory};
-
-#[cfg(test)]
-mod tests;
+mod octets;
+mod signer;

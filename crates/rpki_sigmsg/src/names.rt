@@ -9,6 +9,12 @@ pub(crate) const CONTENT_TYPE: [u8; 9] = [42, 134, 72, 134, 247, 13, 1, 9, 3];
 /// messageDigest, 1.2.840.113549.1.9.4.
 pub(crate) const MESSAGE_DIGEST: [u8; 9] = [42, 134, 72, 134, 247, 13, 1, 9, 4];
 
+/// signingTime, 1.2.840.113549.1.9.5.
+pub(crate) const SIGNING_TIME: [u8; 9] = [42, 134, 72, 134, 247, 13, 1, 9, 5];
+
+/// binarySigningTime, 1.2.840.113549.1.9.16.2.46.
+pub(crate) const BINARY_SIGNING_TIME: [u8; 11] = [42, 134, 72, 134, 247, 13, 1, 9, 16, 2, 46];
+
 /// id-ct-xml, 1.2.840.113549.1.9.16.1.28.
 pub(crate) const CT_XML: [u8; 11] = [42, 134, 72, 134, 247, 13, 1, 9, 16, 1, 28];
 

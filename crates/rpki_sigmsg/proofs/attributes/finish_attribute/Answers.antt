@@ -3,7 +3,7 @@ use Rattle.std.specs.Prelude.{bytes_eq}
 use Rattle.rpki_sigmsg.specs.Names.{content_type, message_digest}
 use Rattle.rpki_sigmsg.specs.Attributes.{shown}
 use Rattle.rpki_der.proofs.Leftovers.{takes_rest_err, reads_as, stops_as, reads_bind, stops_bind}
-use Rattle.rpki_sigmsg.proofs.Adding.{add_content_type, add_digest, add_other}
+use Rattle.rpki_sigmsg.proofs.Adding.{add_content_type, add_digest, add_times_found}
 use Rattle.rpki_sigmsg.proofs.attributes.finish_attribute.Goals as goal
 
 pub returns-in_err-content_type : goal.returns-in_err-content_type
@@ -26,14 +26,14 @@ returns-in_ok-digest g c =
     let t0 : bytes_eq c.args.kind.now message_digest ≡ true = search rules in
     reads_as _ _ _ _ _ _ _ _ _ (λ vs. add_digest _ (shown c.args.found) _ vs t0) (reads_bind _ _ _ _ _ _ _ _ _ _ c.in_ok-digest.ensures refl)
 
-pub returns-in_err-pass_rest_counted : goal.returns-in_err-pass_rest_counted
-returns-in_err-pass_rest_counted g c =
+pub returns-in_err-times : goal.returns-in_err-times
+returns-in_err-times g c =
     let t0 : bytes_eq c.args.kind.now content_type ≡ false = search rules in
     let t1 : bytes_eq c.args.kind.now message_digest ≡ false = search rules in
-    takes_rest_err _ _ _ _ _ _ _ _ _ _ c.from_residual-in_err-pass_rest_counted.ensures.1 (stops_as _ _ _ _ _ _ _ _ (λ vs. add_other _ (shown c.args.found) _ vs t0 t1) (stops_bind _ _ _ _ _ _ _ _ c.in_err-pass_rest_counted.ensures))
+    takes_rest_err _ _ _ _ _ _ _ _ _ _ c.from_residual-in_err-times.ensures.1 (stops_as _ _ _ _ _ _ _ _ (λ vs. add_times_found _ (shown c.args.found) _ vs t0 t1) (stops_bind _ _ _ _ _ _ _ _ c.in_err-times.ensures))
 
-pub returns-in_ok-pass_rest_counted : goal.returns-in_ok-pass_rest_counted
-returns-in_ok-pass_rest_counted g c =
+pub returns-in_ok-times : goal.returns-in_ok-times
+returns-in_ok-times g c =
     let t0 : bytes_eq c.args.kind.now content_type ≡ false = search rules in
     let t1 : bytes_eq c.args.kind.now message_digest ≡ false = search rules in
-    reads_as _ _ _ _ _ _ _ _ _ (λ vs. add_other _ (shown c.args.found) _ vs t0 t1) (reads_bind _ _ _ _ _ _ _ _ _ _ c.in_ok-pass_rest_counted.ensures refl)
+    reads_as _ _ _ _ _ _ _ _ _ (λ vs. add_times_found _ (shown c.args.found) _ vs t0 t1) (reads_bind _ _ _ _ _ _ _ _ _ _ c.in_ok-times.ensures refl)

@@ -1,7 +1,7 @@
 use Rattle.std.proofs.Common.{sym, subst}
 use Rattle.rpki_der.specs.Ticks.{CountedOne}
 use Rattle.rpki_der.proofs.Counting.{takes_err, refuses_memory}
-use Rattle.rpki_sigmsg.proofs.attributes.take_shared_octets.Goals as goal
+use Rattle.rpki_sigmsg.proofs.octets.take_shared_octets.Goals as goal
 
 pub returns-in_err-octets : goal.returns-in_err-octets
 returns-in_err-octets g c = takes_err _ _ _ _ _ _ _ _ _ c.from_residual.ensures.1 c.in_err-octets.ensures
