@@ -2,3 +2,8 @@ pub mod Names
 pub mod Algorithm
 pub mod Attributes
 pub mod Message
+pub mod Ahead
+pub mod RevokedCertificates
+pub mod CrlExtensions
+pub mod TbsCrl
+pub mod Crl

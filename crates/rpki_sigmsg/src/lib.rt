@@ -9,12 +9,21 @@
 
 mod algorithm;
 mod attributes;
+mod crl;
+mod crl_extensions;
 mod message;
 mod names;
 mod parts;
+mod revoked;
+mod tbs_crl;
 
+pub use crl::SignedMessageCrl;
 pub use message::SignedMessage;
+pub use revoked::{CrlEntry, RevokedCertificates};
 pub use rpki_der::{DecodeError, OutOfMemory};
+pub use tbs_crl::SignedMessageTbsCrl;
 
+#[cfg(test)]
+mod crl_tests;
 #[cfg(test)]
 mod tests;
