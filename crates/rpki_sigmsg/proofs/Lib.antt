@@ -1,1 +1,4 @@
 pub mod Adding
+pub mod Ahead
+pub mod Entries
+pub mod CrlGathering

@@ -2,3 +2,9 @@ pub mod Names
 pub mod Algorithm
 pub mod Attributes
 pub mod Signer
+pub mod Ahead
+pub mod RevokedCertificates
+pub mod CrlExtensions
+pub mod TbsCrl
+pub mod Crl
+pub mod Message

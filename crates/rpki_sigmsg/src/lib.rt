@@ -1,14 +1,33 @@
 //! Signed messages: XML inside signed CMS data (RFC 5652), as RFC 6492 and RFC 8181 profile it.
 //!
-//! [`SignedMessage::decode`] reads a message and gives its content and the digest of it that was signed;
-//! [`SignedMessage::digest_holds`] compares the two. For now the certificate, the CRL and the signer's algorithm are any
-//! SEQUENCE, unread, and nothing says who signed.
+//! - [`SignedMessage`] is a message: it is decoded in DER or BER, and keeps what its signatures cover.
+//! - [`SignedMessageRef`] is a view of one, with the places of its parts in the octets from which it was read.
+//! - [`SignedMessageCrl`] is the CRL that comes with it.
 //!
-//! What a message is stands in specs/Message.antt and specs/Attributes.antt, as grammars over the values of X.690.
+//! What a message is stands in specs/Message.antt, with specs/Attributes.antt, specs/Signer.antt and specs/Crl.antt, as
+//! grammars over the values of X.690.
 #![tactic(auto)]
 
 mod algorithm;
 mod attributes;
+mod content;
+mod crl;
+mod crl_extensions;
+mod message;
 mod names;
 mod octets;
+mod parts;
+mod reference;
+mod revoked;
 mod signer;
+mod tbs_crl;
+
+pub use crl::SignedMessageCrl;
+pub use message::SignedMessage;
+pub use reference::SignedMessageRef;
+pub use revoked::{CrlEntry, RevokedCertificates};
+pub use rpki_der::{DecodeError, OutOfMemory};
+pub use tbs_crl::SignedMessageTbsCrl;
+
+#[cfg(test)]
+mod crl_tests;

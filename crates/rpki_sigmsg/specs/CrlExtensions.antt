@@ -1,0 +1,54 @@
+-- The extensions of a CRL (RFC 5280, 5.2).
+use Rattle.std.specs.Prelude.{ℕ, filter, Option, None, Some, List}
+use Rattle.rpki_common.specs.Chaining.{◌>>=◌}
+use Rattle.rpki_common.specs.Items.{at_most_one}
+use Rattle.rpki_common.specs.Collecting.{slot, both}
+use Rattle.rpki_der.specs.declared.mode.Mode.{Mode}
+use Rattle.rpki_der.specs.declared.mode.Mode.TheVariants.{Der}
+use Rattle.rpki_der.specs.Tags.{sequence, context}
+use Rattle.rpki_der.specs.Value.{Value}
+use Rattle.rpki_der.specs.Grammar.{within, wrapped, every, so}
+use Rattle.rpki_der.specs.InDer.{in_der}
+use Rattle.rpki_base.specs.KeyIdentifier.{key_identifier_under}
+use Rattle.rpki_base.specs.Serial.{serial}
+use Rattle.rpki_base.specs.Names as names
+use Rattle.rpki_base.specs.Extension.{ExtensionFields, extension, is}
+use Rattle.rpki_sigmsg.specs.declared.crl_extensions.Found.{Found}
+
+-- authorityKeyIdentifier (5.2.1): a SEQUENCE of the key identifier alone
+unfoldable pub issuer_key : Mode → Value → Option (List ℕ)
+issuer_key mode = wrapped sequence (key_identifier_under (context 0) mode)
+
+-- What an extension holds is in DER whatever the mode round it: a value stands at its beginning, and the rest is unread.
+unfoldable pub authority_in : ExtensionFields → Option (List ℕ)
+authority_in e = in_der (issuer_key Der) e.value
+
+-- cRLNumber (5.2.3): a number, held as twenty octets
+unfoldable pub number_in : ExtensionFields → Option (List ℕ)
+number_in e = in_der serial e.value
+
+-- the key identifier of the issuer, and the number of the CRL, each if it is there
+abbrev pub KnownExtensions : Type 0
+KnownExtensions = Option (List ℕ) × Option (List ℕ)
+
+-- each of the two is there at most once; others may be there
+unfoldable pub known_extensions : List ExtensionFields → Option KnownExtensions
+known_extensions all = do
+  authority ← at_most_one authority_in (filter (is names.authority_key_identifier) all)
+  number ← at_most_one number_in (filter (is names.crl_number) all)
+  Some (authority, number)
+
+-- a SEQUENCE of extensions
+unfoldable pub extension_list : Mode → Value → Option KnownExtensions
+extension_list mode = within sequence (λ vs. every (extension mode) vs >>= known_extensions)
+
+-- ---- while they are read, what was found so far: a means for the loop, tied to the above by proofs/CrlGathering.antt
+
+unfoldable pub add : KnownExtensions → ExtensionFields → Option KnownExtensions
+add = both (slot (is names.authority_key_identifier) authority_in) (slot (is names.crl_number) number_in)
+
+unfoldable pub add_value : Mode → KnownExtensions → Value → Option KnownExtensions
+add_value mode found = so (extension mode) (add found)
+
+abbrev pub shown : Found → KnownExtensions
+shown f = (f.authority, f.number)

@@ -1,0 +1,99 @@
+-- Signed messages: signed data with one certificate, one CRL and one signer (RFC 5652, 3, 5.1 and 5.2; RFC 6492, 3.1.1; RFC 8181, 2.1).
+use Rattle.std.specs.Prelude.{ℕ, ℤ, Bool, true, false, Option, Some, List}
+use Rattle.rpki_common.specs.Chaining.{◌>>=◌}
+use Rattle.rpki_der.specs.declared.mode.Mode.{Mode}
+use Rattle.rpki_der.specs.declared.mode.Mode.TheVariants.{Ber, Der}
+use Rattle.rpki_der.specs.Tags.{sequence, set, context}
+use Rattle.rpki_der.specs.Value.{Value}
+use Rattle.rpki_der.specs.Grammar.{within, first, done, wrapped, so}
+use Rattle.rpki_der.specs.Held.{with_octets}
+use Rattle.rpki_der.specs.Integer.{integer_is}
+use Rattle.rpki_der.specs.Oid.{oid_is}
+use Rattle.rpki_der.specs.OctetString.{octet_string}
+use Rattle.rpki_base.specs.Signature.{SignatureParts}
+use Rattle.rpki_base.specs.RpkiSignatureAlgorithm.{RpkiAlgorithm}
+use Rattle.rpki_idcert.specs.IdCert.{CertificateFields, identity_certificate}
+use Rattle.rpki_sigmsg.specs.Names.{signed_data, xml_content}
+use Rattle.rpki_sigmsg.specs.Algorithm.{digest_algorithm}
+use Rattle.rpki_sigmsg.specs.Attributes.{covered}
+use Rattle.rpki_sigmsg.specs.Crl.{CrlFields, crl_in_der}
+use Rattle.rpki_sigmsg.specs.Signer.{SignerFields, signer_info}
+
+-- what a message says: its content; the signer's key identifier, the digest and the time that were signed, the octets that the
+-- signature covers, and the signature; the certificate of the signer's key; the CRL
+pub record MessageFields : Type 0 where
+  pub content : List ℕ
+  pub signer : List ℕ
+  pub digest : List ℕ
+  pub signing_time : Option ℤ
+  pub covered : List ℕ
+  pub signature : SignatureParts RpkiAlgorithm
+  pub certificate : CertificateFields
+  pub crl : CrlFields
+
+-- the same, and the octets of five of its parts as they stand in the message: the OCTET STRING of the content, the certificate, the
+-- CRL, the signed attributes without what is round them, and the OCTET STRING of the signature
+pub record ViewFields : Type 0 where
+  pub message : MessageFields
+  pub content_value : List ℕ
+  pub certificate : List ℕ
+  pub crl : List ℕ
+  pub attributes : List ℕ
+  pub signature_value : List ℕ
+
+-- encapsulated XML: the octets of the OCTET STRING, and its joined octets (RFC 5652, 5.2)
+unfoldable pub encapsulated_content : Mode → Value → Option (List ℕ × List ℕ)
+encapsulated_content mode = within sequence (λ vs. do
+  type ← first (oid_is xml_content) vs
+  content ← first (wrapped (context 0) (with_octets (octet_string mode))) type.1
+  done content.0 content.1)
+
+-- the parts of a message as a view of it
+abbrev pub view_of : List ℕ × List ℕ → List ℕ × CertificateFields → List ℕ × CrlFields → SignerFields → ViewFields
+view_of content certificate crl signer = record {
+  message = record {
+    content = content.1;
+    signer = signer.identifier;
+    digest = signer.said.digest;
+    signing_time = signer.said.signing_time;
+    covered = covered signer.attributes;
+    signature = signer.signature;
+    certificate = certificate.1;
+    crl = crl.1;
+  };
+  content_value = content.0;
+  certificate = certificate.0;
+  crl = crl.0;
+  attributes = signer.attributes;
+  signature_value = signer.signature_value;
+}
+
+-- Signed data of version 3 (RFC 5652, 5.1). The CRL is in DER whatever the mode round it.
+unfoldable pub signed_parts : Mode → Value → Option ViewFields
+signed_parts mode = within sequence (λ vs. do
+  version ← first (integer_is 3) vs
+  algorithms ← first (wrapped set digest_algorithm) version.1
+  content ← first (encapsulated_content mode) algorithms.1
+  certificate ← first (wrapped (context 0) (with_octets (identity_certificate mode))) content.1
+  crl ← first (wrapped (context 1) (with_octets crl_in_der)) certificate.1
+  signer ← first (wrapped set (signer_info mode)) crl.1
+  done (view_of content.0 certificate.0 crl.0 signer.0) signer.1)
+
+-- the whole message: content information that holds signed data (RFC 5652, 3)
+unfoldable pub viewed_message : Mode → Value → Option ViewFields
+viewed_message mode = within sequence (λ vs. do
+  type ← first (oid_is signed_data) vs
+  parts ← first (wrapped (context 0) (signed_parts mode)) type.1
+  done parts.0 parts.1)
+
+-- without the octets of the parts
+abbrev pub message_of : ViewFields → Option MessageFields
+message_of view = Some view.message
+
+unfoldable pub signed_message : Mode → Value → Option MessageFields
+signed_message mode = so (viewed_message mode) message_of
+
+-- strictly: in DER; loosely: in BER
+abbrev pub mode_of : Bool → Mode
+mode_of true = Der
+mode_of false = Ber
