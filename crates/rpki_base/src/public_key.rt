@@ -12,7 +12,7 @@ ghost use Rattle.rpki_base.specs.declared.algorithm.PublicKeyFormat.TheVariants.
 ghost use Rattle.rpki_base.specs.PublicKey as spec;
 
 use crate::algorithm::PublicKeyFormat;
-use crate::bits::write_bits;
+use crate::bits::{write_bits, write_sequence};
 use crate::key_identifier::KeyIdentifier;
 use crate::names::{EC_ALGORITHM, EC_PUBLIC_KEY, PRIME256V1, RSA_ALGORITHM, RSA_ENCRYPTION};
 use bytes::Bytes;
@@ -146,16 +146,15 @@ impl PublicKey {
 /// # Encoding
 impl PublicKey {
     /// Appends the key in DER, an RSA key with NULL behind rsaEncryption, and with no unused bits. After a refusal nothing is
-    /// appended.
+    /// appended; a key of 2^30 octets or more is refused as want of memory.
     pub fn encode_ref(&self, alloc: Global, out: &mut Writer) -> Result<(), OutOfMemory>
-        requires { spec.CanBeSpelled self.now }
         ensures ok { OnOk result (out.new ≡ out.old ++ spec.spelled_key self.now) }
         ensures err { OnErr result (out.new ≡ out.old) }
     {
         let mut inner = Writer::new(alloc);
         write_algorithm(self.format, &mut inner)?;
         write_bits(alloc, self.bits.as_slice(), &mut inner)?;
-        out.constructed(Tag::SEQUENCE, &inner)
+        write_sequence(&inner, out)
     }
 }
 

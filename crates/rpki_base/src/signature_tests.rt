@@ -31,6 +31,10 @@ const RSA: [u8; 15] = [
     0x30, 0x0d, 0x06, 0x09, 0x2a, 0x86, 0x48, 0x86, 0xf7, 0x0d, 0x01, 0x01, 0x01, 0x05, 0x00,
 ];
 
+const RSA_ALONE: [u8; 13] = [
+    0x30, 0x0b, 0x06, 0x09, 0x2a, 0x86, 0x48, 0x86, 0xf7, 0x0d, 0x01, 0x01, 0x01,
+];
+
 const ECDSA: [u8; 12] = [
     0x30, 0x0a, 0x06, 0x08, 0x2a, 0x86, 0x48, 0xce, 0x3d, 0x04, 0x03, 0x02,
 ];
@@ -90,6 +94,34 @@ fn rsa_algorithms_of_signers_are_written(rt: HostRuntime) -> Result<(), Fail> {
     let (in_certificates, in_information) = written(alloc, named)?;
     assert_eq!(rt; in_certificates.as_slice(), SHA256_RSA.as_slice());
     assert_eq!(rt; in_information.as_slice(), SHA256_RSA.as_slice());
+    Ok(())
+}
+
+#[test]
+fn rsa_algorithms_of_signers_are_written_as_they_were_read(rt: HostRuntime) -> Result<(), Fail> {
+    for octets in [
+        RSA.as_slice(),
+        RSA_ALONE.as_slice(),
+        SHA256_RSA.as_slice(),
+        SHA256_RSA_ALONE.as_slice(),
+    ] {
+        let Some(named) = RpkiSignatureAlgorithm::cms_take_from(Mode::Der, octets) else {
+            return Err(Fail::new("an algorithm of a signer's information"));
+        };
+        let (_, in_information) = written(rt.alloc(), named)?;
+        assert_eq!(rt; in_information.as_slice(), octets);
+    }
+    Ok(())
+}
+
+#[test]
+fn rsa_algorithms_are_written_without_null(rt: HostRuntime) -> Result<(), Fail> {
+    let Some(alone) = x509(Mode::Der, &SHA256_RSA_ALONE) else {
+        return Err(Fail::new("sha256WithRSAEncryption without parameters"));
+    };
+    let (in_certificates, in_information) = written(rt.alloc(), alone)?;
+    assert_eq!(rt; in_certificates.as_slice(), SHA256_RSA_ALONE.as_slice());
+    assert_eq!(rt; in_information.as_slice(), RSA_ALONE.as_slice());
     Ok(())
 }
 

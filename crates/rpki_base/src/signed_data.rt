@@ -8,7 +8,7 @@ ghost use Rattle.rpki_der.specs.Ticks.{TakesCounted};
 ghost use Rattle.rpki_der.specs.Whole.{HoldsOne};
 ghost use Rattle.rpki_base.specs.SignedData.{SignedParts, algorithm_in, signed_data, spelled_data, CanBeSpelled};
 
-use crate::bits::write_bits;
+use crate::bits::{write_bits, write_sequence};
 use crate::errors::SignatureVerificationError;
 use crate::public_key::PublicKey;
 use crate::scheme::{Scheme, Verifier};
@@ -124,9 +124,8 @@ pub fn equal_data_are_the_same<Alg: SignatureAlgorithm>()
 /// # Encoding
 impl<Alg: SignatureAlgorithm> SignedData<Alg> {
     /// Appends the signed data: the octets that were signed as they are, the algorithm, and the signature with no unused bits,
-    /// in a SEQUENCE in DER. After a refusal nothing is appended.
+    /// in a SEQUENCE in DER. After a refusal nothing is appended; data of 2^30 octets or more are refused as want of memory.
     pub fn encode_ref(&self, alloc: Global, out: &mut Writer) -> Result<(), OutOfMemory>
-        requires { CanBeSpelled Alg.spelled self.now }
         ensures ok { OnOk result (out.new ≡ out.old ++ spelled_data Alg.spelled self.now) }
         ensures err { OnErr result (out.new ≡ out.old) }
     {
@@ -134,7 +133,7 @@ impl<Alg: SignatureAlgorithm> SignedData<Alg> {
         inner.raw(self.slice.as_slice())?;
         self.signature.algorithm().x509_encode(&mut inner)?;
         write_bits(alloc, self.signature.value().as_slice(), &mut inner)?;
-        out.constructed(Tag::SEQUENCE, &inner)
+        write_sequence(&inner, out)
     }
 }
 

@@ -124,7 +124,7 @@ fn texts_near_a_time_are_told_apart(rt: HostRuntime) -> Result<(), Fail> {
 }
 
 // Octets in and near the form of a time, and what they are in both modes.
-const SPELLED: [(&[u8], Option<i64>); 16] = [
+const SPELLED: [(&[u8], Option<i64>); 22] = [
     (b"\x17\x0d491231235959Z", Some(2_524_607_999)),
     (b"\x18\x0f20500101000000Z", Some(2_524_608_000)),
     (b"\x17\x0d500101000000Z", Some(-631_152_000)),
@@ -132,7 +132,13 @@ const SPELLED: [(&[u8], Option<i64>); 16] = [
     (b"\x18\x0f20000229000000Z", Some(951_782_400)),
     (b"\x18\x0f00000101000000Z", Some(-62_167_219_200)),
     (b"\x18\x0f99991231235959Z", Some(253_402_300_799)),
+    (b"\x18\x0f00000229000000Z", Some(-62_162_121_600)),
+    (b"\x17\x0d240229000000Z", Some(1_709_164_800)),
+    (b"\x18\x0f20240229000000Z", Some(1_709_164_800)),
     (b"\x18\x0f19000229000000Z", None),
+    (b"\x18\x0f20230229000000Z", None),
+    (b"\x18\x0f99990229000000Z", None),
+    (b"\x18\x0f20161231235960Z", None),
     (b"\x17\x0d230229000000Z", None),
     (b"\x17\x0d161231235960Z", None),
     (b"\x17\x0d161231240000Z", None),
@@ -224,6 +230,38 @@ fn serial_numbers_have_twenty_octets_at_most(rt: HostRuntime) -> Result<(), Fail
     assert!(rt; Serial::take(Mode::Ber, longer).is_none());
     assert!(rt; Serial::take(Mode::Der, b"\x02\x01\x80").is_none());
     assert!(rt; Serial::take(Mode::Ber, b"\x02\x02\x00\x7f").is_none());
+    Ok(())
+}
+
+// INTEGERs that are no serial numbers: of no octet, negative ones of one octet and of twenty, of 21 octets behind 00, constructed.
+const NO_NUMBERS: [&[u8]; 5] = [
+    b"\x02\x00",
+    b"\x02\x01\xff",
+    b"\x02\x14\x80\x02\x03\x04\x05\x06\x07\x08\x09\x0a\x0b\x0c\x0d\x0e\x0f\x10\x11\x12\x13\x14",
+    b"\x02\x16\x00\x80\x01\x02\x03\x04\x05\x06\x07\x08\x09\x0a\x0b\x0c\x0d\x0e\x0f\x10\x11\x12\x13\x14",
+    b"\x22\x01\x00",
+];
+
+#[test]
+fn other_integers_are_no_serial_numbers(rt: HostRuntime) -> Result<(), Fail> {
+    for octets in &NO_NUMBERS {
+        assert!(rt; Serial::take(Mode::Der, octets).is_none());
+        assert!(rt; Serial::take(Mode::Ber, octets).is_none());
+    }
+    Ok(())
+}
+
+#[test]
+fn serial_numbers_and_times_stand_next(rt: HostRuntime) -> Result<(), Fail> {
+    let octets = b"\x02\x01\x05\x17\x0d000101000000Z\x18\x0f20000102000000Z".as_slice();
+    let mut cursor = Cursor::new(rt.alloc(), Mode::Der, octets);
+    assert!(rt; Serial::take_from(&mut cursor)? == Serial::from(5));
+    let first = Time::take_from(&mut cursor)?;
+    let last = Time::take_from(&mut cursor)?;
+    assert!(rt; cursor.end());
+    let validity = Validity::new(first, last);
+    assert!(rt; validity.not_before().seconds() == 946_684_800);
+    assert!(rt; validity.not_after().seconds() == 946_771_200);
     Ok(())
 }
 

@@ -1,11 +1,11 @@
 //! Identity certificates.
 
-ghost use Rattle.std.specs.Prelude.{◌≡◌, ◌↔◌, ◌<◌, ◌≤ℤ◌, ◌++◌, IsTrue, IsOk, IfOk, OnOk, OnErr};
+ghost use Rattle.std.specs.Prelude.{◌≡◌, ◌↔◌, ◌<◌, ◌≤ℤ◌, ◌++◌, IsOk, IfOk, OnOk, OnErr};
 ghost use Rattle.rpki_der.specs.declared.mode.Mode.TheVariants.{Der};
 ghost use Rattle.rpki_der.specs.Takes.{Takes, Decodes};
 ghost use Rattle.rpki_der.specs.Ticks.{TakesCounted};
 ghost use Rattle.rpki_der.specs.Whole.{HoldsOne};
-ghost use Rattle.rpki_base.specs.SignedData.{CanBeSpelled, spelled_data};
+ghost use Rattle.rpki_base.specs.SignedData.{spelled_data};
 ghost use Rattle.rpki_base.specs.RpkiSignatureAlgorithm.{spelled_x509};
 ghost use Rattle.rpki_idcert.specs.IdCert.{identity_certificate};
 
@@ -135,24 +135,12 @@ impl IdCert {
 
 /// # Encoding
 impl IdCert {
-    // Whether length octets can say how long the certificate is.
-    fn can_be_spelled(&self) -> bool
-        ensures { IsTrue result → CanBeSpelled spelled_x509 self.now.signed }
-    {
-        let most = 1 << 30;
-        self.signed.slice().as_slice().len() < most
-            && self.signed.signature().value().as_slice().len() < most
-    }
-
     /// Appends the certificate in DER, with the octets that are signed as they are. After a refusal nothing is appended; a
     /// certificate of 2^30 octets or more is refused as want of memory.
     pub fn encode_ref(&self, alloc: Global, out: &mut Writer) -> Result<(), OutOfMemory>
         ensures ok { OnOk result (out.new ≡ out.old ++ spelled_data spelled_x509 self.now.signed) }
         ensures err { OnErr result (out.new ≡ out.old) }
     {
-        if !self.can_be_spelled() {
-            return Err(OutOfMemory);
-        }
         self.signed.encode_ref(alloc, out)
     }
 

@@ -57,7 +57,9 @@ pub struct ToyVerifier;
 
 impl ToyVerifier {
     /// The verifier, which knows nothing.
-    pub fn new() -> ToyVerifier {
+    pub fn new() -> ToyVerifier
+        ensures { result ≡ record {} }
+    {
         ToyVerifier
     }
 }
