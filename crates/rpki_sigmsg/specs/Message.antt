@@ -5,8 +5,9 @@ use Rattle.rpki_der.specs.declared.mode.Mode.{Mode}
 use Rattle.rpki_der.specs.declared.mode.Mode.TheVariants.{Ber, Der}
 use Rattle.rpki_der.specs.Tags.{sequence, set, context}
 use Rattle.rpki_der.specs.Value.{Value}
-use Rattle.rpki_der.specs.Grammar.{within, first, done, wrapped, so}
+use Rattle.rpki_der.specs.Grammar.{any, within, first, done, wrapped, so}
 use Rattle.rpki_der.specs.Held.{with_octets}
+use Rattle.rpki_der.specs.InDer.{in_der}
 use Rattle.rpki_der.specs.Integer.{integer_is}
 use Rattle.rpki_der.specs.Oid.{oid_is}
 use Rattle.rpki_der.specs.OctetString.{octet_string}
@@ -16,7 +17,7 @@ use Rattle.rpki_idcert.specs.IdCert.{CertificateFields, identity_certificate}
 use Rattle.rpki_sigmsg.specs.Names.{signed_data, xml_content}
 use Rattle.rpki_sigmsg.specs.Algorithm.{digest_algorithm}
 use Rattle.rpki_sigmsg.specs.Attributes.{covered}
-use Rattle.rpki_sigmsg.specs.Crl.{CrlFields, crl_in_der}
+use Rattle.rpki_sigmsg.specs.Crl.{CrlFields, revocation_list}
 use Rattle.rpki_sigmsg.specs.Signer.{SignerFields, signer_info}
 
 -- what a message says: its content; the signer's key identifier, the digest and the time that were signed, the octets that the
@@ -47,6 +48,10 @@ encapsulated_content mode = within sequence (λ vs. do
   type ← first (oid_is xml_content) vs
   content ← first (wrapped (context 0) (with_octets (octet_string mode))) type.1
   done content.0 content.1)
+
+-- a value whose octets are a CRL in DER, whatever the mode round it
+abbrev pub crl_in_der : Value → Option CrlFields
+crl_in_der = so any (in_der (revocation_list Der))
 
 -- the parts of a message as a view of it
 abbrev pub view_of : List ℕ × List ℕ → List ℕ × CertificateFields → List ℕ × CrlFields → SignerFields → ViewFields

@@ -6,7 +6,7 @@ ghost use Rattle.rpki_der.specs.Held.{with_octets};
 ghost use Rattle.rpki_der.specs.Tags.{context};
 ghost use Rattle.rpki_der.specs.Ticks.{TakesCounted};
 ghost use Rattle.rpki_idcert.specs.IdCert.{identity_certificate};
-ghost use Rattle.rpki_sigmsg.specs.Crl.{crl_in_der};
+ghost use Rattle.rpki_sigmsg.specs.Message.{crl_in_der};
 
 use crate::crl::SignedMessageCrl;
 use rpki_der::{Cursor, DecodeError, Steps, Tag};

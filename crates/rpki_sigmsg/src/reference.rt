@@ -91,7 +91,7 @@ impl<'a> SignedMessageRef<'a> {
 
     /// The same without memory, in place of the view.
     pub fn into_message(self) -> SignedMessage
-        ensures { result ≡ self.message }
+        ensures { result ≡ self.entry.message }
     {
         self.message
     }
@@ -102,10 +102,10 @@ impl<'a> SignedMessageRef<'a> {
         certificate: (&'a [u8], IdCert),
         crl: (&'a [u8], SignedMessageCrl),
         signer: SignerInfo<'a>,
-        covered: Bytes,
+        signed: Bytes,
     ) -> SignedMessageRef<'a>
-        requires { covered ≡ covered signer.attributes }
-        ensures { result ≡ spec.view_of (content.0.now, content.1) (certificate.0.now, certificate.1) (crl.0.now, crl.1) signer }
+        requires { signed ≡ covered signer.attributes }
+        ensures { result ≡ spec.view_of (content.entry.0.now, content.entry.1) (certificate.entry.0.now, certificate.entry.1) (crl.entry.0.now, crl.entry.1) signer.entry }
     {
         SignedMessageRef {
             message: SignedMessage {
@@ -113,7 +113,7 @@ impl<'a> SignedMessageRef<'a> {
                 signer: signer.identifier,
                 digest: signer.said.digest,
                 signing_time: signer.said.signing_time,
-                covered,
+                covered: signed,
                 signature: signer.signature,
                 certificate: certificate.1,
                 crl: crl.1,
@@ -142,9 +142,9 @@ fn take_signed_parts<'a, L: Ledger>(
     let certificate = take_certificates(alloc, cursor, steps)?;
     let crl = take_crls(alloc, cursor, steps)?;
     let signer = take_signer_infos(alloc, cursor, steps)?;
-    let covered = covered_octets(alloc, signer.attributes)?;
+    let signed = covered_octets(alloc, signer.attributes)?;
     cursor.leave_counted(steps)?;
-    Ok(SignedMessageRef::new(content, certificate, crl, signer, covered))
+    Ok(SignedMessageRef::new(content, certificate, crl, signer, signed))
 }
 
 fn take_explicit_parts<'a, L: Ledger>(

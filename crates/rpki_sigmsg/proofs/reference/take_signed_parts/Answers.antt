@@ -38,9 +38,9 @@ pub returns-in_err-signer : goal.returns-in_err-signer
 unfolding signed_parts
 returns-in_err-signer g c = takes_err _ _ _ _ _ _ _ _ _ c.from_residual-in_err-signer.ensures.1 (refuses_inside _ _ _ _ _ _ _ _ _ _ refl c.in_ok-enter_counted.ensures.place c.in_ok-enter_counted.ensures.ticks (stops_later _ _ _ _ _ _ _ _ _ _ _ _ refl c.in_ok-take_integer_if_counted.ensures (stops_later _ _ _ _ _ _ _ _ _ _ _ _ refl c.in_ok-pass_digest_algorithms.ensures (stops_later _ _ _ _ _ _ _ _ _ _ _ _ refl (takes_in _ encapsulated_content _ _ _ _ _ _ (c.in_ok-pass_digest_algorithms.ensures.mode ∙ c.in_ok-take_integer_if_counted.ensures.mode ∙ c.in_ok-enter_counted.ensures.place.mode) c.in_ok-content.ensures) (stops_later _ _ _ _ _ _ _ _ _ _ _ _ refl (takes_in _ (λ m. wrapped (context 0) (with_octets (identity_certificate m))) _ _ _ _ _ _ (c.in_ok-content.ensures.mode ∙ c.in_ok-pass_digest_algorithms.ensures.mode ∙ c.in_ok-take_integer_if_counted.ensures.mode ∙ c.in_ok-enter_counted.ensures.place.mode) c.in_ok-certificate.ensures) (stops_later _ _ _ _ _ _ _ _ _ _ _ _ refl c.in_ok-crl.ensures (stops_first _ _ _ _ _ _ _ _ refl (refuses_in _ (λ m. wrapped set (signer_info m)) _ _ _ _ _ (c.in_ok-crl.ensures.mode ∙ c.in_ok-certificate.ensures.mode ∙ c.in_ok-content.ensures.mode ∙ c.in_ok-pass_digest_algorithms.ensures.mode ∙ c.in_ok-take_integer_if_counted.ensures.mode ∙ c.in_ok-enter_counted.ensures.place.mode) c.in_err-signer.ensures))))))))
 
-pub returns-in_err-covered : goal.returns-in_err-covered
+pub returns-in_err-signed : goal.returns-in_err-signed
 unfolding signed_parts
-returns-in_err-covered g c = takes_err _ _ _ _ _ _ _ _ _ c.from_residual-in_err-covered.ensures.1 (refuses_inside _ _ _ _ _ _ _ _ _ _ refl c.in_ok-enter_counted.ensures.place c.in_ok-enter_counted.ensures.ticks (stops_later _ _ _ _ _ _ _ _ _ _ _ _ refl c.in_ok-take_integer_if_counted.ensures (stops_later _ _ _ _ _ _ _ _ _ _ _ _ refl c.in_ok-pass_digest_algorithms.ensures (stops_later _ _ _ _ _ _ _ _ _ _ _ _ refl (takes_in _ encapsulated_content _ _ _ _ _ _ (c.in_ok-pass_digest_algorithms.ensures.mode ∙ c.in_ok-take_integer_if_counted.ensures.mode ∙ c.in_ok-enter_counted.ensures.place.mode) c.in_ok-content.ensures) (stops_later _ _ _ _ _ _ _ _ _ _ _ _ refl (takes_in _ (λ m. wrapped (context 0) (with_octets (identity_certificate m))) _ _ _ _ _ _ (c.in_ok-content.ensures.mode ∙ c.in_ok-pass_digest_algorithms.ensures.mode ∙ c.in_ok-take_integer_if_counted.ensures.mode ∙ c.in_ok-enter_counted.ensures.place.mode) c.in_ok-certificate.ensures) (stops_later _ _ _ _ _ _ _ _ _ _ _ _ refl c.in_ok-crl.ensures (stops_later _ _ _ _ _ _ _ _ _ _ _ _ refl (takes_in _ (λ m. wrapped set (signer_info m)) _ _ _ _ _ _ (c.in_ok-crl.ensures.mode ∙ c.in_ok-certificate.ensures.mode ∙ c.in_ok-content.ensures.mode ∙ c.in_ok-pass_digest_algorithms.ensures.mode ∙ c.in_ok-take_integer_if_counted.ensures.mode ∙ c.in_ok-enter_counted.ensures.place.mode) c.in_ok-signer.ensures) (stops_memory _ _ _ _ _ refl))))))))
+returns-in_err-signed g c = takes_err _ _ _ _ _ _ _ _ _ c.from_residual-in_err-signed.ensures.1 (refuses_inside _ _ _ _ _ _ _ _ _ _ refl c.in_ok-enter_counted.ensures.place c.in_ok-enter_counted.ensures.ticks (stops_later _ _ _ _ _ _ _ _ _ _ _ _ refl c.in_ok-take_integer_if_counted.ensures (stops_later _ _ _ _ _ _ _ _ _ _ _ _ refl c.in_ok-pass_digest_algorithms.ensures (stops_later _ _ _ _ _ _ _ _ _ _ _ _ refl (takes_in _ encapsulated_content _ _ _ _ _ _ (c.in_ok-pass_digest_algorithms.ensures.mode ∙ c.in_ok-take_integer_if_counted.ensures.mode ∙ c.in_ok-enter_counted.ensures.place.mode) c.in_ok-content.ensures) (stops_later _ _ _ _ _ _ _ _ _ _ _ _ refl (takes_in _ (λ m. wrapped (context 0) (with_octets (identity_certificate m))) _ _ _ _ _ _ (c.in_ok-content.ensures.mode ∙ c.in_ok-pass_digest_algorithms.ensures.mode ∙ c.in_ok-take_integer_if_counted.ensures.mode ∙ c.in_ok-enter_counted.ensures.place.mode) c.in_ok-certificate.ensures) (stops_later _ _ _ _ _ _ _ _ _ _ _ _ refl c.in_ok-crl.ensures (stops_later _ _ _ _ _ _ _ _ _ _ _ _ refl (takes_in _ (λ m. wrapped set (signer_info m)) _ _ _ _ _ _ (c.in_ok-crl.ensures.mode ∙ c.in_ok-certificate.ensures.mode ∙ c.in_ok-content.ensures.mode ∙ c.in_ok-pass_digest_algorithms.ensures.mode ∙ c.in_ok-take_integer_if_counted.ensures.mode ∙ c.in_ok-enter_counted.ensures.place.mode) c.in_ok-signer.ensures) (stops_memory _ _ _ _ _ refl))))))))
 
 pub returns-in_err-leave_counted : goal.returns-in_err-leave_counted
 unfolding signed_parts
