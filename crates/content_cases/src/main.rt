@@ -11,7 +11,7 @@ use std::io::ErrorKind;
 use std::rt::Files;
 use std::{fs, io};
 
-const CASES: usize = 30;
+const CASES: usize = 18;
 
 fn words_of(alloc: Global, text: &str) -> io::Result<Words> {
     let mut words = Words::new(alloc);

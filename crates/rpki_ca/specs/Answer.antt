@@ -2,9 +2,9 @@
 use Rattle.std.specs.Prelude.{◌≡◌, ℕ, ◌^◌, ◌⊎◌, Bool, true, false, nat_lt, bytes_eq, if◌then◌else◌, Option, None, Some, Result, Ok, Err, List, [], ◌∷◌, ◌++◌, length, codes, IfSome, ⊤}
 use Rattle.std.specs.Io.KnownBytes.{Appends}
 use Rattle.sha2.specs.Sha256.{sha256}
-use Rattle.rpki_der.specs.declared.mode.Mode.TheVariants.{Der}
+use Rattle.rpki_der.specs.declared.mode.Mode.TheVariants.{Ber}
 use Rattle.rpki_der.specs.Reader.{decoded}
-use Rattle.rpki_sigmsg.specs.Message.{MessageFields, reduced_message}
+use Rattle.rpki_sigmsg.specs.Message.{MessageFields, signed_message}
 use Rattle.rpki_ca.specs.declared.refusals.Refusal.{Refusal}
 use Rattle.rpki_ca.specs.declared.refusals.Refusal.TheVariants.{Usage, Hex, CmsDecode, DigestDiffers, TooLong, ReadFault, OutOfMemory}
 use Rattle.rpki_common.specs.Causes.{Rose}
@@ -17,10 +17,10 @@ abbrev pub checked : Option MessageFields → Result (List ℕ) Refusal
 checked None = Err CmsDecode
 checked (Some message) = if bytes_eq (sha256 message.content) message.digest then Ok message.content else Err DigestDiffers
 
--- Such a message stands at the beginning of the octets, in DER.
+-- Such a message stands at the beginning of the octets, in BER.
 abbrev pub opened : Option (List ℕ) → Result (List ℕ) Refusal
 opened None = Err Hex
-opened (Some octets) = checked (decoded (reduced_message Der) Der octets)
+opened (Some octets) = checked (decoded (signed_message Ber) Ber octets)
 
 -- The octets are given in hexadecimal.
 abbrev pub content_of : List ℕ → Result (List ℕ) Refusal

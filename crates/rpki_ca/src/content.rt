@@ -2,9 +2,9 @@
 
 ghost use Rattle.std.specs.Prelude.{◌≡◌, ◌≢◌, ◌++◌, ◌∷◌, [], List, ℕ, Ok, Err, Some, None, IfOk, IfErr, IfSome, OnErr};
 ghost use Rattle.hex.specs.Hex.{decode_of};
-ghost use Rattle.rpki_der.specs.declared.mode.Mode.TheVariants.{Der};
+ghost use Rattle.rpki_der.specs.declared.mode.Mode.TheVariants.{Ber};
 ghost use Rattle.rpki_der.specs.Reader.{decoded};
-ghost use Rattle.rpki_sigmsg.specs.Message.{reduced_message};
+ghost use Rattle.rpki_sigmsg.specs.Message.{signed_message};
 ghost use Rattle.rpki_ca.specs.Hexadecimal.{digits_of, hexadecimal};
 ghost use Rattle.rpki_ca.specs.Answer.{checked, content_of};
 
@@ -45,10 +45,10 @@ fn octets_of(alloc: Global, input: &[u8]) -> Result<Vec<u8>, Refusal>
 
 // The message at the beginning of the octets.
 fn message_of(alloc: Global, octets: &[u8]) -> Result<SignedMessage, Refusal>
-    ensures ok { IfOk result (λ m. decoded (reduced_message Der) Der octets.now ≡ Some m) }
-    ensures err { IfErr result (λ e. e ≢ Refusal.OutOfMemory → (e ≡ Refusal.CmsDecode) × (decoded (reduced_message Der) Der octets.now ≡ None)) }
+    ensures ok { IfOk result (λ m. decoded (signed_message Ber) Ber octets.now ≡ Some m) }
+    ensures err { IfErr result (λ e. e ≢ Refusal.OutOfMemory → (e ≡ Refusal.CmsDecode) × (decoded (signed_message Ber) Ber octets.now ≡ None)) }
 {
-    match SignedMessage::decode(alloc, octets) {
+    match SignedMessage::decode(alloc, octets, false) {
         Ok(message) => Ok(message),
         Err(DecodeError::Malformed) => Err(Refusal::CmsDecode),
         Err(DecodeError::OutOfMemory) => Err(Refusal::OutOfMemory),
