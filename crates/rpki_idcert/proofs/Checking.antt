@@ -1,6 +1,6 @@
--- What a list of checks means.
-use Rattle.std.proofs.Common.{◌≡◌, ℕ, ◌+◌, Bool, true, false, Ok, Err, List, [], ◌∷◌, ◌++◌, length, refl, sym, ap, ◌∙◌, arith}
-use Rattle.std.specs.Prelude.{All}
+-- What a list of checks means, and one list behind another.
+use Rattle.std.proofs.Common.{◌≡◌, ℕ, ◌+◌, Bool, true, false, Result, Ok, Err, List, [], ◌∷◌, ◌++◌, length, refl, sym, ap, ◌∙◌, arith}
+use Rattle.std.specs.Prelude.{All, IsErrAnd}
 use Rattle.std.specs.List.{AllByRecursion}
 use Rattle.std.proofs.lemmas.List.Elements.{All-from_recursion, recursion_from_All}
 use Rattle.rpki_idcert.specs.Checks.{first_failure, FirstFalse}
@@ -47,3 +47,20 @@ at_place n (false ∷ more) back h = let e : false ≡ true = h.0 in cc
 
 pub first : (n k : ℕ) (list : List Bool) → FirstFalse n k list → first_failure n list ≡ Err k
 first n k list f = ap (first_failure n) f.parts ∙ at_place n f.before f.after (recursion_from_All IsSo f.before f.holds) ∙ ap Err (sym f.place)
+
+-- ---- one list of checks behind another
+
+pub passed : (n : ℕ) (xs ys : List Bool) (u : Unit {0}) → Ok u ≡ first_failure n xs → first_failure n (xs ++ ys) ≡ first_failure (n + length xs) ys
+passed n [] ys u e = let z : n ≡ n + 0 = omega arith in ap (λ k. first_failure k ys) z
+passed n (true ∷ xs) ys u e = let z : n + 1 + length xs ≡ n + length (true ∷ xs) = omega arith in passed (n + 1) xs ys u e ∙ ap (λ k. first_failure k ys) z
+passed n (false ∷ xs) ys u e = cc
+
+pub failed : (n : ℕ) (xs ys : List Bool) (k : ℕ) → Err k ≡ first_failure n xs → first_failure n (xs ++ ys) ≡ Err k
+failed n [] ys k e = cc
+failed n (true ∷ xs) ys k e = failed (n + 1) xs ys k e
+failed n (false ∷ xs) ys k e = sym e
+
+-- what a `?` hands on is the error that it met
+pub err_is : (error : ℕ) (r : Result (Unit {0}) ℕ) → IsErrAnd r (λ e. e ≡ error) → r ≡ Err error
+err_is error (Ok u) h = absurd h
+err_is error (Err e) h = ap Err h

@@ -3,6 +3,7 @@
 //!
 //! - [`IdCert`] is a certificate: it is decoded in DER or BER, and keeps the exact octets that are signed.
 //! - [`TbsIdCert`] is what they say.
+//! - [`require`], [`names_issuer`] and [`IdCert::ee_failure`] are what lists of checks are made of.
 #![tactic(auto)]
 
 mod extensions;
@@ -13,7 +14,7 @@ mod validation;
 
 pub use id_cert::IdCert;
 pub use tbs::TbsIdCert;
-pub use validation::{ValidationError, ValidationKind, first_false_decides};
+pub use validation::{ValidationError, ValidationKind, first_false_decides, names_issuer, require};
 
 #[cfg(test)]
 mod tests;

@@ -1,13 +1,13 @@
 //! Whether an identity certificate may be believed.
 
-ghost use Rattle.std.specs.Prelude.{◌≡◌, ◌∷◌, ◌++◌, [], ℕ, List, Bool, true, not, ◌||◌, All, Decides, Ok, Err, Some, codes};
+ghost use Rattle.std.specs.Prelude.{◌≡◌, ◌≤◌, ◌∷◌, ◌++◌, [], ℕ, List, Bool, true, not, ◌||◌, All, Decides, Ok, Err, Some, codes};
 ghost use Rattle.std.specs.Fmt.{decimal};
 ghost use Rattle.sha1.specs.Sha1.{sha1};
 ghost use Rattle.rpki_idcert.specs.Checks as spec;
 
 use crate::id_cert::IdCert;
 use crate::tbs::TbsIdCert;
-use rpki_base::{PublicKey, Scheme, Time, Verifier};
+use rpki_base::{KeyIdentifier, PublicKey, Scheme, Time, Verifier};
 use std::fmt;
 
 /// What a check looks at.
@@ -36,11 +36,21 @@ impl fmt::Display for ValidationError {
     }
 }
 
-// Fails with the number where the check doesn't hold.
-fn require(number: u8, holds: bool) -> Result<(), u8>
+/// One check of a list: Ok where it holds, else Err with its number in the list.
+pub fn require(number: u8, holds: bool) -> Result<(), u8>
     ensures { result ≡ spec.first_failure number (holds ∷ []) }
 {
     if holds { Ok(()) } else { Err(number) }
+}
+
+/// Whether an authority key identifier, if it is there, is that of the issuer's key, the SHA-1 of the key's bits (RFC 5280, 4.2.1.1).
+pub fn names_issuer(identifier: Option<KeyIdentifier>, issuer_key: &PublicKey) -> bool
+    ensures { result ≡ spec.names_issuer identifier issuer_key.now }
+{
+    match identifier {
+        Some(identifier) => identifier.as_slice() == issuer_key.key_identifier().as_slice(),
+        None => true,
+    }
 }
 
 fn ee_kind(check: u8) -> ValidationKind
@@ -79,10 +89,7 @@ impl TbsIdCert {
     fn names_issuer(&self, issuer_key: &PublicKey) -> bool
         ensures { result ≡ spec.names_issuer self.now.authority_key_id issuer_key.now }
     {
-        match self.authority_key_id() {
-            Some(identifier) => identifier.as_slice() == issuer_key.key_identifier().as_slice(),
-            None => true,
-        }
+        names_issuer(self.authority_key_id(), issuer_key)
     }
 
     fn is_ca(&self) -> bool
@@ -113,19 +120,23 @@ impl IdCert {
         self.signed_data().verify_signature(verifier, key).is_ok()
     }
 
-    fn ee_failure<P: Scheme, V: Verifier<P>>(
+    /// The five checks of `validate_ee_at` as a part of a longer list, in which the first of them has the number `first`, at most
+    /// 200: Err with the number of the first of them that fails. It takes no memory.
+    pub fn ee_failure<P: Scheme, V: Verifier<P>>(
         &self,
         verifier: &V,
         issuer_key: &PublicKey,
         when: Time,
+        first: u8,
     ) -> Result<(), u8>
-        ensures { (q : Bool) → Decides q (spec.IsSigned P.checks self.now issuer_key.now) → result ≡ spec.first_failure 1 (spec.ee_checks self.now issuer_key.now when q) }
+        requires { first ≤ 200 }
+        ensures { (q : Bool) → Decides q (spec.IsSigned P.checks self.now issuer_key.now) → result ≡ spec.first_failure first (spec.ee_checks self.now issuer_key.now when q) }
     {
-        require(1, self.tbs().has_own_identifier())?;
-        require(2, self.tbs().is_within(when))?;
-        require(3, self.tbs().names_issuer(issuer_key))?;
-        require(4, !self.tbs().is_ca())?;
-        require(5, self.is_signed(verifier, issuer_key))
+        require(first, self.tbs().has_own_identifier())?;
+        require(first + 1, self.tbs().is_within(when))?;
+        require(first + 2, self.tbs().names_issuer(issuer_key))?;
+        require(first + 3, !self.tbs().is_ca())?;
+        require(first + 4, self.is_signed(verifier, issuer_key))
     }
 
     /// Whether this is an end entity's certificate that the key issued for the moment; if not, the first of these checks that
@@ -140,7 +151,7 @@ impl IdCert {
     ) -> Result<(), ValidationError>
         ensures { (q : Bool) → Decides q (spec.IsSigned P.checks self.now issuer_key.now) → result ≡ spec.failing spec.ee_kind (spec.first_failure 1 (spec.ee_checks self.now issuer_key.now when q)) }
     {
-        match self.ee_failure(verifier, issuer_key, when) {
+        match self.ee_failure(verifier, issuer_key, when, 1) {
             Ok(()) => Ok(()),
             Err(check) => Err(ValidationError {
                 kind: ee_kind(check),
