@@ -7,3 +7,4 @@ pub mod RevokedCertificates
 pub mod CrlExtensions
 pub mod TbsCrl
 pub mod Crl
+pub mod CrlChecks

@@ -11,6 +11,7 @@ mod algorithm;
 mod attributes;
 mod crl;
 mod crl_extensions;
+mod crl_validation;
 mod message;
 mod names;
 mod parts;
