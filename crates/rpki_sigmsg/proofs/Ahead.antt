@@ -25,6 +25,9 @@ first_octet here [] r f = absurd f.is_identifier
 first_octet here (a ∷ []) r f = rw f.parts (one a)
 first_octet here (a ∷ b ∷ more) r f = rw f.parts (several a b more f.is_identifier.0)
 
+pub seen : (found : Bool) (octets here : List ℕ) → found ≡ begins_sequence octets → octets ≡ here → begins_sequence here ≡ found
+seen found octets here e h = ap begins_sequence (sym h) ∙ sym e
+
 -- what stands next has the tag, exactly where its first octet says so
 tagged : (p : Position) (found : Bool) → begins_sequence p.here ≡ found → (v : Value) (rest : List ℕ) → Begins p.mode p.here v rest → has_tag sequence (identifier_of v) ≡ found
 tagged p found s v rest h = let f = begins_identifier p.mode p.here v rest h in first_octet p.here (identifier_of v) f.0 f.1 ∙ s

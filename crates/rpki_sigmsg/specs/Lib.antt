@@ -7,4 +7,6 @@ pub mod RevokedCertificates
 pub mod CrlExtensions
 pub mod TbsCrl
 pub mod Crl
+pub mod CrlChecks
 pub mod Message
+pub mod Checks

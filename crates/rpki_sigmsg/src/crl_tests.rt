@@ -1,5 +1,5 @@
 use super::*;
-use rpki_base::{Serial, Time};
+use rpki_base::{PublicKey, PublicKeyFormat, Scheme, Serial, SigningAlgorithm, Time, Verifier};
 use rpki_der::{Cursor, Mode};
 use std::alloc::Global;
 use std::test::Fail;
@@ -123,5 +123,71 @@ fn a_crl_is_in_der_in_both_modes(rt: HostRuntime) -> Result<(), Fail> {
     }
     let tbs = SignedMessageTbsCrl::take(alloc, Mode::Ber, &OVERLONG[2..59])?;
     assert_eq!(rt; tbs.issuer().as_slice().len(), 3);
+    Ok(())
+}
+
+// A scheme for tests: every signature holds under a key of its kind's format.
+struct Everything;
+
+impl Scheme for Everything {
+    ghost use Rattle.std.specs.Prelude.{◌≡◌};
+    ghost use Rattle.rpki_base.specs.Algorithm.{format_of};
+
+    ghost checks = { λ kind key message signature. key.format ≡ format_of kind };
+
+    ghost fits = { λ kind key message signature h. h };
+}
+
+struct EverythingVerifier;
+
+impl Verifier<Everything> for EverythingVerifier {
+    fn verify(
+        &self,
+        kind: SigningAlgorithm,
+        key: &PublicKey,
+        _message: &[u8],
+        _signature: &[u8],
+    ) -> bool {
+        key.format() == kind.public_key_format()
+    }
+}
+
+// The answer to the CRL at a moment, under key 0 of the messages' library in this format: 0, or the number of the failing check.
+fn answer(
+    alloc: Global,
+    octets: &[u8],
+    format: PublicKeyFormat,
+    seconds: i64,
+) -> Result<u8, Fail> {
+    let crl = SignedMessageCrl::take(alloc, Mode::Der, octets)?;
+    let key = PublicKey::new(
+        alloc,
+        format,
+        &[0, 0, 0, 0, 0, 0, 0, 1, 0, 0, 0, 0, 0, 0, 0, 0],
+    )?;
+    let Some(when) = Time::new(seconds) else {
+        return Err(Fail::new("a moment"));
+    };
+    match crl.validate::<Everything, EverythingVerifier>(&EverythingVerifier, &key, when) {
+        Ok(()) => Ok(0),
+        Err(error) => Ok(error.check),
+    }
+}
+
+#[test]
+fn the_first_check_of_a_crl_fails(rt: HostRuntime) -> Result<(), Fail> {
+    let alloc = rt.alloc();
+    let rows = [
+        (CRL, PublicKeyFormat::Rsa, 1699999700, 0),
+        (UNKNOWN, PublicKeyFormat::Rsa, 1700000300, 0),
+        (ANOTHER_ALGORITHM, PublicKeyFormat::EcdsaP256, 1699999699, 9),
+        (CRL, PublicKeyFormat::EcdsaP256, 1699999699, 10),
+        (LISTED, PublicKeyFormat::Rsa, 1699999699, 11),
+        (LISTED, PublicKeyFormat::Rsa, 1700000301, 12),
+        (LISTED, PublicKeyFormat::Rsa, 1700000000, 13),
+    ];
+    for (octets, format, seconds, check) in rows {
+        assert_eq!(rt; answer(alloc, octets, format, seconds)?, check);
+    }
     Ok(())
 }

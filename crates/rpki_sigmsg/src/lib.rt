@@ -13,6 +13,7 @@ mod attributes;
 mod content;
 mod crl;
 mod crl_extensions;
+mod crl_validation;
 mod message;
 mod names;
 mod octets;
@@ -21,6 +22,7 @@ mod reference;
 mod revoked;
 mod signer;
 mod tbs_crl;
+mod validation;
 
 pub use crl::SignedMessageCrl;
 pub use message::SignedMessage;
@@ -28,6 +30,7 @@ pub use reference::SignedMessageRef;
 pub use revoked::{CrlEntry, RevokedCertificates};
 pub use rpki_der::{DecodeError, OutOfMemory};
 pub use tbs_crl::SignedMessageTbsCrl;
+pub use validation::{moments_are_one_span, three_questions_decide};
 
 #[cfg(test)]
 mod crl_tests;

@@ -13,13 +13,13 @@ unfolding revoked_certificates
 returns-in_err-enter_counted g c = takes_err _ _ _ _ _ _ _ _ _ c.from_residual.ensures.1 (refuses_within _ _ _ c.args.cursor.now _ _ _ c.in_err-enter_counted.ensures.place c.in_err-enter_counted.ensures.ticks)
 
 pub entries-init : goal.entries-init
-entries-init g c = none_yet _ _ _
+entries-init g c = rw c.new-entries.ensures.items (none_yet _ _ _)
 
 pub entries-smaller : goal.entries-smaller
 entries-smaller g c = takes_smaller _ _ _ _ _ _ _ c.in_ok-entry.ensures
 
 pub entries-preserved : goal.entries-preserved
-entries-preserved g c = one_more _ _ _ _ _ _ _ _ _ c.entries.invariant c.in_ok-entry.ensures
+entries-preserved g c = rw c.in_ok-push.ensures.items (one_more _ _ _ _ _ _ _ _ _ c.entries.invariant c.in_ok-entry.ensures)
 
 pub returns-in_err-entry : goal.returns-in_err-entry
 unfolding revoked_certificates

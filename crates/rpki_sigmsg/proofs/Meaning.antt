@@ -1,0 +1,103 @@
+-- What the fourteen checks mean: schemes that answer alike, and the moments at which they hold.
+use Rattle.std.proofs.Common.{◌≡◌, ℕ, ◌+◌, ℤ, ◌≤ℤ◌, ◌⊎◌, inl, inr, Bool, true, false, Ok, List, [], ◌∷◌, refl, arith, signed_arith}
+use Rattle.std.specs.Prelude.{◌↔◌, int_le, ◌&&◌, not, bytes_eq, Decides}
+use Rattle.std.specs.List.{AllByRecursion}
+use Rattle.std.proofs.Math.Logic.{⊎_map}
+use Rattle.std.proofs.lemmas.List.Elements.{All-from_recursion}
+use Rattle.std.proofs.lemmas.Bool.Decides.{same_from_decides}
+use Rattle.sha1.specs.Sha1.{sha1}
+use Rattle.sha2.specs.Sha256.{sha256}
+use Rattle.rpki_base.specs.PublicKey.{KeyFields}
+use Rattle.rpki_base.specs.declared.algorithm.SigningAlgorithm.{SigningAlgorithm}
+use Rattle.rpki_idcert.specs.Checks.{first_failure, has_own_identifier, is_within, names_issuer, is_true}
+use Rattle.rpki_idcert.proofs.Checking.{passes}
+use Rattle.rpki_sigmsg.specs.CrlChecks.{same_algorithm}
+use Rattle.rpki_sigmsg.specs.Message.{MessageFields}
+use Rattle.rpki_sigmsg.specs.Checks.{checks, is_not_revoked, Asked, SameAnswers, Passes, IsInSpan}
+
+-- ---- two schemes
+
+moved : {P Q : Type 0} (b : Bool) → P ↔ Q → Decides b P → Decides b Q
+moved b w d = (λ e. w.0 (d.0 e), λ q. d.1 (w.1 q))
+
+pub same_checks : (s t : SigningAlgorithm → KeyFields → List ℕ → List ℕ → Type 0) (m : MessageFields) (issuer : KeyFields) (when : ℤ) (q : Asked s m issuer) (r : Asked t m issuer) → SameAnswers s t m issuer → checks m issuer when q.q3 q.q8 q.q10 ≡ checks m issuer when r.q3 r.q8 r.q10
+same_checks s t m issuer when q r w =
+    let a : q.q3 ≡ r.q3 = same_from_decides _ _ (moved _ w.attributes q.attributes) r.attributes in
+    let b : q.q8 ≡ r.q8 = same_from_decides _ _ (moved _ w.certificate q.certificate) r.certificate in
+    let c : q.q10 ≡ r.q10 = same_from_decides _ _ (moved _ w.crl q.crl) r.crl in
+    rw (a, b, c) refl
+
+-- ---- one span of moments
+
+at_most : (a b : ℤ) → int_le a b ≡ true → a ≤ℤ b
+at_most a b e = grind (arith, signed_arith, e)
+
+is_at_most : (a b : ℤ) → a ≤ℤ b → int_le a b ≡ true
+is_at_most a b l = grind (arith, signed_arith, l)
+
+both_true : (a b : Bool) → a ≡ true → b ≡ true → (a && b) ≡ true
+both_true a b x y = rw (x, y) refl
+
+left_true : (a b : Bool) → (a && b) ≡ true → a ≡ true
+left_true true b e = refl
+left_true false b e = cc
+
+right_true : (a b : Bool) → (a && b) ≡ true → b ≡ true
+right_true true b e = e
+right_true false b e = cc
+
+abbrev IsSo : Bool → Type 0
+IsSo b = b ≡ true
+
+abbrev AreSo : List Bool → Type 0
+AreSo list = AllByRecursion IsSo list
+
+all_hold : (n : ℕ) (list : List Bool) → first_failure n list ≡ Ok tt → AreSo list
+all_hold n [] e = tt
+all_hold n (true ∷ more) e = (refl, all_hold (n + 1) more e)
+all_hold n (false ∷ more) e = cc
+
+none_fails : (n : ℕ) (list : List Bool) → AreSo list → first_failure n list ≡ Ok tt
+none_fails n list h = passes n list (All-from_recursion IsSo list h)
+
+decided : (list : List Bool) → ((AreSo list → ⊥) ⊎ AreSo list)
+decided [] = inr tt
+decided (false ∷ more) = inl (λ h. let e : false ≡ true = h.0 in cc)
+decided (true ∷ more) = ⊎_map (λ no h. no h.1) (λ yes. (refl, yes)) (decided more)
+
+-- the checks that don't depend on the moment
+abbrev others : MessageFields → KeyFields → Bool → Bool → Bool → List Bool
+others m k q3 q8 q10 =
+    bytes_eq m.signer m.certificate.tbs.subject_key_id
+    ∷ bytes_eq (sha256 m.content) m.digest
+    ∷ q3
+    ∷ has_own_identifier m.certificate.tbs
+    ∷ names_issuer m.certificate.tbs.authority_key_id k
+    ∷ not (is_true m.certificate.tbs.basic_ca)
+    ∷ q8
+    ∷ same_algorithm m.crl.tbs.algorithm m.crl.signed.signature.algorithm
+    ∷ q10
+    ∷ names_issuer m.crl.tbs.authority_key_id k
+    ∷ is_not_revoked m
+    ∷ []
+
+without_moment : (m : MessageFields) (k : KeyFields) (q3 q8 q10 : Bool) (when : ℤ) → AreSo (checks m k when q3 q8 q10) → AreSo (others m k q3 q8 q10)
+without_moment m k q3 q8 q10 when (a1, (a2, (a3, (a4, (a5, (a6, (a7, (a8, (a9, (a10, (a11, (a12, (a13, (a14, u)))))))))))))) = (a1, (a2, (a3, (a4, (a6, (a7, (a8, (a9, (a10, (a13, (a14, u)))))))))))
+
+span_of : (m : MessageFields) (k : KeyFields) (q3 q8 q10 : Bool) (when : ℤ) → AreSo (checks m k when q3 q8 q10) → IsInSpan m when
+span_of m k q3 q8 q10 when (a1, (a2, (a3, (a4, (a5, (a6, (a7, (a8, (a9, (a10, (a11, (a12, (a13, (a14, u)))))))))))))) = record {
+  not_before = at_most _ _ (left_true _ _ a5);
+  this_update = at_most _ _ a11;
+  not_after = at_most _ _ (right_true _ _ a5);
+  next_update = at_most _ _ a12;
+}
+
+in_span : (m : MessageFields) (k : KeyFields) (q3 q8 q10 : Bool) (when : ℤ) → AreSo (others m k q3 q8 q10) → IsInSpan m when → AreSo (checks m k when q3 q8 q10)
+in_span m k q3 q8 q10 when (a1, (a2, (a3, (a4, (a6, (a7, (a8, (a9, (a10, (a13, (a14, u))))))))))) s =
+    (a1, (a2, (a3, (a4, (both_true _ _ (is_at_most _ _ s.not_before) (is_at_most _ _ s.not_after), (a6, (a7, (a8, (a9, (a10, (is_at_most _ _ s.this_update, (is_at_most _ _ s.next_update, (a13, (a14, u))))))))))))))
+
+pub one_span : (m : MessageFields) (k : KeyFields) (q3 q8 q10 : Bool) → ((when : ℤ) → Passes m k q3 q8 q10 when → ⊥) ⊎ ((when : ℤ) → Passes m k q3 q8 q10 when ↔ IsInSpan m when)
+one_span m k q3 q8 q10 = ⊎_map
+    (λ no when p. no (without_moment m k q3 q8 q10 when (all_hold 1 (checks m k when q3 q8 q10) p)))
+    (λ yes when. (λ p. span_of m k q3 q8 q10 when (all_hold 1 (checks m k when q3 q8 q10) p), λ s. none_fails 1 (checks m k when q3 q8 q10) (in_span m k q3 q8 q10 when yes s)))
+    (decided (others m k q3 q8 q10))

@@ -1,0 +1,111 @@
+//! Whether a signed message may be believed.
+
+ghost use Rattle.std.specs.Prelude.{◌≡◌, ◌↔◌, ◌⊎◌, Bool, ℤ, Decides, bytes_eq, ⊥};
+ghost use Rattle.rpki_base.specs.PublicKey.{KeyFields};
+ghost use Rattle.rpki_idcert.specs.Checks.{first_failure, failing};
+ghost use Rattle.rpki_sigmsg.specs.Message.{MessageFields};
+ghost use Rattle.rpki_sigmsg.specs.Checks as spec;
+
+use crate::message::SignedMessage;
+use rpki_base::{PublicKey, Scheme, SigningAlgorithm, Time, Verifier};
+use rpki_idcert::{ValidationError, ValidationKind, require};
+
+fn kind_of(check: u8) -> ValidationKind
+    ensures { result ≡ spec.kind_of check }
+{
+    match check {
+        1 | 4 => ValidationKind::Inspection,
+        _ => ValidationKind::Verification,
+    }
+}
+
+/// # Validation
+impl SignedMessage {
+    // Whether the certificate is that of the key by which the signer is named.
+    fn names_certificate(&self) -> bool
+        ensures { result ≡ bytes_eq self.now.signer self.now.certificate.tbs.subject_key_id }
+    {
+        let subject = self.ee_cert().tbs().subject_key_identifier();
+        self.signer_identifier().as_slice() == subject.as_slice()
+    }
+
+    // Whether the attributes are signed under the certificate's key.
+    fn are_attributes_signed<P: Scheme, V: Verifier<P>>(&self, verifier: &V) -> bool
+        ensures { Decides result (spec.AreAttributesSigned P.checks self.now) }
+    {
+        verifier.verify(
+            SigningAlgorithm::RsaSha256,
+            self.ee_cert().tbs().public_key(),
+            self.covered.as_slice(),
+            self.signature.value().as_slice(),
+        )
+    }
+
+    // Checks 1 to 3.
+    fn own_failure<P: Scheme, V: Verifier<P>>(&self, verifier: &V) -> Result<(), u8>
+        ensures { (q : Bool) → Decides q (spec.AreAttributesSigned P.checks self.now) → result ≡ first_failure 1 (spec.message_checks self.now q) }
+    {
+        require(1, self.names_certificate())?;
+        require(2, self.digest_holds())?;
+        require(3, self.are_attributes_signed(verifier))
+    }
+
+    // Whether the CRL doesn't list the certificate.
+    fn is_not_revoked(&self) -> bool
+        ensures { result ≡ spec.is_not_revoked self.now }
+    {
+        let serial = self.ee_cert().tbs().serial_number();
+        !self.crl().tbs().revoked_certs().contains(serial)
+    }
+
+    fn failure<P: Scheme, V: Verifier<P>>(
+        &self,
+        verifier: &V,
+        issuer_key: &PublicKey,
+        when: Time,
+    ) -> Result<(), u8>
+        ensures { (q : spec.Asked P.checks self.now issuer_key.now) → result ≡ first_failure 1 (spec.checks self.now issuer_key.now when q.q3 q.q8 q.q10) }
+    {
+        self.own_failure(verifier)?;
+        self.ee_cert().ee_failure(verifier, issuer_key, when, 4)?;
+        self.crl().failure(verifier, issuer_key, when)?;
+        require(14, self.is_not_revoked())
+    }
+
+    /// Whether the key issued the certificate for the moment and the certificate's key signed the message; if not, the first of
+    /// these checks that fails: (1) the signer is named by the certificate's subject key identifier, (2) the content's SHA-256 is
+    /// the signed digest, (3) the attributes are signed under the certificate's key, (4) the subject key identifier is that of
+    /// the certificate's key, (5) the moment lies in the certificate's validity, both ends in, (6) the certificate's authority
+    /// key identifier, if it is there, is that of the issuer's key, (7) cA isn't true, (8) the certificate is signed under the
+    /// issuer's key, (9) the CRL names one algorithm in both places, NULL included, (10) the CRL is signed under the issuer's
+    /// key, (11) thisUpdate isn't after the moment, (12) nextUpdate isn't before it, (13) the CRL's authority key identifier, if
+    /// it is there, is that of the issuer's key, (14) the CRL doesn't list the certificate. Checks 1 and 4 are inspections, the
+    /// others are verifications. It takes no memory.
+    pub fn validate_at<P: Scheme, V: Verifier<P>>(
+        &self,
+        verifier: &V,
+        issuer_key: &PublicKey,
+        when: Time,
+    ) -> Result<(), ValidationError>
+        ensures { (q : spec.Asked P.checks self.now issuer_key.now) → result ≡ failing spec.kind_of (first_failure 1 (spec.checks self.now issuer_key.now when q.q3 q.q8 q.q10)) }
+    {
+        match self.failure(verifier, issuer_key, when) {
+            Ok(()) => Ok(()),
+            Err(check) => Err(ValidationError {
+                kind: kind_of(check),
+                check,
+            }),
+        }
+    }
+}
+
+/// Two schemes that answer the three questions alike accept the same messages, and refuse them at the same check.
+pub fn three_questions_decide<P: Scheme, Q: Scheme>()
+    ensures { (m : MessageFields) (issuer : KeyFields) (when : ℤ) (q : spec.Asked P.checks m issuer) (r : spec.Asked Q.checks m issuer) → spec.SameAnswers P.checks Q.checks m issuer → spec.checks m issuer when q.q3 q.q8 q.q10 ≡ spec.checks m issuer when r.q3 r.q8 r.q10 }
+{}
+
+/// The moments at which a message passes under a key, whatever a scheme answers, are none, or all from the later of notBefore and
+/// thisUpdate to the earlier of notAfter and nextUpdate, both ends in.
+pub fn moments_are_one_span()
+    ensures { (m : MessageFields) (issuer : KeyFields) (q3 q8 q10 : Bool) → ((when : ℤ) → spec.Passes m issuer q3 q8 q10 when → ⊥) ⊎ ((when : ℤ) → spec.Passes m issuer q3 q8 q10 when ↔ spec.IsInSpan m when) }
+{}
