@@ -1,0 +1,40 @@
+-- The checks of a signed message's CRL in their order (RFC 5280, 6.3.3; RFC 6492, 3.1.2).
+use Rattle.std.specs.Prelude.{◌≡◌, ℕ, ℤ, int_le, Bool, true, false, ◌&&◌, List, [], ◌∷◌}
+use Rattle.std.specs.Bool.{beq}
+use Rattle.rpki_base.specs.PublicKey.{KeyFields}
+use Rattle.rpki_base.specs.declared.algorithm.SigningAlgorithm.{SigningAlgorithm}
+use Rattle.rpki_base.specs.declared.algorithm.SigningAlgorithm.TheVariants.{RsaSha256}
+use Rattle.rpki_base.specs.declared.rpki_algorithm.RsaIdentifier.{RsaIdentifier}
+use Rattle.rpki_base.specs.declared.rpki_algorithm.RsaIdentifier.TheVariants.{RsaEncryption, Sha256WithRsaEncryption}
+use Rattle.rpki_base.specs.RpkiSignatureAlgorithm.{RpkiAlgorithm}
+use Rattle.rpki_idcert.specs.Checks.{names_issuer}
+use Rattle.rpki_idcert.specs.declared.validation.ValidationKind.{ValidationKind}
+use Rattle.rpki_idcert.specs.declared.validation.ValidationKind.TheVariants.{Verification}
+use Rattle.rpki_sigmsg.specs.Crl.{CrlFields}
+
+abbrev pub same_name : RsaIdentifier → RsaIdentifier → Bool
+same_name RsaEncryption RsaEncryption = true
+same_name Sha256WithRsaEncryption Sha256WithRsaEncryption = true
+same_name a b = false
+
+-- the same object identifier, and NULL is there in both or in neither
+abbrev pub same_algorithm : RpkiAlgorithm → RpkiAlgorithm → Bool
+same_algorithm a b = same_name a.identifier b.identifier && beq a.null b.null
+
+-- the question to the scheme: whether the CRL's signature holds under a key
+abbrev pub IsListSigned : (SigningAlgorithm → KeyFields → List ℕ → List ℕ → Type 0) → CrlFields → KeyFields → Type 0
+IsListSigned scheme c key = scheme RsaSha256 key c.signed.slice c.signed.signature.value
+
+-- under the issuer's key, at a moment; q: the CRL is signed under that key
+abbrev pub crl_checks : CrlFields → KeyFields → ℤ → Bool → List Bool
+crl_checks c issuer when q =
+    same_algorithm c.tbs.algorithm c.signed.signature.algorithm
+    ∷ q
+    ∷ int_le c.tbs.this_update when
+    ∷ int_le when c.tbs.next_update
+    ∷ names_issuer c.tbs.authority_key_id issuer
+    ∷ []
+
+-- all are verifications
+abbrev pub crl_kind : ℕ → ValidationKind
+crl_kind n = Verification

@@ -1,0 +1,74 @@
+//! Whether the CRL of a signed message may be believed.
+
+ghost use Rattle.std.specs.Prelude.{◌≡◌, Bool, Decides};
+ghost use Rattle.rpki_idcert.specs.Checks.{first_failure, failing};
+ghost use Rattle.rpki_sigmsg.specs.CrlChecks as spec;
+
+use crate::crl::SignedMessageCrl;
+use rpki_base::{PublicKey, RpkiSignatureAlgorithm, Scheme, Time, Verifier};
+use rpki_idcert::{ValidationError, ValidationKind, names_issuer, require};
+
+// Whether both have the same object identifier, and NULL is there in both or in neither.
+fn same_algorithm(a: RpkiSignatureAlgorithm, b: RpkiSignatureAlgorithm) -> bool
+    ensures { result ≡ spec.same_algorithm a b }
+{
+    a == b
+}
+
+/// # Validation
+impl SignedMessageCrl {
+    // Whether both places name the same algorithm.
+    fn names_one_algorithm(&self) -> bool
+        ensures { result ≡ spec.same_algorithm self.now.tbs.algorithm self.now.signed.signature.algorithm }
+    {
+        same_algorithm(
+            self.tbs().algorithm(),
+            self.signed_data().signature().algorithm(),
+        )
+    }
+
+    // Whether the signature holds under a key.
+    fn is_signed<P: Scheme, V: Verifier<P>>(&self, verifier: &V, key: &PublicKey) -> bool
+        ensures { Decides result (spec.IsListSigned P.checks self.now key.now) }
+    {
+        self.signed_data().verify_signature(verifier, key).is_ok()
+    }
+
+    /// The number of the first of the checks of `validate` that fails.
+    pub(crate) fn failure<P: Scheme, V: Verifier<P>>(
+        &self,
+        verifier: &V,
+        issuer_key: &PublicKey,
+        when: Time,
+    ) -> Result<(), u8>
+        ensures { (q : Bool) → Decides q (spec.IsListSigned P.checks self.now issuer_key.now) → result ≡ first_failure 9 (spec.crl_checks self.now issuer_key.now when q) }
+    {
+        require(9, self.names_one_algorithm())?;
+        require(10, self.is_signed(verifier, issuer_key))?;
+        require(11, self.tbs().this_update() <= when)?;
+        require(12, when <= self.tbs().next_update())?;
+        require(13, names_issuer(self.tbs().authority_key_id(), issuer_key))
+    }
+
+    /// Whether the key issued the CRL and it holds at the moment; if not, the first of these checks that fails, all of them
+    /// verifications: (9) the algorithm inside what is signed is that of the signature, NULL included, (10) the signature
+    /// holds under the issuer's key, (11) thisUpdate isn't after the moment, (12) nextUpdate isn't before it, (13) the
+    /// authority key identifier, if it is there, is that of the issuer's key. The numbers are those of a whole message's
+    /// checks. It takes no memory.
+    pub fn validate<P: Scheme, V: Verifier<P>>(
+        &self,
+        verifier: &V,
+        issuer_key: &PublicKey,
+        when: Time,
+    ) -> Result<(), ValidationError>
+        ensures { (q : Bool) → Decides q (spec.IsListSigned P.checks self.now issuer_key.now) → result ≡ failing spec.crl_kind (first_failure 9 (spec.crl_checks self.now issuer_key.now when q)) }
+    {
+        match self.failure(verifier, issuer_key, when) {
+            Ok(()) => Ok(()),
+            Err(check) => Err(ValidationError {
+                kind: ValidationKind::Verification,
+                check,
+            }),
+        }
+    }
+}
