@@ -1,6 +1,6 @@
 //! Whether a signed message may be believed.
 
-ghost use Rattle.std.specs.Prelude.{◌≡◌, ◌↔◌, ◌⊎◌, Bool, ℤ, Decides, bytes_eq, ⊥};
+ghost use Rattle.std.specs.Prelude.{◌≡◌, ◌↔◌, ◌⊎◌, Bool, ℤ, Decides, bytes_eq};
 ghost use Rattle.rpki_base.specs.PublicKey.{KeyFields};
 ghost use Rattle.rpki_idcert.specs.Checks.{first_failure, failing};
 ghost use Rattle.rpki_sigmsg.specs.Message.{MessageFields};
