@@ -2,3 +2,4 @@ pub mod Adding
 pub mod Ahead
 pub mod Entries
 pub mod CrlGathering
+pub mod Loosening

@@ -13,6 +13,7 @@ mod attributes;
 mod content;
 mod crl;
 mod crl_extensions;
+mod law;
 mod message;
 mod names;
 mod octets;
@@ -23,6 +24,7 @@ mod signer;
 mod tbs_crl;
 
 pub use crl::SignedMessageCrl;
+pub use law::strict_messages_are_loose;
 pub use message::SignedMessage;
 pub use reference::SignedMessageRef;
 pub use revoked::{CrlEntry, RevokedCertificates};
