@@ -3,3 +3,4 @@ pub mod Ahead
 pub mod Entries
 pub mod CrlGathering
 pub mod Meaning
+pub mod Loosening

@@ -14,6 +14,7 @@ mod content;
 mod crl;
 mod crl_extensions;
 mod crl_validation;
+mod law;
 mod message;
 mod names;
 mod octets;
@@ -25,6 +26,7 @@ mod tbs_crl;
 mod validation;
 
 pub use crl::SignedMessageCrl;
+pub use law::strict_messages_are_loose;
 pub use message::SignedMessage;
 pub use reference::SignedMessageRef;
 pub use revoked::{CrlEntry, RevokedCertificates};
