@@ -104,11 +104,7 @@ impl SignedMessageCrl {
     }
 
     /// The CRL that the octets hold, with nothing behind it. It is read in DER whatever the mode.
-    pub fn take(
-        alloc: Global,
-        _mode: Mode,
-        octets: &[u8],
-    ) -> Result<SignedMessageCrl, DecodeError>
+    pub fn take(alloc: Global, _mode: Mode, octets: &[u8]) -> Result<SignedMessageCrl, DecodeError>
         ensures { HoldsOne (revocation_list Der) (λ c. c) Der octets.now result }
     {
         SignedMessageCrl::take_within::<Brand>(alloc, octets, Blank::new(1))

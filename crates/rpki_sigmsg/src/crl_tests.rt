@@ -83,14 +83,18 @@ fn certificates_are_listed(rt: HostRuntime) -> Result<(), Fail> {
     for (number, is_listed) in [(0, false), (1, true), (2, false), (0x10203, true)] {
         assert_eq!(rt; list.contains(Serial::from(number)), is_listed, "{number}");
     }
-    assert_eq!(rt; RevokedCertificates::empty(alloc).contains(Serial::from(1)), false);
+    assert_eq!(rt;
+        RevokedCertificates::empty(alloc).contains(Serial::from(1)),
+        false
+    );
     Ok(())
 }
 
 #[test]
 fn entries_are_read(rt: HostRuntime) -> Result<(), Fail> {
     let alloc = rt.alloc();
-    let octets = b"\x30\x38\x30\x20\x02\x01\x01\x17\x0d\x32\x33\x31\x31\x31\x34\x32\x32\x31\x30\x30\x30\x5a\x30\x0c\x30\x0a\x06\x03\x55\x1d\x15\x04\x03\x0a\x01\x01\x30\x14\x02\x03\x01\x02\x03\x17\x0d\x32\x33\x31\x31\x31\x34\x32\x32\x31\x31\x30\x30\x5a".as_slice();
+    let octets =
+        b"\x30\x38\x30\x20\x02\x01\x01\x17\x0d\x32\x33\x31\x31\x31\x34\x32\x32\x31\x30\x30\x30\x5a\x30\x0c\x30\x0a\x06\x03\x55\x1d\x15\x04\x03\x0a\x01\x01\x30\x14\x02\x03\x01\x02\x03\x17\x0d\x32\x33\x31\x31\x31\x34\x32\x32\x31\x31\x30\x30\x5a".as_slice();
     let list = RevokedCertificates::take(alloc, Mode::Ber, octets)?;
     assert_eq!(rt; list.as_slice(), &octets[2..]);
     let entry = CrlEntry::take(alloc, Mode::Der, &octets[36..])?;
@@ -149,12 +153,7 @@ impl Verifier<Everything> for EverythingVerifier {
 }
 
 // The answer to the CRL at a moment, under key 0 of the messages' library in this format: 0, or the number of the failing check.
-fn answer(
-    alloc: Global,
-    octets: &[u8],
-    format: PublicKeyFormat,
-    seconds: i64,
-) -> Result<u8, Fail> {
+fn answer(alloc: Global, octets: &[u8], format: PublicKeyFormat, seconds: i64) -> Result<u8, Fail> {
     let crl = SignedMessageCrl::take(alloc, Mode::Der, octets)?;
     let key = PublicKey::new(
         alloc,
