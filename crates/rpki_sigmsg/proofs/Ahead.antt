@@ -1,12 +1,12 @@
 -- What the first octet says of the value that stands next.
-use Rattle.std.proofs.Common.{◌≡◌, ℕ, ◌+◌, ◌-◌, ◌*◌, ◌/◌, ◌%◌, ◌≤◌, Bool, true, false, Option, None, Some, List, [], ◌∷◌, ◌++◌, length, refl, sym, ap, ◌∙◌, arith}
+use Rattle.std.proofs.Common.{◌≡◌, ℕ, ◌%◌, Bool, true, false, Option, None, Some, List, [], ◌∷◌, sym, ap, ◌∙◌, arith}
 use Rattle.std.specs.Prelude.{◌==◌, ◌||◌, bytes_eq}
 use Rattle.rpki_der.specs.declared.error.DecodeError.{DecodeError}
 use Rattle.rpki_der.specs.Identifier.{has_tag, without_bit_6}
 use Rattle.rpki_der.specs.Header.{IdentifierFirst}
 use Rattle.rpki_der.specs.Level.{Level, Sized, Marked, Ends}
 use Rattle.rpki_der.specs.Grammar.{identifier_of, optional}
-use Rattle.rpki_der.specs.Position.{Position, top, AtEnd}
+use Rattle.rpki_der.specs.Position.{Position, top}
 use Rattle.rpki_der.specs.Tags.{sequence}
 use Rattle.rpki_der.specs.Ticks.{CountedOne, CountedRefuses, CountedFields, CountedRefusesFields}
 use Rattle.rpki_der.specs.Value.{Value, Begins}

@@ -1,5 +1,5 @@
 -- Reading a list of values of one kind, those that were read so far standing in front.
-use Rattle.std.proofs.Common.{◌≡◌, ℕ, ◌+◌, Option, None, Some, List, [], ◌∷◌, ◌++◌, refl, sym, ap, subst, ◌∙◌, append_assoc}
+use Rattle.std.proofs.Common.{◌≡◌, ℕ, ◌+◌, Option, None, Some, List, [], ◌∷◌, ◌++◌, refl, sym, ap, subst, append_assoc}
 use Rattle.std.proofs.lemmas.List.{append-nil}
 use Rattle.rpki_common.specs.Chaining.{◌>>=◌}
 use Rattle.rpki_common.proofs.Collected.{bind_under}
@@ -7,7 +7,7 @@ use Rattle.rpki_der.specs.Value.{Value, Values}
 use Rattle.rpki_der.specs.Position.{Position, top, Leaves}
 use Rattle.rpki_der.specs.Grammar.{every}
 use Rattle.rpki_der.specs.Held.{held, up_to}
-use Rattle.rpki_der.specs.Ticks.{marks, CountedOne, CountedReads, CountedStops}
+use Rattle.rpki_der.specs.Ticks.{marks, CountedOne, CountedReads}
 use Rattle.rpki_der.proofs.Counting.{CountedContinues, continues_item, reads_end}
 use Rattle.rpki_der.proofs.Leftovers.{continues_as, reads_as, stops_as}
 use Rattle.rpki_der.proofs.Holding.{reads_held}

@@ -1,5 +1,5 @@
 -- The CRL of a signed message (RFC 5280, 5.1; RFC 6492, 3.1.1).
-use Rattle.std.specs.Prelude.{ℕ, Option, List}
+use Rattle.std.specs.Prelude.{Option}
 use Rattle.rpki_common.specs.Chaining.{◌>>=◌}
 use Rattle.rpki_der.specs.declared.mode.Mode.{Mode}
 use Rattle.rpki_der.specs.Tags.{sequence}

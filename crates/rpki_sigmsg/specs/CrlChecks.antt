@@ -1,5 +1,5 @@
 -- The checks of a signed message's CRL in their order (RFC 5280, 6.3.3; RFC 6492, 3.1.2).
-use Rattle.std.specs.Prelude.{◌≡◌, ℕ, ℤ, int_le, Bool, true, false, ◌&&◌, List, [], ◌∷◌}
+use Rattle.std.specs.Prelude.{ℕ, ℤ, int_le, Bool, true, false, ◌&&◌, List, [], ◌∷◌}
 use Rattle.std.specs.Bool.{beq}
 use Rattle.rpki_base.specs.PublicKey.{KeyFields}
 use Rattle.rpki_base.specs.declared.algorithm.SigningAlgorithm.{SigningAlgorithm}

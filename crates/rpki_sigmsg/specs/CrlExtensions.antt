@@ -1,5 +1,5 @@
 -- The extensions of a CRL (RFC 5280, 5.2).
-use Rattle.std.specs.Prelude.{ℕ, filter, Option, None, Some, List}
+use Rattle.std.specs.Prelude.{ℕ, filter, Option, Some, List}
 use Rattle.rpki_common.specs.Chaining.{◌>>=◌}
 use Rattle.rpki_common.specs.Items.{at_most_one}
 use Rattle.rpki_common.specs.Collecting.{slot, both}

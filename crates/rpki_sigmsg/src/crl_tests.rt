@@ -153,12 +153,7 @@ impl Verifier<Everything> for EverythingVerifier {
 }
 
 // The answer to the CRL at a moment, under key 0 of the messages' library in this format: 0, or the number of the failing check.
-fn answer(
-    alloc: Global,
-    octets: &[u8],
-    format: PublicKeyFormat,
-    seconds: i64,
-) -> Result<u8, Fail> {
+fn answer(alloc: Global, octets: &[u8], format: PublicKeyFormat, seconds: i64) -> Result<u8, Fail> {
     let crl = SignedMessageCrl::take(alloc, Mode::Der, octets)?;
     let key = PublicKey::new(
         alloc,

@@ -1,6 +1,6 @@
 use Rattle.rpki_der.proofs.Reading.{not_ended}
 use Rattle.rpki_der.proofs.Counting.{uncounted_one}
-use Rattle.rpki_der.proofs.Wholes.{whole_ok, whole_more, whole_none, whole_err, takes_fresh, refuses_fresh}
+use Rattle.rpki_der.proofs.Wholes.{whole_more, whole_none, whole_err, takes_fresh, refuses_fresh}
 use Rattle.rpki_sigmsg.specs.Crl.{revocation_list}
 use Rattle.rpki_sigmsg.proofs.crl.SignedMessageCrl.take_within.Goals as goal
 
