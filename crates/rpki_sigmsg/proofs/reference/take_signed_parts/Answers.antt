@@ -48,4 +48,4 @@ returns-in_err-leave_counted g c = takes_err _ _ _ _ _ _ _ _ _ c.from_residual-i
 
 pub returns : goal.returns
 unfolding signed_parts
-returns g c = takes_within _ _ _ _ _ _ _ _ _ _ _ refl c.in_ok-enter_counted.ensures.place c.in_ok-enter_counted.ensures.ticks (reads_first _ _ _ _ _ _ _ _ _ _ _ _ _ refl c.in_ok-take_integer_if_counted.ensures (reads_first _ _ _ _ _ _ _ _ _ _ _ _ _ refl c.in_ok-pass_digest_algorithms.ensures (reads_first _ _ _ _ _ _ _ _ _ _ _ _ _ refl (takes_in _ encapsulated_content _ _ _ _ _ _ (c.in_ok-pass_digest_algorithms.ensures.mode ∙ c.in_ok-take_integer_if_counted.ensures.mode ∙ c.in_ok-enter_counted.ensures.place.mode) c.in_ok-content.ensures) (reads_first _ _ _ _ _ _ _ _ _ _ _ _ _ refl (takes_in _ (λ m. wrapped (context 0) (with_octets (identity_certificate m))) _ _ _ _ _ _ (c.in_ok-content.ensures.mode ∙ c.in_ok-pass_digest_algorithms.ensures.mode ∙ c.in_ok-take_integer_if_counted.ensures.mode ∙ c.in_ok-enter_counted.ensures.place.mode) c.in_ok-certificate.ensures) (reads_first _ _ _ _ _ _ _ _ _ _ _ _ _ refl c.in_ok-crl.ensures (reads_first _ _ _ _ _ _ _ _ _ _ _ _ _ refl (takes_in _ (λ m. wrapped set (signer_info m)) _ _ _ _ _ _ (c.in_ok-crl.ensures.mode ∙ c.in_ok-certificate.ensures.mode ∙ c.in_ok-content.ensures.mode ∙ c.in_ok-pass_digest_algorithms.ensures.mode ∙ c.in_ok-take_integer_if_counted.ensures.mode ∙ c.in_ok-enter_counted.ensures.place.mode) c.in_ok-signer.ensures) (reads_done _ _ _ _ _ _ refl c.in_ok-leave_counted.ensures.place c.in_ok-leave_counted.ensures.ticks)))))))
+returns g c = rw c.new.ensures (takes_within _ _ _ _ _ _ _ _ _ _ _ refl c.in_ok-enter_counted.ensures.place c.in_ok-enter_counted.ensures.ticks (reads_first _ _ _ _ _ _ _ _ _ _ _ _ _ refl c.in_ok-take_integer_if_counted.ensures (reads_first _ _ _ _ _ _ _ _ _ _ _ _ _ refl c.in_ok-pass_digest_algorithms.ensures (reads_first _ _ _ _ _ _ _ _ _ _ _ _ _ refl (takes_in _ encapsulated_content _ _ _ _ _ _ (c.in_ok-pass_digest_algorithms.ensures.mode ∙ c.in_ok-take_integer_if_counted.ensures.mode ∙ c.in_ok-enter_counted.ensures.place.mode) c.in_ok-content.ensures) (reads_first _ _ _ _ _ _ _ _ _ _ _ _ _ refl (takes_in _ (λ m. wrapped (context 0) (with_octets (identity_certificate m))) _ _ _ _ _ _ (c.in_ok-content.ensures.mode ∙ c.in_ok-pass_digest_algorithms.ensures.mode ∙ c.in_ok-take_integer_if_counted.ensures.mode ∙ c.in_ok-enter_counted.ensures.place.mode) c.in_ok-certificate.ensures) (reads_first _ _ _ _ _ _ _ _ _ _ _ _ _ refl c.in_ok-crl.ensures (reads_first _ _ _ _ _ _ _ _ _ _ _ _ _ refl (takes_in _ (λ m. wrapped set (signer_info m)) _ _ _ _ _ _ (c.in_ok-crl.ensures.mode ∙ c.in_ok-certificate.ensures.mode ∙ c.in_ok-content.ensures.mode ∙ c.in_ok-pass_digest_algorithms.ensures.mode ∙ c.in_ok-take_integer_if_counted.ensures.mode ∙ c.in_ok-enter_counted.ensures.place.mode) c.in_ok-signer.ensures) (reads_done _ _ _ _ _ _ refl c.in_ok-leave_counted.ensures.place c.in_ok-leave_counted.ensures.ticks))))))))

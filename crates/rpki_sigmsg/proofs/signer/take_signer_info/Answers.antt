@@ -44,4 +44,4 @@ returns-in_err-leave_counted g c = takes_err _ _ _ _ _ _ _ _ _ c.from_residual-i
 
 pub returns : goal.returns
 unfolding signer_info
-returns g c = takes_within _ _ _ _ _ _ _ _ _ _ _ refl c.in_ok-enter_counted.ensures.place c.in_ok-enter_counted.ensures.ticks (reads_first _ _ _ _ _ _ _ _ _ _ _ _ _ refl c.in_ok-take_integer_if_counted.ensures (reads_first _ _ _ _ _ _ _ _ _ _ _ _ _ refl (takes_in _ (key_identifier_under (context 0)) _ _ _ _ _ _ (c.in_ok-take_integer_if_counted.ensures.mode ∙ c.in_ok-enter_counted.ensures.place.mode) c.in_ok-identifier.ensures) (reads_first _ _ _ _ _ _ _ _ _ _ _ _ _ refl c.in_ok-pass_digest_algorithm.ensures (reads_first _ _ _ _ _ _ _ _ _ _ _ _ _ refl (takes_in _ signed_attributes _ _ _ _ _ _ (c.in_ok-pass_digest_algorithm.ensures.mode ∙ c.in_ok-identifier.ensures.mode ∙ c.in_ok-take_integer_if_counted.ensures.mode ∙ c.in_ok-enter_counted.ensures.place.mode) c.in_ok-attributes.ensures) (reads_first _ _ _ _ _ _ _ _ _ _ _ _ _ refl (takes_in _ signature_algorithm _ _ _ _ _ _ (c.in_ok-attributes.ensures.mode ∙ c.in_ok-pass_digest_algorithm.ensures.mode ∙ c.in_ok-identifier.ensures.mode ∙ c.in_ok-take_integer_if_counted.ensures.mode ∙ c.in_ok-enter_counted.ensures.place.mode) c.in_ok-algorithm.ensures) (reads_first _ _ _ _ _ _ _ _ _ _ _ _ _ refl (takes_in _ (λ m. with_octets (octet_string m)) _ _ _ _ _ _ (c.in_ok-algorithm.ensures.mode ∙ c.in_ok-attributes.ensures.mode ∙ c.in_ok-pass_digest_algorithm.ensures.mode ∙ c.in_ok-identifier.ensures.mode ∙ c.in_ok-take_integer_if_counted.ensures.mode ∙ c.in_ok-enter_counted.ensures.place.mode) c.in_ok-signature_value.ensures) (reads_done _ _ _ _ _ _ refl c.in_ok-leave_counted.ensures.place c.in_ok-leave_counted.ensures.ticks)))))))
+returns g c = rw c.new-signature.ensures (takes_within _ _ _ _ _ _ _ _ _ _ _ refl c.in_ok-enter_counted.ensures.place c.in_ok-enter_counted.ensures.ticks (reads_first _ _ _ _ _ _ _ _ _ _ _ _ _ refl c.in_ok-take_integer_if_counted.ensures (reads_first _ _ _ _ _ _ _ _ _ _ _ _ _ refl (takes_in _ (key_identifier_under (context 0)) _ _ _ _ _ _ (c.in_ok-take_integer_if_counted.ensures.mode ∙ c.in_ok-enter_counted.ensures.place.mode) c.in_ok-identifier.ensures) (reads_first _ _ _ _ _ _ _ _ _ _ _ _ _ refl c.in_ok-pass_digest_algorithm.ensures (reads_first _ _ _ _ _ _ _ _ _ _ _ _ _ refl (takes_in _ signed_attributes _ _ _ _ _ _ (c.in_ok-pass_digest_algorithm.ensures.mode ∙ c.in_ok-identifier.ensures.mode ∙ c.in_ok-take_integer_if_counted.ensures.mode ∙ c.in_ok-enter_counted.ensures.place.mode) c.in_ok-attributes.ensures) (reads_first _ _ _ _ _ _ _ _ _ _ _ _ _ refl (takes_in _ signature_algorithm _ _ _ _ _ _ (c.in_ok-attributes.ensures.mode ∙ c.in_ok-pass_digest_algorithm.ensures.mode ∙ c.in_ok-identifier.ensures.mode ∙ c.in_ok-take_integer_if_counted.ensures.mode ∙ c.in_ok-enter_counted.ensures.place.mode) c.in_ok-algorithm.ensures) (reads_first _ _ _ _ _ _ _ _ _ _ _ _ _ refl (takes_in _ (λ m. with_octets (octet_string m)) _ _ _ _ _ _ (c.in_ok-algorithm.ensures.mode ∙ c.in_ok-attributes.ensures.mode ∙ c.in_ok-pass_digest_algorithm.ensures.mode ∙ c.in_ok-identifier.ensures.mode ∙ c.in_ok-take_integer_if_counted.ensures.mode ∙ c.in_ok-enter_counted.ensures.place.mode) c.in_ok-signature_value.ensures) (reads_done _ _ _ _ _ _ refl c.in_ok-leave_counted.ensures.place c.in_ok-leave_counted.ensures.ticks))))))))
