@@ -3,7 +3,7 @@ use Rattle.rpki_idcert.specs.Checks.{ee_checks}
 use Rattle.rpki_idcert.proofs.Checking.{err_is, passed, failed}
 use Rattle.rpki_sigmsg.specs.CrlChecks.{crl_checks}
 use Rattle.rpki_sigmsg.specs.Checks.{message_checks}
-use Rattle.rpki_sigmsg.proofs.validation.SignedMessage.failure.Goals as goal
+use Rattle.rpki_sigmsg.proofs.message.SignedMessage.failure.Goals as goal
 
 pub returns-in_err-own_failure : goal.returns-in_err-own_failure
 returns-in_err-own_failure g c = λ q. err_is _ _ c.from_residual.ensures.1 ∙ sym (failed 1 (message_checks c.args.self.now q.q3) _ _ (c.in_err-own_failure.ensures q.q3 q.attributes))
