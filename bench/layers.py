@@ -12,10 +12,11 @@ each SEQUENCE and each constructed OCTET STRING. Printed are, for each shape and
   measuring process holds when it starts the program, some 14;
 - etree s: the best of three times that xml.etree.ElementTree.fromstring takes on the same octets, without the start of
   Python and the reading of the file; `refused` where it doesn't give an element;
+- ratio: the program's seconds over those of xml.etree, so below 1 where the program is the faster one;
 - allocs: how often memory was taken, and how often for each element, by valgrind on an input of 100000 octets, with what
   the program's start takes.
 
-The last two are left out where Python has no xml.etree or the machine no valgrind."""
+The last three are left out where Python has no xml.etree or the machine no valgrind."""
 import os
 import re
 import shutil
@@ -118,19 +119,19 @@ def program_seconds(path, layer):
     return seconds, peak
 
 
-def etree_seconds(path):
-    """What xml.etree takes, as a text"""
+def etree_columns(path, seconds):
+    """What xml.etree takes, and the program's seconds over that, as two texts"""
     try:
         import xml.etree.ElementTree  # noqa: F401
     except ImportError:
-        return "-"
+        return "-", "-"
     times = []
     for _ in range(3):
         done = subprocess.run([sys.executable, "-c", ETREE, path], capture_output=True, text=True, check=False)
         if done.returncode != 0:
-            return "refused"
+            return "refused", "-"
         times.append(float(done.stdout))
-    return f"{min(times):.3f}"
+    return f"{min(times):.3f}", f"{seconds / min(times):.2f}"
 
 
 def allocations(path, shape):
@@ -164,7 +165,8 @@ def row(folder, layer, shape, size):
     seconds, peak = program_seconds(path, layer)
     line = f"{layer:<9} {shape.__name__:<18} {size:>5.1f} {said:<16} {seconds:>8.3f} {len(octets) / seconds / 1e6:>8.1f} {peak / 1e6:>8.1f}"
     if layer == "document":
-        line += f" {etree_seconds(path):>8}"
+        taken, ratio = etree_columns(path, seconds)
+        line += f" {taken:>8} {ratio:>6}"
         if size == 1:
             line += f" {allocations(path, shape):>16}"
     print(line, flush=True)
@@ -174,7 +176,7 @@ def main():
     layers = sys.argv[1:] or ["document", "tree", "walk"]
     if not os.path.exists(PROGRAM):
         subprocess.run(["rt", "run"], cwd=os.path.join(TOP, "crates", "layers"), stdout=subprocess.DEVNULL, check=False)
-    print(f"{'layer':<9} {'shape':<18} {'MB':>5} {'answer':<16} {'seconds':>8} {'MB/s':>8} {'peak MB':>8} {'etree s':>8} {'allocs':>16}")
+    print(f"{'layer':<9} {'shape':<18} {'MB':>5} {'answer':<16} {'seconds':>8} {'MB/s':>8} {'peak MB':>8} {'etree s':>8} {'ratio':>6} {'allocs':>16}")
     with tempfile.TemporaryDirectory() as folder:
         for layer in layers:
             for shape, sizes in DOCUMENTS if layer == "document" else VALUES:

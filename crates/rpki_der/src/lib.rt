@@ -53,9 +53,7 @@ pub use mode::Mode;
 pub use null::{take_opt_null, take_opt_null_counted};
 pub use number::{take_integer, take_integer_counted, take_u64, take_u64_counted};
 pub use octets::{take_octets, take_octets_counted};
-pub use oid::{
-    lawful_oid_contents, take_oid, take_oid_counted, take_oid_if, take_oid_if_counted,
-};
+pub use oid::{lawful_oid_contents, take_oid, take_oid_counted, take_oid_if, take_oid_if_counted};
 pub use rest::{pass_rest, pass_rest_counted};
 pub use rpki_common::OutOfMemory;
 pub use steps::Steps;

