@@ -87,23 +87,58 @@ fn end_entity(
 }
 
 #[test]
-fn each_check_of_an_end_entity(rt: HostRuntime) -> Result<(), Fail> {
-    let rows: [(&[u8], u64, i64, Result<(), ValidationError>); 11] = [
-        (END_ENTITY, 0, 1699999700, PASSES),
-        (END_ENTITY, 0, 1700000300, PASSES),
-        (OTHER_SUBJECT, 0, 1700000000, inspection(1)),
-        (END_ENTITY, 0, 1699999699, verification(2)),
-        (END_ENTITY, 0, 1700000301, verification(2)),
-        (END_ENTITY, 9, 1700000000, verification(3)),
-        (OTHER_AUTHORITY, 0, 1700000000, verification(3)),
-        (CA_BELOW, 0, 1700000000, verification(4)),
-        (WITHOUT_AUTHORITY, 0, 1700000000, PASSES),
-        (WITHOUT_AUTHORITY, 9, 1700000000, verification(5)),
-        (CA_BELOW, 9, 1700000301, verification(2)),
-    ];
-    for (octets, number, seconds, wanted) in rows {
-        assert_eq!(rt; end_entity(rt.alloc(), octets, number, seconds)?, wanted);
-    }
+fn an_end_entity_passes(rt: HostRuntime) -> Result<(), Fail> {
+    let alloc = rt.alloc();
+    assert_eq!(rt; end_entity(alloc, END_ENTITY, 0, 1699999700)?, PASSES);
+    assert_eq!(rt; end_entity(alloc, END_ENTITY, 0, 1700000300)?, PASSES);
+    assert_eq!(rt;
+        end_entity(alloc, WITHOUT_AUTHORITY, 0, 1700000000)?,
+        PASSES
+    );
+    Ok(())
+}
+
+#[test]
+fn the_first_two_checks_of_an_end_entity(rt: HostRuntime) -> Result<(), Fail> {
+    let alloc = rt.alloc();
+    assert_eq!(rt;
+        end_entity(alloc, OTHER_SUBJECT, 0, 1700000000)?,
+        inspection(1)
+    );
+    assert_eq!(rt;
+        end_entity(alloc, END_ENTITY, 0, 1699999699)?,
+        verification(2)
+    );
+    assert_eq!(rt;
+        end_entity(alloc, END_ENTITY, 0, 1700000301)?,
+        verification(2)
+    );
+    assert_eq!(rt;
+        end_entity(alloc, CA_BELOW, 9, 1700000301)?,
+        verification(2)
+    );
+    Ok(())
+}
+
+#[test]
+fn the_last_three_checks_of_an_end_entity(rt: HostRuntime) -> Result<(), Fail> {
+    let alloc = rt.alloc();
+    assert_eq!(rt;
+        end_entity(alloc, END_ENTITY, 9, 1700000000)?,
+        verification(3)
+    );
+    assert_eq!(rt;
+        end_entity(alloc, OTHER_AUTHORITY, 0, 1700000000)?,
+        verification(3)
+    );
+    assert_eq!(rt;
+        end_entity(alloc, CA_BELOW, 0, 1700000000)?,
+        verification(4)
+    );
+    assert_eq!(rt;
+        end_entity(alloc, WITHOUT_AUTHORITY, 9, 1700000000)?,
+        verification(5)
+    );
     Ok(())
 }
 
@@ -114,21 +149,35 @@ fn anchor(alloc: Global, octets: &[u8], seconds: i64) -> Result<Result<(), Valid
 }
 
 #[test]
-fn each_check_of_a_trust_anchor(rt: HostRuntime) -> Result<(), Fail> {
-    let rows: [(&[u8], i64, Result<(), ValidationError>); 9] = [
-        (ANCHOR, 1699999700, PASSES),
-        (ANCHOR, 1700000300, PASSES),
-        (ANCHOR_OTHER_SUBJECT, 1700000000, inspection(1)),
-        (ANCHOR_WITHOUT_CONSTRAINTS, 1700000000, inspection(2)),
-        (ANCHOR_NO_CA, 1700000000, inspection(3)),
-        (ANCHOR, 1699999699, verification(4)),
-        (ANCHOR, 1700000301, verification(4)),
-        (ANCHOR_FORGED, 1700000000, verification(5)),
-        (ANCHOR_BELOW, 1700000000, PASSES),
-    ];
-    for (octets, seconds, wanted) in rows {
-        assert_eq!(rt; anchor(rt.alloc(), octets, seconds)?, wanted);
-    }
+fn a_trust_anchor_passes(rt: HostRuntime) -> Result<(), Fail> {
+    let alloc = rt.alloc();
+    assert_eq!(rt; anchor(alloc, ANCHOR, 1699999700)?, PASSES);
+    assert_eq!(rt; anchor(alloc, ANCHOR, 1700000300)?, PASSES);
+    assert_eq!(rt; anchor(alloc, ANCHOR_BELOW, 1700000000)?, PASSES);
+    Ok(())
+}
+
+#[test]
+fn the_first_three_checks_of_a_trust_anchor(rt: HostRuntime) -> Result<(), Fail> {
+    let alloc = rt.alloc();
+    assert_eq!(rt;
+        anchor(alloc, ANCHOR_OTHER_SUBJECT, 1700000000)?,
+        inspection(1)
+    );
+    assert_eq!(rt;
+        anchor(alloc, ANCHOR_WITHOUT_CONSTRAINTS, 1700000000)?,
+        inspection(2)
+    );
+    assert_eq!(rt; anchor(alloc, ANCHOR_NO_CA, 1700000000)?, inspection(3));
+    Ok(())
+}
+
+#[test]
+fn the_last_two_checks_of_a_trust_anchor(rt: HostRuntime) -> Result<(), Fail> {
+    let alloc = rt.alloc();
+    assert_eq!(rt; anchor(alloc, ANCHOR, 1699999699)?, verification(4));
+    assert_eq!(rt; anchor(alloc, ANCHOR, 1700000301)?, verification(4));
+    assert_eq!(rt; anchor(alloc, ANCHOR_FORGED, 1700000000)?, verification(5));
     Ok(())
 }
 
