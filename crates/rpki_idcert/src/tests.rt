@@ -127,43 +127,52 @@ fn the_first_check_fails(rt: HostRuntime) -> Result<(), Fail> {
     Ok(())
 }
 
-#[test]
-fn a_certificate_of_openssl(rt: HostRuntime) -> Result<(), Fail> {
-    let alloc = rt.alloc();
-    let cert = IdCert::decode(alloc, OPENSSL)?;
-    let tbs = cert.tbs();
-    assert!(rt; tbs.serial_number() == Serial::from(81985529216486895));
-    assert_eq!(rt; tbs.validity().not_before().seconds(), 1795766756);
-    assert_eq!(rt; tbs.validity().not_after().seconds(), 2111126756);
-    assert_eq!(rt; tbs.subject_key_identifier().as_slice(), OPENSSL_IDENTIFIER);
-    assert_eq!(rt; tbs.basic_ca(), Some(true));
-    match tbs.authority_key_id() {
-        Some(identifier) => assert_eq!(rt; identifier.as_slice(), OPENSSL_IDENTIFIER),
-        None => assert!(rt; false),
-    }
-    Ok(())
+// What `openssl x509 -text` prints of it, with the moments' seconds from Python's calendar.
+fn has_its_numbers(tbs: &TbsIdCert) -> bool {
+    tbs.serial_number() == Serial::from(81985529216486895)
+        && tbs.validity().not_before().seconds() == 1795766756
+        && tbs.validity().not_after().seconds() == 2111126756
+        && tbs.basic_ca() == Some(true)
+}
+
+fn has_its_identifiers(tbs: &TbsIdCert) -> bool {
+    let Some(authority) = tbs.authority_key_id() else {
+        return false;
+    };
+    authority.as_slice() == OPENSSL_IDENTIFIER
+        && tbs.subject_key_identifier().as_slice() == OPENSSL_IDENTIFIER
+        && tbs.subject_key_id().as_slice() == OPENSSL_IDENTIFIER
+        && tbs.public_key().key_identifier().as_slice() == OPENSSL_IDENTIFIER
+}
+
+fn has_its_names(tbs: &TbsIdCert) -> bool {
+    let name = b"\x30\x0c\x31\x0a\x30\x08\x06\x03\x55\x04\x03\x0c\x01A".as_slice();
+    tbs.issuer().as_slice() == name
+        && tbs.subject().as_slice() == name
+        && tbs.algorithm() == RpkiSignatureAlgorithm::default()
+        && tbs.subject_public_key_info().bits_bytes().as_slice().len() == 140
 }
 
 #[test]
-fn what_a_certificate_of_openssl_holds(rt: HostRuntime) -> Result<(), Fail> {
-    let alloc = rt.alloc();
-    let cert = IdCert::decode(alloc, OPENSSL)?;
-    let tbs = cert.tbs();
-    let name = b"\x30\x0c\x31\x0a\x30\x08\x06\x03\x55\x04\x03\x0c\x01A".as_slice();
-    assert_eq!(rt; tbs.issuer().as_slice(), name);
-    assert_eq!(rt; tbs.subject().as_slice(), name);
-    assert!(rt; tbs.algorithm() == RpkiSignatureAlgorithm::default());
-    assert_eq!(rt; tbs.subject_key_id().as_slice(), OPENSSL_IDENTIFIER);
-    assert_eq!(rt;
-        tbs.public_key().key_identifier().as_slice(),
-        OPENSSL_IDENTIFIER
-    );
-    assert_eq!(rt;
-        tbs.subject_public_key_info().bits_bytes().as_slice().len(),
-        140
-    );
-    assert_eq!(rt; cert.to_captured(alloc)?.as_slice(), OPENSSL);
+fn a_certificate_of_openssl(rt: HostRuntime) -> Result<(), Fail> {
+    let cert = IdCert::decode(rt.alloc(), OPENSSL)?;
+    assert!(rt; has_its_numbers(cert.tbs()));
+    assert!(rt; has_its_identifiers(cert.tbs()));
+    assert!(rt; has_its_names(cert.tbs()));
+    assert_eq!(rt; cert.to_captured(rt.alloc())?.as_slice(), OPENSSL);
     Ok(())
+}
+
+// Whether the octets are one certificate.
+fn is_alone(alloc: Global, octets: &[u8]) -> bool {
+    IdCert::take(alloc, Mode::Der, octets).is_ok()
+}
+
+// How many octets the value behind the certificate has.
+fn behind(alloc: Global, octets: &[u8]) -> Result<usize, DecodeError> {
+    let mut cursor = Cursor::new(alloc, Mode::Der, octets);
+    IdCert::take_from(alloc, &mut cursor)?;
+    Ok(cursor.capture()?.len())
 }
 
 #[test]
@@ -171,22 +180,18 @@ fn what_stands_behind_is_not_read(rt: HostRuntime) -> Result<(), Fail> {
     let alloc = rt.alloc();
     let mut octets = Vec::new(alloc);
     octets.extend_from_slice(CERTIFICATE)?;
-    assert!(rt; IdCert::take(alloc, Mode::Der, &octets).is_ok());
+    assert!(rt; is_alone(alloc, &octets));
     octets.extend_from_slice(b"\x05\x00")?;
-    let cert = IdCert::decode(alloc, &octets)?;
-    assert!(rt;
-        matches!(
-            IdCert::take(alloc, Mode::Der, &octets),
-            Err(DecodeError::Malformed)
-        )
-    );
-    let mut cursor = Cursor::new(alloc, Mode::Der, &octets);
-    assert!(rt; IdCert::take_from(alloc, &mut cursor)? == cert);
-    assert_eq!(rt; cursor.capture()?, b"\x05\x00".as_slice());
-    let slice = cert.signed_data().slice().as_slice();
-    let mut cursor = Cursor::new(alloc, Mode::Der, slice);
-    assert!(rt; TbsIdCert::take_from(alloc, &mut cursor)? == *cert.tbs());
+    assert!(rt; !is_alone(alloc, &octets));
+    assert!(rt; behind(alloc, &octets) == Ok(2));
     Ok(())
+}
+
+// Whether the octets say in BER what the certificate says in DER.
+fn says_the_same(alloc: Global, octets: &[u8]) -> Result<bool, DecodeError> {
+    let loose = IdCert::decode_mode(alloc, Mode::Ber, octets)?;
+    let strict = IdCert::decode(alloc, CERTIFICATE)?;
+    Ok(loose == strict)
 }
 
 #[test]
@@ -197,16 +202,37 @@ fn an_indefinite_length_is_read_in_ber_alone(rt: HostRuntime) -> Result<(), Fail
     octets.extend_from_slice(&CERTIFICATE[3..])?;
     octets.extend_from_slice(b"\x00\x00")?;
     assert!(rt; is_malformed(alloc, &octets));
-    let cert = IdCert::decode_mode(alloc, Mode::Ber, &octets)?;
-    assert!(rt; cert == IdCert::decode(alloc, CERTIFICATE)?);
-    let Some(when) = Time::new(1700000300) else {
-        return Err(Fail::new("a moment"));
-    };
-    assert!(rt; cert.verify_validity(when).is_ok());
+    assert!(rt; says_the_same(alloc, &octets) == Ok(true));
+    Ok(())
+}
+
+// Whether what is signed is read from its octets, and the certificate is written as it was read.
+fn is_written_as_read(alloc: Global) -> Result<bool, DecodeError> {
+    let cert = IdCert::decode(alloc, CERTIFICATE)?;
+    let slice = cert.signed_data().slice().as_slice();
+    let mut cursor = Cursor::new(alloc, Mode::Der, slice);
+    let tbs = TbsIdCert::take_from(alloc, &mut cursor)?;
     let mut out = Writer::new(alloc);
     cert.encode_ref(alloc, &mut out)?;
-    assert_eq!(rt; out.as_slice(), CERTIFICATE);
-    Ok(())
+    Ok(tbs == *cert.tbs() && out.as_slice() == CERTIFICATE)
+}
+
+fn is_valid_at(alloc: Global, seconds: i64) -> Result<bool, DecodeError> {
+    let Some(when) = Time::new(seconds) else {
+        return Err(DecodeError::Malformed);
+    };
+    Ok(
+        IdCert::decode(alloc, CERTIFICATE)?
+            .verify_validity(when)
+            .is_ok(),
+    )
+}
+
+#[test]
+fn what_was_read_is_there(rt: HostRuntime) {
+    assert!(rt; is_written_as_read(rt.alloc()) == Ok(true));
+    assert!(rt; is_valid_at(rt.alloc(), 1700000300) == Ok(true));
+    assert!(rt; is_valid_at(rt.alloc(), 1700000301) == Ok(false));
 }
 
 // Whether the counted calls read the same.
@@ -225,5 +251,5 @@ fn reads_counted<L: Ledger>(alloc: Global, blank: Blank) -> Result<bool, DecodeE
 
 #[test]
 fn certificates_are_read_counted(rt: HostRuntime) {
-    assert!(rt; matches!(reads_counted::<Brand>(rt.alloc(), Blank::new(1)), Ok(true)));
+    assert!(rt; reads_counted::<Brand>(rt.alloc(), Blank::new(1)) == Ok(true));
 }
