@@ -1,5 +1,6 @@
 use super::*;
 use rpki_base::Time;
+use rpki_der::DecodeError;
 use rpki_signer::{ToyScheme, ToyVerifier};
 use std::alloc::Global;
 use std::test::Fail;
@@ -51,115 +52,134 @@ const ANCHOR_FORGED: &[u8] =
 const ANCHOR_BELOW: &[u8] =
     b"\x30\x81\xe9\x30\x81\xb4\xa0\x03\x02\x01\x02\x02\x01\x01\x30\x0d\x06\x09\x2a\x86\x48\x86\xf7\x0d\x01\x01\x0b\x05\x00\x30\x00\x30\x1e\x17\x0d\x32\x33\x31\x31\x31\x34\x32\x32\x30\x38\x32\x30\x5a\x17\x0d\x32\x33\x31\x31\x31\x34\x32\x32\x31\x38\x32\x30\x5a\x30\x00\x30\x22\x30\x0d\x06\x09\x2a\x86\x48\x86\xf7\x0d\x01\x01\x01\x05\x00\x03\x11\x00\x00\x00\x00\x00\x00\x00\x00\x01\x00\x00\x00\x00\x00\x00\x00\x00\xa3\x53\x30\x51\x30\x0f\x06\x03\x55\x1d\x13\x01\x01\xff\x04\x05\x30\x03\x01\x01\xff\x30\x1d\x06\x03\x55\x1d\x0e\x04\x16\x04\x14\x04\xd1\x46\x7a\x4d\x5f\x48\xf1\x73\x15\xa3\x5c\x90\xa4\xf7\xa7\xdc\x3c\x4a\x10\x30\x1f\x06\x03\x55\x1d\x23\x04\x18\x30\x16\x80\x14\xaf\x38\x15\xcb\x58\x34\x33\xa6\x10\xfb\xbc\xa3\xd3\x71\x16\xba\x8a\xe4\xc2\x52\x30\x0d\x06\x09\x2a\x86\x48\x86\xf7\x0d\x01\x01\x0b\x05\x00\x03\x21\x00\x7b\xdb\xac\x94\xbd\xc9\x27\x9c\xc2\x09\x29\x04\x53\x99\x5a\x24\xce\x0b\x66\x4a\xc7\xfa\x7e\xfa\x88\xd3\xcd\x53\xa9\x52\xe3\x3a";
 
-const PASSES: Result<(), ValidationError> = Ok(());
-
-fn inspection(check: u8) -> Result<(), ValidationError> {
-    Err(ValidationError {
-        kind: ValidationKind::Inspection,
-        check,
-    })
-}
-
-fn verification(check: u8) -> Result<(), ValidationError> {
-    Err(ValidationError {
-        kind: ValidationKind::Verification,
-        check,
-    })
-}
-
-fn moment(seconds: i64) -> Result<Time, Fail> {
-    match Time::new(seconds) {
-        Some(when) => Ok(when),
-        None => Err(Fail::new("a moment")),
-    }
-}
-
 // What is answered to an end entity's certificate under a key of the seed at a moment.
 fn end_entity(
     alloc: Global,
     octets: &[u8],
     number: u64,
     seconds: i64,
-) -> Result<Result<(), ValidationError>, Fail> {
+) -> Result<Result<(), ValidationError>, DecodeError> {
+    let Some(when) = Time::new(seconds) else {
+        return Err(DecodeError::Malformed);
+    };
     let cert = IdCert::decode(alloc, octets)?;
     let key = ToyScheme::key(alloc, 1, number)?;
-    Ok(cert.validate_ee_at::<ToyScheme, ToyVerifier>(&ToyVerifier::new(), &key, moment(seconds)?))
+    Ok(cert.validate_ee_at::<ToyScheme, ToyVerifier>(&ToyVerifier::new(), &key, when))
+}
+
+fn passes(alloc: Global, octets: &[u8], number: u64, seconds: i64) -> bool {
+    end_entity(alloc, octets, number, seconds) == Ok(Ok(()))
+}
+
+fn fails(alloc: Global, octets: &[u8], number: u64, seconds: i64, check: u8) -> bool {
+    let kind = if check == 1 {
+        ValidationKind::Inspection
+    } else {
+        ValidationKind::Verification
+    };
+    end_entity(alloc, octets, number, seconds) == Ok(Err(ValidationError { kind, check }))
 }
 
 #[test]
-fn each_check_of_an_end_entity(rt: HostRuntime) -> Result<(), Fail> {
-    let rows: [(&[u8], u64, i64, Result<(), ValidationError>); 11] = [
-        (END_ENTITY, 0, 1699999700, PASSES),
-        (END_ENTITY, 0, 1700000300, PASSES),
-        (OTHER_SUBJECT, 0, 1700000000, inspection(1)),
-        (END_ENTITY, 0, 1699999699, verification(2)),
-        (END_ENTITY, 0, 1700000301, verification(2)),
-        (END_ENTITY, 9, 1700000000, verification(3)),
-        (OTHER_AUTHORITY, 0, 1700000000, verification(3)),
-        (CA_BELOW, 0, 1700000000, verification(4)),
-        (WITHOUT_AUTHORITY, 0, 1700000000, PASSES),
-        (WITHOUT_AUTHORITY, 9, 1700000000, verification(5)),
-        (CA_BELOW, 9, 1700000301, verification(2)),
-    ];
-    for (octets, number, seconds, wanted) in rows {
-        assert_eq!(rt; end_entity(rt.alloc(), octets, number, seconds)?, wanted);
-    }
-    Ok(())
+fn an_end_entity_passes(rt: HostRuntime) {
+    let alloc = rt.alloc();
+    assert!(rt; passes(alloc, END_ENTITY, 0, 1699999700));
+    assert!(rt; passes(alloc, END_ENTITY, 0, 1700000300));
+    assert!(rt; passes(alloc, WITHOUT_AUTHORITY, 0, 1700000000));
+}
+
+#[test]
+fn the_first_two_checks_of_an_end_entity(rt: HostRuntime) {
+    let alloc = rt.alloc();
+    assert!(rt; fails(alloc, OTHER_SUBJECT, 0, 1700000000, 1));
+    assert!(rt; fails(alloc, END_ENTITY, 0, 1699999699, 2));
+    assert!(rt; fails(alloc, END_ENTITY, 0, 1700000301, 2));
+    assert!(rt; fails(alloc, CA_BELOW, 9, 1700000301, 2));
+}
+
+#[test]
+fn the_last_three_checks_of_an_end_entity(rt: HostRuntime) {
+    let alloc = rt.alloc();
+    assert!(rt; fails(alloc, END_ENTITY, 9, 1700000000, 3));
+    assert!(rt; fails(alloc, OTHER_AUTHORITY, 0, 1700000000, 3));
+    assert!(rt; fails(alloc, CA_BELOW, 0, 1700000000, 4));
+    assert!(rt; fails(alloc, WITHOUT_AUTHORITY, 9, 1700000000, 5));
 }
 
 // What is answered to a trust anchor's certificate at a moment.
-fn anchor(alloc: Global, octets: &[u8], seconds: i64) -> Result<Result<(), ValidationError>, Fail> {
+fn anchor(
+    alloc: Global,
+    octets: &[u8],
+    seconds: i64,
+) -> Result<Result<(), ValidationError>, DecodeError> {
+    let Some(when) = Time::new(seconds) else {
+        return Err(DecodeError::Malformed);
+    };
     let cert = IdCert::decode(alloc, octets)?;
-    Ok(cert.validate_ta_at::<ToyScheme, ToyVerifier>(&ToyVerifier::new(), moment(seconds)?))
+    Ok(cert.validate_ta_at::<ToyScheme, ToyVerifier>(&ToyVerifier::new(), when))
+}
+
+fn anchor_passes(alloc: Global, octets: &[u8], seconds: i64) -> bool {
+    anchor(alloc, octets, seconds) == Ok(Ok(()))
+}
+
+fn anchor_fails(alloc: Global, octets: &[u8], seconds: i64, check: u8) -> bool {
+    let kind = if check <= 3 {
+        ValidationKind::Inspection
+    } else {
+        ValidationKind::Verification
+    };
+    anchor(alloc, octets, seconds) == Ok(Err(ValidationError { kind, check }))
 }
 
 #[test]
-fn each_check_of_a_trust_anchor(rt: HostRuntime) -> Result<(), Fail> {
-    let rows: [(&[u8], i64, Result<(), ValidationError>); 9] = [
-        (ANCHOR, 1699999700, PASSES),
-        (ANCHOR, 1700000300, PASSES),
-        (ANCHOR_OTHER_SUBJECT, 1700000000, inspection(1)),
-        (ANCHOR_WITHOUT_CONSTRAINTS, 1700000000, inspection(2)),
-        (ANCHOR_NO_CA, 1700000000, inspection(3)),
-        (ANCHOR, 1699999699, verification(4)),
-        (ANCHOR, 1700000301, verification(4)),
-        (ANCHOR_FORGED, 1700000000, verification(5)),
-        (ANCHOR_BELOW, 1700000000, PASSES),
-    ];
-    for (octets, seconds, wanted) in rows {
-        assert_eq!(rt; anchor(rt.alloc(), octets, seconds)?, wanted);
-    }
-    Ok(())
-}
-
-#[test]
-fn checks_in_a_longer_list(rt: HostRuntime) -> Result<(), Fail> {
+fn a_trust_anchor_passes(rt: HostRuntime) {
     let alloc = rt.alloc();
+    assert!(rt; anchor_passes(alloc, ANCHOR, 1699999700));
+    assert!(rt; anchor_passes(alloc, ANCHOR, 1700000300));
+    assert!(rt; anchor_passes(alloc, ANCHOR_BELOW, 1700000000));
+}
+
+#[test]
+fn the_first_three_checks_of_a_trust_anchor(rt: HostRuntime) {
+    let alloc = rt.alloc();
+    assert!(rt; anchor_fails(alloc, ANCHOR_OTHER_SUBJECT, 1700000000, 1));
+    assert!(rt; anchor_fails(alloc, ANCHOR_WITHOUT_CONSTRAINTS, 1700000000, 2));
+    assert!(rt; anchor_fails(alloc, ANCHOR_NO_CA, 1700000000, 3));
+}
+
+#[test]
+fn the_last_two_checks_of_a_trust_anchor(rt: HostRuntime) {
+    let alloc = rt.alloc();
+    assert!(rt; anchor_fails(alloc, ANCHOR, 1699999699, 4));
+    assert!(rt; anchor_fails(alloc, ANCHOR, 1700000301, 4));
+    assert!(rt; anchor_fails(alloc, ANCHOR_FORGED, 1700000000, 5));
+}
+
+// What the five checks answer where the first has number 4, and whether the certificate names the key.
+fn within_a_list(alloc: Global, number: u64) -> Result<(Result<(), u8>, bool), DecodeError> {
+    let Some(when) = Time::new(1700000000) else {
+        return Err(DecodeError::Malformed);
+    };
     let cert = IdCert::decode(alloc, END_ENTITY)?;
-    let verifier = ToyVerifier::new();
-    let issuer = ToyScheme::key(alloc, 1, 0)?;
-    let other = ToyScheme::key(alloc, 1, 9)?;
-    let when = moment(1700000000)?;
-    let right = cert.ee_failure::<ToyScheme, ToyVerifier>(&verifier, &issuer, when, 4);
-    assert_eq!(rt; right, Ok(()));
-    let wrong = cert.ee_failure::<ToyScheme, ToyVerifier>(&verifier, &other, when, 4);
-    assert_eq!(rt; wrong, Err(6));
-    assert!(rt; names_issuer(cert.tbs().authority_key_id(), &issuer));
-    assert!(rt; !names_issuer(cert.tbs().authority_key_id(), &other));
-    assert!(rt; names_issuer(None, &other));
-    Ok(())
+    let key = ToyScheme::key(alloc, 1, number)?;
+    let named = names_issuer(cert.tbs().authority_key_id(), &key);
+    let found = cert.ee_failure::<ToyScheme, ToyVerifier>(&ToyVerifier::new(), &key, when, 4);
+    Ok((found, named))
+}
+
+#[test]
+fn checks_in_a_longer_list(rt: HostRuntime) {
+    assert!(rt; within_a_list(rt.alloc(), 0) == Ok((Ok(()), true)));
+    assert!(rt; within_a_list(rt.alloc(), 9) == Ok((Err(6), false)));
 }
 
 #[test]
 fn a_failed_check_prints_its_number(rt: HostRuntime) -> Result<(), Fail> {
-    assert_eq!(rt; require(7, true), Ok(()));
-    assert_eq!(rt; require(7, false), Err(7));
-    if let Err(error) = verification(5) {
-        assert_eq!(rt;
-            format!(in rt.alloc(); "{error}")?.as_str(),
-            "check 5 failed"
-        );
-    }
+    assert!(rt; require(7, true) == Ok(()) && require(7, false) == Err(7));
     first_false_decides();
+    let kind = ValidationKind::Verification;
+    let text = format!(in rt.alloc(); "{}", ValidationError { kind, check: 5 })?;
+    assert_eq!(rt; text.as_str(), "check 5 failed");
     Ok(())
 }
