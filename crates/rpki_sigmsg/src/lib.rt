@@ -4,6 +4,9 @@
 //! [`SignedMessage::digest_holds`] compares the two. For now the certificate, the CRL and the signer's algorithm are any
 //! SEQUENCE, unread, and nothing says who signed.
 //!
+//! [`SignedMessageCrl`] is the CRL of a message: what it says (specs/Crl.antt), which certificates it lists, and whether it may
+//! be believed.
+//!
 //! What a message is stands in specs/Message.antt and specs/Attributes.antt, as grammars over the values of X.690.
 #![tactic(auto)]
 
