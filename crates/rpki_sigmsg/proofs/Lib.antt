@@ -4,3 +4,4 @@ pub mod Entries
 pub mod CrlGathering
 pub mod Meaning
 pub mod Loosening
+pub mod Bounds

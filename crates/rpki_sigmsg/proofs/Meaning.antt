@@ -1,5 +1,5 @@
 -- What the fourteen checks mean: schemes that answer alike, and the moments at which they hold.
-use Rattle.std.proofs.Common.{◌≡◌, ℕ, ◌+◌, ℤ, ◌≤ℤ◌, ◌⊎◌, inl, inr, Bool, true, false, Ok, List, [], ◌∷◌, refl, arith, signed_arith}
+use Rattle.std.proofs.Common.{◌≡◌, ℕ, ◌+◌, ℤ, ◌≤ℤ◌, ◌⊎◌, inl, inr, Bool, true, false, Ok, List, [], ◌∷◌, refl, arith}
 use Rattle.std.specs.Prelude.{◌↔◌, int_le, ◌&&◌, not, bytes_eq, Decides}
 use Rattle.std.specs.List.{AllByRecursion}
 use Rattle.std.proofs.Math.Logic.{⊎_map}

@@ -2,7 +2,7 @@
 //!
 //! - [`SignedMessage`] is a message: it is decoded in DER or BER, and keeps what its signatures cover.
 //! - [`SignedMessageRef`] is a view of one, with the places of its parts in the octets from which it was read.
-//! - [`SignedMessageCrl`] is the CRL that comes with it.
+//! - [`SignedMessageCrl`] is the CRL that comes with it, and says which certificates are revoked.
 //!
 //! What a message is stands in specs/Message.antt, with specs/Attributes.antt, specs/Signer.antt and specs/Crl.antt, as
 //! grammars over the values of X.690.

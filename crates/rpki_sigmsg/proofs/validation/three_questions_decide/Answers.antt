@@ -2,4 +2,4 @@ use Rattle.rpki_sigmsg.proofs.Meaning.{same_checks}
 use Rattle.rpki_sigmsg.proofs.validation.three_questions_decide.Goals as goal
 
 pub returns : goal.returns
-returns c = same_checks _ _
+returns g c = same_checks _ _
