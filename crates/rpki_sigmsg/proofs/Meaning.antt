@@ -1,6 +1,8 @@
 -- What the fourteen checks mean: schemes that answer alike, and the moments at which they hold.
 use Rattle.std.proofs.Common.{◌≡◌, ℕ, ◌+◌, ℤ, ◌≤ℤ◌, ◌⊎◌, inl, inr, Bool, true, false, Ok, List, [], ◌∷◌, refl, arith}
-use Rattle.std.specs.Prelude.{◌↔◌, int_le, ◌&&◌, not, bytes_eq, Decides}
+use Rattle.std.specs.Int.Signed.{le_z_yes}
+use Rattle.std.proofs.lemmas.Float.{T_from_true}
+use Rattle.std.specs.Prelude.{T, ◌↔◌, int_le, ◌&&◌, not, bytes_eq, Decides}
 use Rattle.std.specs.List.{AllByRecursion}
 use Rattle.std.proofs.Math.Logic.{⊎_map}
 use Rattle.std.proofs.lemmas.List.Elements.{All-from_recursion}
@@ -29,11 +31,15 @@ same_checks s t m issuer when q r w =
 
 -- ---- one span of moments
 
+true_is : (b : Bool) → T b → b ≡ true
+true_is true t = refl
+true_is false t = absurd t
+
 at_most : (a b : ℤ) → int_le a b ≡ true → a ≤ℤ b
-at_most a b e = grind (arith, signed_arith, e)
+at_most a b e = le_z_yes (T_from_true (int_le a b) e)
 
 is_at_most : (a b : ℤ) → a ≤ℤ b → int_le a b ≡ true
-is_at_most a b l = grind (arith, signed_arith, l)
+is_at_most a b l = true_is (int_le a b) l.le
 
 both_true : (a b : Bool) → a ≡ true → b ≡ true → (a && b) ≡ true
 both_true a b x y = rw (x, y) refl
