@@ -36,3 +36,5 @@ pub use validation::{moments_are_one_span, three_questions_decide};
 
 #[cfg(test)]
 mod crl_tests;
+#[cfg(test)]
+mod tests;
