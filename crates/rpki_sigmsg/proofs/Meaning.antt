@@ -1,5 +1,5 @@
 -- What the fourteen checks mean: schemes that answer alike, and the moments at which they hold.
-use Rattle.std.proofs.Common.{◌≡◌, ℕ, ◌+◌, ℤ, ◌≤ℤ◌, ◌⊎◌, inl, inr, Bool, true, false, Ok, List, [], ◌∷◌, refl, arith}
+use Rattle.std.proofs.Common.{◌≡◌, ℕ, ◌+◌, ℤ, ◌≤ℤ◌, ◌⊎◌, inl, inr, Bool, true, false, Ok, List, [], ◌∷◌, refl}
 use Rattle.std.specs.Int.Signed.{le_z_yes}
 use Rattle.std.proofs.lemmas.Float.{T_from_true}
 use Rattle.std.specs.Prelude.{T, ◌↔◌, int_le, ◌&&◌, not, bytes_eq, Decides}
@@ -7,11 +7,10 @@ use Rattle.std.specs.List.{AllByRecursion}
 use Rattle.std.proofs.Math.Logic.{⊎_map}
 use Rattle.std.proofs.lemmas.List.Elements.{All-from_recursion}
 use Rattle.std.proofs.lemmas.Bool.Decides.{same_from_decides}
-use Rattle.sha1.specs.Sha1.{sha1}
 use Rattle.sha2.specs.Sha256.{sha256}
 use Rattle.rpki_base.specs.PublicKey.{KeyFields}
 use Rattle.rpki_base.specs.declared.algorithm.SigningAlgorithm.{SigningAlgorithm}
-use Rattle.rpki_idcert.specs.Checks.{first_failure, has_own_identifier, is_within, names_issuer, is_true}
+use Rattle.rpki_idcert.specs.Checks.{first_failure, has_own_identifier, names_issuer, is_true}
 use Rattle.rpki_idcert.proofs.Checking.{passes}
 use Rattle.rpki_sigmsg.specs.CrlChecks.{same_algorithm}
 use Rattle.rpki_sigmsg.specs.Message.{MessageFields}

@@ -1,6 +1,5 @@
 use Rattle.std.proofs.Common.{refl}
 use Rattle.rpki_der.specs.declared.mode.Mode.TheVariants.{Ber}
-use Rattle.rpki_der.specs.Takes.{RefusesOctets}
 use Rattle.rpki_der.proofs.Decoding.{decoded_ok, decoded_none}
 use Rattle.rpki_sigmsg.specs.Message.{signed_message}
 use Rattle.rpki_ca.proofs.content.message_of.Goals as goal
