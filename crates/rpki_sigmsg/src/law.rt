@@ -1,8 +1,10 @@
 //! What holds of every message.
 
-ghost use Rattle.std.specs.Prelude.{List, ℕ};
+ghost use Rattle.std.specs.Prelude.{◌≡◌, List, ℕ, Some, None};
+ghost use Rattle.rpki_der.specs.declared.mode.Mode.{Mode};
 ghost use Rattle.rpki_der.specs.declared.mode.Mode.TheVariants.{Ber, Der};
 ghost use Rattle.rpki_der.specs.Takes.{BeginsAs};
+ghost use Rattle.rpki_der.specs.Value.{Value};
 ghost use Rattle.rpki_sigmsg.specs.Message.{MessageFields, ViewFields, signed_message, viewed_message};
 
 /// What is a message in DER is the same message in BER, and so is a view of one: what strict decoding accepts, loose decoding
@@ -10,4 +12,10 @@ ghost use Rattle.rpki_sigmsg.specs.Message.{MessageFields, ViewFields, signed_me
 pub fn strict_messages_are_loose()
     ensures message { (octets : List ℕ) (m : MessageFields) → BeginsAs (signed_message Der) Der octets m → BeginsAs (signed_message Ber) Ber octets m }
     ensures view { (octets : List ℕ) (w : ViewFields) → BeginsAs (viewed_message Der) Der octets w → BeginsAs (viewed_message Ber) Ber octets w }
+{}
+
+/// A value is a message exactly where there is a view of it, which has that message.
+pub fn views_are_of_messages()
+    ensures seen { (mode : Mode) (v : Value) (w : ViewFields) → viewed_message mode v ≡ Some w → signed_message mode v ≡ Some w.message }
+    ensures none { (mode : Mode) (v : Value) → viewed_message mode v ≡ None → signed_message mode v ≡ None }
 {}

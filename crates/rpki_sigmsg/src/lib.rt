@@ -26,7 +26,7 @@ mod tbs_crl;
 mod validation;
 
 pub use crl::SignedMessageCrl;
-pub use law::strict_messages_are_loose;
+pub use law::{strict_messages_are_loose, views_are_of_messages};
 pub use message::SignedMessage;
 pub use reference::SignedMessageRef;
 pub use revoked::{CrlEntry, RevokedCertificates};
