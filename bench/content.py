@@ -3,8 +3,9 @@
 
     bench/content.py [MB ..]
 
-Three shapes: one message with a large content; the same content in many segments, which DER refuses; and a message whose
-certificate is a deep nesting of SEQUENCEs. The inputs are made in a temporary folder and removed."""
+Three shapes, each with the certificate and the CRL of the stored example: one message with a large content; the same content in
+many segments; and a content of one octet inside very many segments, one in another, of indefinite length. The inputs are made in
+a temporary folder and removed."""
 import hashlib
 import os
 import subprocess
@@ -34,43 +35,38 @@ def oid(text):
 
 
 SHA256 = value(0x30, oid("608648016503040201"))
+RSA = value(0x30, oid("2a864886f70d010101"), value(0x05))
 XML = oid("2a864886f70d010910011c")
+with open(os.path.join(TOP, "examples", "content.hex"), encoding="ascii") as stored:
+    EXAMPLE = bytes.fromhex(stored.read().strip())
+CERTIFICATE, CRL = EXAMPLE[64:219], EXAMPLE[221:298]
 
 
-def message(content, octet_string=None, certificate=None):
-    """A message by the reduced grammar; its signature and key identifier are without meaning."""
+def message(content, octet_string=None):
+    """A message by the grammar; its signatures and key identifiers are without meaning."""
     digest = value(0x04, hashlib.sha256(content).digest())
     attributes = value(0xA0, value(0x30, oid("2a864886f70d010903"), value(0x31, XML)),
                        value(0x30, oid("2a864886f70d010904"), value(0x31, digest)))
-    signer = value(0x30, value(0x02, b"\x03"), value(0x80, bytes(20)), SHA256, attributes, value(0x30), value(0x04, b"\x00"))
+    signer = value(0x30, value(0x02, b"\x03"), value(0x80, bytes(20)), SHA256, attributes, RSA, value(0x04, b"\x00"))
     encapsulated = value(0x30, XML, value(0xA0, octet_string or value(0x04, content)))
-    data = value(0x30, value(0x02, b"\x03"), value(0x31, SHA256), encapsulated, value(0xA0, certificate or value(0x30)),
-                 value(0xA1, value(0x30)), value(0x31, signer))
+    data = value(0x30, value(0x02, b"\x03"), value(0x31, SHA256), encapsulated, value(0xA0, CERTIFICATE),
+                 value(0xA1, CRL), value(0x31, signer))
     return value(0x30, oid("2a864886f70d010702"), value(0xA0, data))
 
 
-def nested(size):
-    """SEQUENCEs inside one another, of about this many octets in all"""
-    headers, inner = [], 0
-    while inner < size:
-        header = b"\x30" + length(inner)
-        headers.append(header)
-        inner += len(header)
-    return b"".join(reversed(headers))
-
-
 def large(size):
-    return message(b"x" * (size - 300))
+    return message(b"x" * (size - 500))
 
 
 def segmented(size):
     piece = value(0x04, b"x" * 8)
-    count = (size - 300) // len(piece)
+    count = (size - 500) // len(piece)
     return message(b"x" * (8 * count), octet_string=value(0x24, piece * count))
 
 
-def deep(size):
-    return message(b"a", certificate=nested(size - 300))
+def nested(size):
+    levels = (size - 500) // 4
+    return message(b"a", octet_string=b"\x24\x80" * levels + value(0x04, b"a") + bytes(2 * levels))
 
 
 def main():
@@ -79,7 +75,7 @@ def main():
         subprocess.run([os.path.join(TOP, "rpkica"), "content"], stdin=subprocess.DEVNULL, stdout=subprocess.DEVNULL, check=False)
     print(f"{'shape':<10} {'MB':>4} {'status':>6} {'seconds':>8} {'MB/s':>8} {'peak MB':>8} {'bytes/byte':>10}")
     with tempfile.TemporaryDirectory() as folder:
-        for shape in (large, segmented, deep):
+        for shape in (large, segmented, nested):
             for size in sizes:
                 path = os.path.join(folder, "input")
                 text = shape(size * 2**20 // 2).hex()
