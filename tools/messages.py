@@ -1,5 +1,5 @@
 #!/usr/bin/env python3
-"""Writes crates/message_cases/data/cases.txt and crates/message_cases/stdout: signed messages, and what their validation has to answer.
+"""Writes signed messages and what their validation has to answer: crates/message_cases/data/cases.txt, and the stdout beside it.
 
     tools/messages.py            writes both files
     tools/messages.py MESSAGE    compares the builder with a message in hex, octet by octet, and says whether they are equal
@@ -132,7 +132,8 @@ GOOD = dict(
     crl_seed=None, crl_inner=ALGORITHM, crl_outer=ALGORITHM, spoilt_crl=False, updates=(FIRST, LAST), crl_authority="issuer",
     entries=(), crl_extensions=lambda xs: xs, crl_entries_length=length,
     # the envelope
-    outer=value, content_string=octet_string, digest_parameters=(), behind=None,
+    outer=value, content_string=octet_string, digest=SHA256, digest_parameters=(), behind=None, envelope_type=SIGNED_DATA,
+    data_version=3, data_content_type=XML, certificates=lambda x: value(0xA0, x), crls=lambda x: value(0xA1, x),
 )
 
 
@@ -190,7 +191,8 @@ def attribute(kind, *values):
 def signer(o):
     digest = hashlib.sha256(o.content if o.digested is None else o.digested).digest()
     attributes = b"".join(o.attributes([
-        attribute(CONTENT_TYPE, XML), attribute(SIGNING_TIME, time(o.signed_at)), attribute(MESSAGE_DIGEST, octet_string(digest))]))
+        attribute(CONTENT_TYPE, XML), attribute(SIGNING_TIME, time(o.signed_at)),
+        attribute(MESSAGE_DIGEST, octet_string(digest))]))
     signature = sign(o.seed, o.ee, value(0x31, attributes), o.spoilt_attributes)
     return value(0x30, held(
         o, "signer", integer(o.signer_version), value(0x80, o.signer_id or subject_key(o)), seq(SHA256, *o.digest_parameters),
@@ -198,15 +200,15 @@ def signer(o):
 
 
 def message(**options):
-    """The octets of a message that is good but for the options. The option `certificate` is a certificate's octets in place of its own."""
+    """The octets of a message that is good but for the options, of which `certificate` is another certificate's octets."""
     own = options.pop("certificate", None)
     o = SimpleNamespace(**{**GOOD, **options})
-    content = value(0x30, held(o, "content", XML, value(0xA0, o.content_string(o.content))))
+    content = value(0x30, held(o, "content", o.data_content_type, value(0xA0, o.content_string(o.content))))
+    digests = value(0x31, seq(o.digest, *o.digest_parameters))
     data = held(
-        o, "data", integer(3), value(0x31, seq(SHA256, *o.digest_parameters)), content, value(0xA0, own or certificate(o)), value(0xA1, crl(o)),
+        o, "data", integer(o.data_version), digests, content, o.certificates(own or certificate(o)), o.crls(crl(o)),
         value(0x31, o.signers(signer(o))))
-    return o.outer(0x30, held(o, "envelope", SIGNED_DATA, o.outer(0xA0, o.outer(0x30, data))))
-
+    return o.outer(0x30, held(o, "envelope", o.envelope_type, o.outer(0xA0, o.outer(0x30, data))))
 
 def own_certificate(**options):
     return certificate(SimpleNamespace(**{**GOOD, **options}))
@@ -272,12 +274,17 @@ def good_cases():
     yield "empty-content", message(content=b"")
     yield "not-xml", message(content=bytes(range(256)))
     yield "another-serial-listed", message(entries=(2, 3, 1 << 64))
+    yield "numbers-near-the-serial-listed", message(entries=(0, 256, 257))
     yield "no-entries-list", message(entries=None)
     yield "no-authority-in-certificate", message(authority_key=None)
     yield "no-authority-in-crl", message(crl_authority=None)
     yield "no-authority-anywhere", message(authority_key=None, crl_authority=None)
     yield "constraints-empty", message(constraints=False)
     yield "long-serial", message(serial=(1 << 159) - 1)
+    yield "validity-begins-now", message(validity=(NOW, LAST))
+    yield "validity-ends-now", message(validity=(FIRST, NOW))
+    yield "crl-begins-now", message(updates=(NOW, LAST))
+    yield "crl-ends-now", message(updates=(FIRST, NOW))
     yield "octets-behind-the-envelope", message() + b"\0\xff\x30"
     binary = attribute(BINARY_SIGNING_TIME, integer(NOW))
     yield "binary-signing-time", message(attributes=behind_last(binary))
@@ -311,6 +318,14 @@ def malformed_cases():
     yield "signer-version-1", message(signer_version=1)
     yield "two-signers", message(signers=lambda x: x + x)
     yield "no-signer", message(signers=lambda x: b"")
+    yield "no-certificate", message(certificates=lambda x: b"")
+    yield "two-certificates", message(certificates=lambda x: value(0xA0, x + x))
+    yield "no-crl", message(crls=lambda x: b"")
+    yield "two-crls", message(crls=lambda x: value(0xA1, x + x))
+    yield "data-version-1", message(data_version=1)
+    yield "envelope-of-another-kind", message(envelope_type=XML)
+    yield "content-of-another-kind", message(data_content_type=SIGNED_DATA)
+    yield "digest-of-another-kind", message(digest=RSA)
     yield "truncated", message()[:-1]
     yield "empty", message()[:0] + b"\x30\0"
     for place in ("envelope", "data", "content", "tbs", "certificate", "crl-tbs", "crl", "signer"):
@@ -335,11 +350,16 @@ def ber_cases():
     yield "overlong-length-of-the-envelope", message(outer=lambda tag, octets: value(tag, octets, overlong))
 
 
-def foreign_cases():
-    """Messages whose parts come from other messages."""
+def failing_cases():
+    """Messages whose parts come from other messages, and other ways to break a check."""
     yield "certificate-of-another-message", message(certificate=own_certificate(ee=2)), "inspection-1"
     yield "crl-of-another-issuer", message(crl_seed=2), "verification-10"
     yield "message-of-another-issuer", message(seed=2), "verification-6"
+    yield "message-of-another-issuer-unnamed", message(seed=2, authority_key=None), "verification-8"
+    yield "validity-not-begun", message(validity=(NOW + 1, LAST)), "verification-5"
+    yield "crl-inner-without-null", message(crl_inner=seq(RSA_SHA256)), "verification-9"
+    yield "serial-listed-among-others", message(entries=(2, 1, 3)), "verification-14"
+    yield "long-serial-listed", message(serial=(1 << 159) - 1, entries=(1, (1 << 159) - 1)), "verification-14"
 
 
 # Two messages that were made elsewhere; content-a's signatures are zeros.
@@ -390,7 +410,7 @@ def lines():
         yield from case(f"check-{check}", broken(check), failing(check))
     for first, second in itertools.combinations(BREAKS, 2):
         yield from case(f"checks-{first}-{second}", broken(first, second), failing(first), modes=("strict",))
-    for label, octets, expected in foreign_cases():
+    for label, octets, expected in failing_cases():
         yield from case(label, octets, expected)
     yield from case("issuer-of-another-format", message(), "verification-8", form="ec")
     for label, octets in malformed_cases():

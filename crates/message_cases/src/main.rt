@@ -120,21 +120,48 @@ fn is_answered(
     Ok(answer.as_str() == case.expected && is_view_of(alloc, view, message, octets)?)
 }
 
+// The message that the case's octets begin with, if there is one.
+fn message_in(alloc: Global, case: &Case<'_>, octets: &[u8]) -> io::Result<Option<SignedMessage>> {
+    match SignedMessage::decode(alloc, octets, case.strict) {
+        Ok(message) => Ok(Some(message)),
+        Err(DecodeError::Malformed) => Ok(None),
+        Err(DecodeError::OutOfMemory) => Err(io::Error::from(ErrorKind::OutOfMemory)),
+    }
+}
+
+// Whether the view is refused.
+fn has_no_view(alloc: Global, case: &Case<'_>, octets: &[u8]) -> bool {
+    match SignedMessageRef::decode(alloc, octets, case.strict) {
+        Ok(_) => false,
+        Err(error) => error == DecodeError::Malformed,
+    }
+}
+
+// Whether a message that is read is answered as the case expects.
+fn is_met(
+    alloc: Global,
+    case: &Case<'_>,
+    message: &SignedMessage,
+    octets: &[u8],
+) -> io::Result<bool> {
+    match SignedMessageRef::decode(alloc, octets, case.strict) {
+        Ok(view) => is_answered(alloc, case, message, &view, octets),
+        Err(DecodeError::Malformed) => Ok(false),
+        Err(DecodeError::OutOfMemory) => Err(io::Error::from(ErrorKind::OutOfMemory)),
+    }
+}
+
+fn is_as_expected(alloc: Global, case: &Case<'_>, octets: &[u8]) -> io::Result<bool> {
+    match message_in(alloc, case, octets)? {
+        Some(message) => is_met(alloc, case, &message, octets),
+        None => Ok(case.expected == "malformed" && has_no_view(alloc, case, octets)),
+    }
+}
+
 fn holds(alloc: Global, case: &Case<'_>) -> io::Result<bool> {
-    let Ok(octets) = hex::decode(alloc, case.message) else {
-        return Err(io::Error::from(ErrorKind::InvalidData));
-    };
-    let message = SignedMessage::decode(alloc, &octets, case.strict);
-    let view = SignedMessageRef::decode(alloc, &octets, case.strict);
-    match (message, view) {
-        (Ok(message), Ok(view)) => is_answered(alloc, case, &message, &view, &octets),
-        (Err(DecodeError::Malformed), Err(DecodeError::Malformed)) => {
-            Ok(case.expected == "malformed")
-        }
-        (Err(DecodeError::OutOfMemory), _) | (_, Err(DecodeError::OutOfMemory)) => {
-            Err(io::Error::from(ErrorKind::OutOfMemory))
-        }
-        _ => Ok(false),
+    match hex::decode(alloc, case.message) {
+        Ok(octets) => is_as_expected(alloc, case, &octets),
+        Err(_) => Err(io::Error::from(ErrorKind::InvalidData)),
     }
 }
 
