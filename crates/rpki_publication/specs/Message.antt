@@ -3,7 +3,8 @@
 use Rattle.std.specs.Prelude.{◌≡◌, ℕ, List, [], ◌∷◌, Option, None, Some, if◌then◌else◌, codes}
 use Rattle.std.specs.Str.{bytes_eq}
 use Rattle.rpki_common.specs.Chaining.{◌>>=◌}
-use Rattle.rpki_xml.specs.Element.{Attribute, Elements, none, Element, alone, is_nil}
+use Rattle.rpki_xml.specs.declared.element.Attribute.{Attribute}
+use Rattle.rpki_xml.specs.Element.{Elements, none, Element, alone, is_nil}
 use Rattle.rpki_xml.specs.Lexing.{IsDocument}
 use Rattle.rpki_xml.specs.Lookup.{require, is_named, only, optional, required, is_or_absent, is_empty}
 use Rattle.rpki_xml.specs.Root.{only_element}

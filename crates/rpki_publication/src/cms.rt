@@ -9,6 +9,7 @@ ghost use Rattle.rpki_publication.specs.Cms.{BeginsCms, RefusesCms};
 use crate::error::Error;
 use crate::message::Message;
 use rpki_base::{PublicKey, Scheme, Time, Verifier};
+use rpki_idcert::ValidationError;
 use rpki_sigmsg::SignedMessage;
 use std::alloc::Global;
 use std::marker::Model;
@@ -28,6 +29,16 @@ impl Model for PublicationCms {
     ghost view = { λ c. record { signed = c.signed; message = c.message } };
 
     ghost inverse = { λ c. record { signed = c.signed; message = c.message } };
+}
+
+// The answer of the checks, as this crate's error.
+fn passed_on(answer: Result<(), ValidationError>) -> Result<(), Error>
+    ensures { result ≡ validated answer }
+{
+    match answer {
+        Ok(()) => Ok(()),
+        Err(error) => Err(Error::Validation(error)),
+    }
 }
 
 impl PublicationCms {
@@ -83,9 +94,6 @@ impl PublicationCms {
     ) -> Result<(), Error>
         ensures { (q : checks.Asked P.checks self.now.signed issuer_key.now) → result ≡ validated (failing checks.kind_of (first_failure 1 (checks.checks self.now.signed issuer_key.now when q.q3 q.q8 q.q10))) }
     {
-        match self.signed.validate_at(verifier, issuer_key, when) {
-            Ok(()) => Ok(()),
-            Err(error) => Err(Error::Validation(error)),
-        }
+        passed_on(self.signed_message().validate_at(verifier, issuer_key, when))
     }
 }

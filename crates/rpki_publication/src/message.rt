@@ -71,6 +71,7 @@ impl Message {
     {
         let mut writer = ElementWriter::new(alloc);
         write_message(&mut writer, *self)?;
-        writer.done()
+        let octets = writer.done()?;
+        Ok(octets)
     }
 }

@@ -24,7 +24,6 @@ fn only_element<'a>(mut children: Children<'a>) -> Result<ElementRef<'a>, XmlErr
 }
 
 // An element with nothing but this name.
-#[tactic(auto, unfolding(crate::specs::Message::bare_in))]
 fn bare_in(local: &str, e: &ElementRef<'_>) -> Result<(), XmlError>
     ensures { Gives (λ _. tt) result (bare_in local.now e.now) }
 {
@@ -38,7 +37,6 @@ fn bare_in(local: &str, e: &ElementRef<'_>) -> Result<(), XmlError>
     Ok(())
 }
 
-#[tactic(auto, unfolding(crate::specs::Message::query_in))]
 fn query_in(children: Children<'_>) -> Result<Query, XmlError>
     ensures { Gives (λ q. q) result (query_in children.entry) }
 {
@@ -47,7 +45,6 @@ fn query_in(children: Children<'_>) -> Result<Query, XmlError>
     Ok(Query::List)
 }
 
-#[tactic(auto, unfolding(crate::specs::Message::reply_in))]
 fn reply_in(children: Children<'_>) -> Result<Reply, XmlError>
     ensures { Gives (λ r. r) result (reply_in children.entry) }
 {
@@ -56,7 +53,6 @@ fn reply_in(children: Children<'_>) -> Result<Reply, XmlError>
     Ok(Reply::Success)
 }
 
-#[tactic(auto, unfolding(crate::specs::Message::body_in))]
 fn body_in(kind: &str, children: Children<'_>) -> Result<Message, XmlError>
     ensures { Gives (λ m. m) result (body_in kind.now children.entry) }
 {
@@ -77,7 +73,6 @@ fn is_or_absent(value: Option<&str>, text: &str) -> bool
 }
 
 // The type that a root gives.
-#[tactic(auto, unfolding(crate::specs::Message::type_in))]
 fn type_in<'a>(root: &ElementRef<'a>) -> Result<&'a str, XmlError>
     ensures { Gives (λ kind. kind.now) result (type_in root.now) }
 {
@@ -93,7 +88,6 @@ fn type_in<'a>(root: &ElementRef<'a>) -> Result<&'a str, XmlError>
 }
 
 /// The message that an element is read as.
-#[tactic(auto, unfolding(crate::specs::Message::message_of))]
 pub(crate) fn message_of(root: &ElementRef<'_>) -> Result<Message, XmlError>
     ensures { Gives (λ m. m) result (message_of root.now) }
 {

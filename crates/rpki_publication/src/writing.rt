@@ -16,7 +16,8 @@ fn write_bare(writer: &mut ElementWriter, name: &str) -> Result<(), OutOfMemory>
     ensures { OnOk result (writer.new ≡ with_element (bare_element name.now) writer.old) }
 {
     writer.element(name)?;
-    writer.close()
+    writer.close()?;
+    Ok(())
 }
 
 fn write_query(writer: &mut ElementWriter, query: Query) -> Result<(), OutOfMemory>
@@ -46,7 +47,6 @@ fn write_start(writer: &mut ElementWriter, kind: &str) -> Result<(), OutOfMemory
 }
 
 /// A message, as an element.
-#[tactic(auto, unfolding(crate::specs::Message::element_of))]
 pub(crate) fn write_message(writer: &mut ElementWriter, message: Message) -> Result<(), OutOfMemory>
     ensures { OnOk result (writer.new ≡ with_element (element_of message) writer.old) }
 {
@@ -54,11 +54,13 @@ pub(crate) fn write_message(writer: &mut ElementWriter, message: Message) -> Res
         Message::Query(query) => {
             write_start(writer, "query")?;
             write_query(writer, query)?;
+            writer.close()?;
         }
         Message::Reply(reply) => {
             write_start(writer, "reply")?;
             write_reply(writer, reply)?;
+            writer.close()?;
         }
     }
-    writer.close()
+    Ok(())
 }
