@@ -63,10 +63,10 @@ impl PublicationCms {
     }
 
     /// The message.
-    pub fn message(&self) -> Message
-        ensures { result ≡ self.now.message }
+    pub fn message(&self) -> &Message
+        ensures { result.now ≡ self.now.message }
     {
-        self.message
+        &self.message
     }
 
     /// The message, without the signed message.

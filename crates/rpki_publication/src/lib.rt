@@ -22,3 +22,5 @@ pub use law::{at_most_one, written_is_read};
 pub use message::{CONTENT_TYPE, Message, Query, Reply};
 pub use rpki_common::OutOfMemory;
 
+#[cfg(test)]
+mod tests;
