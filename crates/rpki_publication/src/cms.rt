@@ -5,6 +5,7 @@ ghost use Rattle.rpki_idcert.specs.Checks.{first_failure, failing};
 ghost use Rattle.rpki_sigmsg.specs.Checks as checks;
 ghost use Rattle.rpki_publication.specs.Answers.{validated};
 ghost use Rattle.rpki_publication.specs.Cms.{BeginsCms, RefusesCms};
+ghost use Rattle.rpki_publication.specs.Message.{Reads};
 
 use crate::error::Error;
 use crate::message::Message;
@@ -23,12 +24,15 @@ pub struct PublicationCms {
 
 impl Model for PublicationCms {
     ghost use Rattle.rpki_publication.specs.Cms.{CmsFields};
+    ghost use Rattle.rpki_publication.specs.Message.{Reads};
 
     ghost Value = { CmsFields };
 
     ghost view = { λ c. record { signed = c.signed; message = c.message } };
 
     ghost inverse = { λ c. record { signed = c.signed; message = c.message } };
+
+    ghost invariant = { λ c. Reads c.signed.content c.message };
 }
 
 // The answer of the checks, as this crate's error.
@@ -64,22 +68,25 @@ impl PublicationCms {
 
     /// The message.
     pub fn message(&self) -> &Message
-        ensures { result.now ≡ self.now.message }
+        ensures message { result.now ≡ self.now.message }
+        ensures reads { Reads self.now.signed.content result.now }
     {
         &self.message
     }
 
     /// The message, without the signed message.
     pub fn into_message(self) -> Message
-        ensures { result ≡ self.message }
+        ensures message { result ≡ self.message }
+        ensures reads { Reads self.signed.content result }
     {
         self.message
     }
 
-    /// Both.
+    /// Both: the message is what the signed message's content reads as.
     pub fn unpack(self) -> (SignedMessage, Message)
         ensures signed { result.0 ≡ self.signed }
         ensures message { result.1 ≡ self.message }
+        ensures reads { Reads result.0.content result.1 }
     {
         (self.signed, self.message)
     }
@@ -94,6 +101,9 @@ impl PublicationCms {
     ) -> Result<(), Error>
         ensures { (q : checks.Asked P.checks self.now.signed issuer_key.now) → result ≡ validated (failing checks.kind_of (first_failure 1 (checks.checks self.now.signed issuer_key.now when q.q3 q.q8 q.q10))) }
     {
-        passed_on(self.signed_message().validate_at(verifier, issuer_key, when))
+        passed_on(
+            self.signed_message()
+                .validate_at(verifier, issuer_key, when),
+        )
     }
 }

@@ -6,9 +6,11 @@ use rpki_xml::XmlError;
 use std::alloc::Global;
 use std::test::Fail;
 
-const QUERY: &str = "<msg xmlns=\"http://www.hactrn.net/uris/rpki/publication-spec/\" version=\"4\" type=\"query\"><list/></msg>";
+const QUERY: &str =
+    "<msg xmlns=\"http://www.hactrn.net/uris/rpki/publication-spec/\" version=\"4\" type=\"query\"><list/></msg>";
 
-const REPLY: &str = "<msg xmlns=\"http://www.hactrn.net/uris/rpki/publication-spec/\" version=\"4\" type=\"reply\"><success/></msg>";
+const REPLY: &str =
+    "<msg xmlns=\"http://www.hactrn.net/uris/rpki/publication-spec/\" version=\"4\" type=\"reply\"><success/></msg>";
 
 // A signed message with the text of the query, by a model that was written apart from this crate. Key 0 of the toy scheme's seed 1
 // issued its certificate, for the time from 300 seconds before 1700000000 to 300 seconds behind it.
@@ -91,7 +93,11 @@ fn texts_of_the_list_query(rt: HostRuntime) {
         "<?xml version='1.0'?><!-- a --><msg version='4' type='query'><!-- b --><list/></msg>",
         "\n<msg version='4' type='query'>\n\t<list> </list>\r\n</msg>\n",
     ] {
-        assert_eq!(rt; decoded(rt.alloc(), text), Ok(Message::list_query()), "{text}");
+        assert_eq!(rt;
+            decoded(rt.alloc(), text),
+            Ok(Message::list_query()),
+            "{text}"
+        );
     }
 }
 
@@ -110,7 +116,11 @@ fn texts_of_no_message(rt: HostRuntime) {
         "<msg version='4' type='query'>list</msg>",
         "<msg version='4' type='query'><list/></msg>.",
     ] {
-        assert_eq!(rt; decoded(rt.alloc(), text), Err(Error::XmlError(XmlError::Malformed)), "{text}");
+        assert_eq!(rt;
+            decoded(rt.alloc(), text),
+            Err(Error::XmlError(XmlError::Malformed)),
+            "{text}"
+        );
     }
 }
 
@@ -125,7 +135,11 @@ fn elements_of_no_message(rt: HostRuntime) {
         "<msg version='4' type='query'><success/></msg>",
         "<msg version='4' type='reply'><list/></msg>",
     ] {
-        assert_eq!(rt; decoded(rt.alloc(), text), Err(Error::XmlError(XmlError::Malformed)), "{text}");
+        assert_eq!(rt;
+            decoded(rt.alloc(), text),
+            Err(Error::XmlError(XmlError::Malformed)),
+            "{text}"
+        );
     }
 }
 
