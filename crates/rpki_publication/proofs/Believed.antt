@@ -1,0 +1,18 @@
+-- The answer of the checks, passed on.
+use Rattle.std.proofs.Common.{◌≡◌, ℕ, List, subst, ap, ◌∙◌}
+use Rattle.std.specs.Prelude.{ℤ, Result}
+use Rattle.rpki_base.specs.PublicKey.{KeyFields}
+use Rattle.rpki_base.specs.declared.algorithm.SigningAlgorithm.{SigningAlgorithm}
+use Rattle.rpki_idcert.specs.Checks.{first_failure, failing}
+use Rattle.rpki_idcert.specs.declared.validation.ValidationError.{ValidationError}
+use Rattle.rpki_sigmsg.specs.Checks.{Asked, checks, kind_of}
+use Rattle.rpki_sigmsg.specs.Message.{MessageFields}
+use Rattle.rpki_publication.specs.declared.error.Error.{Error}
+use Rattle.rpki_publication.specs.Answers.{validated}
+
+-- an answer that was given of m is one of n, which is m
+pub answer_of : (scheme : SigningAlgorithm → KeyFields → List ℕ → List ℕ → Type 0) (m n : MessageFields) (issuer : KeyFields) (when : ℤ) (x : Result (Unit {0}) ValidationError) (y : Result (Unit {0}) Error) → m ≡ n → y ≡ validated x
+    → ((q : Asked scheme m issuer) → x ≡ failing kind_of (first_failure 1 (checks m issuer when q.q3 q.q8 q.q10)))
+    → (q : Asked scheme n issuer) → y ≡ validated (failing kind_of (first_failure 1 (checks n issuer when q.q3 q.q8 q.q10)))
+answer_of scheme m n issuer when x y same is holds =
+    subst (λ (k : MessageFields). (q : Asked scheme k issuer) → y ≡ validated (failing kind_of (first_failure 1 (checks k issuer when q.q3 q.q8 q.q10)))) same (λ q. is ∙ ap validated (holds q))

@@ -1,0 +1,109 @@
+//! Signed messages of the publication protocol.
+
+ghost use Rattle.std.specs.Prelude.{◌≡◌, MatchResult};
+ghost use Rattle.rpki_idcert.specs.Checks.{first_failure, failing};
+ghost use Rattle.rpki_sigmsg.specs.Checks as checks;
+ghost use Rattle.rpki_publication.specs.Answers.{validated};
+ghost use Rattle.rpki_publication.specs.Cms.{BeginsCms, RefusesCms};
+ghost use Rattle.rpki_publication.specs.Message.{Reads};
+
+use crate::error::Error;
+use crate::message::Message;
+use rpki_base::{PublicKey, Scheme, Time, Verifier};
+use rpki_idcert::ValidationError;
+use rpki_sigmsg::SignedMessage;
+use std::alloc::Global;
+use std::marker::Model;
+
+/// A signed message, and the message that its content is (RFC 8181, 2.1). In a clause it is the record of both.
+#[derive(Drop)]
+pub struct PublicationCms {
+    signed: SignedMessage,
+    message: Message,
+}
+
+impl Model for PublicationCms {
+    ghost use Rattle.rpki_publication.specs.Cms.{CmsFields};
+    ghost use Rattle.rpki_publication.specs.Message.{Reads};
+
+    ghost Value = { CmsFields };
+
+    ghost view = { λ c. record { signed = c.signed; message = c.message } };
+
+    ghost inverse = { λ c. record { signed = c.signed; message = c.message } };
+
+    ghost invariant = { λ c. Reads c.signed.content c.message };
+}
+
+// The answer of the checks, as this crate's error.
+fn passed_on(answer: Result<(), ValidationError>) -> Result<(), Error>
+    ensures { result ≡ validated answer }
+{
+    match answer {
+        Ok(()) => Ok(()),
+        Err(error) => Err(Error::Validation(error)),
+    }
+}
+
+impl PublicationCms {
+    /// The signed message at the beginning of the octets, in BER, and the message that its content is; what stands behind isn't
+    /// read. It says nothing of who signed.
+    ///
+    /// CmsDecode exactly where no beginning of the octets is a signed message; XmlError exactly where one is, and its content is
+    /// no message.
+    pub fn decode(alloc: Global, octets: &[u8]) -> Result<PublicationCms, Error>
+        ensures { MatchResult result (BeginsCms octets.now) (RefusesCms octets.now) }
+    {
+        let signed = SignedMessage::decode(alloc, octets, false)?;
+        let message = Message::decode_slice(alloc, signed.content().as_slice())?;
+        Ok(PublicationCms { signed, message })
+    }
+
+    /// The signed message.
+    pub fn signed_message(&self) -> &SignedMessage
+        ensures { result.now ≡ self.now.signed }
+    {
+        &self.signed
+    }
+
+    /// The message.
+    pub fn message(&self) -> &Message
+        ensures message { result.now ≡ self.now.message }
+        ensures reads { Reads self.now.signed.content result.now }
+    {
+        &self.message
+    }
+
+    /// The message, without the signed message.
+    pub fn into_message(self) -> Message
+        ensures message { result ≡ self.message }
+        ensures reads { Reads self.signed.content result }
+    {
+        self.message
+    }
+
+    /// Both: the message is what the signed message's content reads as.
+    pub fn unpack(self) -> (SignedMessage, Message)
+        ensures signed { result.0 ≡ self.signed }
+        ensures message { result.1 ≡ self.message }
+        ensures reads { Reads result.0.content result.1 }
+    {
+        (self.signed, self.message)
+    }
+
+    /// Whether the key issued the certificate for the moment and the certificate's key signed the message; if not, Validation
+    /// with the first check that fails, as [`SignedMessage::validate_at`] numbers them. It takes no memory.
+    pub fn validate_at<P: Scheme, V: Verifier<P>>(
+        &self,
+        verifier: &V,
+        issuer_key: &PublicKey,
+        when: Time,
+    ) -> Result<(), Error>
+        ensures { (q : checks.Asked P.checks self.now.signed issuer_key.now) → result ≡ validated (failing checks.kind_of (first_failure 1 (checks.checks self.now.signed issuer_key.now when q.q3 q.q8 q.q10))) }
+    {
+        passed_on(
+            self.signed_message()
+                .validate_at(verifier, issuer_key, when),
+        )
+    }
+}
