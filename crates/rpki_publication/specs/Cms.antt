@@ -1,4 +1,4 @@
--- Signed messages of the publication protocol (RFC 8181, 2.1).
+-- Signed messages of the publication protocol (RFC 8181, 2; RFC 6492, 3.1).
 use Rattle.std.specs.Prelude.{◌≡◌, ℕ, List}
 use Rattle.rpki_der.specs.declared.mode.Mode.TheVariants.{Ber}
 use Rattle.rpki_der.specs.Takes.{BeginsAs}

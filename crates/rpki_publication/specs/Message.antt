@@ -1,4 +1,4 @@
--- The messages of the publication protocol, as elements (RFC 8181, 2.2 to 2.4). Names are compared by their local parts, and the
+-- The messages of the publication protocol, as elements (RFC 8181, 2.1 to 2.3). Names are compared by their local parts, and the
 -- root's namespace is not looked at.
 use Rattle.std.specs.Prelude.{◌≡◌, ℕ, List, [], ◌∷◌, Option, None, Some, if◌then◌else◌, codes}
 use Rattle.std.specs.Str.{bytes_eq}
@@ -32,11 +32,11 @@ bare_element name = record { head = record { name = name; namespace = None; attr
 abbrev pub query_elements : Query → Elements
 query_elements query.List = alone (bare_element (codes "list"))
 
--- `<success/>` (2.4)
+-- `<success/>` (2.2)
 abbrev pub reply_elements : Reply → Elements
 reply_elements reply.Success = alone (bare_element (codes "success"))
 
--- the root, of version 4 and this type, with these elements in it (2.2)
+-- the root, of version 4 and this type, with these elements in it (2.1)
 abbrev pub root_element : List ℕ → Elements → Element
 root_element type children = record {
   head = record {
@@ -70,18 +70,18 @@ bare_in local e = do
 abbrev pub list_in : Element → Option (Unit {0})
 list_in = bare_in (codes "list")
 
--- an element `success` (2.4)
+-- an element `success` (2.2)
 abbrev pub success_in : Element → Option (Unit {0})
 success_in = bare_in (codes "success")
 
--- what stands in a query: one `list` (2.3)
+-- what stands in a query: one `list` (2.1 and 2.3)
 unfoldable pub query_in : Elements → Option Query
 query_in elements = do
   e ← only_element elements
   _ ← list_in e
   Some query.List
 
--- what stands in a reply: one `success` (2.4)
+-- what stands in a reply: one `success` (2.1 and 2.2)
 unfoldable pub reply_in : Elements → Option Reply
 reply_in elements = do
   e ← only_element elements
@@ -102,7 +102,7 @@ body_in type elements =
     else None
 
 -- the type that a root gives: an element `msg` without text, with a type, with version 4 where it has a version, and without other
--- attributes (2.2)
+-- attributes (2.1)
 unfoldable pub type_in : Element → Option (List ℕ)
 type_in e = do
   _ ← require (is_named (codes "msg") e.head)

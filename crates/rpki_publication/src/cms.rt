@@ -15,7 +15,7 @@ use rpki_sigmsg::SignedMessage;
 use std::alloc::Global;
 use std::marker::Model;
 
-/// A signed message, and the message that its content is (RFC 8181, 2.1). In a clause it is the record of both.
+/// A signed message, and the message that its content is (RFC 8181, 2). In a clause it is the record of both.
 #[derive(Drop)]
 pub struct PublicationCms {
     signed: SignedMessage,

@@ -1,4 +1,5 @@
-//! Messages of the publication protocol (RFC 8181): the query for the list of what is published, and the reply that all went well.
+//! Messages of the publication protocol (RFC 8181): the query for the list of what is published, and the reply that all went
+//! well.
 //!
 //! - [`Message`] is a message: it is decoded from XML and written as XML.
 //! - [`PublicationCms`] is a signed message with the message that it holds: it is decoded in BER, and validated under an

@@ -15,7 +15,7 @@ use std::alloc::Global;
 /// The media type of messages that are sent over HTTP (RFC 8181, 2).
 pub const CONTENT_TYPE: &str = "application/rpki-publication";
 
-/// A message of the publication protocol: a query of a client, or a reply of a server (RFC 8181, 2.2).
+/// A message of the publication protocol: a query of a client, or a reply of a server (RFC 8181, 2.1).
 #[derive(Clone, Copy, Debug, PartialEq, Eq)]
 pub enum Message {
     /// A query.
@@ -34,7 +34,7 @@ pub enum Query {
 /// What a server answers.
 #[derive(Clone, Copy, Debug, PartialEq, Eq)]
 pub enum Reply {
-    /// All that was asked for is done (RFC 8181, 2.4).
+    /// All that was asked for is done (RFC 8181, 2.2).
     Success,
 }
 
@@ -57,7 +57,7 @@ impl Message {
 
 /// # Decoding and writing
 impl Message {
-    /// The message that the octets are, a document of XML. XmlError exactly where they are none (RFC 8181, 2.2).
+    /// The message that the octets are, a document of XML. XmlError exactly where they are none (RFC 8181, 2.1).
     pub fn decode_slice(alloc: Global, octets: &[u8]) -> Result<Message, Error>
         ensures { MatchResult result (Reads octets.now) (RefusesMessage octets.now) }
     {
@@ -65,7 +65,7 @@ impl Message {
         Ok(message_of(&document.as_ref())?)
     }
 
-    /// The octets of the message, a document of XML without white space (RFC 8181, 2.2).
+    /// The octets of the message, a document of XML without white space (RFC 8181, 2.1).
     pub fn to_xml_bytes(&self, alloc: Global) -> Result<Bytes, OutOfMemory>
         ensures { IfOk result (λ octets. octets ≡ text_of self.now) }
     {
