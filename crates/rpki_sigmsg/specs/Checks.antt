@@ -1,5 +1,5 @@
 -- The fourteen checks of a signed message under an issuer's key at a moment, and what they mean (RFC 5652, 5.4 and 5.6; RFC 6492, 3.1.2;
--- RFC 8181, 2.1).
+-- RFC 8181, 2).
 use Rattle.std.specs.Prelude.{◌≡◌, ◌↔◌, ◌≤ℤ◌, ℕ, ℤ, Bool, not, ◌||◌, ◌==◌, if◌then◌else◌, bytes_eq, Decides, Ok, List, [], ◌∷◌, ◌++◌}
 use Rattle.sha2.specs.Sha256.{sha256}
 use Rattle.rpki_base.specs.PublicKey.{KeyFields}

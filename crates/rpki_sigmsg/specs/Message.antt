@@ -1,4 +1,4 @@
--- Signed messages: signed data with one certificate, one CRL and one signer (RFC 5652, 3, 5.1 and 5.2; RFC 6492, 3.1.1; RFC 8181, 2.1).
+-- Signed messages: signed data with one certificate, one CRL and one signer (RFC 5652, 3, 5.1 and 5.2; RFC 6492, 3.1.1; RFC 8181, 2).
 use Rattle.std.specs.Prelude.{ℕ, ℤ, Bool, true, false, Option, Some, List}
 use Rattle.rpki_common.specs.Chaining.{◌>>=◌}
 use Rattle.rpki_der.specs.declared.mode.Mode.{Mode}

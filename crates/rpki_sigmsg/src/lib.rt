@@ -36,5 +36,3 @@ pub use validation::{moments_are_one_span, three_questions_decide};
 
 #[cfg(test)]
 mod crl_tests;
-#[cfg(test)]
-mod tests;

@@ -21,7 +21,7 @@ use std::marker::{Brand, Model};
 use std::sync::ledger::{Blank, Ledger};
 
 /// A signed message: what it says, who signed it, and the certificate and the CRL that come with it (RFC 5652, 5.1; RFC 6492,
-/// 3.1.1; RFC 8181, 2.1).
+/// 3.1.1; RFC 8181, 2).
 ///
 /// In a clause it is the record of its fields.
 #[derive(Drop)]
