@@ -54,6 +54,16 @@ def message(content, octet_string=None):
     return value(0x30, oid("2a864886f70d010702"), value(0xA0, data))
 
 
+def nested(size):
+    """SEQUENCEs inside one another, of about this many octets in all"""
+    headers, inner = [], 0
+    while inner < size:
+        header = b"\x30" + length(inner)
+        headers.append(header)
+        inner += len(header)
+    return b"".join(reversed(headers))
+
+
 def large(size):
     return message(b"x" * (size - 500))
 
@@ -64,7 +74,7 @@ def segmented(size):
     return message(b"x" * (8 * count), octet_string=value(0x24, piece * count))
 
 
-def nested(size):
+def deep(size):
     levels = (size - 500) // 4
     return message(b"a", octet_string=b"\x24\x80" * levels + value(0x04, b"a") + bytes(2 * levels))
 
@@ -75,7 +85,7 @@ def main():
         subprocess.run([os.path.join(TOP, "rpkica"), "content"], stdin=subprocess.DEVNULL, stdout=subprocess.DEVNULL, check=False)
     print(f"{'shape':<10} {'MB':>4} {'status':>6} {'seconds':>8} {'MB/s':>8} {'peak MB':>8} {'bytes/byte':>10}")
     with tempfile.TemporaryDirectory() as folder:
-        for shape in (large, segmented, nested):
+        for shape in (large, segmented, deep):
             for size in sizes:
                 path = os.path.join(folder, "input")
                 text = shape(size * 2**20 // 2).hex()
