@@ -13,7 +13,7 @@ use rpki_xml::{ElementWriter, read_document};
 use std::alloc::Global;
 
 /// The media type of messages that are sent over HTTP (RFC 8181, 2).
-pub const CONTENT_TYPE: &str = "application/rpki-publication";
+pub const CONTENT_TYPE: &'static str = "application/rpki-publication";
 
 /// A message of the publication protocol: a query of a client, or a reply of a server (RFC 8181, 2.1).
 #[derive(Clone, Copy, Debug, PartialEq, Eq)]
