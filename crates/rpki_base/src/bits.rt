@@ -20,6 +20,7 @@ fn can_be_spelled(octets: &[u8]) -> bool
 /// more are refused as want of memory.
 pub(crate) fn write_bits(alloc: Global, octets: &[u8], out: &mut Writer) -> Result<(), OutOfMemory>
     ensures ok { OnOk result (out.new ≡ out.old ++ spelled_bits octets.now) }
+    ensures short { OnOk result (length octets.now < 2 ^ 30) }
     ensures err { OnErr result (out.new ≡ out.old) }
 {
     if !can_be_spelled(octets) {
@@ -35,6 +36,7 @@ pub(crate) fn write_bits(alloc: Global, octets: &[u8], out: &mut Writer) -> Resu
 /// refused as want of memory.
 pub(crate) fn write_sequence(content: &Writer, out: &mut Writer) -> Result<(), OutOfMemory>
     ensures ok { OnOk result (out.new ≡ out.old ++ der_constructed sequence content.now) }
+    ensures short { OnOk result (length content.now < 2 ^ 30) }
     ensures err { OnErr result (out.new ≡ out.old) }
 {
     if !can_be_spelled(content.as_slice()) {

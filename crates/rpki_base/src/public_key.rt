@@ -149,6 +149,7 @@ impl PublicKey {
     /// appended; a key of 2^30 octets or more is refused as want of memory.
     pub fn encode_ref(&self, alloc: Global, out: &mut Writer) -> Result<(), OutOfMemory>
         ensures ok { OnOk result (out.new ≡ out.old ++ spec.spelled_key self.now) }
+        ensures spelled { OnOk result (spec.CanBeSpelled self.now) }
         ensures err { OnErr result (out.new ≡ out.old) }
     {
         let mut inner = Writer::new(alloc);

@@ -127,6 +127,7 @@ impl<Alg: SignatureAlgorithm> SignedData<Alg> {
     /// in a SEQUENCE in DER. After a refusal nothing is appended; data of 2^30 octets or more are refused as want of memory.
     pub fn encode_ref(&self, alloc: Global, out: &mut Writer) -> Result<(), OutOfMemory>
         ensures ok { OnOk result (out.new ≡ out.old ++ spelled_data Alg.spelled self.now) }
+        ensures spelled { OnOk result (CanBeSpelled Alg.spelled self.now) }
         ensures err { OnErr result (out.new ≡ out.old) }
     {
         let mut inner = Writer::new(alloc);

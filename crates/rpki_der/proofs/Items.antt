@@ -14,9 +14,9 @@ use Rattle.rpki_der.specs.Walk.{Completes}
 use Rattle.rpki_der.specs.ExactWalk.{CompletesExactly}
 use Rattle.rpki_der.specs.Position.{Position, top, AtEnd}
 use Rattle.rpki_der.specs.Grammar.{identifier_of, optional}
-use Rattle.rpki_der.specs.Takes.{NoneStands, Refuses, RefusesFields}
+use Rattle.rpki_der.specs.Takes.{TakesOne, NoneStands, Refuses, RefusesFields}
 use Rattle.rpki_der.specs.Ticks.{counts, all_counts, left, CountedOne, CountedRefuses, TakesCounted, CountedFields, CountedRefusesFields}
-use Rattle.rpki_der.specs.Item.{ItemFields, item, any_item, item_with, content_in, ShowsWhole, OtherFirst, Absent, CountedAbsent, RefusesNext, CountedRefusesNext, TakesNextCounted, RefusesOptional, CountedRefusesOptional, TakesOptionalCounted}
+use Rattle.rpki_der.specs.Item.{ItemFields, item, any_item, item_with, content_in, ShowsWhole, OtherFirst, Absent, CountedAbsent, RefusesOptionalAs, TakesOptionalAs, RefusesNext, CountedRefusesNext, TakesNextCounted, RefusesOptional, CountedRefusesOptional, TakesOptionalCounted}
 use Rattle.rpki_der.proofs.Uniqueness.{same_identifier, three_parts, four_parts}
 use Rattle.rpki_der.proofs.Parts.{at_most_one}
 use Rattle.rpki_der.proofs.Walks.{opens_back, opens_forth, ends_no_value, end_holds, holds_more}
@@ -253,3 +253,39 @@ pub refuses_optional_field : {X : Type 0} (c : ℕ) (tag : List ℕ) (field : Va
 unfolding RefusesOptional RefusesFields
 refuses_optional_field c tag field p b a Malformed n = record { refuses = refused_all tag field p (λ e. n.refuses.0 (inl e)) n.refuses.1; most = omega (arith, n.most) }
 refuses_optional_field c tag field p b a OutOfMemory n = record { refuses = tt; most = omega (arith, n.most) }
+
+-- ---- the same of the value that stands next, whatever follows it
+
+absent_once : (tag : List ℕ) (p : Position) (b a : ℕ) → CountedAbsent tag p b a → Absent tag p
+absent_once tag p b a (inl e) = inl e.0
+absent_once tag p b a (inr o) = inr o.0
+
+pub absent_as : (tag : List ℕ) (p q : Position) (b a : ℕ) → CountedAbsent tag p b a × (q ≡ p) → Absent tag p × (q ≡ p)
+absent_as tag p q b a w = (absent_once tag p b a w.0, w.1)
+
+pub takes_as : {X : Type 0} (c : ℕ) (tag : List ℕ) (field : Value → Option X) (convert : ItemFields → Option X) (p q : Position) (b a : ℕ) (y : ItemFields) (x : X) → Converts tag field convert → CountedOne c (item_with tag) p q b a y → convert y ≡ Some x → TakesOne field p q x
+takes_as c tag field convert p q b a y x is t e =
+    let h = has_item tag t.value y t.reads in
+    record { value = t.value; begins = t.begins; reads = is.is t.value h.tagged ∙ ap convert h.is ∙ e; levels = t.levels; mode = t.mode }
+
+item_present : (c : ℕ) (tag : List ℕ) (p q : Position) (b a : ℕ) (y : ItemFields) → CountedOne c (item_with tag) p q b a y → Absent tag p → ⊥
+item_present c tag p q b a y t (inl e) = item_more c tag p q b a y t e
+item_present c tag p q b a y t (inr o) =
+    let tagged = (has_item tag t.value y t.reads).tagged in
+    let e : true ≡ false = sym tagged ∙ next_tagged tag p.mode p.here o.0 o.1 t.value q.here o.2 t.begins ∙ o.3 in cc
+
+pub refuses_as : {X : Type 0} (c : ℕ) (tag : List ℕ) (field : Value → Option X) (convert : ItemFields → Option X) (p q : Position) (b a : ℕ) (y : ItemFields) → Converts tag field convert → CountedOne c (item_with tag) p q b a y → convert y ≡ None → RefusesOptionalAs tag field p Malformed
+unfolding RefusesOptionalAs
+refuses_as c tag field convert p q b a y is t e =
+    let h = has_item tag t.value y t.reads in
+    let reads : field t.value ≡ None = is.is t.value h.tagged ∙ ap convert h.is ∙ e in
+    (item_present c tag p q b a y t, λ v rest k. ap field (at_most_one p.mode p.here v t.value rest q.here k t.begins).value ∙ reads)
+
+pub refuses_field_as : {X : Type 0} (c : ℕ) (tag : List ℕ) (field : Value → Option X) (p : Position) (b a : ℕ) (e : DecodeError) → CountedRefusesOptional c tag p b a e → RefusesOptionalAs tag field p e
+unfolding RefusesOptional RefusesOptionalAs
+refuses_field_as c tag field p b a Malformed n = (n.refuses.0, λ v rest k. absurd (n.refuses.1 v rest k))
+refuses_field_as c tag field p b a OutOfMemory n = n.refuses
+
+pub optional_as_err : {X Y : Type 0} (tag : List ℕ) (field : Value → Option X) (view : Y → Option X) (p q : Position) (error : DecodeError) (r : Result Y DecodeError) → IsErrAnd r (λ e. e ≡ error) → RefusesOptionalAs tag field p error → TakesOptionalAs tag field view p q r
+optional_as_err tag field view p q error (Ok y) h n = absurd h
+optional_as_err tag field view p q error (Err e) h n = subst (RefusesOptionalAs tag field p) (sym h) n

@@ -10,7 +10,7 @@ use Rattle.rpki_der.specs.Level.{Level, Sized, Marked}
 use Rattle.rpki_der.specs.Part.{NoValue}
 use Rattle.rpki_der.specs.Position.{Position, AtEnd}
 use Rattle.rpki_der.specs.Grammar.{identifier_of}
-use Rattle.rpki_der.specs.Takes.{TakesOne}
+use Rattle.rpki_der.specs.Takes.{TakesOne, NoneStands}
 use Rattle.rpki_der.specs.Ticks.{counts, left, CountedOne}
 
 -- the tag, whether the form is constructed, the contents octets, and all octets
@@ -96,6 +96,18 @@ pub record CountedRefusesOptional (c : ℕ) (tag : List ℕ) (old : Position) (b
 abbrev pub TakesOptionalCounted : ℕ → List ℕ → Position → Position → ℕ → ℕ → Result (Option ItemFields) DecodeError → Type 0
 TakesOptionalCounted c tag old new before after result =
     MatchResult result (λ found. MatchOption found (CountedAbsent tag old before after × (new ≡ old)) (λ i. CountedOne c (item_with tag) old new before after i)) (CountedRefusesOptional c tag old before after)
+
+-- ---- the same, by what a grammar reads of the value
+
+-- It isn't so that the level ends or another tag stands next; and the answer is Malformed only where the grammar reads no value that stands next.
+unfoldable pub RefusesOptionalAs : {X : Type 0} → List ℕ → (Value → Option X) → Position → DecodeError → Type 0
+RefusesOptionalAs tag grammar old Malformed = (Absent tag old → ⊥) × NoneStands grammar old
+RefusesOptionalAs tag grammar old OutOfMemory = Absent tag old → ⊥
+
+-- The answer is what the grammar reads of the value that stands next, whatever follows it; or nothing, at the end of the level and where an identifier of another tag stands next; or Malformed, exactly where none of these is so.
+abbrev pub TakesOptionalAs : {X Y : Type 0} → List ℕ → (Value → Option X) → (Y → Option X) → Position → Position → Result Y DecodeError → Type 0
+TakesOptionalAs tag grammar view old new result =
+    MatchResult result (λ y. MatchOption (view y) (Absent tag old × (new ≡ old)) (λ x. TakesOne grammar old new x)) (RefusesOptionalAs tag grammar old)
 
 -- ---- a value whose first header was counted before
 

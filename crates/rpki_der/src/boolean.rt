@@ -5,6 +5,7 @@ ghost use Rattle.rpki_der.specs.Takes.{Takes};
 ghost use Rattle.rpki_der.specs.Ticks.{TakesCounted, TakesPartCounted};
 ghost use Rattle.rpki_der.specs.Grammar.{optional};
 ghost use Rattle.rpki_der.specs.Tags.{boolean_tag};
+ghost use Rattle.rpki_der.specs.Item.{TakesOptionalAs};
 ghost use Rattle.rpki_der.specs.OptionalBoolean.{boolean_shown};
 ghost use Rattle.rpki_der.specs.Boolean as spec;
 
@@ -80,7 +81,8 @@ pub fn take_opt_boolean_counted<L: Ledger>(
     cursor: &mut Cursor<'_>,
     steps: &mut Steps<L>,
 ) -> Result<Option<bool>, DecodeError>
-    ensures { TakesPartCounted 1 1 (optional boolean_tag (spec.boolean cursor.old.mode)) (λ x. x) cursor.old cursor.new steps.old steps.new result }
+    ensures fields { TakesPartCounted 1 1 (optional boolean_tag (spec.boolean cursor.old.mode)) (λ x. x) cursor.old cursor.new steps.old steps.new result }
+    ensures next { TakesOptionalAs boolean_tag (spec.boolean cursor.old.mode) (λ x. x) cursor.old cursor.new result }
 {
     let mode = cursor.mode();
     match cursor.take_opt_if_counted(Tag::BOOLEAN, steps)? {

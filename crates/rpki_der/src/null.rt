@@ -4,6 +4,7 @@ ghost use Rattle.std.specs.Prelude.{◌≡◌, ◌<◌};
 ghost use Rattle.rpki_der.specs.Grammar.{optional};
 ghost use Rattle.rpki_der.specs.Takes.{TakesPart};
 ghost use Rattle.rpki_der.specs.Tags.{null_tag};
+ghost use Rattle.rpki_der.specs.Item.{TakesOptionalAs};
 ghost use Rattle.rpki_der.specs.Null.{null, null_shown, present};
 ghost use Rattle.rpki_der.specs.Ticks.{TakesPartCounted};
 
@@ -27,7 +28,8 @@ pub fn take_opt_null_counted<L: Ledger>(
     cursor: &mut Cursor<'_>,
     steps: &mut Steps<L>,
 ) -> Result<bool, DecodeError>
-    ensures { TakesPartCounted 1 1 (optional null_tag null) present cursor.old cursor.new steps.old steps.new result }
+    ensures fields { TakesPartCounted 1 1 (optional null_tag null) present cursor.old cursor.new steps.old steps.new result }
+    ensures next { TakesOptionalAs null_tag null present cursor.old cursor.new result }
 {
     match cursor.take_opt_if_counted(Tag::NULL, steps)? {
         None => Ok(false),
@@ -48,7 +50,8 @@ fn take_opt_null_within<L: Ledger>(
     requires name { blank.name ≡ L.name }
     requires parts { blank.parts ≡ L.parts }
     requires some { 0 < blank.parts }
-    ensures { TakesPart (optional null_tag null) present cursor.old cursor.new result }
+    ensures fields { TakesPart (optional null_tag null) present cursor.old cursor.new result }
+    ensures next { TakesOptionalAs null_tag null present cursor.old cursor.new result }
 {
     let mut steps = Steps::<L>::new(blank);
     take_opt_null_counted(cursor, &mut steps)
@@ -56,7 +59,8 @@ fn take_opt_null_within<L: Ledger>(
 
 /// Whether NULL stands next, which is then passed. A value with its tag that isn't NULL is malformed.
 pub fn take_opt_null(cursor: &mut Cursor<'_>) -> Result<bool, DecodeError>
-    ensures { TakesPart (optional null_tag null) present cursor.old cursor.new result }
+    ensures fields { TakesPart (optional null_tag null) present cursor.old cursor.new result }
+    ensures next { TakesOptionalAs null_tag null present cursor.old cursor.new result }
 {
     take_opt_null_within::<Brand>(cursor, Blank::new(1))
 }

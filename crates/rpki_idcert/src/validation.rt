@@ -1,6 +1,6 @@
 //! Whether an identity certificate may be believed.
 
-ghost use Rattle.std.specs.Prelude.{◌≡◌, ◌≤◌, ◌∷◌, ◌++◌, [], ℕ, List, Bool, true, not, ◌||◌, All, Decides, Ok, Err, Some, codes};
+ghost use Rattle.std.specs.Prelude.{◌≡◌, ◌≤◌, ◌∷◌, ◌++◌, [], ℕ, List, Bool, true, not, ◌||◌, All, Decides, Ok, Err, OnOk, Some, codes};
 ghost use Rattle.std.specs.Fmt.{decimal};
 ghost use Rattle.sha1.specs.Sha1.{sha1};
 ghost use Rattle.rpki_idcert.specs.Checks as spec;
@@ -130,7 +130,8 @@ impl IdCert {
         first: u8,
     ) -> Result<(), u8>
         requires { first ≤ 200 }
-        ensures { (q : Bool) → Decides q (spec.IsSigned P.checks self.now issuer_key.now) → result ≡ spec.first_failure first (spec.ee_checks self.now issuer_key.now when q) }
+        ensures first_failing { (q : Bool) → Decides q (spec.IsSigned P.checks self.now issuer_key.now) → result ≡ spec.first_failure first (spec.ee_checks self.now issuer_key.now when q) }
+        ensures signed { OnOk result (spec.IsSigned P.checks self.now issuer_key.now) }
     {
         require(first, self.tbs().has_own_identifier())?;
         require(first + 1, self.tbs().is_within(when))?;
@@ -149,7 +150,8 @@ impl IdCert {
         issuer_key: &PublicKey,
         when: Time,
     ) -> Result<(), ValidationError>
-        ensures { (q : Bool) → Decides q (spec.IsSigned P.checks self.now issuer_key.now) → result ≡ spec.failing spec.ee_kind (spec.first_failure 1 (spec.ee_checks self.now issuer_key.now when q)) }
+        ensures first_failing { (q : Bool) → Decides q (spec.IsSigned P.checks self.now issuer_key.now) → result ≡ spec.failing spec.ee_kind (spec.first_failure 1 (spec.ee_checks self.now issuer_key.now when q)) }
+        ensures signed { OnOk result (spec.IsSigned P.checks self.now issuer_key.now) }
     {
         match self.ee_failure(verifier, issuer_key, when, 1) {
             Ok(()) => Ok(()),
@@ -162,7 +164,8 @@ impl IdCert {
 
     // Whether the signature holds under its own key, where the certificate names itself as its issuer.
     fn is_own<P: Scheme, V: Verifier<P>>(&self, verifier: &V) -> bool
-        ensures { (q : Bool) → Decides q (spec.IsSigned P.checks self.now self.now.tbs.key) → result ≡ (not (spec.names_itself self.now.tbs) || q) }
+        ensures answer { (q : Bool) → Decides q (spec.IsSigned P.checks self.now self.now.tbs.key) → result ≡ (not (spec.names_itself self.now.tbs) || q) }
+        ensures signed { result ≡ true → spec.names_itself self.now.tbs ≡ true → spec.IsSigned P.checks self.now self.now.tbs.key }
     {
         if self.tbs().names_itself() {
             self.is_signed(verifier, self.tbs().public_key())
@@ -172,7 +175,8 @@ impl IdCert {
     }
 
     fn ta_failure<P: Scheme, V: Verifier<P>>(&self, verifier: &V, when: Time) -> Result<(), u8>
-        ensures { (q : Bool) → Decides q (spec.IsSigned P.checks self.now self.now.tbs.key) → result ≡ spec.first_failure 1 (spec.ta_checks self.now when q) }
+        ensures first_failing { (q : Bool) → Decides q (spec.IsSigned P.checks self.now self.now.tbs.key) → result ≡ spec.first_failure 1 (spec.ta_checks self.now when q) }
+        ensures signed { OnOk result (spec.names_itself self.now.tbs ≡ true → spec.IsSigned P.checks self.now self.now.tbs.key) }
     {
         require(1, self.tbs().has_own_identifier())?;
         require(2, self.tbs().basic_ca().is_some())?;
@@ -190,7 +194,8 @@ impl IdCert {
         verifier: &V,
         when: Time,
     ) -> Result<(), ValidationError>
-        ensures { (q : Bool) → Decides q (spec.IsSigned P.checks self.now self.now.tbs.key) → result ≡ spec.failing spec.ta_kind (spec.first_failure 1 (spec.ta_checks self.now when q)) }
+        ensures first_failing { (q : Bool) → Decides q (spec.IsSigned P.checks self.now self.now.tbs.key) → result ≡ spec.failing spec.ta_kind (spec.first_failure 1 (spec.ta_checks self.now when q)) }
+        ensures signed { OnOk result (spec.names_itself self.now.tbs ≡ true → spec.IsSigned P.checks self.now self.now.tbs.key) }
     {
         match self.ta_failure(verifier, when) {
             Ok(()) => Ok(()),

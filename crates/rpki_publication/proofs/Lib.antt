@@ -1,3 +1,4 @@
 pub mod Refused
 pub mod Again
 pub mod Believed
+pub mod Counted

@@ -1,5 +1,5 @@
 -- Signed messages of the publication protocol (RFC 8181, 2; RFC 6492, 3.1).
-use Rattle.std.specs.Prelude.{◌≡◌, ℕ, List}
+use Rattle.std.specs.Prelude.{◌≡◌, ℕ, List, Result, Ok, Err, ⊤}
 use Rattle.rpki_der.specs.declared.mode.Mode.TheVariants.{Ber}
 use Rattle.rpki_der.specs.Takes.{BeginsAs}
 use Rattle.rpki_sigmsg.specs.Message.{MessageFields, signed_message}
@@ -37,3 +37,11 @@ RefusesCms octets errors.CmsDecode = (signed : MessageFields) → BeginsSigned o
 RefusesCms octets (errors.XmlError e) = (e ≡ xml.Malformed) × HoldsNoMessage octets
 RefusesCms octets (errors.Validation e) = ⊥
 RefusesCms octets errors.OutOfMemory = Unit {0}
+
+-- the answer says that a signed message was found
+abbrev pub FindsSigned : {X : Type 0} → Result X Error → Type 0
+FindsSigned (Ok x) = ⊤
+FindsSigned (Err (errors.XmlError e)) = ⊤
+FindsSigned (Err (errors.Validation e)) = ⊤
+FindsSigned (Err errors.CmsDecode) = ⊥
+FindsSigned (Err errors.OutOfMemory) = ⊥

@@ -1,19 +1,24 @@
 //! Signed messages of the publication protocol.
 
-ghost use Rattle.std.specs.Prelude.{◌≡◌, MatchResult};
+ghost use Rattle.std.specs.Prelude.{◌≡◌, ◌↔◌, ◌≤◌, ◌+◌, ◌*◌, ℕ, List, length, Ok, MatchResult};
 ghost use Rattle.rpki_idcert.specs.Checks.{first_failure, failing};
 ghost use Rattle.rpki_sigmsg.specs.Checks as checks;
+ghost use Rattle.rpki_der.specs.declared.mode.Mode.TheVariants.{Ber};
+ghost use Rattle.rpki_der.specs.Ticks.{nodes};
+ghost use Rattle.rpki_der.specs.Value.{Value, Begins};
 ghost use Rattle.rpki_publication.specs.Answers.{validated};
-ghost use Rattle.rpki_publication.specs.Cms.{BeginsCms, RefusesCms};
+ghost use Rattle.rpki_publication.specs.Cms.{BeginsCms, RefusesCms, FindsSigned};
 ghost use Rattle.rpki_publication.specs.Message.{Reads};
 
 use crate::error::Error;
 use crate::message::Message;
 use rpki_base::{PublicKey, Scheme, Time, Verifier};
+use rpki_der::Steps;
 use rpki_idcert::ValidationError;
 use rpki_sigmsg::SignedMessage;
 use std::alloc::Global;
 use std::marker::Model;
+use std::sync::ledger::Ledger;
 
 /// A signed message, and the message that its content is (RFC 8181, 2). In a clause it is the record of both.
 #[derive(Drop)]
@@ -59,6 +64,23 @@ impl PublicationCms {
         Ok(PublicationCms { signed, message })
     }
 
+    /// As [`PublicationCms::decode`]. It ticks once for each header and each end mark that it reads, in the signed message alone.
+    pub fn decode_counted<L: Ledger>(
+        alloc: Global,
+        octets: &[u8],
+        steps: &mut Steps<L>,
+    ) -> Result<PublicationCms, Error>
+        ensures cms { MatchResult result (BeginsCms octets.now) (RefusesCms octets.now) }
+        ensures most { steps.new ≤ steps.old + 3 * length octets.now + 8 }
+
+        // Where a signed message was found, each value in it ticked.
+        ensures least { FindsSigned result → (v : Value) (rest : List ℕ) → Begins Ber octets.now v rest → steps.old + nodes v ≤ steps.new }
+    {
+        let signed = SignedMessage::decode_counted(alloc, octets, false, steps)?;
+        let message = Message::decode_slice(alloc, signed.content().as_slice())?;
+        Ok(PublicationCms { signed, message })
+    }
+
     /// The signed message.
     pub fn signed_message(&self) -> &SignedMessage
         ensures { result.now ≡ self.now.signed }
@@ -99,7 +121,11 @@ impl PublicationCms {
         issuer_key: &PublicKey,
         when: Time,
     ) -> Result<(), Error>
-        ensures { (q : checks.Asked P.checks self.now.signed issuer_key.now) → result ≡ validated (failing checks.kind_of (first_failure 1 (checks.checks self.now.signed issuer_key.now when q.q3 q.q8 q.q10))) }
+        // Ok exactly where the three signatures and all the other checks hold.
+        ensures believed { (result ≡ Ok tt) ↔ checks.IsBelieved P.checks self.now.signed issuer_key.now when }
+
+        // The first check that fails decides, whatever the scheme answers to the three questions.
+        ensures first_failing { (q : checks.Asked P.checks self.now.signed issuer_key.now) → result ≡ validated (failing checks.kind_of (first_failure 1 (checks.checks self.now.signed issuer_key.now when q.q3 q.q8 q.q10))) }
     {
         passed_on(
             self.signed_message()

@@ -1,9 +1,8 @@
 -- What a counted reading of octets says, and how often it ticks.
-use Rattle.std.proofs.Common.{◌≡◌, ℕ, ◌+◌, ◌*◌, ◌≤◌, Option, Result, Ok, Err, List, [], length, ap, arith}
+use Rattle.std.proofs.Common.{◌≡◌, ℕ, Option, Result, List, [], ap}
 use Rattle.rpki_der.specs.declared.error.DecodeError.{DecodeError}
 use Rattle.rpki_der.specs.declared.mode.Mode.{Mode}
 use Rattle.rpki_der.specs.Position.{Position}
-use Rattle.rpki_der.specs.Takes.{Decodes}
 use Rattle.rpki_der.specs.Ticks.{TakesCounted, DecodesCounted}
 use Rattle.rpki_der.specs.Value.{Value}
 use Rattle.rpki_der.proofs.Counting.{decodes}
@@ -11,11 +10,3 @@ use Rattle.rpki_der.proofs.Modes.{all_in}
 
 pub counted_message : {X Y : Type 0} (grammar : Mode → Value → Option X) (mode : Mode) (octets : List ℕ) (old new : Position) (view : Y → X) (b a : ℕ) (r : Result Y DecodeError) → old ≡ record { mode = mode; here = octets; levels = [] } → TakesCounted 3 (grammar old.mode) view old new b a r → DecodesCounted 3 (grammar mode) view mode octets b a r
 counted_message grammar mode octets old new view b a r e t = decodes 3 (grammar mode) view mode octets old new b a r e (all_in 3 grammar view mode old new b a r (ap (λ (p : Position). p.mode) e) t)
-
-pub message_read : {X Y : Type 0} (grammar : Value → Option X) (view : Y → X) (mode : Mode) (octets : List ℕ) (b a : ℕ) (r : Result Y DecodeError) → DecodesCounted 3 grammar view mode octets b a r → Decodes grammar view mode octets r
-message_read grammar view mode octets b a (Ok y) d = record { value = d.value; rest = d.rest; begins = d.begins; reads = d.reads }
-message_read grammar view mode octets b a (Err e) d = d.refuses
-
-pub message_bound : {X Y : Type 0} (grammar : Value → Option X) (view : Y → X) (mode : Mode) (octets : List ℕ) (b a : ℕ) (r : Result Y DecodeError) → DecodesCounted 3 grammar view mode octets b a r → a ≤ b + 6 * length octets + 8
-message_bound grammar view mode octets b a (Ok y) d = omega (arith, d.most)
-message_bound grammar view mode octets b a (Err e) d = omega (arith, d.most)

@@ -1,8 +1,8 @@
 -- What the fourteen checks mean: schemes that answer alike, and the moments at which they hold.
-use Rattle.std.proofs.Common.{◌≡◌, ℕ, ◌+◌, ℤ, ◌≤ℤ◌, ◌⊎◌, inl, inr, Bool, true, false, Ok, List, [], ◌∷◌, refl}
+use Rattle.std.proofs.Common.{◌≡◌, ℕ, ◌+◌, ℤ, ◌≤ℤ◌, ◌⊎◌, inl, inr, Bool, true, false, Result, Ok, Err, List, [], ◌∷◌, refl, sym, ap, ◌∙◌}
 use Rattle.std.specs.Int.Signed.{le_z_yes}
 use Rattle.std.proofs.lemmas.Float.{T_from_true}
-use Rattle.std.specs.Prelude.{T, ◌↔◌, int_le, ◌&&◌, not, bytes_eq, Decides}
+use Rattle.std.specs.Prelude.{T, ◌↔◌, int_le, ◌&&◌, not, bytes_eq, Decides, OnOk}
 use Rattle.std.specs.List.{AllByRecursion}
 use Rattle.std.proofs.Math.Logic.{⊎_map}
 use Rattle.std.proofs.lemmas.List.Elements.{All-from_recursion}
@@ -10,11 +10,41 @@ use Rattle.std.proofs.lemmas.Bool.Decides.{same_from_decides}
 use Rattle.sha2.specs.Sha256.{sha256}
 use Rattle.rpki_base.specs.PublicKey.{KeyFields}
 use Rattle.rpki_base.specs.declared.algorithm.SigningAlgorithm.{SigningAlgorithm}
-use Rattle.rpki_idcert.specs.Checks.{first_failure, has_own_identifier, names_issuer, is_true}
+use Rattle.rpki_idcert.specs.Checks.{first_failure, failing, has_own_identifier, names_issuer, is_true}
+use Rattle.rpki_idcert.specs.declared.validation.ValidationError.{ValidationError}
 use Rattle.rpki_idcert.proofs.Checking.{passes}
 use Rattle.rpki_sigmsg.specs.CrlChecks.{same_algorithm}
 use Rattle.rpki_sigmsg.specs.Message.{MessageFields}
-use Rattle.rpki_sigmsg.specs.Checks.{checks, is_not_revoked, Asked, SameAnswers, Passes, IsInSpan}
+use Rattle.rpki_sigmsg.specs.Checks.{checks, kind_of, is_not_revoked, Asked, AreSigned, IsBelieved, SameAnswers, Passes, IsInSpan}
+
+-- ---- what is believed
+
+pub on_ok_always : {T E P : Type 0} (r : Result T E) → P → OnOk r P
+on_ok_always (Ok x) p = p
+on_ok_always (Err e) p = tt
+
+so : {X : Type 0} → X → Decides true X
+so x = (λ _. x, λ _. refl)
+
+-- the three questions, where each is answered by yes
+abbrev all_signed : (scheme : SigningAlgorithm → KeyFields → List ℕ → List ℕ → Type 0) (m : MessageFields) (issuer : KeyFields) → AreSigned scheme m issuer → Asked scheme m issuer
+all_signed scheme m issuer s = record { q3 = true; q8 = true; q10 = true; attributes = so s.attributes; certificate = so s.certificate; crl = so s.crl }
+
+none_failing : (x : Result (Unit {0}) ℕ) → Ok tt ≡ failing kind_of x → x ≡ Ok tt
+none_failing (Ok tt) e = refl
+none_failing (Err n) e = cc
+
+signed_by : (scheme : SigningAlgorithm → KeyFields → List ℕ → List ℕ → Type 0) (m : MessageFields) (issuer : KeyFields) (r : Result (Unit {0}) ValidationError) → OnOk r (AreSigned scheme m issuer) → r ≡ Ok tt → AreSigned scheme m issuer
+signed_by scheme m issuer (Ok u) s e = s
+signed_by scheme m issuer (Err x) s e = cc
+
+pub believed : (scheme : SigningAlgorithm → KeyFields → List ℕ → List ℕ → Type 0) (m : MessageFields) (issuer : KeyFields) (when : ℤ) (r : Result (Unit {0}) ValidationError) → OnOk r (AreSigned scheme m issuer)
+    → ((q : Asked scheme m issuer) → r ≡ failing kind_of (first_failure 1 (checks m issuer when q.q3 q.q8 q.q10))) → (r ≡ Ok tt) ↔ IsBelieved scheme m issuer when
+believed scheme m issuer when r signed first = (
+  (λ e. let s = signed_by scheme m issuer r signed e in
+      record { signatures = s; passes = none_failing (first_failure 1 (checks m issuer when true true true)) (sym e ∙ first (all_signed scheme m issuer s)) }),
+  (λ b. first (all_signed scheme m issuer b.signatures) ∙ ap (failing kind_of) b.passes),
+)
 
 -- ---- two schemes
 

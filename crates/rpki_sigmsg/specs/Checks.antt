@@ -1,6 +1,6 @@
 -- The fourteen checks of a signed message under an issuer's key at a moment, and what they mean (RFC 5652, 5.4 and 5.6; RFC 6492, 3.1.2;
 -- RFC 8181, 2).
-use Rattle.std.specs.Prelude.{◌≡◌, ◌↔◌, ◌≤ℤ◌, ℕ, ℤ, Bool, not, ◌||◌, ◌==◌, if◌then◌else◌, bytes_eq, Decides, Ok, List, [], ◌∷◌, ◌++◌}
+use Rattle.std.specs.Prelude.{◌≡◌, ◌↔◌, ◌≤ℤ◌, ℕ, ℤ, Bool, not, ◌||◌, ◌==◌, if◌then◌else◌, bytes_eq, true, Decides, Ok, List, [], ◌∷◌, ◌++◌}
 use Rattle.sha2.specs.Sha256.{sha256}
 use Rattle.rpki_base.specs.PublicKey.{KeyFields}
 use Rattle.rpki_base.specs.declared.algorithm.SigningAlgorithm.{SigningAlgorithm}
@@ -49,6 +49,18 @@ pub record Asked (scheme : SigningAlgorithm → KeyFields → List ℕ → List 
   pub attributes : Decides q3 (AreAttributesSigned scheme m)
   pub certificate : Decides q8 (IsSigned scheme m.certificate issuer)
   pub crl : Decides q10 (IsListSigned scheme m.crl issuer)
+
+-- the three signatures hold: that of the attributes under the key of the certificate, and those of certificate and CRL under the
+-- issuer's key
+pub record AreSigned (scheme : SigningAlgorithm → KeyFields → List ℕ → List ℕ → Type 0) (m : MessageFields) (issuer : KeyFields) : Type 0 where
+  pub attributes : AreAttributesSigned scheme m
+  pub certificate : IsSigned scheme m.certificate issuer
+  pub crl : IsListSigned scheme m.crl issuer
+
+-- the three signatures hold, and with them all fourteen checks
+pub record IsBelieved (scheme : SigningAlgorithm → KeyFields → List ℕ → List ℕ → Type 0) (m : MessageFields) (issuer : KeyFields) (when : ℤ) : Type 0 where
+  pub signatures : AreSigned scheme m issuer
+  pub passes : first_failure 1 (checks m issuer when true true true) ≡ Ok tt
 
 -- ---- what the checks ask of a scheme
 

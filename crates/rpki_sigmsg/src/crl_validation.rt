@@ -1,6 +1,6 @@
 //! Whether the CRL of a signed message may be believed.
 
-ghost use Rattle.std.specs.Prelude.{◌≡◌, Bool, Decides};
+ghost use Rattle.std.specs.Prelude.{◌≡◌, Bool, Decides, OnOk};
 ghost use Rattle.rpki_idcert.specs.Checks.{first_failure, failing};
 ghost use Rattle.rpki_sigmsg.specs.CrlChecks as spec;
 
@@ -41,7 +41,8 @@ impl SignedMessageCrl {
         issuer_key: &PublicKey,
         when: Time,
     ) -> Result<(), u8>
-        ensures { (q : Bool) → Decides q (spec.IsListSigned P.checks self.now issuer_key.now) → result ≡ first_failure 9 (spec.crl_checks self.now issuer_key.now when q) }
+        ensures first_failing { (q : Bool) → Decides q (spec.IsListSigned P.checks self.now issuer_key.now) → result ≡ first_failure 9 (spec.crl_checks self.now issuer_key.now when q) }
+        ensures signed { OnOk result (spec.IsListSigned P.checks self.now issuer_key.now) }
     {
         require(9, self.names_one_algorithm())?;
         require(10, self.is_signed(verifier, issuer_key))?;
@@ -61,7 +62,8 @@ impl SignedMessageCrl {
         issuer_key: &PublicKey,
         when: Time,
     ) -> Result<(), ValidationError>
-        ensures { (q : Bool) → Decides q (spec.IsListSigned P.checks self.now issuer_key.now) → result ≡ failing spec.crl_kind (first_failure 9 (spec.crl_checks self.now issuer_key.now when q)) }
+        ensures first_failing { (q : Bool) → Decides q (spec.IsListSigned P.checks self.now issuer_key.now) → result ≡ failing spec.crl_kind (first_failure 9 (spec.crl_checks self.now issuer_key.now when q)) }
+        ensures signed { OnOk result (spec.IsListSigned P.checks self.now issuer_key.now) }
     {
         match self.failure(verifier, issuer_key, when) {
             Ok(()) => Ok(()),

@@ -3,7 +3,7 @@
 ghost use Rattle.std.specs.Prelude.{◌≡◌, ◌↔◌, ◌<◌, ◌+◌, ◌*◌, ◌≤◌, length, IsTrue, IfOk};
 ghost use Rattle.sha2.specs.Sha256.{sha256};
 ghost use Rattle.rpki_der.specs.Takes.{Takes, Decodes};
-ghost use Rattle.rpki_der.specs.Ticks.{TakesCounted};
+ghost use Rattle.rpki_der.specs.Ticks.{TakesCounted, DecodesCounted};
 ghost use Rattle.rpki_der.specs.Whole.{HoldsOne};
 ghost use Rattle.rpki_sigmsg.specs.Names.{xml_content};
 ghost use Rattle.rpki_sigmsg.specs.Message.{signed_message, mode_of};
@@ -66,15 +66,15 @@ impl SignedMessage {
         SignedMessage::take_from(alloc, &mut cursor)
     }
 
-    /// The same, and it ticks once for each header and each end mark that it reads.
+    /// The same, and it ticks once for each header and each end mark that it reads: at most three times an octet, and eight times
+    /// more where it refuses.
     pub fn decode_counted<L: Ledger>(
         alloc: Global,
         octets: &[u8],
         strict: bool,
         steps: &mut Steps<L>,
     ) -> Result<SignedMessage, DecodeError>
-        ensures message { Decodes (signed_message (mode_of strict)) (λ m. m) (mode_of strict) octets.now result }
-        ensures ticks { steps.new ≤ steps.old + 6 * length octets.now + 8 }
+        ensures { DecodesCounted 3 (signed_message (mode_of strict)) (λ m. m) (mode_of strict) octets.now steps.old steps.new result }
     {
         let mut cursor = Cursor::new(alloc, mode_of(strict), octets);
         SignedMessage::take_from_counted(alloc, &mut cursor, steps)

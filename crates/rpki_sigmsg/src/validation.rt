@@ -1,6 +1,6 @@
 //! Whether a signed message may be believed.
 
-ghost use Rattle.std.specs.Prelude.{◌≡◌, ◌↔◌, ◌⊎◌, Bool, ℤ, Decides, bytes_eq};
+ghost use Rattle.std.specs.Prelude.{◌≡◌, ◌↔◌, ◌⊎◌, Bool, ℤ, Decides, Ok, OnOk, bytes_eq};
 ghost use Rattle.rpki_base.specs.PublicKey.{KeyFields};
 ghost use Rattle.rpki_idcert.specs.Checks.{first_failure, failing};
 ghost use Rattle.rpki_sigmsg.specs.Message.{MessageFields};
@@ -43,7 +43,8 @@ impl SignedMessage {
 
     // Checks 1 to 3.
     fn own_failure<P: Scheme, V: Verifier<P>>(&self, verifier: &V) -> Result<(), u8>
-        ensures { (q : Bool) → Decides q (spec.AreAttributesSigned P.checks self.now) → result ≡ first_failure 1 (spec.message_checks self.now q) }
+        ensures first_failing { (q : Bool) → Decides q (spec.AreAttributesSigned P.checks self.now) → result ≡ first_failure 1 (spec.message_checks self.now q) }
+        ensures signed { OnOk result (spec.AreAttributesSigned P.checks self.now) }
     {
         require(1, self.names_certificate())?;
         require(2, self.digest_holds())?;
@@ -64,7 +65,8 @@ impl SignedMessage {
         issuer_key: &PublicKey,
         when: Time,
     ) -> Result<(), u8>
-        ensures { (q : spec.Asked P.checks self.now issuer_key.now) → result ≡ first_failure 1 (spec.checks self.now issuer_key.now when q.q3 q.q8 q.q10) }
+        ensures first_failing { (q : spec.Asked P.checks self.now issuer_key.now) → result ≡ first_failure 1 (spec.checks self.now issuer_key.now when q.q3 q.q8 q.q10) }
+        ensures signed { OnOk result (spec.AreSigned P.checks self.now issuer_key.now) }
     {
         self.own_failure(verifier)?;
         self.ee_cert().ee_failure(verifier, issuer_key, when, 4)?;
@@ -87,7 +89,11 @@ impl SignedMessage {
         issuer_key: &PublicKey,
         when: Time,
     ) -> Result<(), ValidationError>
-        ensures { (q : spec.Asked P.checks self.now issuer_key.now) → result ≡ failing spec.kind_of (first_failure 1 (spec.checks self.now issuer_key.now when q.q3 q.q8 q.q10)) }
+        // Ok exactly where the three signatures and all the other checks hold.
+        ensures believed { (result ≡ Ok tt) ↔ spec.IsBelieved P.checks self.now issuer_key.now when }
+
+        // The first check that fails decides, whatever the scheme answers to the three questions.
+        ensures first_failing { (q : spec.Asked P.checks self.now issuer_key.now) → result ≡ failing spec.kind_of (first_failure 1 (spec.checks self.now issuer_key.now when q.q3 q.q8 q.q10)) }
     {
         match self.failure(verifier, issuer_key, when) {
             Ok(()) => Ok(()),

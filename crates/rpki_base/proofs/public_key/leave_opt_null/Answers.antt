@@ -6,12 +6,12 @@ use Rattle.rpki_base.proofs.public_key.leave_opt_null.Goals as goal
 
 pub returns-in_err-take_opt_null_counted : goal.returns-in_err-take_opt_null_counted
 unfolding parameters
-returns-in_err-take_opt_null_counted g c = takes_rest_err _ _ _ _ _ _ _ _ _ _ c.from_residual.ensures.1 (stops_part _ _ _ _ _ _ _ _ _ refl c.in_err-take_opt_null_counted.ensures)
+returns-in_err-take_opt_null_counted g c = takes_rest_err _ _ _ _ _ _ _ _ _ _ c.from_residual.ensures.1 (stops_part _ _ _ _ _ _ _ _ _ refl c.in_err-take_opt_null_counted.ensures.fields)
 
 pub returns-in_err-leave_counted : goal.returns-in_err-leave_counted
 unfolding parameters
-returns-in_err-leave_counted g c = takes_rest_err _ _ _ _ _ _ _ _ _ _ c.from_residual-in_err-leave_counted.ensures.1 (stops_behind _ _ _ _ _ _ _ _ _ _ _ _ _ refl c.in_ok-take_opt_null_counted.ensures (stops_done _ _ _ _ _ _ c.in_err-leave_counted.ensures.place c.in_err-leave_counted.ensures.refused))
+returns-in_err-leave_counted g c = takes_rest_err _ _ _ _ _ _ _ _ _ _ c.from_residual-in_err-leave_counted.ensures.1 (stops_behind _ _ _ _ _ _ _ _ _ _ _ _ _ refl c.in_ok-take_opt_null_counted.ensures.fields (stops_done _ _ _ _ _ _ c.in_err-leave_counted.ensures.place c.in_err-leave_counted.ensures.refused))
 
 pub returns : goal.returns
 unfolding parameters
-returns g c = reads_part _ _ _ _ _ _ _ _ _ _ _ _ _ _ refl c.in_ok-take_opt_null_counted.ensures (reads_done _ _ _ _ _ _ refl c.in_ok-leave_counted.ensures.place c.in_ok-leave_counted.ensures.ticks)
+returns g c = reads_part _ _ _ _ _ _ _ _ _ _ _ _ _ _ refl c.in_ok-take_opt_null_counted.ensures.fields (reads_done _ _ _ _ _ _ refl c.in_ok-leave_counted.ensures.place c.in_ok-leave_counted.ensures.ticks)

@@ -15,14 +15,14 @@ returns-in_err-enter_counted g c = takes_err _ _ _ _ _ _ _ _ _ c.from_residual.e
 pub returns-in_err-ca : goal.returns-in_err-ca
 unfolding basic_constraints
 returns-in_err-ca g c = takes_err _ _ _ _ _ _ _ _ _ c.from_residual-in_err-ca.ensures.1 (refuses_inside _ _ _ _ _ _ _ _ _ _ refl c.in_ok-enter_counted.ensures.place c.in_ok-enter_counted.ensures.ticks
-    (stops_part _ _ _ _ _ _ _ _ _ refl (refuses_part_in _ _ (λ m. optional boolean_tag (boolean m)) _ _ _ _ _ c.in_ok-enter_counted.ensures.place.mode c.in_err-ca.ensures)))
+    (stops_part _ _ _ _ _ _ _ _ _ refl (refuses_part_in _ _ (λ m. optional boolean_tag (boolean m)) _ _ _ _ _ c.in_ok-enter_counted.ensures.place.mode c.in_err-ca.ensures.fields)))
 
 pub returns-in_err-leave_path_length : goal.returns-in_err-leave_path_length
 unfolding basic_constraints
 returns-in_err-leave_path_length g c = takes_err _ _ _ _ _ _ _ _ _ c.from_residual-in_err-leave_path_length.ensures.1 (refuses_inside _ _ _ _ _ _ _ _ _ _ refl c.in_ok-enter_counted.ensures.place c.in_ok-enter_counted.ensures.ticks
-    (stops_behind _ _ _ _ _ _ _ _ _ _ _ _ _ refl (part_in _ _ (λ m. optional boolean_tag (boolean m)) _ _ _ _ _ _ c.in_ok-enter_counted.ensures.place.mode c.in_ok-ca.ensures) (stops_bind _ _ _ _ _ _ _ _ c.in_err-leave_path_length.ensures)))
+    (stops_behind _ _ _ _ _ _ _ _ _ _ _ _ _ refl (part_in _ _ (λ m. optional boolean_tag (boolean m)) _ _ _ _ _ _ c.in_ok-enter_counted.ensures.place.mode c.in_ok-ca.ensures.fields) (stops_bind _ _ _ _ _ _ _ _ c.in_err-leave_path_length.ensures)))
 
 pub returns : goal.returns
 unfolding basic_constraints
 returns g c = rw c.unwrap_or.ensures (takes_within _ _ _ _ _ _ _ _ _ _ _ refl c.in_ok-enter_counted.ensures.place c.in_ok-enter_counted.ensures.ticks
-    (reads_part _ _ _ _ _ _ _ _ _ _ _ _ _ _ refl (part_in _ _ (λ m. optional boolean_tag (boolean m)) _ _ _ _ _ _ c.in_ok-enter_counted.ensures.place.mode c.in_ok-ca.ensures) (reads_bind _ _ _ _ _ _ _ _ _ _ c.in_ok-leave_path_length.ensures refl)))
+    (reads_part _ _ _ _ _ _ _ _ _ _ _ _ _ _ refl (part_in _ _ (λ m. optional boolean_tag (boolean m)) _ _ _ _ _ _ c.in_ok-enter_counted.ensures.place.mode c.in_ok-ca.ensures.fields) (reads_bind _ _ _ _ _ _ _ _ _ _ c.in_ok-leave_path_length.ensures refl)))

@@ -13,12 +13,12 @@ returns-in_err-take_oid_if_counted g c = takes_err _ _ _ _ _ _ _ _ _ c.from_resi
 
 pub returns-in_err-take_opt_null_counted : goal.returns-in_err-take_opt_null_counted
 unfolding digest_algorithm
-returns-in_err-take_opt_null_counted g c = takes_err _ _ _ _ _ _ _ _ _ c.from_residual-in_err-take_opt_null_counted.ensures.1 (refuses_inside _ _ _ _ _ _ _ _ _ _ refl c.in_ok-enter_counted.ensures.place c.in_ok-enter_counted.ensures.ticks (stops_later _ _ _ _ _ _ _ _ _ _ _ _ refl c.in_ok-take_oid_if_counted.ensures (stops_part _ _ _ _ _ _ _ _ _ refl c.in_err-take_opt_null_counted.ensures)))
+returns-in_err-take_opt_null_counted g c = takes_err _ _ _ _ _ _ _ _ _ c.from_residual-in_err-take_opt_null_counted.ensures.1 (refuses_inside _ _ _ _ _ _ _ _ _ _ refl c.in_ok-enter_counted.ensures.place c.in_ok-enter_counted.ensures.ticks (stops_later _ _ _ _ _ _ _ _ _ _ _ _ refl c.in_ok-take_oid_if_counted.ensures (stops_part _ _ _ _ _ _ _ _ _ refl c.in_err-take_opt_null_counted.ensures.fields)))
 
 pub returns-in_err-leave_counted : goal.returns-in_err-leave_counted
 unfolding digest_algorithm
-returns-in_err-leave_counted g c = takes_err _ _ _ _ _ _ _ _ _ c.from_residual-in_err-leave_counted.ensures.1 (refuses_inside _ _ _ _ _ _ _ _ _ _ refl c.in_ok-enter_counted.ensures.place c.in_ok-enter_counted.ensures.ticks (stops_later _ _ _ _ _ _ _ _ _ _ _ _ refl c.in_ok-take_oid_if_counted.ensures (stops_behind _ _ _ _ _ _ _ _ _ _ _ _ _ refl c.in_ok-take_opt_null_counted.ensures (stops_done _ _ _ _ _ _ c.in_err-leave_counted.ensures.place c.in_err-leave_counted.ensures.refused))))
+returns-in_err-leave_counted g c = takes_err _ _ _ _ _ _ _ _ _ c.from_residual-in_err-leave_counted.ensures.1 (refuses_inside _ _ _ _ _ _ _ _ _ _ refl c.in_ok-enter_counted.ensures.place c.in_ok-enter_counted.ensures.ticks (stops_later _ _ _ _ _ _ _ _ _ _ _ _ refl c.in_ok-take_oid_if_counted.ensures (stops_behind _ _ _ _ _ _ _ _ _ _ _ _ _ refl c.in_ok-take_opt_null_counted.ensures.fields (stops_done _ _ _ _ _ _ c.in_err-leave_counted.ensures.place c.in_err-leave_counted.ensures.refused))))
 
 pub returns : goal.returns
 unfolding digest_algorithm
-returns g c = takes_within _ _ _ _ _ _ _ _ _ _ _ refl c.in_ok-enter_counted.ensures.place c.in_ok-enter_counted.ensures.ticks (reads_first _ _ _ _ _ _ _ _ _ _ _ _ _ refl c.in_ok-take_oid_if_counted.ensures (reads_part _ _ _ _ _ _ _ _ _ _ _ _ _ _ refl c.in_ok-take_opt_null_counted.ensures (reads_done _ _ _ _ _ _ refl c.in_ok-leave_counted.ensures.place c.in_ok-leave_counted.ensures.ticks)))
+returns g c = takes_within _ _ _ _ _ _ _ _ _ _ _ refl c.in_ok-enter_counted.ensures.place c.in_ok-enter_counted.ensures.ticks (reads_first _ _ _ _ _ _ _ _ _ _ _ _ _ refl c.in_ok-take_oid_if_counted.ensures (reads_part _ _ _ _ _ _ _ _ _ _ _ _ _ _ refl c.in_ok-take_opt_null_counted.ensures.fields (reads_done _ _ _ _ _ _ refl c.in_ok-leave_counted.ensures.place c.in_ok-leave_counted.ensures.ticks)))
