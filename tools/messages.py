@@ -3,6 +3,7 @@
 
     tools/messages.py            writes both files
     tools/messages.py MESSAGE    compares the builder with a message in hex, octet by octet, and says whether they are equal
+    tools/messages.py --built    writes the SHA-256 of the messages that the tests of crates/rpki_vectors build
 
 The envelopes are written here from the formats (RFC 5652, RFC 5280, RFC 6492) and by the rules of the toy scheme, with nothing of
 the crates: no octet and no expected answer comes from the program under test.
@@ -79,11 +80,14 @@ def oid(text):
 
 
 def time(seconds):
-    """UTCTime, which every moment here fits."""
-    moment = datetime.datetime.fromtimestamp(seconds, datetime.timezone.utc)
-    return value(0x17, moment.strftime("%y%m%d%H%M%SZ").encode())
+    """UTCTime from 1950 to 2049, else GeneralizedTime; 400 years later the calendar is the same, and Python has that year."""
+    moment = EPOCH + datetime.timedelta(days=146097 * (seconds < 0), seconds=seconds)
+    year = moment.year - 400 * (seconds < 0)
+    digits = f"{year:04}{moment:%m%d%H%M%S}Z".encode()
+    return value(0x17, digits[2:]) if 1950 <= year < 2050 else value(0x18, digits)
 
 
+EPOCH = datetime.datetime(1970, 1, 1)
 NULL = b"\5\0"
 SIGNED_DATA = oid("1.2.840.113549.1.7.2")
 XML = oid("1.2.840.113549.1.9.16.1.28")
@@ -130,7 +134,7 @@ GOOD = dict(
     certificate_extensions=lambda xs: xs, tbs_length=length,
     # the CRL
     crl_seed=None, crl_inner=ALGORITHM, crl_outer=ALGORITHM, spoilt_crl=False, updates=(FIRST, LAST), crl_authority="issuer",
-    entries=(), crl_extensions=lambda xs: xs, crl_entries_length=length,
+    entries=(), revoked_at=FIRST, crl_number=NOW * 1000, crl_extensions=lambda xs: xs, crl_entries_length=length,
     # the envelope
     outer=value, content_string=octet_string, digest=SHA256, digest_parameters=(), behind=None, envelope_type=SIGNED_DATA,
     data_version=3, data_content_type=XML, certificates=lambda x: value(0xA0, x), crls=lambda x: value(0xA1, x),
@@ -174,9 +178,9 @@ def certificate(o):
 
 def crl(o):
     seed = o.crl_seed or o.seed
-    entries = b"".join(seq(integer(n), time(FIRST)) for n in o.entries or ())
+    entries = b"".join(seq(integer(n), time(o.revoked_at)) for n in o.entries or ())
     entries = b"" if o.entries is None else value(0x30, entries, o.crl_entries_length)
-    extensions = authority(o.crl_authority, seed) + [seq(CRL_NUMBER, octet_string(integer(NOW * 1000)))]
+    extensions = authority(o.crl_authority, seed) + [seq(CRL_NUMBER, octet_string(integer(o.crl_number)))]
     tbs = value(0x30, held(
         o, "crl-tbs", integer(1), o.crl_inner, name(seed, 0), *map(time, o.updates), entries,
         value(0xA0, seq(*o.crl_extensions(extensions)))))
@@ -429,7 +433,30 @@ def compare(octets):
     print(f"{len(own)} and {len(octets)} octets, {len(differing)} differ: {differing[:8]}")
 
 
+def built(content, moment, seed, revoked):
+    """The message that `build` of crates/rpki_vectors makes of these parts."""
+    window = moment - 300, moment + 300
+    return message(
+        content=content, seed=seed, signed_at=moment, validity=window, updates=window, entries=revoked, revoked_at=moment,
+        crl_number=max(moment, 0) * 1000)
+
+
+def write_built():
+    for parts in (
+            (QUERY, NOW, 1, (2,)),
+            (b"", NOW, (1 << 64) - 1, (0, 127, 128, 255, 256, 32768, (1 << 63) - 1, 1 << 63, (1 << 64) - 1)),
+            (b"\0\xff", 0, 0, ()),
+            (QUERY, -62167218900, 3, (5,)),
+            (QUERY, -631152000, 9, ()),
+            (QUERY, 2524607999, 9, (1,)),
+            (QUERY, 253402300499, 3, (5,))):
+        print(hashlib.sha256(built(*parts)).hexdigest(), *parts[1:])
+
+
 def main():
+    if sys.argv[1:] == ["--built"]:
+        write_built()
+        return
     if len(sys.argv) > 1:
         compare(bytes.fromhex(pathlib.Path(sys.argv[1]).read_text()))
         return

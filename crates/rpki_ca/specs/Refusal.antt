@@ -1,13 +1,15 @@
 -- The exit status and the name of each refusal.
-use Rattle.std.specs.Prelude.{ℕ, List, codes}
+use Rattle.std.specs.Prelude.{ℕ, List, ◌++◌, codes}
+use Rattle.std.specs.Fmt.{decimal}
 use Rattle.rpki_ca.specs.declared.refusals.Refusal.{Refusal}
-use Rattle.rpki_ca.specs.declared.refusals.Refusal.TheVariants.{Usage, Hex, CmsDecode, DigestDiffers, TooLong, ReadFault, OutOfMemory}
+use Rattle.rpki_ca.specs.declared.refusals.Refusal.TheVariants.{Usage, Hex, CmsDecode, XmlError, Validation, TooLong, ReadFault, OutOfMemory}
 
 abbrev pub status_of : Refusal → ℕ
 status_of Usage = 2
 status_of Hex = 3
 status_of CmsDecode = 4
-status_of DigestDiffers = 6
+status_of XmlError = 5
+status_of (Validation n) = 6
 status_of TooLong = 9
 status_of ReadFault = 10
 status_of OutOfMemory = 12
@@ -16,7 +18,8 @@ abbrev pub name_of : Refusal → List ℕ
 name_of Usage = codes "Usage"
 name_of Hex = codes "Hex"
 name_of CmsDecode = codes "CmsDecode"
-name_of DigestDiffers = codes "Validation 2"
+name_of XmlError = codes "XmlError"
+name_of (Validation n) = codes "Validation " ++ decimal n
 name_of TooLong = codes "TooLong"
 name_of ReadFault = codes "ReadFault"
 name_of OutOfMemory = codes "OutOfMemory"

@@ -1,15 +1,23 @@
 //! All that the program does.
 
-ghost use Rattle.std.specs.Prelude.{◌≡◌, ◌≢◌, ◌++◌, ◌∷◌, [], ◌↔◌, ◌⊎◌, List, ℕ, Result, Ok, Err, false, IfOk, IfErr, IfSome, IsErrOf, MatchResult};
+ghost use Rattle.std.specs.Prelude.{◌≡◌, ◌≢◌, ◌++◌, ◌∷◌, [], ◌↔◌, ◌⊎◌, List, ℕ, ℤ, Result, Ok, Err, IfOk, IfErr, IfSome, OnOk, IsErrOf, MatchResult, length, ◌^◌, ◌≤◌};
 ghost use Rattle.std.specs.Io.KnownBytes.{Appends, IsAtEnd};
+ghost use Rattle.rpki_base.specs.PublicKey.{KeyFields};
 ghost use Rattle.rpki_common.specs.Causes.{Rose};
 ghost use Rattle.rpki_text.specs.Sink.{AppendsPart};
+ghost use Rattle.rpki_ca.specs.declared.receiving.Kind.{Kind};
 ghost use Rattle.rpki_ca.specs.Refusal.{status_of};
-ghost use Rattle.rpki_ca.specs.Answer.{is_content, answer_of, IsAdmitted, Ends, ReadsAll};
+ghost use Rattle.rpki_ca.specs.Command.{IsCommand, IsNoCommand, IsReceive};
+ghost use Rattle.rpki_ca.specs.Answer.{Answers, AnswersSpelled, IsAnswer, IsAdmitted, IsUnread, Ends, ReadsAll, Delivers, Holds, Succeeds};
+ghost use Rattle.rpki_ca.specs.Hexadecimal.{hexadecimal};
 
+use crate::command::Command;
 use crate::content::content;
+use crate::hexadecimal::input_octets;
+use crate::receipt::receipt;
 use crate::refusals::Refusal;
 use crate::words::Words;
+use rpki_base::{Scheme, Verifier};
 use rpki_text::{ReadAllError, Sink, Source, read_all, write_all};
 use std::alloc::Global;
 
@@ -20,33 +28,71 @@ pub struct Status(pub u8);
 /// The most octets of input that are read.
 const LIMIT: u64 = 1 << 26;
 
-fn is_content_command(words: &Words) -> bool
-    ensures { result ≡ is_content words.now }
+// The line with what the command answers to the octets.
+fn perform<P: Scheme, V: Verifier<P>>(
+    alloc: Global,
+    command: &Command,
+    octets: &[u8],
+    verifier: &V,
+) -> Result<Vec<u8>, Refusal>
+    ensures ok { IfOk result (λ line. (text : List ℕ) × Answers P.checks command.now octets.now (Ok text) × (line.items ≡ text ++ 10 ∷ [])) }
+    ensures err { IfErr result (λ e. e ≢ Refusal.OutOfMemory → Answers P.checks command.now octets.now (Err e)) }
 {
-    match words.get(0) {
-        Some(word) => words.len() == 1 && word == "content",
-        None => false,
+    match command {
+        Command::Content => content(alloc, octets),
+        Command::Receive { kind, when, key } => {
+            receipt(alloc, *kind, octets, key, *when, verifier)
+        }
+    }
+}
+
+// The same, of the octets that the input spells.
+fn perform_spelled<P: Scheme, V: Verifier<P>>(
+    alloc: Global,
+    command: &Command,
+    input: &[u8],
+    verifier: &V,
+) -> Result<Vec<u8>, Refusal>
+    ensures ok { IfOk result (λ line. (text : List ℕ) × AnswersSpelled P.checks command.now (hexadecimal input.now) (Ok text) × (line.items ≡ text ++ 10 ∷ [])) }
+    ensures err { IfErr result (λ e. e ≢ Refusal.OutOfMemory → AnswersSpelled P.checks command.now (hexadecimal input.now) (Err e)) }
+{
+    let octets = input_octets(alloc, input)?;
+    perform(alloc, command, &octets, verifier)
+}
+
+// The whole input.
+fn read_input<I: Source>(alloc: Global, input: &mut I) -> Result<Vec<u8>, Refusal>
+    ensures ok { IfOk result (λ octets. IfSome (I.rest input.old) (λ rest. (octets.items ≡ rest) × (length rest ≤ 2 ^ 26))) }
+    ensures end { OnOk result (IsAtEnd (I.rest input.new)) }
+    ensures err { IfErr result (λ e. IsUnread (I.rest input.old) (I.faults input.old) (I.faults input.new) e) }
+{
+    match read_all(alloc, input, LIMIT) {
+        Ok(octets) => Ok(octets),
+        Err(ReadAllError::Read) => Err(Refusal::ReadFault),
+        Err(ReadAllError::TooLong) => Err(Refusal::TooLong),
+        Err(ReadAllError::OutOfMemory) => Err(Refusal::OutOfMemory),
     }
 }
 
 // The line with the text that the words ask for.
-fn answer<I: Source>(alloc: Global, words: &Words, input: &mut I) -> Result<Vec<u8>, Refusal>
-    ensures ok { IfOk result (λ line. (text : List ℕ) × (line.items ≡ text ++ 10 ∷ []) × IsAdmitted words.now (I.rest input.old) (I.faults input.old) (I.faults input.new) (Ok text)) }
-    ensures err { IfErr result (λ e. IsAdmitted words.now (I.rest input.old) (I.faults input.old) (I.faults input.new) (Err e)) }
-    ensures usage { IsErrOf result Refusal.Usage ↔ (is_content words.now ≡ false) }
-    ensures unread { is_content words.now ≡ false → input.new ≡ input.old }
+fn answer<P: Scheme, I: Source, V: Verifier<P>>(
+    alloc: Global,
+    words: &Words,
+    input: &mut I,
+    verifier: &V,
+) -> Result<Vec<u8>, Refusal>
+    ensures ok { IfOk result (λ line. (text : List ℕ) × (line.items ≡ text ++ 10 ∷ []) × IsAdmitted P.checks words.now (I.rest input.old) (I.faults input.old) (I.faults input.new) (Ok text)) }
+    ensures err { IfErr result (λ e. IsAdmitted P.checks words.now (I.rest input.old) (I.faults input.old) (I.faults input.new) (Err e)) }
+    ensures usage { IsErrOf result Refusal.Usage → IsNoCommand words.now }
+    ensures usage_always { IsNoCommand words.now → IsErrOf result Refusal.Usage ⊎ IsErrOf result Refusal.OutOfMemory }
+    ensures unread { IsNoCommand words.now → input.new ≡ input.old }
     ensures whole { MatchResult result (λ _. IsAtEnd (I.rest input.new)) (λ e. ReadsAll (status_of e) → IsAtEnd (I.rest input.new)) }
 {
-    if !is_content_command(words) {
+    let Some(command) = words.command()? else {
         return Err(Refusal::Usage);
-    }
-    let octets = match read_all(alloc, input, LIMIT) {
-        Ok(octets) => octets,
-        Err(ReadAllError::Read) => return Err(Refusal::ReadFault),
-        Err(ReadAllError::TooLong) => return Err(Refusal::TooLong),
-        Err(ReadAllError::OutOfMemory) => return Err(Refusal::OutOfMemory),
     };
-    content(alloc, &octets)
+    let octets = read_input(alloc, input)?;
+    perform_spelled(alloc, &command, &octets, verifier)
 }
 
 // Writes the line, and answers the status; or 11, where a write fails.
@@ -62,34 +108,55 @@ fn write_line<O: Sink>(output: &mut O, line: &[u8], status: u8) -> Status
     }
 }
 
+/// Writes the line of the refusal and answers its status, or 11 where a write failed. Where there is no memory for the line, it is
+/// that of want of memory, with status 12.
+pub fn refuse<O: Sink>(alloc: Global, output: &mut O, refusal: Refusal) -> Status
+    ensures ends { Ends (Err refusal) result.0 (O.written output.old) (O.written output.new) (O.faults output.old) (O.faults output.new) ⊎ Ends (Err Refusal.OutOfMemory) result.0 (O.written output.old) (O.written output.new) (O.faults output.old) (O.faults output.new) }
+    ensures status { (result.0 ≡ status_of refusal) ⊎ ((result.0 ≡ 11) ⊎ (result.0 ≡ 12)) }
+{
+    match refusal.line(alloc) {
+        Ok(line) => write_line(output, line.as_bytes(), refusal.status()),
+        Err(_) => write_line(output, b"OutOfMemory\n", Refusal::OutOfMemory.status()),
+    }
+}
+
 /// Does what the words ask for with the input, writes one line, and answers the exit status: 0, that of a refusal, or 11
 /// where a write failed.
 ///
-/// `content` reads a signed message in hexadecimal, an even number of digits of either case and at most one line feed
-/// behind them, and writes its content. Octets behind the message are allowed. Reading stops behind 2^26 octets. The
-/// whole line is made before the first write.
-pub fn run<I: Source, O: Sink>(
+/// Both commands read a signed message in hexadecimal, an even number of digits of either case and at most one line feed
+/// behind them; octets behind the message are allowed, and reading stops behind 2^26 octets.
+/// `content` writes its content. `receive publication MOMENT KEY` writes the message that it is, where the key issued its
+/// certificate for the moment and all fourteen checks hold: MOMENT in seconds since 1970, KEY in DER and hexadecimal.
+/// The whole line is made before the first write.
+pub fn run<P: Scheme, I: Source, O: Sink, V: Verifier<P>>(
     alloc: Global,
     words: &Words,
     input: &mut I,
     output: &mut O,
+    verifier: &V,
 ) -> Status
+    // `receive` ends with 0 only where a message was accepted, whose text is the line that was written.
+    ensures received { (kind : Kind) (when : ℤ) (key : KeyFields) → IsReceive words.now kind when key → result.0 ≡ 0 → IfSome (I.rest input.old) (λ rest. Delivers P.checks kind key when rest (O.written output.old) (O.written output.new)) }
+
+    // And where a message is accepted it ends with 0, but for want of memory and for faults of source and sink.
+    ensures accepted { (kind : Kind) (when : ℤ) (key : KeyFields) → IsReceive words.now kind when key → IfSome (I.rest input.old) (λ rest. Holds P.checks kind key when rest → Succeeds result.0 (I.faults input.old) (I.faults input.new) (O.faults output.old) (O.faults output.new)) }
+
     // Status 0 comes only with the text that the words ask for of this input, as the line that was written.
-    ensures done { result.0 ≡ 0 → IfSome (I.rest input.old) (λ octets. (text : List ℕ) × (answer_of words.now octets ≡ Ok text) × Appends (O.written output.old) (O.written output.new) (text ++ 10 ∷ [])) }
+    ensures done { result.0 ≡ 0 → IfSome (I.rest input.old) (λ rest. (text : List ℕ) × IsAnswer P.checks words.now rest (Ok text) × Appends (O.written output.old) (O.written output.new) (text ++ 10 ∷ [])) }
 
     // Every status comes with an admitted answer: one that words and input show, that the source failed, or want of memory.
-    ensures answered { (answer : Result (List ℕ) Refusal) × IsAdmitted words.now (I.rest input.old) (I.faults input.old) (I.faults input.new) answer × Ends answer result.0 (O.written output.old) (O.written output.new) (O.faults output.old) (O.faults output.new) }
+    ensures answered { (answer : Result (List ℕ) Refusal) × IsAdmitted P.checks words.now (I.rest input.old) (I.faults input.old) (I.faults input.new) answer × Ends answer result.0 (O.written output.old) (O.written output.new) (O.faults output.old) (O.faults output.new) }
 
-    // Other words leave the source unread, and are answered so unless the write fails.
-    ensures usage { result.0 ≡ 2 → is_content words.now ≡ false }
-    ensures usage_always { is_content words.now ≡ false → (result.0 ≡ 2) ⊎ (result.0 ≡ 11) }
-    ensures unread { is_content words.now ≡ false → input.new ≡ input.old }
+    // Other words leave the source unread, and are answered so unless the write fails or memory runs out.
+    ensures usage { result.0 ≡ 2 → IsNoCommand words.now }
+    ensures usage_always { IsNoCommand words.now → (result.0 ≡ 2) ⊎ ((result.0 ≡ 11) ⊎ (result.0 ≡ 12)) }
+    ensures unread { IsNoCommand words.now → input.new ≡ input.old }
 
     // Where the input decided, nothing of it is left.
     ensures whole { ReadsAll result.0 → IsAtEnd (I.rest input.new) }
 {
-    match answer(alloc, words, input) {
+    match answer(alloc, words, input, verifier) {
         Ok(line) => write_line(output, &line, 0),
-        Err(refusal) => write_line(output, refusal.line(), refusal.status()),
+        Err(refusal) => refuse(alloc, output, refusal),
     }
 }

@@ -1,4 +1,5 @@
 use super::*;
+use rpki_signer::ToyVerifier;
 use rpki_text::{MemorySink, MemorySource};
 use std::alloc::Global;
 use std::test::Fail;
@@ -35,7 +36,7 @@ fn answers(
     let words = words_of(alloc, words)?;
     let mut source = MemorySource::new(alloc, input, 1000, &[])?;
     let mut sink = MemorySink::new(alloc, 1000, 7, &[])?;
-    let answer = run(alloc, &words, &mut source, &mut sink);
+    let answer = run(alloc, &words, &mut source, &mut sink, &ToyVerifier);
     Ok(answer == Status(status) && sink.written() == line)
 }
 
@@ -117,7 +118,7 @@ fn a_failing_source_is_blamed(rt: HostRuntime) -> Result<(), Fail> {
         let mut source = MemorySource::new(alloc, MESSAGE.as_bytes(), 200, &[call])?;
         let mut sink = MemorySink::new(alloc, 1000, 1000, &[])?;
         assert_eq!(rt;
-            run(alloc, &words, &mut source, &mut sink),
+            run(alloc, &words, &mut source, &mut sink, &ToyVerifier),
             Status(10),
             "call {call}"
         );
@@ -138,7 +139,10 @@ fn a_failing_sink_keeps_a_part_of_the_line(rt: HostRuntime) -> Result<(), Fail> 
         for call in 0..calls {
             let mut source = MemorySource::new(alloc, b"00", 1, &[])?;
             let mut sink = MemorySink::new(alloc, 1000, piece, &[call as u64])?;
-            assert_eq!(rt; run(alloc, &words, &mut source, &mut sink), Status(11));
+            assert_eq!(rt;
+                run(alloc, &words, &mut source, &mut sink, &ToyVerifier),
+                Status(11)
+            );
             assert!(rt;
                 line.get(..call * piece) == Some(sink.written()),
                 "call {call} of {piece}"
@@ -155,7 +159,10 @@ fn a_sink_with_too_little_room_fails(rt: HostRuntime) -> Result<(), Fail> {
     let words = words_of(alloc, &["content"])?;
     let mut source = MemorySource::new(alloc, b"00", 1, &[])?;
     let mut sink = MemorySink::new(alloc, 9, 1000, &[])?;
-    assert_eq!(rt; run(alloc, &words, &mut source, &mut sink), Status(11));
+    assert_eq!(rt;
+        run(alloc, &words, &mut source, &mut sink, &ToyVerifier),
+        Status(11)
+    );
     assert_eq!(rt; sink.written(), b"CmsDecode".as_slice());
     Ok(())
 }
@@ -166,7 +173,10 @@ fn refused_words_leave_the_source_unread(rt: HostRuntime) -> Result<(), Fail> {
     let words = words_of(alloc, &["receive"])?;
     let mut source = MemorySource::new(alloc, b"00", 1, &[0])?;
     let mut sink = MemorySink::new(alloc, 1000, 1000, &[])?;
-    assert_eq!(rt; run(alloc, &words, &mut source, &mut sink), Status(2));
+    assert_eq!(rt;
+        run(alloc, &words, &mut source, &mut sink, &ToyVerifier),
+        Status(2)
+    );
     assert_eq!(rt; source.faults(), 0);
     Ok(())
 }
@@ -183,7 +193,10 @@ fn reading_stops_behind_the_limit(rt: HostRuntime) -> Result<(), Fail> {
         let octets = vec![in alloc; b'0'; len]?;
         let mut source = MemorySource::new(alloc, &octets, 1 << 20, &[])?;
         let mut sink = MemorySink::new(alloc, 1000, 1000, &[])?;
-        assert_eq!(rt; run(alloc, &words, &mut source, &mut sink), Status(status));
+        assert_eq!(rt;
+            run(alloc, &words, &mut source, &mut sink, &ToyVerifier),
+            Status(status)
+        );
         assert_eq!(rt; sink.written(), line);
     }
     Ok(())

@@ -1,8 +1,14 @@
 //! The words of a command line.
 
-ghost use Rattle.std.specs.Prelude.{◌≡◌, ◌++◌, ◌∷◌, [], ◌↔◌, ◌<◌, length, OnOk, OnErr, IfSome, IsSome, IsTrue, slice_get, Some};
+ghost use Rattle.std.specs.Prelude.{◌≡◌, ◌++◌, ◌∷◌, [], ◌↔◌, ◌<◌, ℤ, length, OnOk, OnErr, IfOk, IfSome, IsSome, IsNone, IsTrue, slice_get, Some, None};
+ghost use Rattle.rpki_base.specs.PublicKey.{KeyFields};
+ghost use Rattle.rpki_ca.specs.Words.{IsMoment, IsMomentAt, key_of, key_at};
 
+use crate::hexadecimal::octets_of;
+use itoa::Buffer;
+use rpki_base::{PublicKey, Time};
 use rpki_common::OutOfMemory;
+use rpki_der::{DecodeError, Mode};
 use std::alloc::Global;
 use std::marker::Model;
 
@@ -66,5 +72,59 @@ impl Words {
         } else {
             None
         }
+    }
+}
+
+/// # Words of a form
+impl Words {
+    /// The moment that the word at `index` names by its seconds since 1970, in decimal digits without a leading zero, up to
+    /// 253402300799, where the year 9999 ends. None exactly where no such word is there.
+    pub fn moment(&self, index: usize) -> Option<Time>
+        ensures some { IfSome result (λ when. IsMomentAt self.now index when) }
+        ensures none { IsNone result → (when : ℤ) → IsMomentAt self.now index when → ⊥ }
+    {
+        moment_of(self.get(index)?)
+    }
+
+    /// The public key whose DER the word at `index` spells, two hexadecimal digits of either case an octet. None exactly where no
+    /// such word is there: an even number of digits, whose octets are one key with nothing behind it.
+    pub fn key(&self, index: usize) -> Result<Option<PublicKey>, OutOfMemory>
+        ensures { IfOk result (λ key. key ≡ key_at self.now index) }
+    {
+        match self.get(index) {
+            Some(word) => key_of(self.alloc, word),
+            None => Ok(None),
+        }
+    }
+}
+
+// The moment that a word names.
+fn moment_of(word: &str) -> Option<Time>
+    ensures some { IfSome result (λ when. IsMoment word.now when) }
+    ensures none { IsNone result → (when : ℤ) → IsMoment word.now when → ⊥ }
+{
+    let Ok(seconds) = word.parse::<i64>() else {
+        return None;
+    };
+    if seconds < 0 {
+        return None;
+    }
+    if Buffer::new().format(seconds) != word {
+        return None;
+    }
+    Time::new(seconds)
+}
+
+// The key whose DER a word spells.
+fn key_of(alloc: Global, word: &str) -> Result<Option<PublicKey>, OutOfMemory>
+    ensures { IfOk result (λ key. key ≡ key_of word.now) }
+{
+    let Some(octets) = octets_of(alloc, word.as_bytes())? else {
+        return Ok(None);
+    };
+    match PublicKey::take(alloc, Mode::Der, &octets) {
+        Ok(key) => Ok(Some(key)),
+        Err(DecodeError::Malformed) => Ok(None),
+        Err(DecodeError::OutOfMemory) => Err(OutOfMemory),
     }
 }

@@ -1,7 +1,8 @@
 //! The program: its words, standard input and standard output are handed to `rpki_ca::run`.
 #![tactic(auto)]
 
-use rpki_ca::{Refusal, Status, Words, run};
+use rpki_ca::{Refusal, Status, Words, refuse, run};
+use rpki_signer::ToyVerifier;
 use rpki_text::{Sink, StdSink, StdSource, write_all};
 use std::env;
 use std::io::ErrorKind;
@@ -11,21 +12,38 @@ const HELP: &[u8] = b"\
 rpkica reads and checks the messages of RPKI certification authorities.
 
     rpkica content < MESSAGE
-        MESSAGE is a signed message in DER, in hexadecimal: an even number of
-        digits of either case, then at most one line feed. Its content is
-        written, if the content has the digest that was signed; who signed is
-        not looked at.
+        Writes the content of a signed message, if the content has the digest
+        that was signed; who signed is not looked at.
         Example: rpkica content < examples/content.hex
+
+    rpkica receive publication MOMENT KEY < MESSAGE
+        Writes the message of the publication protocol that a signed message
+        is, if KEY issued its certificate for the moment and all fourteen
+        checks hold.
+        MOMENT is in seconds since 1970, in decimal digits without leading
+        zeros, up to 253402300799. KEY is a public key in DER, in hexadecimal.
+        The signature scheme is a toy WITHOUT SECURITY: whoever knows the
+        public key can sign.
+        Example, on one line:
+        rpkica receive publication 1700000000
+        3022300d06092a864886f70d010101050003110000000000000000010000000000000000
+        < examples/query-list.hex
 
     rpkica --help
     rpkica --version
+
+MESSAGE is read loosely, in BER, and is in hexadecimal: an even number of
+digits of either case, then at most one line feed. Octets behind the signed
+message are allowed.
 
 One line is written to standard output. The exit status is
      0  the line is what was asked for
      2  Usage         the words are no command; nothing is read
      3  Hex           the input is not hexadecimal
      4  CmsDecode     the input begins with no signed message
-     6  Validation 2  the content does not have the digest that was signed
+     5  XmlError      the content is no message of the protocol
+     6  Validation N  N is the number of the first check that fails, from 1 to
+                      14; 2 is that the content has the digest that was signed
      9  TooLong       more than 67108864 octets of input
     10  ReadFault     standard input failed
     11                standard output failed
@@ -74,10 +92,16 @@ fn main(rt: HostRuntime) -> ExitCode {
     let mut input = StdSource::new(rt.stdin());
     let mut output = StdSink::new(rt.stdout());
     let Status(status) = match words_of(&rt) {
-        Err(refusal) => written(&mut output, refusal.line(), refusal.status()),
+        Err(refusal) => refuse(rt.alloc(), &mut output, refusal),
         Ok(words) => match own_text(&words) {
             Some(text) => written(&mut output, text, 0),
-            None => run(rt.alloc(), &words, &mut input, &mut output),
+            None => run(
+                rt.alloc(),
+                &words,
+                &mut input,
+                &mut output,
+                &ToyVerifier::new(),
+            ),
         },
     };
     ExitCode::from(status)

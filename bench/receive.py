@@ -1,0 +1,76 @@
+#!/usr/bin/env python3
+"""Times `rpkica receive` on signed messages of 1, 4 and 16 MB of hexadecimal, and beside it what `openssl cms -cmsout -noout` takes to
+parse the same octets, where openssl is there. It prints seconds, input bytes a second and peak memory.
+
+    bench/receive.py [MB ..]
+
+Three shapes, made by tools/messages.py: a query whose content has a long comment; the same content in segments of 8 octets, in BER;
+and a query whose CRL lists very many certificates. Each passes all checks. OpenSSL parses and prints nothing; it validates nothing.
+The inputs are made in a temporary folder and removed."""
+import os
+import shutil
+import subprocess
+import sys
+import tempfile
+
+from measuring import run
+
+TOP = os.path.dirname(os.path.dirname(os.path.abspath(__file__)))
+sys.path.insert(0, os.path.join(TOP, "tools"))
+import messages  # noqa: E402
+
+PROGRAM = os.path.join(TOP, "crates", "rpkica", "out", "rpkica")
+WORDS = ["receive", "publication", str(messages.NOW), messages.seq(
+    messages.seq(messages.RSA, messages.NULL), messages.bits(messages.key_bits(1, 0))).hex()]
+
+
+def with_comment(size):
+    return messages.QUERY.replace(b"<list/>", b"<!--" + b"x" * size + b"--><list/>")
+
+
+def comment(size):
+    return messages.message(content=with_comment(size - 1000))
+
+
+def segments(size):
+    def pieces(content):
+        parts = (content[i:i + 8] for i in range(0, len(content), 8))
+        return messages.value(0x24, b"".join(map(messages.octet_string, parts)))
+    return messages.message(content=with_comment((size - 1000) * 8 // 10), content_string=pieces)
+
+
+def revoked(size):
+    return messages.message(entries=range(1 << 32, (1 << 32) + (size - 1000) // 24))
+
+
+def parse_time(path):
+    openssl = shutil.which("openssl")
+    if not openssl:
+        return "-"
+    words = [openssl, "cms", "-cmsout", "-noout", "-inform", "DER"]
+    seconds, status, _ = min(run(path, *words) for _ in range(3))
+    return f"{seconds:.3f}" if status == 0 else f"status {status}"
+
+
+def main():
+    sizes = [int(word) for word in sys.argv[1:]] or [1, 4, 16]
+    if not os.path.exists(PROGRAM):
+        subprocess.run([os.path.join(TOP, "rpkica"), "content"], stdin=subprocess.DEVNULL, stdout=subprocess.DEVNULL, check=False)
+    print(f"{'shape':<9} {'MB':>4} {'status':>6} {'seconds':>8} {'MB/s':>8} {'peak MB':>8} {'openssl':>9}")
+    with tempfile.TemporaryDirectory() as folder:
+        path, octets = os.path.join(folder, "input"), os.path.join(folder, "octets")
+        for shape in (comment, segments, revoked):
+            for size in sizes:
+                message = shape(size * 2**20 // 2)
+                with open(octets, "wb") as target:
+                    target.write(message)
+                with open(path, "w", encoding="ascii") as target:
+                    target.write(message.hex())
+                seconds, status, peak = min(run(path, PROGRAM, *WORDS) for _ in range(3))
+                length = 2 * len(message)
+                print(f"{shape.__name__:<9} {size:>4} {status:>6} {seconds:>8.3f} {length / seconds / 1e6:>8.1f} "
+                      f"{peak / 1e6:>8.1f} {parse_time(octets):>9}")
+
+
+if __name__ == "__main__":
+    main()

@@ -1,0 +1,88 @@
+-- What a receiver accepts, and what is answered where it doesn't (RFC 6492, 3.1; RFC 8181, 2).
+use Rattle.std.specs.Prelude.{◌≡◌, ℕ, ℤ, List, Result, Ok, Err, ⊤}
+use Rattle.rpki_base.specs.PublicKey.{KeyFields}
+use Rattle.rpki_base.specs.declared.algorithm.SigningAlgorithm.{SigningAlgorithm}
+use Rattle.rpki_idcert.specs.Checks.{first_failure, failing}
+use Rattle.rpki_idcert.specs.declared.validation.ValidationError.{ValidationError}
+use Rattle.rpki_sigmsg.specs.Checks.{checks, kind_of, Asked, IsBelieved}
+use Rattle.rpki_sigmsg.specs.Message.{MessageFields}
+use Rattle.rpki_publication.specs.Cms.{BeginsSigned}
+use Rattle.rpki_publication.specs.Message as publication
+use Rattle.rpki_publication.specs.declared.error.Error as publication_errors
+use Rattle.rpki_publication.specs.declared.error.Error.TheVariants as publication_error
+use Rattle.rpki_ca.specs.declared.receiving.Kind.{Kind}
+use Rattle.rpki_ca.specs.declared.receiving.Kind.TheVariants as kinds
+use Rattle.rpki_ca.specs.declared.receiving.Received.{Received}
+use Rattle.rpki_ca.specs.declared.receiving.Received.TheVariants as received
+use Rattle.rpki_ca.specs.declared.receiving.ReceiveError.{ReceiveError}
+use Rattle.rpki_ca.specs.declared.receiving.ReceiveError.TheVariants as errors
+use Rattle.rpki_ca.specs.declared.refusals.Refusal.{Refusal}
+use Rattle.rpki_ca.specs.declared.refusals.Refusal.TheVariants as refusals
+
+-- which signatures hold: a relation between kind, key, message and signature
+abbrev pub Relation : Type 1
+Relation = SigningAlgorithm → KeyFields → List ℕ → List ℕ → Type 0
+
+-- the octets read as this message of the kind
+abbrev pub ReadsAs : Kind → List ℕ → Received → Type 0
+ReadsAs kinds.Publication octets (received.Publication m) = publication.Reads octets m
+
+-- the text of a message
+abbrev pub text_of : Received → List ℕ
+text_of (received.Publication m) = publication.text_of m
+
+-- The octets begin with a signed message, in BER. The key issued its certificate and its CRL, the certificate's key signed it, and all
+-- fourteen checks hold at the moment. Its content reads as the message.
+pub record Accepted (scheme : Relation) (kind : Kind) (octets : List ℕ) (key : KeyFields) (when : ℤ) (m : Received) : Type 0 where
+  pub signed : MessageFields
+  pub begins : BeginsSigned octets signed
+  pub believed : IsBelieved scheme signed key when
+  pub reads : ReadsAs kind signed.content m
+
+-- the octets begin with no signed message
+abbrev pub HoldsNoSigned : List ℕ → Type 0
+HoldsNoSigned octets = (signed : MessageFields) → BeginsSigned octets signed → ⊥
+
+-- the octets begin with a signed message whose content is no message of the kind
+pub record HoldsNoMessage (kind : Kind) (octets : List ℕ) : Type 0 where
+  pub signed : MessageFields
+  pub begins : BeginsSigned octets signed
+  pub none : (m : Received) → ReadsAs kind signed.content m → ⊥
+
+-- The octets begin with a signed message whose content is a message of the kind. The first check that fails is that of the error,
+-- whatever the scheme answers to its three questions.
+pub record FailsCheck (scheme : Relation) (kind : Kind) (octets : List ℕ) (key : KeyFields) (when : ℤ) (error : ValidationError) : Type 0 where
+  pub signed : MessageFields
+  pub begins : BeginsSigned octets signed
+  pub message : Received
+  pub reads : ReadsAs kind signed.content message
+  pub first : (q : Asked scheme signed key) → failing kind_of (first_failure 1 (checks signed key when q.q3 q.q8 q.q10)) ≡ Err error
+
+-- when each error comes; OutOfMemory says nothing
+abbrev pub RefusesReceipt : Relation → Kind → List ℕ → KeyFields → ℤ → ReceiveError → Type 0
+RefusesReceipt scheme kind octets key when errors.CmsDecode = HoldsNoSigned octets
+RefusesReceipt scheme kind octets key when errors.XmlError = HoldsNoMessage kind octets
+RefusesReceipt scheme kind octets key when (errors.Validation e) = FailsCheck scheme kind octets key when e
+RefusesReceipt scheme kind octets key when errors.OutOfMemory = ⊤
+
+-- the answer says that a signed message was found
+abbrev pub FindsSigned : {X : Type 0} → Result X ReceiveError → Type 0
+FindsSigned (Ok x) = ⊤
+FindsSigned (Err errors.XmlError) = ⊤
+FindsSigned (Err (errors.Validation e)) = ⊤
+FindsSigned (Err errors.CmsDecode) = ⊥
+FindsSigned (Err errors.OutOfMemory) = ⊥
+
+-- how an error of the publication protocol is passed on
+abbrev pub of_publication : publication_errors.Error → ReceiveError
+of_publication publication_error.CmsDecode = errors.CmsDecode
+of_publication (publication_error.XmlError e) = errors.XmlError
+of_publication (publication_error.Validation e) = errors.Validation e
+of_publication publication_error.OutOfMemory = errors.OutOfMemory
+
+-- how an error is answered
+abbrev pub refusal_of : ReceiveError → Refusal
+refusal_of errors.CmsDecode = refusals.CmsDecode
+refusal_of errors.XmlError = refusals.XmlError
+refusal_of (errors.Validation e) = refusals.Validation e.check
+refusal_of errors.OutOfMemory = refusals.OutOfMemory

@@ -1,0 +1,61 @@
+//! The command `receive`.
+
+ghost use Rattle.std.specs.Prelude.{◌≡◌, ◌≢◌, ◌++◌, ◌∷◌, [], List, ℕ, Ok, Err, IfOk, IfErr};
+ghost use Rattle.rpki_ca.specs.Answer.{IsReceipt};
+ghost use Rattle.rpki_ca.specs.Receipt.{text_of, refusal_of};
+
+use crate::line::line_of;
+use crate::receiving::{Kind, ReceiveError, Received, receive};
+use crate::refusals::Refusal;
+use bytes::Bytes;
+use rpki_base::{PublicKey, Scheme, Time, Verifier};
+use rpki_common::OutOfMemory;
+use std::alloc::Global;
+
+impl Received {
+    /// The octets of the message, a document of XML.
+    pub fn to_xml_bytes(&self, alloc: Global) -> Result<Bytes, OutOfMemory>
+        ensures { IfOk result (λ octets. octets ≡ text_of self.now) }
+    {
+        match self {
+            Received::Publication(message) => message.to_xml_bytes(alloc),
+        }
+    }
+}
+
+// The line with the message's text.
+fn text_line(alloc: Global, message: &Received) -> Result<Vec<u8>, OutOfMemory>
+    ensures { IfOk result (λ line. line.items ≡ text_of message.now ++ 10 ∷ []) }
+{
+    let text = message.to_xml_bytes(alloc)?;
+    line_of(alloc, text.as_slice())
+}
+
+impl From<ReceiveError> for Refusal {
+    ghost from_gives = { λ error e. e ≡ refusal_of error };
+
+    fn from(error: ReceiveError) -> Refusal {
+        match error {
+            ReceiveError::CmsDecode => Refusal::CmsDecode,
+            ReceiveError::XmlError => Refusal::XmlError,
+            ReceiveError::Validation(error) => Refusal::Validation(error.check),
+            ReceiveError::OutOfMemory => Refusal::OutOfMemory,
+        }
+    }
+}
+
+/// The text of the message that is received of the octets, and a line feed.
+pub(crate) fn receipt<P: Scheme, V: Verifier<P>>(
+    alloc: Global,
+    kind: Kind,
+    octets: &[u8],
+    key: &PublicKey,
+    when: Time,
+    verifier: &V,
+) -> Result<Vec<u8>, Refusal>
+    ensures ok { IfOk result (λ line. (text : List ℕ) × IsReceipt P.checks kind octets.now key.now when (Ok text) × (line.items ≡ text ++ 10 ∷ [])) }
+    ensures err { IfErr result (λ e. e ≢ Refusal.OutOfMemory → IsReceipt P.checks kind octets.now key.now when (Err e)) }
+{
+    let message = receive(alloc, kind, octets, key, when, verifier)?;
+    Ok(text_line(alloc, &message)?)
+}

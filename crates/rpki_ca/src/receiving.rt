@@ -1,0 +1,145 @@
+//! What a receiver accepts.
+
+ghost use Rattle.std.specs.Prelude.{◌≡◌, ◌+◌, ◌*◌, ◌≤◌, ◌<◌, ℕ, List, length, MatchResult};
+ghost use Rattle.rpki_der.specs.declared.mode.Mode.TheVariants.{Ber};
+ghost use Rattle.rpki_der.specs.Ticks.{nodes};
+ghost use Rattle.rpki_der.specs.Value.{Value, Begins};
+ghost use Rattle.rpki_ca.specs.Receipt.{Accepted, RefusesReceipt, FindsSigned, of_publication};
+ghost use Rattle.rpki_ca.specs.declared.receiving.ReceiveError.TheVariants as variant;
+
+use rpki_base::{PublicKey, Scheme, Time, Verifier};
+use rpki_der::Steps;
+use rpki_idcert::ValidationError;
+use rpki_publication as publication;
+use rpki_publication::PublicationCms;
+use std::alloc::Global;
+use std::marker::Brand;
+use std::sync::ledger::{Blank, Ledger};
+use thiserror::Error;
+
+/// The protocol that a message belongs to.
+#[derive(Clone, Copy, Debug, PartialEq, Eq)]
+pub enum Kind {
+    /// The publication protocol (RFC 8181).
+    Publication,
+}
+
+/// A message that was received.
+#[derive(Clone, Copy, Debug, PartialEq, Eq)]
+pub enum Received {
+    /// A message of the publication protocol.
+    Publication(publication::Message),
+}
+
+/// Why nothing was received.
+#[derive(Clone, Copy, Debug, PartialEq, Eq, Error)]
+pub enum ReceiveError {
+    /// The octets begin with no signed message.
+    #[error("Could not decode CMS")]
+    CmsDecode,
+    /// The content is no message of the kind.
+    #[error("the content is no message of this kind")]
+    XmlError,
+    /// A check of the signed message failed.
+    #[error("CMS is not valid: {0}")]
+    Validation(ValidationError),
+    /// Memory ran out.
+    #[error("out of memory")]
+    OutOfMemory,
+}
+
+impl From<publication::Error> for ReceiveError {
+    ghost from_gives = { λ error e. e ≡ of_publication error };
+
+    fn from(error: publication::Error) -> ReceiveError {
+        match error {
+            publication::Error::CmsDecode => ReceiveError::CmsDecode,
+            publication::Error::XmlError(_) => ReceiveError::XmlError,
+            publication::Error::Validation(error) => ReceiveError::Validation(error),
+            publication::Error::OutOfMemory => ReceiveError::OutOfMemory,
+        }
+    }
+}
+
+impl From<ValidationError> for ReceiveError {
+    ghost from_gives = { λ error e. e ≡ variant.Validation error };
+
+    fn from(error: ValidationError) -> ReceiveError {
+        ReceiveError::Validation(error)
+    }
+}
+
+/// The message of this kind that is signed at the beginning of the octets, in BER, where the key issued its certificate for the
+/// moment; what stands behind isn't read.
+///
+/// The first of these decides: CmsDecode where no beginning of the octets is a signed message, XmlError where its content is no
+/// message of the kind, Validation where one of the fourteen checks fails, the first one, as
+/// [`rpki_sigmsg::SignedMessage::validate_at`] numbers them.
+pub fn receive<P: Scheme, V: Verifier<P>>(
+    alloc: Global,
+    kind: Kind,
+    octets: &[u8],
+    key: &PublicKey,
+    when: Time,
+    verifier: &V,
+) -> Result<Received, ReceiveError>
+    ensures { MatchResult result (Accepted P.checks kind octets.now key.now when) (RefusesReceipt P.checks kind octets.now key.now when) }
+{
+    receive_within::<P, V, Brand>(alloc, kind, octets, key, when, verifier, Blank::new(1))
+}
+
+fn receive_within<P: Scheme, V: Verifier<P>, L: Ledger>(
+    alloc: Global,
+    kind: Kind,
+    octets: &[u8],
+    key: &PublicKey,
+    when: Time,
+    verifier: &V,
+    blank: Blank,
+) -> Result<Received, ReceiveError>
+    requires name { blank.name ≡ L.name }
+    requires parts { blank.parts ≡ L.parts }
+    requires some { 0 < blank.parts }
+    ensures { MatchResult result (Accepted P.checks kind octets.now key.now when) (RefusesReceipt P.checks kind octets.now key.now when) }
+{
+    let mut steps = Steps::<L>::new(blank);
+    receive_counted(alloc, kind, octets, key, when, verifier, &mut steps)
+}
+
+/// As [`receive`]. It ticks once for each header and each end mark that it reads, in the signed message alone.
+pub fn receive_counted<P: Scheme, V: Verifier<P>, L: Ledger>(
+    alloc: Global,
+    kind: Kind,
+    octets: &[u8],
+    key: &PublicKey,
+    when: Time,
+    verifier: &V,
+    steps: &mut Steps<L>,
+) -> Result<Received, ReceiveError>
+    ensures answer { MatchResult result (Accepted P.checks kind octets.now key.now when) (RefusesReceipt P.checks kind octets.now key.now when) }
+    ensures most { steps.new ≤ steps.old + 3 * length octets.now + 8 }
+
+    // Where a signed message was found, each value in it ticked.
+    ensures least { FindsSigned result → (v : Value) (rest : List ℕ) → Begins Ber octets.now v rest → steps.old + nodes v ≤ steps.new }
+{
+    match kind {
+        Kind::Publication => receive_publication(alloc, octets, key, when, verifier, steps),
+    }
+}
+
+fn receive_publication<P: Scheme, V: Verifier<P>, L: Ledger>(
+    alloc: Global,
+    octets: &[u8],
+    key: &PublicKey,
+    when: Time,
+    verifier: &V,
+    steps: &mut Steps<L>,
+) -> Result<Received, ReceiveError>
+    ensures answer { MatchResult result (Accepted P.checks Kind.Publication octets.now key.now when) (RefusesReceipt P.checks Kind.Publication octets.now key.now when) }
+    ensures most { steps.new ≤ steps.old + 3 * length octets.now + 8 }
+    ensures least { FindsSigned result → (v : Value) (rest : List ℕ) → Begins Ber octets.now v rest → steps.old + nodes v ≤ steps.new }
+{
+    let cms = PublicationCms::decode_counted(alloc, octets, steps)?;
+    cms.signed_message().validate_at(verifier, key, when)?;
+    Ok(Received::Publication(cms.into_message()))
+}

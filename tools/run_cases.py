@@ -1,0 +1,170 @@
+#!/usr/bin/env python3
+"""Writes the cases on which crates/run_cases runs `rpki_ca::run`: its data/cases.txt, and the stdout beside it.
+
+    tools/run_cases.py           writes the rows of this script, and keeps the cases named model-N that the file has
+    tools/run_cases.py FOLDER    takes the latter anew from a folder of cases
+
+A case of a folder is case-N.words (one word a line), case-N.in (the input) and case-N.expected (the status in decimal, a line
+feed, then what is written); they come from a model that was written apart. The rows of this script are made of
+examples/query-list.hex and of what stands here. No expected answer comes from the program under test.
+
+A line is `NAME STATUS LINE INPUT WORD..`: the status in decimal, what is written and the input in hexadecimal, and the words as
+they are. A `-` stands for an empty field.
+"""
+
+import pathlib
+import sys
+
+from messages import QUERY, indefinite, overlong, segmented, seq, value
+
+ROOT = pathlib.Path(__file__).resolve().parent.parent
+CRATE = ROOT / "crates" / "run_cases"
+INPUT = (ROOT / "examples" / "query-list.hex").read_bytes()
+
+MOMENT = "1700000000"
+KEY = "3022300d06092a864886f70d010101050003110000000000000000010000000000000000"
+OTHER_KEY = KEY[:-2] + "09"
+RECEIVED = 0, QUERY
+USAGE, HEX, CMS_DECODE = (2, b"Usage"), (3, b"Hex"), (4, b"CmsDecode")
+
+
+def validation(check):
+    return 6, b"Validation %d" % check
+
+
+def receive(moment=MOMENT, key=KEY):
+    return "receive", "publication", moment, key
+
+
+# ---- DER: values with identifiers of one octet
+
+
+def head_length(octets):
+    """How many octets are the identifier and the length."""
+    return 2 + (octets[1] & 127 if octets[1] > 127 else 0)
+
+
+def contents(octets):
+    """What stands in the value that the octets are."""
+    return octets[head_length(octets):]
+
+
+def values(octets):
+    """The values that the octets are, one behind the other."""
+    while octets:
+        head = head_length(octets)
+        size = int.from_bytes(octets[2:head], "big") if head > 2 else octets[1]
+        yield octets[:head + size]
+        octets = octets[head + size:]
+
+
+def parts(octets):
+    return list(values(contents(octets)))
+
+
+def changed(octets, path, change):
+    """The value with the part at the path of indices changed, and the lengths round it mended."""
+    if not path:
+        return change(octets)
+    own = parts(octets)
+    own[path[0]] = changed(own[path[0]], path[1:], change)
+    return value(octets[0], b"".join(own))
+
+
+# Where the signed data, the content and the CRL's list of entries stand in a message.
+DATA = (1, 0)
+CONTENT = DATA + (2, 1, 0)
+ENTRIES = DATA + (4, 0, 0, 5)
+
+
+def with_loose_lengths(octets):
+    """The message with its content in nested segments, and indefinite lengths of the envelope, the field and the signed data."""
+    octets = changed(octets, CONTENT, lambda content: segmented(contents(content)))
+    octets = changed(octets, DATA, lambda data: indefinite(data[0], contents(data)))
+    octets = changed(octets, DATA[:1], lambda field: indefinite(field[0], contents(field)))
+    return indefinite(octets[0], contents(octets))
+
+
+def with_overlong_crl(octets):
+    return changed(octets, ENTRIES, lambda entries: value(entries[0], contents(entries), overlong))
+
+
+# ---- the rows: name, words, input, status and text
+
+
+def moment_rows():
+    for moment in ("1699999700", "1700000000", "1700000300"):
+        yield f"at-{moment}", receive(moment), INPUT, RECEIVED
+    for moment in ("0", "1699999699", "1700000301", "253402300799"):
+        yield f"at-{moment}", receive(moment), INPUT, validation(5)
+    for moment in ("01700000000", "+1700000000", "-1", "253402300800", ""):
+        yield f"moment-{moment or 'empty'}", receive(moment), INPUT, USAGE
+
+
+def key_rows():
+    yield "another-key", receive(key=OTHER_KEY), INPUT, validation(6)
+    yield "key-in-upper-case", receive(key=KEY.upper()), INPUT, RECEIVED
+    yield "key-without-a-digit", receive(key=KEY[:-1]), INPUT, USAGE
+    yield "key-with-an-octet-behind", receive(key=KEY + "00"), INPUT, USAGE
+    yield "key-empty", receive(key=""), INPUT, USAGE
+    yield "key-of-no-digits", receive(key="zz"), INPUT, USAGE
+    yield "key-with-an-overlong-length", receive(key=KEY.replace("3022", "308122", 1)), INPUT, USAGE
+
+
+def word_rows():
+    yield "receive-alone", receive()[:1], INPUT, USAGE
+    yield "receive-without-moment", receive()[:2], INPUT, USAGE
+    yield "receive-without-key", receive()[:3], INPUT, USAGE
+    yield "receive-of-five-words", receive() + (KEY,), INPUT, USAGE
+    yield "receive-provisioning", ("receive", "provisioning", MOMENT, KEY), INPUT, USAGE
+
+
+def input_rows():
+    octets = bytes.fromhex(INPUT.decode())
+    line = lambda message: message.hex().encode() + b"\n"
+    yield "without-the-last-octet", receive(), line(octets[:-1]), CMS_DECODE
+    yield "octets-behind", receive(), line(octets + b"\xff\xff"), RECEIVED
+    yield "content-with-gttp", receive(), line(octets.replace(b"http", b"gttp", 1)), validation(2)
+    yield "content-with-another-space", receive(), line(octets.replace(b" type", b"\ntype", 1)), validation(2)
+    yield "in-upper-case", receive(), INPUT.upper(), RECEIVED
+    yield "without-line-feed", receive(), INPUT.rstrip(b"\n"), RECEIVED
+    yield "with-two-line-feeds", receive(), INPUT + b"\n", HEX
+    yield "with-loose-lengths", receive(), line(with_loose_lengths(octets)), RECEIVED
+    yield "with-an-overlong-length-in-the-crl", receive(), line(with_overlong_crl(octets)), CMS_DECODE
+
+
+def case(name, words, given, status, written):
+    assert all(word != "-" and word.split() in ([], [word]) for word in words)
+    fields = [name, str(status), written.hex(), given.hex(), *words]
+    return " ".join(field or "-" for field in fields)
+
+
+def rows():
+    for row in (*moment_rows(), *key_rows(), *word_rows(), *input_rows()):
+        name, words, given, (status, text) = row
+        yield case(name, words, given, status, text + b"\n")
+
+
+def cases_of(folder):
+    for path in sorted(folder.glob("case-*.words")):
+        words = path.read_text().removesuffix("\n").split("\n") if path.stat().st_size else []
+        status, written = path.with_suffix(".expected").read_bytes().split(b"\n", 1)
+        number = int(path.stem.removeprefix("case-"))
+        yield case(f"model-{number}", words, path.with_suffix(".in").read_bytes(), int(status), written)
+
+
+def main():
+    file = CRATE / "data" / "cases.txt"
+    if len(sys.argv) > 1:
+        model = list(cases_of(pathlib.Path(sys.argv[1])))
+    else:
+        model = [line for line in file.read_text().splitlines() if line.startswith("model-")]
+    lines = model + list(rows())
+    names = [line.split(" ")[0] for line in lines]
+    assert len(names) == len(set(names))
+    file.write_text("".join(line + "\n" for line in lines))
+    (CRATE / "stdout").write_text(f"{len(lines)} cases, 0 differ\n")
+
+
+if __name__ == "__main__":
+    main()
