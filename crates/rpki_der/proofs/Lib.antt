@@ -29,3 +29,5 @@ pub mod Dotted
 pub mod Flats
 pub mod Depths
 mod Row
+pub mod Tagging
+pub mod Stops

@@ -18,6 +18,7 @@ pub mod Entry
 pub mod Segments
 pub mod Reader
 pub mod Ticks
+pub mod Stopping
 pub mod CountedWalk
 pub mod ExactWalk
 pub mod Item

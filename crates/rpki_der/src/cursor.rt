@@ -7,6 +7,7 @@ ghost use Rattle.rpki_der.specs.Position.{Position, top, AtEnd};
 ghost use Rattle.rpki_der.specs.Takes.{Takes, Enters, GoesOut};
 ghost use Rattle.rpki_der.specs.Grammar.{primitive, any};
 ghost use Rattle.rpki_der.specs.Ticks.{TakesCounted, counts, marks};
+ghost use Rattle.rpki_der.specs.Stopping.{StopsAt};
 
 use crate::error::DecodeError;
 use crate::levels::Levels;
@@ -245,6 +246,9 @@ impl<'a> Cursor<'a> {
         ensures err { OnErr result (self.new ≡ self.old) }
         ensures ticks { OnOk result ((v : Value) × Begins self.old.mode self.old.here v self.new.here × (steps.new ≡ steps.old + counts v)) }
         ensures refused { OnErr result (steps.new ≤ steps.old + length self.old.here + 1) }
+        ensures stopped {
+            OnErr result (StopsAt self.old.mode self.old.here steps.old steps.new)
+        }
     {
         let rest = skip_value(self.alloc, self.mode, self.here, steps)?;
         let value = &self.here[..self.here.len() - rest.len()];

@@ -1,13 +1,14 @@
 //! Whole values.
 
-ghost use Rattle.std.specs.Prelude.{◌≡◌, ◌+◌, ◌-◌, ◌<◌, ◌≤◌, length, take, IfOk, OnOk, OnErr, OnSome, Err};
+ghost use Rattle.std.specs.Prelude.{◌≡◌, ◌+◌, ◌-◌, ◌<◌, ◌≤◌, [], length, take, IfOk, OnOk, OnErr, OnSome, Err};
 ghost use Rattle.rpki_der.specs.Value.{Value, Begins};
 ghost use Rattle.rpki_der.specs.Level.{Marked, Opens};
 ghost use Rattle.rpki_der.specs.Header.{IdentifierFirst};
 ghost use Rattle.rpki_der.specs.Part.{level_of, IsPart, NoValue};
 ghost use Rattle.rpki_der.specs.Takes.{Takes};
 ghost use Rattle.rpki_der.specs.Ticks.{TakesCounted, counts};
-ghost use Rattle.rpki_der.specs.Item.{item_with, TakesNext, TakesNextCounted, TakesOptional, TakesOptionalCounted, content_in, ShowsWhole};
+ghost use Rattle.rpki_der.specs.Item.{item_with, TakesNext, TakesNextCounted, TakesOptional, TakesOptionalCounted, content_in, OtherFirst, ShowsWhole};
+ghost use Rattle.rpki_der.specs.Stopping.{StopsIn, StopsAt};
 
 use crate::cursor::Cursor;
 use crate::error::DecodeError;
@@ -78,6 +79,7 @@ fn constructed_item<'a, L: Ledger>(
     ensures ok { IfOk result (λ r. ShowsWhole mode here.now r.1.now steps.old steps.new r.0) }
     ensures malformed { result ≡ Err DecodeError.Malformed → NoValue mode here.now }
     ensures refused { OnErr result (steps.new ≤ steps.old + length here.now) }
+    ensures stopped { OnErr result (StopsIn 0 mode here.now [] steps.old steps.new) }
 {
     let mut opened = Levels::new(alloc);
     opened.push(level)?;
@@ -103,6 +105,7 @@ fn whole_item<'a, L: Ledger>(
     ensures ok { IfOk result (λ r. ShowsWhole mode here.now r.1.now steps.old steps.new r.0) }
     ensures malformed { result ≡ Err DecodeError.Malformed → NoValue mode here.now }
     ensures refused { OnErr result (steps.new ≤ steps.old + length here.now) }
+    ensures stopped { OnErr result (StopsIn 0 mode here.now [] steps.old steps.new) }
 {
     match part {
         Part::Primitive {
@@ -140,6 +143,9 @@ impl<'a> Cursor<'a> {
         ensures malformed { result ≡ Err DecodeError.Malformed → NoValue self.old.mode self.old.here }
         ensures err { OnErr result (self.new ≡ self.old) }
         ensures refused { OnErr result (steps.new ≤ steps.old + length self.old.here) }
+        ensures stopped {
+            OnErr result (StopsIn 0 self.old.mode self.old.here [] steps.old steps.new)
+        }
     {
         match take_part_behind(self.mode, identifier, behind) {
             Some(part) => {
@@ -160,6 +166,9 @@ impl<'a> Cursor<'a> {
         ensures err { OnErr result (self.new ≡ self.old) }
         ensures ticks { IfOk result (λ found. OnSome found ((v : Value) × Begins self.old.mode self.old.here v self.new.here × (steps.new ≡ steps.old + counts v))) }
         ensures refused { OnErr result (steps.new ≤ steps.old + length self.old.here + 1) }
+        ensures stopped {
+            OnErr result (StopsAt self.old.mode self.old.here steps.old steps.new)
+        }
     {
         if self.end() {
             return Ok(None);
@@ -205,7 +214,11 @@ impl<'a> Cursor<'a> {
         ensures value { TakesCounted 1 (item_with tag) (λ i. i) self.old self.new steps.old steps.new result }
         ensures err { OnErr result (self.new ≡ self.old) }
         ensures ticks { OnOk result ((v : Value) × Begins self.old.mode self.old.here v self.new.here × (steps.new ≡ steps.old + counts v)) }
+        ensures other { OtherFirst tag self.old.here → steps.new ≡ steps.old + 1 }
         ensures refused { OnErr result (steps.new ≤ steps.old + length self.old.here + 1) }
+        ensures stopped {
+            OnErr result (StopsAt self.old.mode self.old.here steps.old steps.new)
+        }
     {
         steps.tick();
         match take_identifier(self.here) {
@@ -247,6 +260,9 @@ impl<'a> Cursor<'a> {
         ensures err { OnErr result (self.new ≡ self.old) }
         ensures ticks { IfOk result (λ found. OnSome found ((v : Value) × Begins self.old.mode self.old.here v self.new.here × (steps.new ≡ steps.old + counts v))) }
         ensures refused { OnErr result (steps.new ≤ steps.old + length self.old.here + 1) }
+        ensures stopped {
+            OnErr result (StopsAt self.old.mode self.old.here steps.old steps.new)
+        }
     {
         if self.end() {
             return Ok(None);

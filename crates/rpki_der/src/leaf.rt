@@ -70,6 +70,14 @@ impl OctetString {
     {
         Ok(Bytes::copy_from_slice(alloc, self.as_slice())?)
     }
+
+    /// An equal octet string.
+    pub fn clone(&self, _alloc: Global) -> Result<OctetString, OutOfMemory>
+        ensures { IfOk result (λ s. s ≡ self.now) }
+    {
+        let octets = self.octets.clone()?;
+        Ok(OctetString { octets })
+    }
 }
 
 /// A BIT STRING (X.690, 8.6).
@@ -118,6 +126,17 @@ impl BitString {
     {
         self.octets.as_slice()
     }
+
+    /// An equal bit string.
+    pub fn clone(&self, _alloc: Global) -> Result<BitString, OutOfMemory>
+        ensures { IfOk result (λ s. s ≡ self.now) }
+    {
+        let octets = self.octets.clone()?;
+        Ok(BitString {
+            unused: self.unused,
+            octets,
+        })
+    }
 }
 
 /// An OBJECT IDENTIFIER (X.690, 8.19).
@@ -157,5 +176,13 @@ impl Oid {
         ensures { result.now ≡ self.now }
     {
         self.octets.as_slice()
+    }
+
+    /// An equal object identifier.
+    pub fn clone(&self, _alloc: Global) -> Result<Oid, OutOfMemory>
+        ensures { IfOk result (λ s. s ≡ self.now) }
+    {
+        let octets = self.octets.clone()?;
+        Ok(Oid { octets })
     }
 }

@@ -1,8 +1,9 @@
 //! Tags, and the identifier octets that spell them.
 
-ghost use Rattle.std.specs.Prelude.{◌≡◌, ◌+◌, ◌≤◌, ◌↔◌, length, take, IsSome, IfSome, IsTrue};
+ghost use Rattle.std.specs.Prelude.{◌≡◌, [], ◌∷◌, ◌+◌, ◌≤◌, ◌↔◌, length, take, IsSome, IfSome, IsTrue};
 ghost use Rattle.rpki_der.specs.Identifier.{IsIdentifier, IsTag, is_constructed, without_bit_6, tag_of, has_tag, further_size, identifier_size};
 ghost use Rattle.rpki_der.specs.Writing.{with_bit_6};
+ghost use Rattle.rpki_der.specs.Tags.{boolean_tag, integer_tag, bit_string_tag, octet_string_tag, null_tag, oid_tag, sequence, set, utc_time_tag, generalized_time_tag, context};
 
 use std::marker::Model;
 
@@ -110,6 +111,32 @@ impl Tag {
         octets: [0x83, 0, 0, 0],
         len: 1,
     };
+
+    /// The tags that have names, in the order of their declaration. Each is that of the standard (X.680, 8.4; X.690, 8.1.2).
+    pub fn named() -> [Tag; 13]
+        ensures {
+            result ≡
+            boolean_tag ∷ integer_tag ∷ bit_string_tag ∷ octet_string_tag ∷ null_tag ∷ oid_tag ∷
+            sequence ∷ set ∷ utc_time_tag ∷ generalized_time_tag ∷
+            context 0 ∷ context 1 ∷ context 3 ∷ []
+        }
+    {
+        [
+            Tag::BOOLEAN,
+            Tag::INTEGER,
+            Tag::BIT_STRING,
+            Tag::OCTET_STRING,
+            Tag::NULL,
+            Tag::OID,
+            Tag::SEQUENCE,
+            Tag::SET,
+            Tag::UTC_TIME,
+            Tag::GENERALIZED_TIME,
+            Tag::CTX_0,
+            Tag::CTX_1,
+            Tag::CTX_3,
+        ]
+    }
 
     /// The tag of the one identifier that the octets are, of either form; None exactly where they are none.
     ///

@@ -57,6 +57,7 @@ fn append(out: &mut Vec<u8>, identifier: &[u8], content: &[u8]) -> Result<(), Ou
 /// In a clause it is the list of what was written.
 #[derive(Drop)]
 pub struct Writer {
+    alloc: Global,
     octets: Vec<u8>,
 }
 
@@ -74,8 +75,16 @@ impl Writer {
         ensures { result ≡ [] }
     {
         Writer {
+            alloc,
             octets: Vec::new(alloc),
         }
+    }
+
+    /// A writer of nothing so far, which takes its memory where this one does: for what stands inside a constructed value.
+    pub fn inner(&self) -> Writer
+        ensures { result ≡ [] }
+    {
+        Writer::new(self.alloc)
     }
 
     // Appends a value with this identifier and these contents.
@@ -167,5 +176,13 @@ impl Captured {
         ensures { result ≡ self }
     {
         self.octets
+    }
+
+    /// Equal octets.
+    pub fn clone(&self, _alloc: Global) -> Result<Captured, OutOfMemory>
+        ensures { IfOk result (λ c. c ≡ self.now) }
+    {
+        let octets = self.octets.clone()?;
+        Ok(Captured { octets })
     }
 }

@@ -3,6 +3,7 @@ use Rattle.rpki_der.specs.Walk.{left_in}
 use Rattle.rpki_der.specs.Ticks.{behind}
 use Rattle.rpki_der.proofs.Walks.{LeadsTo}
 use Rattle.rpki_der.proofs.ExactWalks.{LeadsExactly}
+use Rattle.rpki_der.proofs.Stops.{Passed}
 use Rattle.rpki_der.proofs.walk.skip_levels.Given as goal
 
 -- what completes the levels from the octets on is what completes those that are still open
@@ -10,6 +11,7 @@ abbrev pub invariant-levels : goal.invariant-levels
 invariant-levels g l = record {
   onward : LeadsTo l.mode l.octets l.fn.opened l.here l.opened;
   counted : LeadsExactly l.mode l.octets l.fn.opened l.fn.steps l.here l.opened l.steps;
+  passed : Passed l.mode l.octets l.fn.opened l.fn.steps l.here l.opened l.steps;
   most : l.steps + length l.here + behind l.opened ≤ l.fn.steps + length l.octets + behind l.fn.opened;
 }
 

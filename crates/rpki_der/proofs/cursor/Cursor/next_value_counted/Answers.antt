@@ -3,6 +3,7 @@ use Rattle.rpki_der.specs.Position.{Position}
 use Rattle.rpki_der.specs.Header.{NoIdentifier}
 use Rattle.rpki_der.proofs.Reading.{not_ended}
 use Rattle.rpki_der.proofs.Items.{next_err, whole_any, refuses_next, none_identified}
+use Rattle.rpki_der.proofs.Stops.{stops_first}
 use Rattle.rpki_der.proofs.cursor.Cursor.next_value_counted.Goals as goal
 
 pub returns-in_ok-value-in-Some-clause-value : goal.returns-in_ok-value-in-Some-clause-value
@@ -15,3 +16,6 @@ pub returns-in-None-clause-value : goal.returns-in-None-clause-value
 returns-in-None-clause-value g c =
     let none = subst (λ (p : Position). NoIdentifier p.here) c.self.view_is c.in-None.ensures.none in
     refuses_next c.args.self.now _ _ _ (not_ended c.if-end.ensures) (λ e. none_identified c.args.self.now.mode _ none) (omega (arith, c.tick.ensures))
+
+pub returns-in-None-clause-stopped : goal.returns-in-None-clause-stopped
+returns-in-None-clause-stopped g c = stops_first 1 _ _ _ _ _ (omega (arith, c.tick.ensures))

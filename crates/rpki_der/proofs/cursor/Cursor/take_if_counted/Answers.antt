@@ -1,7 +1,8 @@
-use Rattle.std.proofs.Common.{sym, subst}
+use Rattle.std.proofs.Common.{sym, subst, arith}
 use Rattle.rpki_der.specs.Position.{Position}
 use Rattle.rpki_der.specs.Header.{IdentifierFirst, NoIdentifier}
 use Rattle.rpki_der.proofs.Items.{takes_with, refuses_other, refuses_unidentified}
+use Rattle.rpki_der.proofs.Stops.{stops_first}
 use Rattle.rpki_der.proofs.cursor.Cursor.take_if_counted.Goals.{in_default-via-in-Some+else-tag_is, in_default-via-in_default}
 use Rattle.rpki_der.proofs.cursor.Cursor.take_if_counted.Goals as goal
 
@@ -20,3 +21,6 @@ returns-in_default-clause-value g c =
           let none = subst (λ (p : Position). NoIdentifier p.here) c.self.view_is w.in_default.ensures.none in
           refuses_unidentified _ c.args.self.now _ _ none c.tick.ensures
     ]
+
+pub returns-in_default-clause-stopped : goal.returns-in_default-clause-stopped
+returns-in_default-clause-stopped g c = stops_first 1 _ _ _ _ _ (omega (arith, c.tick.ensures))
