@@ -31,3 +31,4 @@ pub mod Depths
 mod Row
 pub mod Tagging
 pub mod Stops
+pub mod Rooms

@@ -1,5 +1,5 @@
 -- Where a reader stands inside constructed values.
-use Rattle.std.specs.Prelude.{◌≡◌, ℕ, true, List, [], ◌∷◌, ◌++◌, length}
+use Rattle.std.specs.Prelude.{◌≡◌, ℕ, true, List, [], ◌∷◌, ◌++◌, length, ⊤}
 use Rattle.rpki_der.specs.declared.mode.Mode.{Mode}
 use Rattle.rpki_der.specs.declared.mode.Mode.TheVariants.{Ber}
 use Rattle.rpki_der.specs.Identifier.{IsIdentifier, is_constructed}
@@ -10,6 +10,11 @@ use Rattle.rpki_der.specs.Value.{Values, spellings, AreValues}
 pub data Level : Type 0 where
   Sized : (after : List ℕ) → Level
   Marked : Level
+
+-- the level ends where its octets end
+abbrev pub IsSized : Level → Type 0
+IsSized (Sized after) = ⊤
+IsSized Marked = ⊥
 
 -- what ends the level, and how many octets are known to stand behind it
 abbrev pub mark_of : Level → List ℕ

@@ -6,7 +6,7 @@ use Rattle.rpki_der.specs.declared.error.DecodeError.TheVariants.{Malformed, Out
 use Rattle.rpki_der.specs.declared.mode.Mode.{Mode}
 use Rattle.rpki_der.specs.Identifier.{has_tag}
 use Rattle.rpki_der.specs.Value.{Value, Values, Begins}
-use Rattle.rpki_der.specs.Level.{Level, Opens, Holds}
+use Rattle.rpki_der.specs.Level.{Level, Sized, Opens, Holds}
 use Rattle.rpki_der.specs.Position.{Position, top, AtEnd, Leaves}
 
 -- ---- one value
@@ -46,11 +46,20 @@ pub record Goes (tag : List ℕ) (old new : Position) : Type 0 where
 abbrev pub NoneOpens : List ℕ → Position → Type 0
 NoneOpens tag old = (identifier : List ℕ) (level : Level) (inner : List ℕ) → Opens old.mode old.here identifier level inner → has_tag tag identifier ≡ false
 
+-- a constructed value with this tag and of definite length begins here
+pub record OpensSized (tag : List ℕ) (old : Position) : Type 0 where
+  pub identifier : List ℕ
+  pub after : List ℕ
+  pub inner : List ℕ
+  pub opens : Opens old.mode old.here identifier (Sized after) inner
+  pub tagged : has_tag tag identifier ≡ true
+
 abbrev pub RefusesToEnter : List ℕ → Position → DecodeError → Type 0
 RefusesToEnter tag old Malformed = NoneOpens tag old
-RefusesToEnter tag old OutOfMemory = ⊤
+RefusesToEnter tag old OutOfMemory = OpensSized tag old
 
--- The cursor goes in, or the answer is Malformed exactly where no constructed value with this tag begins.
+-- The cursor goes in, or the answer is Malformed exactly where no constructed value with this tag begins. Want of memory is answered
+-- only where one of definite length does: to go into a value of indefinite length takes none.
 abbrev pub Enters : List ℕ → Position → Position → Result (Unit {0}) DecodeError → Type 0
 Enters tag old new result = MatchResult result (λ _. Goes tag old new) (RefusesToEnter tag old)
 

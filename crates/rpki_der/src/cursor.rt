@@ -30,11 +30,14 @@ pub struct Cursor<'a> {
 }
 
 impl<'a> Model for Cursor<'a> {
+    ghost use Rattle.rpki_der.specs.Levels.{HasRoom};
     ghost use Rattle.rpki_der.specs.Position.{Position};
 
     ghost Value = { Position };
 
     ghost view = { λ c. record { mode = c.mode; here = c.here.now; levels = c.opened } };
+
+    ghost invariant = { λ c. HasRoom c.here.now c.opened };
 }
 
 impl<'a> Cursor<'a> {

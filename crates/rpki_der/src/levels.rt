@@ -1,6 +1,7 @@
 //! The constructed values that a reader is in.
 
-ghost use Rattle.std.specs.Prelude.{◌≡◌, [], ◌∷◌, length, drop, IfSome, IfNone, OnOk, OnErr};
+ghost use Rattle.std.specs.Prelude.{◌≡◌, ◌+◌, ◌^◌, ◌<◌, [], ◌∷◌, length, drop, IfSome, IfNone, OnOk, OnErr};
+ghost use Rattle.rpki_der.specs.Level.{IsSized};
 ghost use Rattle.rpki_der.specs.Part.{level_of};
 
 use crate::part::Open;
@@ -51,12 +52,11 @@ impl<'a> Levels<'a> {
 
     /// Goes into a level.
     pub(crate) fn push(&mut self, level: Open<'a>) -> Result<(), OutOfMemory>
+        requires room { length self.old + 1 < 2 ^ 64 }
         ensures ok { OnOk result (self.new ≡ level_of level.entry ∷ self.old) }
         ensures err { OnErr result (self.new ≡ self.old) }
+        ensures sized { OnErr result (IsSized (level_of level.entry)) }
     {
-        if self.depth == usize::MAX {
-            return Err(OutOfMemory);
-        }
         match level {
             Open::Indefinite => self.marked += 1,
             Open::Definite(after) => {

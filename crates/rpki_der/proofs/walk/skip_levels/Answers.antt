@@ -2,11 +2,12 @@ use Rattle.std.proofs.Common.{sym, ap, refl, ◌∙◌, Err, arith}
 use Rattle.std.proofs.lemmas.Result.{err_from_is_err_and}
 use Rattle.rpki_der.proofs.Walks.{ended_last, went_on_last, refused_last}
 use Rattle.rpki_der.proofs.ExactWalks.{exact_ended_last, exact_on_last, passed_end_last, exact_finished}
+use Rattle.rpki_der.proofs.Rooms.{room_out_last}
 use Rattle.rpki_der.proofs.Stops.{passed_none, passed_one, passed_out, stops_after}
 use Rattle.rpki_der.proofs.walk.skip_levels.Goals as goal
 
 pub levels-init : goal.levels-init
-levels-init g c = record { onward = λ final p. p; counted = λ final n k. (n, k, refl); most = omega arith; passed = passed_none _ _ _ _ }
+levels-init g c = record { onward = λ final p. p; counted = λ final n k. (n, k, refl); most = omega arith; passed = passed_none _ _ _ _; room = c.requires.room }
 
 pub levels-preserved-in-Some-level_end : goal.levels-preserved-in-Some-level_end
 levels-preserved-in-Some-level_end g c =
@@ -16,6 +17,7 @@ levels-preserved-in-Some-level_end g c =
       onward = ended_last _ _ _ c.levels.opened _ _ _ last c.levels.invariant.onward c.in-Some-level_end.ensures.found;
       counted = exact_ended_last _ _ _ c.levels.opened _ _ _ _ _ _ last c.levels.invariant.counted c.in-Some-level_end.ensures.found c.tick_mark.ensures;
       most = omega (arith, c.tick_mark.ensures, passed, c.levels.invariant.most);
+      room = room_out_last _ _ c.levels.opened _ last c.in-Some-level_end.ensures.found c.levels.invariant.room;
       passed = passed_out _ _ _ _ _ c.levels.opened _ _ _ _ last c.levels.invariant.passed c.in-Some-level_end.ensures.found c.tick_mark.ensures;
     })
 
@@ -33,6 +35,7 @@ levels-preserved g c =
       onward = went_on_last _ _ _ c.levels.opened _ _ _ _ last c.levels.invariant.onward c.in-None.ensures.none c.in_ok-here-in-None.ensures.ok;
       counted = exact_on_last _ _ _ c.levels.opened _ _ _ _ _ _ _ last c.levels.invariant.counted c.in_ok-here-in-None.ensures.counted;
       most = omega (arith, c.in_ok-here-in-None.ensures.passed, c.in_ok-here-in-None.ensures.ticks, c.levels.invariant.most);
+      room = c.in_ok-here-in-None.ensures.room;
       passed = passed_one _ _ _ _ _ _ _ _ _ _ c.levels.invariant.passed c.in_ok-here-in-None.ensures.header c.in_ok-here-in-None.ensures.ticks;
     }
 
