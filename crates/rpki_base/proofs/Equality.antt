@@ -1,25 +1,8 @@
 -- Signed data that are equal, part by part, are the same.
-use Rattle.std.proofs.Common.{◌≡◌, ℕ, Bool, true, false, List, [], ◌∷◌, refl, ap, ◌∙◌}
+use Rattle.std.proofs.Common.{◌≡◌, ℕ, Bool, true, List, refl, ap, ◌∙◌}
 use Rattle.std.specs.Prelude.{◌&&◌, bytes_eq}
-use Rattle.std.proofs.lemmas.Bool.{eqb-true, eq-eqb}
+use Rattle.rpki_common.proofs.Truths.{both, are_true, same_octets, equal_octets}
 use Rattle.rpki_base.specs.SignedData.{SignedParts}
-
-both_true : (s t : Bool) → (s && t) ≡ true → (s ≡ true) × (t ≡ true)
-both_true true t e = (refl, e)
-both_true false t e = absurd cc
-
-are_true : (s t : Bool) → s ≡ true → t ≡ true → (s && t) ≡ true
-are_true s t e f = rw e f
-
-same_octets : (a b : List ℕ) → bytes_eq a b ≡ true → a ≡ b
-same_octets [] [] e = refl
-same_octets [] (y ∷ b) e = absurd cc
-same_octets (x ∷ a) [] e = absurd cc
-same_octets (x ∷ a) (y ∷ b) e = let p = both_true _ _ e in ap (λ z. z ∷ a) (eqb-true x y p.0) ∙ ap (λ (l : List ℕ). y ∷ l) (same_octets a b p.1)
-
-equal_octets : (a : List ℕ) → bytes_eq a a ≡ true
-equal_octets [] = refl
-equal_octets (x ∷ a) = are_true _ _ (eq-eqb x x refl) (equal_octets a)
 
 abbrev made : {A : Type 0} → List ℕ → A → List ℕ → SignedParts A
 made s a v = record { slice = s; signature = record { algorithm = a; value = v } }
@@ -29,8 +12,8 @@ same_parts s s' a a' v v' e f g = ap (λ x. made x a v) e ∙ ap (λ x. made s' 
 
 pub equal_same : {A : Type 0} (eq : A → A → Bool) (a b : SignedParts A) → ((x y : A) → eq x y ≡ true → x ≡ y) → (bytes_eq a.slice b.slice && (eq a.signature.algorithm b.signature.algorithm && bytes_eq a.signature.value b.signature.value)) ≡ true → a ≡ b
 equal_same eq a b same e =
-    let p = both_true _ _ e in
-    let q = both_true _ _ p.1 in
+    let p = both _ _ e in
+    let q = both _ _ p.1 in
     same_parts _ _ _ _ _ _ (same_octets _ _ p.0) (same _ _ q.0) (same_octets _ _ q.1)
 
 pub same_equal : {A : Type 0} (eq : A → A → Bool) (a b : SignedParts A) → ((x : A) → eq x x ≡ true) → a ≡ b → (bytes_eq a.slice b.slice && (eq a.signature.algorithm b.signature.algorithm && bytes_eq a.signature.value b.signature.value)) ≡ true

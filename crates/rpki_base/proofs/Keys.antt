@@ -36,15 +36,11 @@ algorithm_spells mode EcdsaP256 = spells_constructed mode sequence _ _ is_sequen
 pub bits_spell : (mode : Mode) (octets : List ℕ) → length octets + 1 < 4294967296 → Spells mode (spelled_bits octets) (bits_value octets ▸ End)
 bits_spell mode octets h = spells_primitive mode bit_string_tag (0 ∷ octets) is_bits (omega arith)
 
-length-algorithm : (format : PublicKeyFormat) → length (spelled_algorithm format) ≤ 21
-length-algorithm Rsa = omega arith
-length-algorithm EcdsaP256 = omega arith
+pub bits_within : (octets : List ℕ) → length octets + 1 ≤ length (spelled_bits octets)
+bits_within octets = let n : ℕ = length (0 ∷ octets) in omega (arith, length-append (der_length n) (0 ∷ octets))
 
-pub length-bits : (octets : List ℕ) → length (spelled_bits octets) ≤ length octets + 7
-length-bits octets = let n : ℕ = length (0 ∷ octets) in omega (arith, length-der_length n, length-append (der_length n) (0 ∷ octets))
-
-pub key_length : (key : KeyFields) → CanBeSpelled key → length (spelled_algorithm key.format ++ spelled_bits key.bits) < 4294967296
-key_length key h = omega (arith, length-algorithm key.format, length-bits key.bits, length-append (spelled_algorithm key.format) (spelled_bits key.bits))
+key_bits : (key : KeyFields) → CanBeSpelled key → length key.bits + 1 < 4294967296
+key_bits key h = omega (arith, bits_within key.bits, length-append (spelled_algorithm key.format) (spelled_bits key.bits), h)
 
 key_reads : (format : PublicKeyFormat) (octets : List ℕ) → public_key (key_value format octets) ≡ Some (record { format = format; bits = octets })
 unfolding public_key key_algorithm named_format parameters within first optional done so oid oid_is null bit_string ◌>>=◌
@@ -56,6 +52,6 @@ key_reads EcdsaP256 (a ∷ octets) = refl
 pub written_key : (mode : Mode) (key : KeyFields) (rest : List ℕ) → CanBeSpelled key → (v : Value) × Begins mode (spelled_key key ++ rest) v rest × (public_key v ≡ Some key)
 written_key mode key rest h = (
   key_value key.format key.bits,
-  begins_constructed mode sequence _ rest _ is_sequence (key_length key h) (spells_followed mode _ _ _ _ (algorithm_spells mode key.format) (bits_spell mode key.bits (omega arith))),
+  begins_constructed mode sequence _ rest _ is_sequence h (spells_followed mode _ _ _ _ (algorithm_spells mode key.format) (bits_spell mode key.bits (key_bits key h))),
   key_reads key.format key.bits,
 )

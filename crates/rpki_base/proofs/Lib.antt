@@ -13,3 +13,4 @@ pub mod Identifiers
 pub mod Equality
 pub mod MadeNames
 pub mod Extensions
+pub mod Checking

@@ -12,7 +12,7 @@ use Rattle.rpki_der.proofs.Written.{spells_followed, spells_one, begins_construc
 use Rattle.rpki_base.specs.Bits.{spelled_bits}
 use Rattle.rpki_base.specs.SignedData.{SignedParts, signed_data, spelled_data, CanBeSpelled}
 use Rattle.rpki_base.specs.WritingLaws.{is_sequence}
-use Rattle.rpki_base.proofs.Keys.{bits_value, bits_spell, length-bits}
+use Rattle.rpki_base.proofs.Keys.{bits_value, bits_spell, bits_within}
 
 -- octets that are one value
 alone : (octets : List ℕ) (v : Value) → octets ≡ spelling v ++ [] → octets ≡ spelling v
@@ -29,14 +29,15 @@ unfolding signed_data within first done so bit_string ◌>>=◌
 data_reads reads mode slice algorithm [] a v w p q e = rw (p, (ap (reads mode) (sym q) ∙ e)) refl
 data_reads reads mode slice algorithm (b ∷ value) a v w p q e = rw (p, (ap (reads mode) (sym q) ∙ e)) refl
 
-data_length : {A : Type 0} (spelled : A → List ℕ) (d : SignedParts A) → CanBeSpelled spelled d → length (d.slice ++ (spelled d.signature.algorithm ++ spelled_bits d.signature.value)) < 4294967296
-data_length spelled d h = omega (arith, length-bits d.signature.value, length-append d.slice (spelled d.signature.algorithm ++ spelled_bits d.signature.value), length-append (spelled d.signature.algorithm) (spelled_bits d.signature.value))
+data_bits : {A : Type 0} (spelled : A → List ℕ) (d : SignedParts A) → CanBeSpelled spelled d → length d.signature.value + 1 < 4294967296
+data_bits spelled d h =
+    omega (arith, bits_within d.signature.value, length-append d.slice (spelled d.signature.algorithm ++ spelled_bits d.signature.value), length-append (spelled d.signature.algorithm) (spelled_bits d.signature.value), h)
 
 pub written_data : {A : Type 0} (reads : Mode → List ℕ → Option A) (spelled : A → List ℕ) (mode : Mode) (d : SignedParts A) (signed named : Value) (rest : List ℕ) → CanBeSpelled spelled d → Begins mode d.slice signed [] → Begins mode (spelled d.signature.algorithm ++ []) named [] → reads mode (spelled d.signature.algorithm) ≡ Some d.signature.algorithm → (v : Value) × Begins mode (spelled_data spelled d ++ rest) v rest × (signed_data reads mode v ≡ Some d)
 written_data reads spelled mode d signed named rest h b n e =
     let m : Begins mode (spelled d.signature.algorithm) named [] = begins_alone mode (spelled d.signature.algorithm) named n in
-    let short : length d.signature.value + 1 < 4294967296 = omega arith in (
+    let short = data_bits spelled d h in (
       constructed_value sequence (signed ▸ named ▸ bits_value d.signature.value ▸ End),
-      begins_constructed mode sequence _ rest _ is_sequence (data_length spelled d h) (spells_followed mode _ _ _ _ (spells_alone mode d.slice signed b) (spells_followed mode _ _ _ _ (spells_alone mode (spelled d.signature.algorithm) named m) (bits_spell mode d.signature.value short))),
+      begins_constructed mode sequence _ rest _ is_sequence h (spells_followed mode _ _ _ _ (spells_alone mode d.slice signed b) (spells_followed mode _ _ _ _ (spells_alone mode (spelled d.signature.algorithm) named m) (bits_spell mode d.signature.value short))),
       data_reads reads mode d.slice (spelled d.signature.algorithm) d.signature.value d.signature.algorithm signed named (alone d.slice signed b.parts) (alone (spelled d.signature.algorithm) named m.parts) e,
     )

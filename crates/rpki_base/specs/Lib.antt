@@ -20,3 +20,5 @@ pub mod BgpsecSignatureAlgorithm
 pub mod WritingLaws
 pub mod AlgorithmLaws
 pub mod Extension
+pub mod Scheme
+pub mod Checks

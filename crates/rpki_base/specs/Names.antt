@@ -31,10 +31,6 @@ common_name = 85 ∷ 4 ∷ 3 ∷ []
 abbrev pub subject_key_identifier : List ℕ
 subject_key_identifier = 85 ∷ 29 ∷ 14 ∷ []
 
--- 2.5.29.15
-abbrev pub key_usage : List ℕ
-key_usage = 85 ∷ 29 ∷ 15 ∷ []
-
 -- 2.5.29.19
 abbrev pub basic_constraints : List ℕ
 basic_constraints = 85 ∷ 29 ∷ 19 ∷ []
@@ -46,7 +42,3 @@ crl_number = 85 ∷ 29 ∷ 20 ∷ []
 -- 2.5.29.35
 abbrev pub authority_key_identifier : List ℕ
 authority_key_identifier = 85 ∷ 29 ∷ 35 ∷ []
-
--- extKeyUsage, 2.5.29.37
-abbrev pub extended_key_usage : List ℕ
-extended_key_usage = 85 ∷ 29 ∷ 37 ∷ []

@@ -1,5 +1,5 @@
 -- Public keys: SubjectPublicKeyInfo (RFC 5280, 4.1.2.7; RFC 3279, 2.3.1; RFC 7935, 3; RFC 8208, 3.1).
-use Rattle.std.specs.Prelude.{ℕ, ◌+◌, ◌^◌, ◌<◌, bytes_eq, if◌then◌else◌, Option, None, Some, List, [], ◌++◌, length}
+use Rattle.std.specs.Prelude.{ℕ, ◌^◌, ◌<◌, bytes_eq, if◌then◌else◌, Option, None, Some, List, [], ◌++◌, length}
 use Rattle.rpki_common.specs.Chaining.{◌>>=◌}
 use Rattle.rpki_der.specs.Tags.{sequence, null_tag, oid_tag}
 use Rattle.rpki_der.specs.Value.{Value, Values}
@@ -55,9 +55,12 @@ abbrev pub spelled_algorithm : PublicKeyFormat → List ℕ
 spelled_algorithm Rsa = der_constructed sequence (der_primitive oid_tag rsa_encryption ++ der_primitive null_tag [])
 spelled_algorithm EcdsaP256 = der_constructed sequence (der_primitive oid_tag ec_public_key ++ der_primitive oid_tag prime256v1)
 
-abbrev pub spelled_key : KeyFields → List ℕ
-spelled_key key = der_constructed sequence (spelled_algorithm key.format ++ spelled_bits key.bits)
+abbrev pub spelled_parts : KeyFields → List ℕ
+spelled_parts key = spelled_algorithm key.format ++ spelled_bits key.bits
 
--- the key has a spelling, since its length octets can say how long it is
+abbrev pub spelled_key : KeyFields → List ℕ
+spelled_key key = der_constructed sequence (spelled_parts key)
+
+-- the key has a spelling: four length octets can say how long its parts are (X.690, 8.1.3)
 abbrev pub CanBeSpelled : KeyFields → Type 0
-CanBeSpelled key = length key.bits + 64 < 2 ^ 32
+CanBeSpelled key = length (spelled_parts key) < 2 ^ 32

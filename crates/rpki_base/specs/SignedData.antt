@@ -1,5 +1,5 @@
 -- Signed data: what was signed, as its exact octets, and the signature of it (RFC 5280, 4.1.1 and 5.1.1; RFC 2986, 4.2).
-use Rattle.std.specs.Prelude.{ℕ, ◌+◌, ◌^◌, ◌<◌, Option, List, ◌++◌, length}
+use Rattle.std.specs.Prelude.{ℕ, ◌^◌, ◌<◌, Option, List, ◌++◌, length}
 use Rattle.rpki_common.specs.Chaining.{◌>>=◌}
 use Rattle.rpki_der.specs.declared.mode.Mode.{Mode}
 use Rattle.rpki_der.specs.Tags.{sequence}
@@ -29,9 +29,12 @@ signed_data reads mode = within sequence (λ vs. do
 
 -- ---- as signed data are written, where spelled says how algorithms are
 
-abbrev pub spelled_data : {A : Type 0} → (A → List ℕ) → SignedParts A → List ℕ
-spelled_data spelled d = der_constructed sequence (d.slice ++ (spelled d.signature.algorithm ++ spelled_bits d.signature.value))
+abbrev pub spelled_parts : {A : Type 0} → (A → List ℕ) → SignedParts A → List ℕ
+spelled_parts spelled d = d.slice ++ (spelled d.signature.algorithm ++ spelled_bits d.signature.value)
 
--- the data have a spelling, since its length octets can say how long they are
+abbrev pub spelled_data : {A : Type 0} → (A → List ℕ) → SignedParts A → List ℕ
+spelled_data spelled d = der_constructed sequence (spelled_parts spelled d)
+
+-- the data have a spelling: four length octets can say how long their parts are (X.690, 8.1.3)
 abbrev pub CanBeSpelled : {A : Type 0} → (A → List ℕ) → SignedParts A → Type 0
-CanBeSpelled spelled d = length d.slice + length (spelled d.signature.algorithm) + length d.signature.value + 64 < 2 ^ 32
+CanBeSpelled spelled d = length (spelled_parts spelled d) < 2 ^ 32

@@ -1,6 +1,6 @@
 //! What holds of everything that is written: it is read again.
 
-ghost use Rattle.std.specs.Prelude.{◌≡◌, ℕ, List, ◌++◌, length, Some, ℤ};
+ghost use Rattle.std.specs.Prelude.{◌≡◌, ◌↔◌, true, ℕ, List, ◌++◌, length, Some, ℤ};
 ghost use Rattle.rpki_der.specs.declared.mode.Mode.{Mode};
 ghost use Rattle.rpki_der.specs.Value.{Begins};
 ghost use Rattle.rpki_base.specs.Civil.{IsMoment, civil_at};
@@ -8,6 +8,23 @@ ghost use Rattle.rpki_base.specs.Rfc3339.{rfc3339_time};
 ghost use Rattle.rpki_base.specs.Time.{time};
 ghost use Rattle.rpki_base.specs.TimeText.{time_value, der_time, rfc3339_text};
 ghost use Rattle.rpki_base.specs.Serial.{serial, serial_value, der_serial};
+ghost use Rattle.rpki_base.specs.Validity.{ValidityFields};
+ghost use Rattle.rpki_base.specs.PublicKey.{KeyFields};
+ghost use Rattle.rpki_base.specs.RpkiSignatureAlgorithm.{RpkiAlgorithm};
+ghost use Rattle.rpki_base.specs.declared.algorithm.PublicKeyFormat.{PublicKeyFormat};
+ghost use Rattle.rpki_base.specs.declared.algorithm.SigningAlgorithm.{SigningAlgorithm};
+ghost use Rattle.rpki_base.specs.declared.validation.ValidationError.{ValidationError};
+
+use crate::algorithm::{PublicKeyFormat, SigningAlgorithm};
+use crate::bgpsec_algorithm::BgpsecSignatureAlgorithm;
+use crate::key_identifier::KeyIdentifier;
+use crate::name::Name;
+use crate::public_key::PublicKey;
+use crate::rpki_algorithm::RpkiSignatureAlgorithm;
+use crate::serial::Serial;
+use crate::time::Time;
+use crate::validation::ValidationError;
+use crate::validity::Validity;
 
 /// What `Serial::encode` writes is read as the same serial number, in both modes.
 pub fn serial_is_read_again()
@@ -24,4 +41,34 @@ pub fn time_is_read_again()
 /// What `Time::to_rfc3339` prints is read by `Time::from_rfc3339` as the same time.
 pub fn printed_time_is_read_again()
     ensures { (seconds : ℤ) → IsMoment seconds → rfc3339_time (rfc3339_text (civil_at seconds)) ≡ Some seconds }
+{}
+
+/// `==` holds exactly between values that are the same.
+pub fn equal_values_are_the_same()
+    ensures time { (a b : ℤ) → (⟦<Time as PartialEq>⟧.eq a b ≡ true) ↔ (a ≡ b) }
+    ensures validity {
+        (a b : ValidityFields) → (⟦<Validity as PartialEq>⟧.eq a b ≡ true) ↔ (a ≡ b)
+    }
+    ensures serial { (a b : List ℕ) → (⟦<Serial as PartialEq>⟧.eq a b ≡ true) ↔ (a ≡ b) }
+    ensures identifier {
+        (a b : List ℕ) → (⟦<KeyIdentifier as PartialEq>⟧.eq a b ≡ true) ↔ (a ≡ b)
+    }
+    ensures name { (a b : List ℕ) → (⟦<Name as PartialEq>⟧.eq a b ≡ true) ↔ (a ≡ b) }
+    ensures format {
+        (a b : PublicKeyFormat) → (⟦<PublicKeyFormat as PartialEq>⟧.eq a b ≡ true) ↔ (a ≡ b)
+    }
+    ensures key { (a b : KeyFields) → (⟦<PublicKey as PartialEq>⟧.eq a b ≡ true) ↔ (a ≡ b) }
+    ensures kind {
+        (a b : SigningAlgorithm) → (⟦<SigningAlgorithm as PartialEq>⟧.eq a b ≡ true) ↔ (a ≡ b)
+    }
+    ensures rpki_algorithm {
+        (a b : RpkiAlgorithm) →
+        (⟦<RpkiSignatureAlgorithm as PartialEq>⟧.eq a b ≡ true) ↔ (a ≡ b)
+    }
+    ensures bgpsec_algorithm {
+        (a b : Unit {0}) → (⟦<BgpsecSignatureAlgorithm as PartialEq>⟧.eq a b ≡ true) ↔ (a ≡ b)
+    }
+    ensures error {
+        (a b : ValidationError) → (⟦<ValidationError as PartialEq>⟧.eq a b ≡ true) ↔ (a ≡ b)
+    }
 {}

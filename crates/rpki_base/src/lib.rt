@@ -3,6 +3,7 @@
 //! - [`Time`], [`Validity`], [`Serial`], [`KeyIdentifier`] and [`Name`] are the leaves of certificates and CRLs.
 //! - [`PublicKey`], [`Signature`] and [`SignedData`] are generic over the algorithms of [`SignatureAlgorithm`].
 //! - [`Scheme`] says which signatures hold; a [`Verifier`] answers exactly that.
+//! - [`require`] and [`ValidationError`] are what lists of checks are made of.
 #![tactic(auto)]
 
 mod algorithm;
@@ -26,18 +27,23 @@ mod signature;
 mod signed_data;
 mod text;
 mod time;
+mod validation;
 mod validity;
 
 pub use algorithm::{PublicKeyFormat, SigningAlgorithm};
 pub use bgpsec_algorithm::BgpsecSignatureAlgorithm;
+pub use bits::write_sequence;
 pub use errors::{SignatureVerificationError, ToyFault, VerificationError};
 pub use extension::{Extension, take_extension_counted};
 pub use key_identifier::KeyIdentifier;
-pub use law::{printed_time_is_read_again, serial_is_read_again, time_is_read_again};
+pub use law::{
+    equal_values_are_the_same, printed_time_is_read_again, serial_is_read_again,
+    time_is_read_again,
+};
 pub use name::{Name, made_name_is_read, read_name_is_read_again};
 pub use names::{
-    AUTHORITY_KEY_IDENTIFIER, BASIC_CONSTRAINTS, CRL_NUMBER, EXTENDED_KEY_USAGE, KEY_USAGE,
-    SUBJECT_KEY_IDENTIFIER,
+    AUTHORITY_KEY_IDENTIFIER, BASIC_CONSTRAINTS, CRL_NUMBER, SUBJECT_KEY_IDENTIFIER,
+    extensions_are_named,
 };
 pub use public_key::{PublicKey, written_key_is_taken};
 pub use rpki_algorithm::{RpkiSignatureAlgorithm, RsaIdentifier, written_algorithm_is_taken};
@@ -48,6 +54,7 @@ pub use signed_data::{
     SignedData, equal_data_are_the_same, take_algorithm, written_data_are_taken,
 };
 pub use time::Time;
+pub use validation::{ValidationError, ValidationKind, first_false_decides, require};
 pub use validity::Validity;
 
 #[cfg(test)]

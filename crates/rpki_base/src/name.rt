@@ -4,6 +4,7 @@ ghost use Rattle.std.specs.Prelude.{◌≡◌, ◌≢◌, ◌<◌, ℕ, List, []
 ghost use Rattle.hex.specs.Hex.{encode_upper};
 ghost use Rattle.sha1.specs.Sha1.{sha1};
 ghost use Rattle.rpki_der.specs.declared.mode.Mode.{Mode};
+ghost use Rattle.rpki_der.specs.declared.mode.Mode.TheVariants.{Ber, Der};
 ghost use Rattle.rpki_der.specs.Value.{Value, Begins};
 ghost use Rattle.rpki_der.specs.Grammar.{within};
 ghost use Rattle.rpki_der.specs.Tags.{sequence};
@@ -201,7 +202,15 @@ impl Name {
     }
 }
 
-/// What `encode_ref` writes of a name that was read is read again as that name, by the rules that it was read by.
+/// What `encode_ref` writes of a name that was read is read again as that name, by the rules that it was read by; and in BER, where
+/// it was read in DER.
 pub fn read_name_is_read_again()
-    ensures { (mode : Mode) (v : Value) (octets rest more : List ℕ) → Begins mode octets v rest → (n : List ℕ) → name v ≡ Some n → Begins mode (n ++ more) v more }
+    ensures again {
+        (mode : Mode) (v : Value) (octets rest more : List ℕ) → Begins mode octets v rest →
+        (n : List ℕ) → name v ≡ Some n → Begins mode (n ++ more) v more
+    }
+    ensures loosely {
+        (v : Value) (octets rest more : List ℕ) → Begins Der octets v rest →
+        (n : List ℕ) → name v ≡ Some n → Begins Ber (n ++ more) v more
+    }
 {}

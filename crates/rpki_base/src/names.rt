@@ -1,5 +1,8 @@
 //! The contents octets of the object identifiers of keys, signatures and extensions.
 
+ghost use Rattle.std.specs.Prelude.{◌≡◌};
+ghost use Rattle.rpki_base.specs.Names as spec;
+
 /// rsaEncryption, 1.2.840.113549.1.1.1.
 pub(crate) const RSA_ENCRYPTION: [u8; 9] = [42, 134, 72, 134, 247, 13, 1, 1, 1];
 
@@ -46,9 +49,6 @@ pub(crate) const EC_ALGORITHM: [u8; 21] = [
 /// subjectKeyIdentifier, 2.5.29.14 (RFC 5280, 4.2.1.2), as the contents octets of the object identifier.
 pub const SUBJECT_KEY_IDENTIFIER: [u8; 3] = [85, 29, 14];
 
-/// keyUsage, 2.5.29.15 (RFC 5280, 4.2.1.3), as the contents octets of the object identifier.
-pub const KEY_USAGE: [u8; 3] = [85, 29, 15];
-
 /// basicConstraints, 2.5.29.19 (RFC 5280, 4.2.1.9), as the contents octets of the object identifier.
 pub const BASIC_CONSTRAINTS: [u8; 3] = [85, 29, 19];
 
@@ -58,5 +58,10 @@ pub const CRL_NUMBER: [u8; 3] = [85, 29, 20];
 /// authorityKeyIdentifier, 2.5.29.35 (RFC 5280, 4.2.1.1), as the contents octets of the object identifier.
 pub const AUTHORITY_KEY_IDENTIFIER: [u8; 3] = [85, 29, 35];
 
-/// extKeyUsage, 2.5.29.37 (RFC 5280, 4.2.1.12), as the contents octets of the object identifier.
-pub const EXTENDED_KEY_USAGE: [u8; 3] = [85, 29, 37];
+/// The public constants are the object identifiers that they are named after.
+pub fn extensions_are_named()
+    ensures subject { SUBJECT_KEY_IDENTIFIER ≡ spec.subject_key_identifier }
+    ensures constraints { BASIC_CONSTRAINTS ≡ spec.basic_constraints }
+    ensures number { CRL_NUMBER ≡ spec.crl_number }
+    ensures authority { AUTHORITY_KEY_IDENTIFIER ≡ spec.authority_key_identifier }
+{}

@@ -146,15 +146,15 @@ impl PublicKey {
 /// # Encoding
 impl PublicKey {
     /// Appends the key in DER, an RSA key with NULL behind rsaEncryption, and with no unused bits. After a refusal nothing is
-    /// appended; a key of 2^30 octets or more is refused as want of memory.
-    pub fn encode_ref(&self, alloc: Global, out: &mut Writer) -> Result<(), OutOfMemory>
+    /// appended; a key that is longer than length octets can say is refused as want of memory.
+    pub fn encode_ref(&self, out: &mut Writer) -> Result<(), OutOfMemory>
         ensures ok { OnOk result (out.new ≡ out.old ++ spec.spelled_key self.now) }
         ensures spelled { OnOk result (spec.CanBeSpelled self.now) }
         ensures err { OnErr result (out.new ≡ out.old) }
     {
-        let mut inner = Writer::new(alloc);
+        let mut inner = out.inner();
         write_algorithm(self.format, &mut inner)?;
-        write_bits(alloc, self.bits.as_slice(), &mut inner)?;
+        write_bits(self.bits.as_slice(), &mut inner)?;
         write_sequence(&inner, out)
     }
 }
@@ -171,7 +171,11 @@ fn write_algorithm(format: PublicKeyFormat, out: &mut Writer) -> Result<(), OutO
 
 /// What `encode_ref` writes of a key is taken again as the same key, in both modes and whatever stands behind it.
 pub fn written_key_is_taken()
-    ensures { (mode : Mode) (key : spec.KeyFields) (rest : List ℕ) → spec.CanBeSpelled key → (v : Value) × Begins mode (spec.spelled_key key ++ rest) v rest × (spec.public_key v ≡ Some key) }
+    ensures {
+        (mode : Mode) (key : spec.KeyFields) (rest : List ℕ) →
+        spec.CanBeSpelled key →
+        (v : Value) × Begins mode (spec.spelled_key key ++ rest) v rest × (spec.public_key v ≡ Some key)
+    }
 {}
 
 fn take_from_within<L: Ledger>(

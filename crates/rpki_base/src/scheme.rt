@@ -11,9 +11,10 @@ pub trait Scheme {
     ghost use Rattle.rpki_base.specs.declared.algorithm.SigningAlgorithm.{SigningAlgorithm};
     ghost use Rattle.rpki_base.specs.Algorithm.{format_of};
     ghost use Rattle.rpki_base.specs.PublicKey.{KeyFields};
+    ghost use Rattle.rpki_base.specs.Scheme.{Relation};
 
     /// Under the key, the signature of this kind is one of the message: kind, key, message, signature.
-    ghost checks: { SigningAlgorithm → KeyFields → List ℕ → List ℕ → Type 0 };
+    ghost checks: { Relation };
 
     /// A signature holds only under a key of its kind's format.
     ghost fits: { (kind : SigningAlgorithm) (key : KeyFields) (message signature : List ℕ) → checks kind key message signature → key.format ≡ format_of kind };

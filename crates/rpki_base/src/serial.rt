@@ -119,7 +119,8 @@ fn contents(octets: &[u8; 20]) -> ([u8; 21], usize)
 impl Serial {
     /// Its twenty octets, the most significant first.
     pub fn as_slice(&self) -> &[u8]
-        ensures { result.now ≡ self.now }
+        ensures value { result.now ≡ self.now }
+        ensures twenty { length result.now ≡ 20 }
     {
         &self.octets
     }

@@ -124,16 +124,17 @@ pub fn equal_data_are_the_same<Alg: SignatureAlgorithm>()
 /// # Encoding
 impl<Alg: SignatureAlgorithm> SignedData<Alg> {
     /// Appends the signed data: the octets that were signed as they are, the algorithm, and the signature with no unused bits,
-    /// in a SEQUENCE in DER. After a refusal nothing is appended; data of 2^30 octets or more are refused as want of memory.
-    pub fn encode_ref(&self, alloc: Global, out: &mut Writer) -> Result<(), OutOfMemory>
+    /// in a SEQUENCE in DER. After a refusal nothing is appended; data that are longer than length octets can say are refused as
+    /// want of memory.
+    pub fn encode_ref(&self, out: &mut Writer) -> Result<(), OutOfMemory>
         ensures ok { OnOk result (out.new ≡ out.old ++ spelled_data Alg.spelled self.now) }
         ensures spelled { OnOk result (CanBeSpelled Alg.spelled self.now) }
         ensures err { OnErr result (out.new ≡ out.old) }
     {
-        let mut inner = Writer::new(alloc);
+        let mut inner = out.inner();
         inner.raw(self.slice.as_slice())?;
         self.signature.algorithm().x509_encode(&mut inner)?;
-        write_bits(alloc, self.signature.value().as_slice(), &mut inner)?;
+        write_bits(self.signature.value().as_slice(), &mut inner)?;
         write_sequence(&inner, out)
     }
 }
@@ -141,7 +142,13 @@ impl<Alg: SignatureAlgorithm> SignedData<Alg> {
 /// What `encode_ref` writes is taken again as the same signed data, in each mode in which the signed octets are one value, where
 /// the algorithm is a named one.
 pub fn written_data_are_taken<Alg: SignatureAlgorithm>()
-    ensures { (mode : Mode) (d : SignedParts Alg) (signed : Value) (rest : List ℕ) → CanBeSpelled Alg.spelled d → Begins mode d.slice signed [] → Alg.is_named d.signature.algorithm → (v : Value) × Begins mode (spelled_data Alg.spelled d ++ rest) v rest × (signed_data Alg.reads mode v ≡ Some d) }
+    ensures {
+        (mode : Mode) (d : SignedParts Alg) (signed : Value) (rest : List ℕ) →
+        CanBeSpelled Alg.spelled d → Begins mode d.slice signed [] →
+        Alg.is_named d.signature.algorithm →
+        (v : Value) × Begins mode (spelled_data Alg.spelled d ++ rest) v rest ×
+        (signed_data Alg.reads mode v ≡ Some d)
+    }
 {}
 
 /// # Validation

@@ -6,7 +6,7 @@ use Rattle.rpki_common.specs.Causes.{Rose}
 use Rattle.rpki_base.specs.PublicKey.{KeyFields}
 use Rattle.rpki_der.specs.declared.mode.Mode.TheVariants.{Ber}
 use Rattle.rpki_der.specs.Reader.{decoded}
-use Rattle.rpki_idcert.specs.declared.validation.ValidationError.{ValidationError}
+use Rattle.rpki_base.specs.declared.validation.ValidationError.{ValidationError}
 use Rattle.rpki_sigmsg.specs.Message.{MessageFields, signed_message}
 use Rattle.rpki_text.specs.Sink.{AppendsPart}
 use Rattle.rpki_ca.specs.declared.command.Command.{Command}

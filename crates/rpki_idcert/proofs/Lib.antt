@@ -1,4 +1,3 @@
 pub mod Fields
 pub mod Gathering
 pub mod Sizes
-pub mod Checking

@@ -1,34 +1,15 @@
--- Checks in their order, and the first that fails; those of identity certificates (RFC 5280, 6.1.3; RFC 6492, 3.1.2; RFC 8183, 5).
-use Rattle.std.specs.Prelude.{◌≡◌, ◌↔◌, ℕ, ◌+◌, All, length, ℤ, int_le, Bool, true, false, ◌&&◌, ◌||◌, ◌==◌, nat_le, if◌then◌else◌, not, is_some, bytes_eq, Decides, Option, None, Some, Result, Ok, Err, List, [], ◌∷◌, ◌++◌}
+-- The checks of identity certificates in their order (RFC 5280, 6.1.3; RFC 6492, 3.1.2; RFC 8183, 5).
+use Rattle.std.specs.Prelude.{◌≡◌, ℕ, ℤ, int_le, Bool, true, false, ◌&&◌, ◌||◌, ◌==◌, nat_le, if◌then◌else◌, not, is_some, bytes_eq, Option, None, Some, Ok, List, [], ◌∷◌}
 use Rattle.sha1.specs.Sha1.{sha1}
 use Rattle.rpki_base.specs.PublicKey.{KeyFields}
-use Rattle.rpki_base.specs.declared.algorithm.SigningAlgorithm.{SigningAlgorithm}
+use Rattle.rpki_base.specs.Scheme.{Relation}
 use Rattle.rpki_base.specs.declared.algorithm.SigningAlgorithm.TheVariants.{RsaSha256}
 use Rattle.rpki_base.specs.Validity.{ValidityFields}
+use Rattle.rpki_base.specs.Checks.{first_failure}
 use Rattle.rpki_idcert.specs.TbsIdCert.{TbsFields}
 use Rattle.rpki_idcert.specs.IdCert.{CertificateFields}
-use Rattle.rpki_idcert.specs.declared.validation.ValidationKind.{ValidationKind}
-use Rattle.rpki_idcert.specs.declared.validation.ValidationKind.TheVariants.{Inspection, Verification}
-use Rattle.rpki_idcert.specs.declared.validation.ValidationError.{ValidationError}
-
--- the first false value, if any is, by its number; the first of the list has number n
-abbrev pub first_failure : ℕ → List Bool → Result (Unit {0}) ℕ
-first_failure n [] = Ok tt
-first_failure n (true ∷ more) = first_failure (n + 1) more
-first_failure n (false ∷ more) = Err n
-
--- all values before this place are true, and it holds false
-pub record FirstFalse (n k : ℕ) (list : List Bool) : Type 0 where
-  pub before : List Bool
-  pub after : List Bool
-  pub parts : list ≡ before ++ false ∷ after
-  pub holds : All (λ b. b ≡ true) before
-  pub place : k ≡ n + length before
-
--- the answer to a failing check is its number and its kind
-abbrev pub failing : (ℕ → ValidationKind) → Result (Unit {0}) ℕ → Result (Unit {0}) ValidationError
-failing kind (Ok u) = Ok u
-failing kind (Err n) = Err (record { kind = kind n; check = n })
+use Rattle.rpki_base.specs.declared.validation.ValidationKind.{ValidationKind}
+use Rattle.rpki_base.specs.declared.validation.ValidationKind.TheVariants.{Inspection, Verification}
 
 -- ---- what is asked of a certificate
 
@@ -58,7 +39,7 @@ abbrev pub names_itself : TbsFields → Bool
 names_itself c = is_itself c.authority_key_id c.subject_key_id
 
 -- the question to the scheme: whether the certificate's signature holds under a key
-abbrev pub IsSigned : (SigningAlgorithm → KeyFields → List ℕ → List ℕ → Type 0) → CertificateFields → KeyFields → Type 0
+abbrev pub IsSigned : Relation → CertificateFields → KeyFields → Type 0
 IsSigned scheme c key = scheme RsaSha256 key c.signed.slice c.signed.signature.value
 
 -- ---- an end entity's certificate, under the issuer's key; q: it is signed under that
@@ -71,6 +52,11 @@ ee_checks c issuer when q =
     ∷ not (is_true c.tbs.basic_ca)
     ∷ q
     ∷ []
+
+-- the certificate is signed under the issuer's key, and with that all five checks hold
+pub record IsEeBelieved (scheme : Relation) (c : CertificateFields) (issuer : KeyFields) (when : ℤ) : Type 0 where
+  pub signed : IsSigned scheme c issuer
+  pub passes : first_failure 1 (ee_checks c issuer when true) ≡ Ok tt
 
 -- the first is an inspection
 abbrev pub ee_kind : ℕ → ValidationKind
@@ -86,6 +72,11 @@ ta_checks c when q =
     ∷ is_within c.tbs.validity when
     ∷ (not (names_itself c.tbs) || q)
     ∷ []
+
+-- where the certificate names itself as its issuer, it is signed under its own key, and with that all five checks hold
+pub record IsTaBelieved (scheme : Relation) (c : CertificateFields) (when : ℤ) : Type 0 where
+  pub signed : names_itself c.tbs ≡ true → IsSigned scheme c c.tbs.key
+  pub passes : first_failure 1 (ta_checks c when true) ≡ Ok tt
 
 -- the first three are inspections
 abbrev pub ta_kind : ℕ → ValidationKind

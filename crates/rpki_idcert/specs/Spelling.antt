@@ -1,10 +1,10 @@
 -- How the fields of an identity certificate are written in DER (RFC 5280, 4.1.2; X.690, 10 and 11).
-use Rattle.std.specs.Prelude.{ℕ, ◌+◌, ◌^◌, ◌<◌, Bool, true, false, Option, None, Some, List, [], ◌∷◌, ◌++◌, length}
+use Rattle.std.specs.Prelude.{ℕ, ◌^◌, ◌<◌, Bool, true, false, Option, None, Some, List, [], ◌∷◌, ◌++◌, length}
 use Rattle.rpki_der.specs.Tags.{sequence, context, oid_tag, boolean_tag, integer_tag, octet_string_tag}
 use Rattle.rpki_der.specs.Writing.{der_primitive, der_constructed}
 use Rattle.rpki_base.specs.Names as names
 use Rattle.rpki_base.specs.PublicKey.{spelled_key}
-use Rattle.rpki_base.specs.RpkiSignatureAlgorithm.{spelled_x509}
+use Rattle.rpki_base.specs.AlgorithmIdentifier.{spelled_identifier}
 use Rattle.rpki_base.specs.Serial.{der_serial}
 use Rattle.rpki_base.specs.TimeText.{der_time}
 use Rattle.rpki_base.specs.Validity.{ValidityFields}
@@ -42,18 +42,25 @@ spelled_validity v = der_constructed sequence (der_time v.not_before ++ der_time
 abbrev pub spelled_version : List ℕ
 spelled_version = der_constructed (context 0) (der_primitive integer_tag (2 ∷ []))
 
--- the fields in their order; the names as they are held
+-- sha256WithRSAEncryption with NULL
+abbrev pub spelled_algorithm : List ℕ
+spelled_algorithm = spelled_identifier names.sha256_with_rsa true
+
+-- the fields in their order; the algorithm with NULL, and the names as they are held
 abbrev pub spelled_fields : TbsFields → List ℕ
 spelled_fields t =
-    spelled_version ++ (der_serial t.serial ++ (spelled_x509 t.algorithm ++ (t.issuer ++ (spelled_validity t.validity ++ (t.subject ++ (spelled_key t.key ++ der_constructed (context 3) (der_constructed sequence (spelled_extensions t))))))))
+    spelled_version
+    ++ (der_serial t.serial
+    ++ (spelled_algorithm
+    ++ (t.issuer
+    ++ (spelled_validity t.validity
+    ++ (t.subject
+    ++ (spelled_key t.key
+    ++ der_constructed (context 3) (der_constructed sequence (spelled_extensions t))))))))
 
 abbrev pub spelled_tbs : TbsFields → List ℕ
 spelled_tbs t = der_constructed sequence (spelled_fields t)
 
-abbrev pub size_of : Option (List ℕ) → ℕ
-size_of None = 0
-size_of (Some octets) = length octets
-
--- the fields have a spelling, since length octets can say how long they are
+-- the fields have a spelling: four length octets can say how long they are (X.690, 8.1.3)
 abbrev pub CanBeSpelled : TbsFields → Type 0
-CanBeSpelled t = length t.serial + length t.issuer + length t.subject + length t.key.bits + length t.subject_key_id + size_of t.authority_key_id + 1024 < 2 ^ 32
+CanBeSpelled t = length (spelled_fields t) < 2 ^ 32

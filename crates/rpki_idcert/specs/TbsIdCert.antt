@@ -19,7 +19,6 @@ use Rattle.rpki_idcert.specs.Extensions.{extension_list}
 -- are the key identifiers of the subject and of the issuer.
 pub record TbsFields : Type 0 where
   pub serial : List ℕ
-  pub algorithm : RpkiAlgorithm
   pub issuer : List ℕ
   pub validity : ValidityFields
   pub subject : List ℕ
@@ -36,7 +35,7 @@ version = wrapped (context 0) (integer_is 2)
 abbrev pub algorithm : Mode → Value → Option RpkiAlgorithm
 algorithm mode = algorithm_in (whole_of x509_algorithm) mode
 
--- Extensions have to be there, since the subject's key identifier stands in them.
+-- The algorithm is read, and is no field: it is always that one. Extensions have to be there, since the subject's key identifier stands in them.
 unfoldable pub tbs_certificate : Mode → Value → Option TbsFields
 tbs_certificate mode = within sequence (λ vs. do
   version ← first version vs
@@ -49,7 +48,6 @@ tbs_certificate mode = within sequence (λ vs. do
   known ← first (wrapped (context 3) (extension_list mode)) key.1
   done (record {
     serial = serial.0;
-    algorithm = algorithm.0;
     issuer = issuer.0;
     validity = validity.0;
     subject = subject.0;

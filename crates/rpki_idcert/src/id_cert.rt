@@ -5,7 +5,7 @@ ghost use Rattle.rpki_der.specs.declared.mode.Mode.TheVariants.{Der};
 ghost use Rattle.rpki_der.specs.Takes.{Takes, Decodes};
 ghost use Rattle.rpki_der.specs.Ticks.{TakesCounted};
 ghost use Rattle.rpki_der.specs.Whole.{HoldsOne};
-ghost use Rattle.rpki_base.specs.SignedData.{spelled_data};
+ghost use Rattle.rpki_base.specs.SignedData.{spelled_data, CanBeSpelled};
 ghost use Rattle.rpki_base.specs.RpkiSignatureAlgorithm.{spelled_x509};
 ghost use Rattle.rpki_idcert.specs.IdCert.{identity_certificate};
 
@@ -23,10 +23,13 @@ use std::sync::ledger::{Blank, Ledger};
 
 /// An identity certificate: the exact octets that are signed with their signature, and what they say (RFC 5280, 4.1).
 ///
-/// In a clause it is these two.
-#[derive(Drop, PartialEq)]
+/// In a clause it is these two. `==` compares the signed data alone: the octets that are signed, the algorithm and the octets of the
+/// signature.
+#[derive(Drop)]
+#[derive_where(PartialEq)]
 pub struct IdCert {
     signed: SignedData<RpkiSignatureAlgorithm>,
+    #[derive_where(skip)]
     tbs: TbsIdCert,
 }
 
@@ -136,12 +139,13 @@ impl IdCert {
 /// # Encoding
 impl IdCert {
     /// Appends the certificate in DER, with the octets that are signed as they are. After a refusal nothing is appended; a
-    /// certificate of 2^30 octets or more is refused as want of memory.
-    pub fn encode_ref(&self, alloc: Global, out: &mut Writer) -> Result<(), OutOfMemory>
+    /// certificate that is longer than length octets can say is refused as want of memory.
+    pub fn encode_ref(&self, out: &mut Writer) -> Result<(), OutOfMemory>
         ensures ok { OnOk result (out.new ≡ out.old ++ spelled_data spelled_x509 self.now.signed) }
+        ensures spelled { OnOk result (CanBeSpelled spelled_x509 self.now.signed) }
         ensures err { OnErr result (out.new ≡ out.old) }
     {
-        self.signed.encode_ref(alloc, out)
+        self.signed.encode_ref(out)
     }
 
     /// What `encode_ref` appends, by itself.
@@ -149,7 +153,7 @@ impl IdCert {
         ensures { IfOk result (λ c. c ≡ spelled_data spelled_x509 self.now.signed) }
     {
         let mut out = Writer::new(alloc);
-        self.encode_ref(alloc, &mut out)?;
+        self.encode_ref(&mut out)?;
         out.into_captured()
     }
 
@@ -174,7 +178,10 @@ impl IdCert {
 impl IdCert {
     /// Refused exactly where the moment is before the first second of the validity or after the last.
     pub fn verify_validity(&self, when: Time) -> Result<(), VerificationError>
-        ensures { IsOk result ↔ ((self.now.tbs.validity.not_before ≤ℤ when) × (when ≤ℤ self.now.tbs.validity.not_after)) }
+        ensures {
+            IsOk result ↔
+            ((self.now.tbs.validity.not_before ≤ℤ when) × (when ≤ℤ self.now.tbs.validity.not_after))
+        }
     {
         self.tbs.validity().verify_at(when)
     }

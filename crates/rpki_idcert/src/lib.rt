@@ -13,8 +13,9 @@ mod tbs;
 mod validation;
 
 pub use id_cert::IdCert;
-pub use tbs::TbsIdCert;
-pub use validation::{ValidationError, ValidationKind, first_false_decides, names_issuer, require};
+pub use tbs::{TbsIdCert, equal_certificates_are_the_same};
+pub use rpki_base::{ValidationError, ValidationKind, first_false_decides, require};
+pub use validation::names_issuer;
 
 #[cfg(test)]
 mod tests;

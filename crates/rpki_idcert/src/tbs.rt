@@ -1,12 +1,14 @@
 //! What is signed of an identity certificate.
 
-ghost use Rattle.std.specs.Prelude.{◌≡◌, ◌<◌, IfOk};
+ghost use Rattle.std.specs.Prelude.{◌≡◌, ◌↔◌, ◌<◌, true, IfOk};
 ghost use Rattle.rpki_der.specs.Takes.{Takes};
 ghost use Rattle.rpki_der.specs.Held.{with_octets};
 ghost use Rattle.rpki_der.specs.Ticks.{TakesCounted};
-ghost use Rattle.rpki_idcert.specs.TbsIdCert.{version, tbs_certificate};
+ghost use Rattle.rpki_idcert.specs.IdCert.{CertificateFields};
+ghost use Rattle.rpki_idcert.specs.TbsIdCert.{TbsFields, version, tbs_certificate};
 
 use crate::extensions::take_extensions;
+use crate::id_cert::IdCert;
 use rpki_base::{
     KeyIdentifier, Name, PublicKey, RpkiSignatureAlgorithm, Serial, Validity, take_algorithm,
 };
@@ -15,13 +17,13 @@ use std::alloc::Global;
 use std::marker::{Brand, Model};
 use std::sync::ledger::{Blank, Ledger};
 
-/// What is signed of an identity certificate (RFC 5280, 4.1.2).
+/// What is signed of an identity certificate (RFC 5280, 4.1.2). The algorithm that is named in it is read and not kept, since it
+/// is always that of the RPKI.
 ///
 /// In a clause it is the record of its fields.
 #[derive(Drop, PartialEq, Eq)]
 pub struct TbsIdCert {
     serial: Serial,
-    algorithm: RpkiSignatureAlgorithm,
     issuer: Name,
     validity: Validity,
     subject: Name,
@@ -36,10 +38,43 @@ impl Model for TbsIdCert {
 
     ghost Value = { TbsFields };
 
-    ghost view = { λ t. record { serial = t.serial; algorithm = t.algorithm; issuer = t.issuer; validity = t.validity; subject = t.subject; key = t.key; basic_ca = t.basic_ca; subject_key_id = t.subject_key_id; authority_key_id = t.authority_key_id } };
+    ghost view = {
+        λ t. record {
+            serial = t.serial;
+            issuer = t.issuer;
+            validity = t.validity;
+            subject = t.subject;
+            key = t.key;
+            basic_ca = t.basic_ca;
+            subject_key_id = t.subject_key_id;
+            authority_key_id = t.authority_key_id
+        }
+    };
 
-    ghost inverse = { λ t. record { serial = t.serial; algorithm = t.algorithm; issuer = t.issuer; validity = t.validity; subject = t.subject; key = t.key; basic_ca = t.basic_ca; subject_key_id = t.subject_key_id; authority_key_id = t.authority_key_id } };
+    ghost inverse = {
+        λ t. record {
+            serial = t.serial;
+            issuer = t.issuer;
+            validity = t.validity;
+            subject = t.subject;
+            key = t.key;
+            basic_ca = t.basic_ca;
+            subject_key_id = t.subject_key_id;
+            authority_key_id = t.authority_key_id
+        }
+    };
 }
+
+/// `==` holds exactly between fields that are the same, and between certificates whose signed data are.
+pub fn equal_certificates_are_the_same()
+    ensures fields {
+        (a b : TbsFields) → (⟦<TbsIdCert as PartialEq>⟧.eq a b ≡ true) ↔ (a ≡ b)
+    }
+    ensures certificates {
+        (a b : CertificateFields) →
+        (⟦<IdCert as PartialEq>⟧.eq a b ≡ true) ↔ (a.signed ≡ b.signed)
+    }
+{}
 
 /// # Data access
 impl TbsIdCert {
@@ -48,13 +83,6 @@ impl TbsIdCert {
         ensures { result ≡ self.now.serial }
     {
         self.serial
-    }
-
-    /// The algorithm that the certificate names inside what is signed.
-    pub fn algorithm(&self) -> RpkiSignatureAlgorithm
-        ensures { result ≡ self.now.algorithm }
-    {
-        self.algorithm
     }
 
     /// The name of the issuer.
@@ -131,7 +159,6 @@ impl TbsIdCert {
         let key = self.key.clone(alloc)?;
         Ok(TbsIdCert {
             serial: self.serial,
-            algorithm: self.algorithm,
             issuer,
             validity: self.validity,
             subject,
@@ -166,7 +193,7 @@ impl TbsIdCert {
         cursor.enter_counted(Tag::SEQUENCE, steps)?;
         take_version(cursor, steps)?;
         let serial = Serial::take_from_counted(cursor, steps)?;
-        let algorithm = take_algorithm::<RpkiSignatureAlgorithm, L>(cursor, steps)?;
+        take_algorithm::<RpkiSignatureAlgorithm, L>(cursor, steps)?;
         let issuer = Name::take_from_counted(alloc, cursor, steps)?;
         let validity = Validity::take_from_counted(cursor, steps)?;
         let subject = Name::take_from_counted(alloc, cursor, steps)?;
@@ -176,7 +203,6 @@ impl TbsIdCert {
         let (subject_key_id, basic_ca, authority_key_id) = known.parts();
         Ok(TbsIdCert {
             serial,
-            algorithm,
             issuer,
             validity,
             subject,

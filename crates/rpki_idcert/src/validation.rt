@@ -1,47 +1,14 @@
 //! Whether an identity certificate may be believed.
 
-ghost use Rattle.std.specs.Prelude.{◌≡◌, ◌≤◌, ◌∷◌, ◌++◌, [], ℕ, List, Bool, true, not, ◌||◌, All, Decides, Ok, Err, OnOk, Some, codes};
-ghost use Rattle.std.specs.Fmt.{decimal};
-ghost use Rattle.sha1.specs.Sha1.{sha1};
+ghost use Rattle.std.specs.Prelude.{◌≡◌, ◌↔◌, ◌≤◌, Bool, true, not, ◌||◌, Decides, Ok, OnOk};
+ghost use Rattle.rpki_base.specs.Checks.{first_failure, failing};
 ghost use Rattle.rpki_idcert.specs.Checks as spec;
 
 use crate::id_cert::IdCert;
 use crate::tbs::TbsIdCert;
-use rpki_base::{KeyIdentifier, PublicKey, Scheme, Time, Verifier};
-use std::fmt;
-
-/// What a check looks at.
-#[derive(Clone, Copy, Debug, PartialEq, Eq)]
-pub enum ValidationKind {
-    /// What a certificate says of itself.
-    Inspection,
-    /// What it says of a key or a moment.
-    Verification,
-}
-
-/// The first check of a call's list that fails, by its number from 1, and its kind. It prints as `check n failed`.
-#[derive(Clone, Copy, Debug, PartialEq, Eq)]
-pub struct ValidationError {
-    /// What the check looks at.
-    pub kind: ValidationKind,
-    /// Its number.
-    pub check: u8,
-}
-
-impl fmt::Display for ValidationError {
-    ghost output = { λ e. Some (codes "check " ++ (decimal e.check ++ codes " failed")) };
-
-    fn fmt<W: fmt::Write>(&self, f: &mut fmt::Formatter<W>) -> fmt::Result {
-        write!(f, "check {} failed", self.check)
-    }
-}
-
-/// One check of a list: Ok where it holds, else Err with its number in the list.
-pub fn require(number: u8, holds: bool) -> Result<(), u8>
-    ensures { result ≡ spec.first_failure number (holds ∷ []) }
-{
-    if holds { Ok(()) } else { Err(number) }
-}
+use rpki_base::{
+    KeyIdentifier, PublicKey, Scheme, Time, ValidationError, ValidationKind, Verifier, require,
+};
 
 /// Whether an authority key identifier, if it is there, is that of the issuer's key, the SHA-1 of the key's bits (RFC 5280, 4.2.1.1).
 pub fn names_issuer(identifier: Option<KeyIdentifier>, issuer_key: &PublicKey) -> bool
@@ -130,7 +97,10 @@ impl IdCert {
         first: u8,
     ) -> Result<(), u8>
         requires { first ≤ 200 }
-        ensures first_failing { (q : Bool) → Decides q (spec.IsSigned P.checks self.now issuer_key.now) → result ≡ spec.first_failure first (spec.ee_checks self.now issuer_key.now when q) }
+        ensures first_failing {
+            (q : Bool) → Decides q (spec.IsSigned P.checks self.now issuer_key.now) →
+            result ≡ first_failure first (spec.ee_checks self.now issuer_key.now when q)
+        }
         ensures signed { OnOk result (spec.IsSigned P.checks self.now issuer_key.now) }
     {
         require(first, self.tbs().has_own_identifier())?;
@@ -150,8 +120,17 @@ impl IdCert {
         issuer_key: &PublicKey,
         when: Time,
     ) -> Result<(), ValidationError>
-        ensures first_failing { (q : Bool) → Decides q (spec.IsSigned P.checks self.now issuer_key.now) → result ≡ spec.failing spec.ee_kind (spec.first_failure 1 (spec.ee_checks self.now issuer_key.now when q)) }
-        ensures signed { OnOk result (spec.IsSigned P.checks self.now issuer_key.now) }
+        // Ok exactly where the signature and all the other checks hold.
+        ensures believed {
+            (result ≡ Ok tt) ↔ spec.IsEeBelieved P.checks self.now issuer_key.now when
+        }
+
+        // The first check that fails decides, whatever the scheme answers.
+        ensures first_failing {
+            (q : Bool) → Decides q (spec.IsSigned P.checks self.now issuer_key.now) →
+            result ≡ failing spec.ee_kind
+            (first_failure 1 (spec.ee_checks self.now issuer_key.now when q))
+        }
     {
         match self.ee_failure(verifier, issuer_key, when, 1) {
             Ok(()) => Ok(()),
@@ -164,8 +143,14 @@ impl IdCert {
 
     // Whether the signature holds under its own key, where the certificate names itself as its issuer.
     fn is_own<P: Scheme, V: Verifier<P>>(&self, verifier: &V) -> bool
-        ensures answer { (q : Bool) → Decides q (spec.IsSigned P.checks self.now self.now.tbs.key) → result ≡ (not (spec.names_itself self.now.tbs) || q) }
-        ensures signed { result ≡ true → spec.names_itself self.now.tbs ≡ true → spec.IsSigned P.checks self.now self.now.tbs.key }
+        ensures answer {
+            (q : Bool) → Decides q (spec.IsSigned P.checks self.now self.now.tbs.key) →
+            result ≡ (not (spec.names_itself self.now.tbs) || q)
+        }
+        ensures signed {
+            result ≡ true → spec.names_itself self.now.tbs ≡ true →
+            spec.IsSigned P.checks self.now self.now.tbs.key
+        }
     {
         if self.tbs().names_itself() {
             self.is_signed(verifier, self.tbs().public_key())
@@ -175,8 +160,14 @@ impl IdCert {
     }
 
     fn ta_failure<P: Scheme, V: Verifier<P>>(&self, verifier: &V, when: Time) -> Result<(), u8>
-        ensures first_failing { (q : Bool) → Decides q (spec.IsSigned P.checks self.now self.now.tbs.key) → result ≡ spec.first_failure 1 (spec.ta_checks self.now when q) }
-        ensures signed { OnOk result (spec.names_itself self.now.tbs ≡ true → spec.IsSigned P.checks self.now self.now.tbs.key) }
+        ensures first_failing {
+            (q : Bool) → Decides q (spec.IsSigned P.checks self.now self.now.tbs.key) →
+            result ≡ first_failure 1 (spec.ta_checks self.now when q)
+        }
+        ensures signed {
+            OnOk result
+            (spec.names_itself self.now.tbs ≡ true → spec.IsSigned P.checks self.now self.now.tbs.key)
+        }
     {
         require(1, self.tbs().has_own_identifier())?;
         require(2, self.tbs().basic_ca().is_some())?;
@@ -194,8 +185,14 @@ impl IdCert {
         verifier: &V,
         when: Time,
     ) -> Result<(), ValidationError>
-        ensures first_failing { (q : Bool) → Decides q (spec.IsSigned P.checks self.now self.now.tbs.key) → result ≡ spec.failing spec.ta_kind (spec.first_failure 1 (spec.ta_checks self.now when q)) }
-        ensures signed { OnOk result (spec.names_itself self.now.tbs ≡ true → spec.IsSigned P.checks self.now self.now.tbs.key) }
+        // Ok exactly where the signature, if it is asked, and all the other checks hold.
+        ensures believed { (result ≡ Ok tt) ↔ spec.IsTaBelieved P.checks self.now when }
+
+        // The first check that fails decides, whatever the scheme answers.
+        ensures first_failing {
+            (q : Bool) → Decides q (spec.IsSigned P.checks self.now self.now.tbs.key) →
+            result ≡ failing spec.ta_kind (first_failure 1 (spec.ta_checks self.now when q))
+        }
     {
         match self.ta_failure(verifier, when) {
             Ok(()) => Ok(()),
@@ -206,10 +203,3 @@ impl IdCert {
         }
     }
 }
-
-/// A list of checks passes exactly where all its values are true, and fails at the first false one.
-pub fn first_false_decides()
-    ensures passes { (n : ℕ) (list : List Bool) → All (λ b. b ≡ true) list → spec.first_failure n list ≡ Ok tt }
-    ensures fails { (n k : ℕ) (list : List Bool) → spec.first_failure n list ≡ Err k → spec.FirstFalse n k list }
-    ensures first { (n k : ℕ) (list : List Bool) → spec.FirstFalse n k list → spec.first_failure n list ≡ Err k }
-{}

@@ -4,7 +4,7 @@ use Rattle.std.specs.Prelude.{ℤ, Result, ◌↔◌}
 use Rattle.rpki_base.specs.PublicKey.{KeyFields}
 use Rattle.rpki_base.specs.declared.algorithm.SigningAlgorithm.{SigningAlgorithm}
 use Rattle.rpki_idcert.specs.Checks.{first_failure, failing}
-use Rattle.rpki_idcert.specs.declared.validation.ValidationError.{ValidationError}
+use Rattle.rpki_base.specs.declared.validation.ValidationError.{ValidationError}
 use Rattle.rpki_sigmsg.specs.Checks.{Asked, IsBelieved, checks, kind_of}
 use Rattle.rpki_sigmsg.specs.Message.{MessageFields}
 use Rattle.rpki_publication.specs.declared.error.Error.{Error}

@@ -1,6 +1,6 @@
 -- What is answered where octets are not read as a message.
 use Rattle.std.specs.Prelude.{◌≡◌, ℕ, List, Result, Ok, Err}
-use Rattle.rpki_idcert.specs.declared.validation.ValidationError.{ValidationError}
+use Rattle.rpki_base.specs.declared.validation.ValidationError.{ValidationError}
 use Rattle.rpki_publication.specs.declared.error.Error.{Error}
 use Rattle.rpki_publication.specs.declared.error.Error.TheVariants as errors
 use Rattle.rpki_publication.specs.declared.message.Message.{Message}

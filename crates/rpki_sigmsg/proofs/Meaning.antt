@@ -11,8 +11,8 @@ use Rattle.sha2.specs.Sha256.{sha256}
 use Rattle.rpki_base.specs.PublicKey.{KeyFields}
 use Rattle.rpki_base.specs.declared.algorithm.SigningAlgorithm.{SigningAlgorithm}
 use Rattle.rpki_idcert.specs.Checks.{first_failure, failing, has_own_identifier, names_issuer, is_true}
-use Rattle.rpki_idcert.specs.declared.validation.ValidationError.{ValidationError}
-use Rattle.rpki_idcert.proofs.Checking.{passes}
+use Rattle.rpki_base.specs.declared.validation.ValidationError.{ValidationError}
+use Rattle.rpki_base.proofs.Checking.{passes}
 use Rattle.rpki_sigmsg.specs.CrlChecks.{same_algorithm}
 use Rattle.rpki_sigmsg.specs.Message.{MessageFields}
 use Rattle.rpki_sigmsg.specs.Checks.{checks, kind_of, is_not_revoked, Asked, AreSigned, IsBelieved, SameAnswers, Passes, IsInSpan}

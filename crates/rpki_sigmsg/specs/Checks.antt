@@ -6,8 +6,8 @@ use Rattle.rpki_base.specs.PublicKey.{KeyFields}
 use Rattle.rpki_base.specs.declared.algorithm.SigningAlgorithm.{SigningAlgorithm}
 use Rattle.rpki_base.specs.declared.algorithm.SigningAlgorithm.TheVariants.{RsaSha256}
 use Rattle.rpki_idcert.specs.Checks.{first_failure, ee_checks, IsSigned}
-use Rattle.rpki_idcert.specs.declared.validation.ValidationKind.{ValidationKind}
-use Rattle.rpki_idcert.specs.declared.validation.ValidationKind.TheVariants.{Inspection, Verification}
+use Rattle.rpki_base.specs.declared.validation.ValidationKind.{ValidationKind}
+use Rattle.rpki_base.specs.declared.validation.ValidationKind.TheVariants.{Inspection, Verification}
 use Rattle.rpki_sigmsg.specs.RevokedCertificates.{is_listed}
 use Rattle.rpki_sigmsg.specs.CrlChecks.{crl_checks, IsListSigned}
 use Rattle.rpki_sigmsg.specs.Message.{MessageFields}

@@ -8,8 +8,8 @@ use Rattle.rpki_base.specs.declared.rpki_algorithm.RsaIdentifier.{RsaIdentifier}
 use Rattle.rpki_base.specs.declared.rpki_algorithm.RsaIdentifier.TheVariants.{RsaEncryption, Sha256WithRsaEncryption}
 use Rattle.rpki_base.specs.RpkiSignatureAlgorithm.{RpkiAlgorithm}
 use Rattle.rpki_idcert.specs.Checks.{names_issuer}
-use Rattle.rpki_idcert.specs.declared.validation.ValidationKind.{ValidationKind}
-use Rattle.rpki_idcert.specs.declared.validation.ValidationKind.TheVariants.{Verification}
+use Rattle.rpki_base.specs.declared.validation.ValidationKind.{ValidationKind}
+use Rattle.rpki_base.specs.declared.validation.ValidationKind.TheVariants.{Verification}
 use Rattle.rpki_sigmsg.specs.Crl.{CrlFields}
 
 abbrev pub same_name : RsaIdentifier → RsaIdentifier → Bool

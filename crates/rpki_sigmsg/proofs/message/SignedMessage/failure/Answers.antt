@@ -1,6 +1,6 @@
 use Rattle.std.proofs.Common.{◌∙◌, sym}
 use Rattle.rpki_idcert.specs.Checks.{ee_checks}
-use Rattle.rpki_idcert.proofs.Checking.{err_is, passed, failed}
+use Rattle.rpki_base.proofs.Checking.{err_is, passed, failed}
 use Rattle.rpki_sigmsg.specs.CrlChecks.{crl_checks}
 use Rattle.rpki_sigmsg.specs.Checks.{message_checks}
 use Rattle.rpki_sigmsg.proofs.Meaning.{on_ok_always}

@@ -1,5 +1,5 @@
-use Rattle.rpki_idcert.proofs.Checking.{passes, fails, first}
-use Rattle.rpki_idcert.proofs.validation.first_false_decides.Goals as goal
+use Rattle.rpki_base.proofs.Checking.{passes, fails, first}
+use Rattle.rpki_base.proofs.validation.first_false_decides.Goals as goal
 
 pub returns-clause-passes : goal.returns-clause-passes
 returns-clause-passes c = passes

@@ -3,7 +3,7 @@ use Rattle.std.proofs.Common.{◌≡◌, ℕ, ◌+◌, Bool, true, false, Result
 use Rattle.std.specs.Prelude.{All, IsErrAnd}
 use Rattle.std.specs.List.{AllByRecursion}
 use Rattle.std.proofs.lemmas.List.Elements.{All-from_recursion, recursion_from_All}
-use Rattle.rpki_idcert.specs.Checks.{first_failure, FirstFalse}
+use Rattle.rpki_base.specs.Checks.{first_failure, FirstFalse}
 
 abbrev IsSo : Bool → Type 0
 IsSo b = b ≡ true
