@@ -14,3 +14,4 @@ pub mod Equality
 pub mod MadeNames
 pub mod Extensions
 pub mod Checking
+pub mod Believing

@@ -1,7 +1,6 @@
-//! Writing BIT STRINGs, and SEQUENCEs whose contents are written before.
+//! Writing BIT STRINGs, and constructed values whose contents are written before.
 
 ghost use Rattle.std.specs.Prelude.{◌≡◌, ◌↔◌, ◌++◌, ◌+◌, ◌^◌, ◌<◌, length, IsTrue, OnOk, OnErr};
-ghost use Rattle.rpki_der.specs.Tags.{sequence};
 ghost use Rattle.rpki_der.specs.Writing.{der_constructed};
 ghost use Rattle.rpki_base.specs.Bits.{spelled_bits};
 
@@ -31,15 +30,15 @@ pub(crate) fn write_bits(octets: &[u8], out: &mut Writer) -> Result<(), OutOfMem
     out.primitive(Tag::BIT_STRING, content.as_slice())
 }
 
-/// Appends the SEQUENCE with these contents, in DER. After a refusal nothing is appended; contents of 2^32 octets or more, which
-/// length octets can't say, are refused as want of memory.
-pub fn write_sequence(content: &Writer, out: &mut Writer) -> Result<(), OutOfMemory>
-    ensures ok { OnOk result (out.new ≡ out.old ++ der_constructed sequence content.now) }
+/// Appends the constructed value with this tag and these contents, in DER. After a refusal nothing is appended; contents of 2^32
+/// octets or more, which length octets can't say, are refused as want of memory.
+pub fn write_constructed(tag: Tag, content: &Writer, out: &mut Writer) -> Result<(), OutOfMemory>
+    ensures ok { OnOk result (out.new ≡ out.old ++ der_constructed tag content.now) }
     ensures short { OnOk result (length content.now < 2 ^ 32) }
     ensures err { OnErr result (out.new ≡ out.old) }
 {
     if !can_be_spelled(content.as_slice().len()) {
         return Err(OutOfMemory);
     }
-    out.constructed(Tag::SEQUENCE, content)
+    out.constructed(tag, content)
 }

@@ -32,7 +32,7 @@ mod validity;
 
 pub use algorithm::{PublicKeyFormat, SigningAlgorithm};
 pub use bgpsec_algorithm::BgpsecSignatureAlgorithm;
-pub use bits::write_sequence;
+pub use bits::write_constructed;
 pub use errors::{SignatureVerificationError, ToyFault, VerificationError};
 pub use extension::{Extension, take_extension_counted};
 pub use key_identifier::KeyIdentifier;

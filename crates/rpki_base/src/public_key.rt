@@ -12,7 +12,7 @@ ghost use Rattle.rpki_base.specs.declared.algorithm.PublicKeyFormat.TheVariants.
 ghost use Rattle.rpki_base.specs.PublicKey as spec;
 
 use crate::algorithm::PublicKeyFormat;
-use crate::bits::{write_bits, write_sequence};
+use crate::bits::{write_bits, write_constructed};
 use crate::key_identifier::KeyIdentifier;
 use crate::names::{EC_ALGORITHM, EC_PUBLIC_KEY, PRIME256V1, RSA_ALGORITHM, RSA_ENCRYPTION};
 use bytes::Bytes;
@@ -155,7 +155,7 @@ impl PublicKey {
         let mut inner = out.inner();
         write_algorithm(self.format, &mut inner)?;
         write_bits(self.bits.as_slice(), &mut inner)?;
-        write_sequence(&inner, out)
+        write_constructed(Tag::SEQUENCE, &inner, out)
     }
 }
 

@@ -8,7 +8,7 @@ ghost use Rattle.rpki_der.specs.Ticks.{TakesCounted};
 ghost use Rattle.rpki_der.specs.Whole.{HoldsOne};
 ghost use Rattle.rpki_base.specs.SignedData.{SignedParts, algorithm_in, signed_data, spelled_data, CanBeSpelled};
 
-use crate::bits::{write_bits, write_sequence};
+use crate::bits::{write_bits, write_constructed};
 use crate::errors::SignatureVerificationError;
 use crate::public_key::PublicKey;
 use crate::scheme::{Scheme, Verifier};
@@ -135,7 +135,7 @@ impl<Alg: SignatureAlgorithm> SignedData<Alg> {
         inner.raw(self.slice.as_slice())?;
         self.signature.algorithm().x509_encode(&mut inner)?;
         write_bits(self.signature.value().as_slice(), &mut inner)?;
-        write_sequence(&inner, out)
+        write_constructed(Tag::SEQUENCE, &inner, out)
     }
 }
 

@@ -5,7 +5,8 @@ use Rattle.std.proofs.lemmas.Bool.Decides.{eqb_tells}
 use Rattle.rpki_base.specs.PublicKey.{KeyFields}
 use Rattle.rpki_der.specs.declared.mode.Mode.TheVariants.{Ber}
 use Rattle.rpki_der.proofs.Decoding.{decoded_ok}
-use Rattle.rpki_idcert.specs.Checks.{first_failure, failing, IsSigned}
+use Rattle.rpki_base.specs.Checks.{first_failure, failing}
+use Rattle.rpki_idcert.specs.Checks.{IsSigned}
 use Rattle.rpki_base.specs.declared.validation.ValidationError.{ValidationError}
 use Rattle.rpki_sigmsg.specs.Checks.{checks, kind_of, AreAttributesSigned, Asked, AreSigned, IsBelieved, SameAnswers}
 use Rattle.rpki_sigmsg.specs.CrlChecks.{IsListSigned}

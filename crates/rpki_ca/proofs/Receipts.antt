@@ -1,7 +1,7 @@
 -- What is received.
 use Rattle.std.proofs.Common.{◌≡◌, ◌≢◌, ℕ, ℤ, Err, List, refl, sym, subst}
 use Rattle.rpki_base.specs.PublicKey.{KeyFields}
-use Rattle.rpki_idcert.specs.Checks.{first_failure, failing}
+use Rattle.rpki_base.specs.Checks.{first_failure, failing}
 use Rattle.rpki_base.specs.declared.validation.ValidationError.{ValidationError}
 use Rattle.rpki_sigmsg.specs.Checks.{checks, kind_of, Asked, IsBelieved}
 use Rattle.rpki_sigmsg.specs.Message.{MessageFields}

@@ -1,3 +1,4 @@
 pub mod Fields
 pub mod Gathering
 pub mod Sizes
+pub mod Beliefs

@@ -43,7 +43,7 @@ abbrev pub spelled_version : List ℕ
 spelled_version = der_constructed (context 0) (der_primitive integer_tag (2 ∷ []))
 
 -- sha256WithRSAEncryption with NULL
-abbrev pub spelled_algorithm : List ℕ
+unfoldable pub spelled_algorithm : List ℕ
 spelled_algorithm = spelled_identifier names.sha256_with_rsa true
 
 -- the fields in their order; the algorithm with NULL, and the names as they are held

@@ -1,6 +1,6 @@
 //! Writing what is signed of an identity certificate.
 
-ghost use Rattle.std.specs.Prelude.{◌≡◌, ◌+◌, ◌^◌, ◌<◌, ◌≤◌, ◌++◌, length, OnOk, OnErr};
+ghost use Rattle.std.specs.Prelude.{◌≡◌, ◌+◌, ◌^◌, ◌<◌, ◌++◌, length, OnOk, OnErr};
 ghost use Rattle.rpki_der.specs.Tags.{sequence, context};
 ghost use Rattle.rpki_der.specs.Writing.{der_constructed};
 ghost use Rattle.rpki_idcert.specs.Spelling as spec;
@@ -8,7 +8,7 @@ ghost use Rattle.rpki_idcert.specs.Spelling as spec;
 use crate::tbs::TbsIdCert;
 use rpki_base::{
     AUTHORITY_KEY_IDENTIFIER, BASIC_CONSTRAINTS, KeyIdentifier, RpkiSignatureAlgorithm,
-    SUBJECT_KEY_IDENTIFIER, SignatureAlgorithm, Validity, write_sequence,
+    SUBJECT_KEY_IDENTIFIER, SignatureAlgorithm, Validity, write_constructed,
 };
 use rpki_der::{OutOfMemory, Tag, Writer};
 
@@ -32,10 +32,6 @@ fn write_extension(
         OnOk result
         (out.new ≡ out.old ++ spec.spelled_extension identifier.now critical value.now)
     }
-    ensures size {
-        OnOk result
-        (length out.new ≤ length out.old + length identifier.now + length value.now + 25)
-    }
     ensures err { OnErr result (out.new ≡ out.old) }
 {
     let mut inner = out.inner();
@@ -50,7 +46,6 @@ fn write_extension(
 // Appends basicConstraints, where cA is there.
 fn write_constraints(basic_ca: Option<bool>, out: &mut Writer) -> Result<(), OutOfMemory>
     ensures ok { OnOk result (out.new ≡ out.old ++ spec.spelled_constraints basic_ca) }
-    ensures size { OnOk result (length out.new ≤ length out.old + 64) }
     ensures err { OnErr result (out.new ≡ out.old) }
 {
     match basic_ca {
@@ -63,7 +58,6 @@ fn write_constraints(basic_ca: Option<bool>, out: &mut Writer) -> Result<(), Out
 // Appends subjectKeyIdentifier.
 fn write_subject_key(identifier: KeyIdentifier, out: &mut Writer) -> Result<(), OutOfMemory>
     ensures ok { OnOk result (out.new ≡ out.old ++ spec.spelled_subject_key identifier) }
-    ensures size { OnOk result (length out.new ≤ length out.old + 64) }
     ensures err { OnErr result (out.new ≡ out.old) }
 {
     let mut value = out.inner();
@@ -77,7 +71,6 @@ fn write_authority_key(
     out: &mut Writer,
 ) -> Result<(), OutOfMemory>
     ensures ok { OnOk result (out.new ≡ out.old ++ spec.spelled_authority_key identifier) }
-    ensures size { OnOk result (length out.new ≤ length out.old + 64) }
     ensures err { OnErr result (out.new ≡ out.old) }
 {
     let Some(identifier) = identifier else {
@@ -101,11 +94,19 @@ fn write_validity(validity: Validity, out: &mut Writer) -> Result<(), OutOfMemor
     out.constructed(Tag::SEQUENCE, &times)
 }
 
+// Appends the algorithm identifier of the RPKI, with NULL.
+#[tactic(auto, unfolding(crate::specs::Spelling::spelled_algorithm))]
+fn write_algorithm(out: &mut Writer) -> Result<(), OutOfMemory>
+    ensures ok { OnOk result (out.new ≡ out.old ++ spec.spelled_algorithm) }
+    ensures err { OnErr result (out.new ≡ out.old) }
+{
+    RpkiSignatureAlgorithm::default().x509_encode(out)
+}
+
 impl TbsIdCert {
     // Appends the extensions.
     fn write_extensions(&self, out: &mut Writer) -> Result<(), OutOfMemory>
         ensures ok { OnOk result (out.new ≡ out.old ++ spec.spelled_extensions self.now) }
-        ensures size { OnOk result (length out.new ≤ length out.old + 192) }
     {
         write_constraints(self.basic_ca(), out)?;
         write_subject_key(self.subject_key_identifier(), out)?;
@@ -123,8 +124,8 @@ impl TbsIdCert {
         let mut extensions = out.inner();
         self.write_extensions(&mut extensions)?;
         let mut list = out.inner();
-        list.constructed(Tag::SEQUENCE, &extensions)?;
-        out.constructed(Tag::CTX_3, &list)
+        write_constructed(Tag::SEQUENCE, &extensions, &mut list)?;
+        write_constructed(Tag::CTX_3, &list, out)
     }
 
     // Appends the fields.
@@ -133,7 +134,7 @@ impl TbsIdCert {
     {
         out.raw(&VERSION)?;
         self.serial_number().encode(out)?;
-        RpkiSignatureAlgorithm::default().x509_encode(out)?;
+        write_algorithm(out)?;
         self.issuer().encode_ref(out)?;
         write_validity(self.validity(), out)?;
         self.subject().encode_ref(out)?;
@@ -151,6 +152,6 @@ impl TbsIdCert {
     {
         let mut fields = out.inner();
         self.write_fields(&mut fields)?;
-        write_sequence(&fields, out)
+        write_constructed(Tag::SEQUENCE, &fields, out)
     }
 }

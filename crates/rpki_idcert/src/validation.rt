@@ -1,6 +1,6 @@
 //! Whether an identity certificate may be believed.
 
-ghost use Rattle.std.specs.Prelude.{◌≡◌, ◌↔◌, ◌≤◌, Bool, true, not, ◌||◌, Decides, Ok, OnOk};
+ghost use Rattle.std.specs.Prelude.{◌≡◌, ◌↔◌, ◌≤◌, Bool, true, false, not, ◌||◌, Decides, Ok, OnOk};
 ghost use Rattle.rpki_base.specs.Checks.{first_failure, failing};
 ghost use Rattle.rpki_idcert.specs.Checks as spec;
 
@@ -151,6 +151,7 @@ impl IdCert {
             result ≡ true → spec.names_itself self.now.tbs ≡ true →
             spec.IsSigned P.checks self.now self.now.tbs.key
         }
+        ensures unasked { spec.names_itself self.now.tbs ≡ false → result ≡ true }
     {
         if self.tbs().names_itself() {
             self.is_signed(verifier, self.tbs().public_key())
@@ -167,6 +168,10 @@ impl IdCert {
         ensures signed {
             OnOk result
             (spec.names_itself self.now.tbs ≡ true → spec.IsSigned P.checks self.now self.now.tbs.key)
+        }
+        ensures unasked {
+            spec.names_itself self.now.tbs ≡ false →
+            result ≡ first_failure 1 (spec.ta_checks self.now when true)
         }
     {
         require(1, self.tbs().has_own_identifier())?;

@@ -3,7 +3,7 @@ use Rattle.std.proofs.Common.{◌≡◌, ℕ, List, Ok, Err, subst, ap, sym, ref
 use Rattle.std.specs.Prelude.{ℤ, Result, ◌↔◌}
 use Rattle.rpki_base.specs.PublicKey.{KeyFields}
 use Rattle.rpki_base.specs.declared.algorithm.SigningAlgorithm.{SigningAlgorithm}
-use Rattle.rpki_idcert.specs.Checks.{first_failure, failing}
+use Rattle.rpki_base.specs.Checks.{first_failure, failing}
 use Rattle.rpki_base.specs.declared.validation.ValidationError.{ValidationError}
 use Rattle.rpki_sigmsg.specs.Checks.{Asked, IsBelieved, checks, kind_of}
 use Rattle.rpki_sigmsg.specs.Message.{MessageFields}

@@ -1,7 +1,7 @@
 //! Signed messages of the publication protocol.
 
-ghost use Rattle.std.specs.Prelude.{◌≡◌, ◌↔◌, ◌≤◌, ◌+◌, ◌*◌, ℕ, List, length, Ok, MatchResult};
-ghost use Rattle.rpki_idcert.specs.Checks.{first_failure, failing};
+ghost use Rattle.std.specs.Prelude.{◌≡◌, ◌↔◌, ◌<◌, ◌≤◌, ◌+◌, ◌*◌, ℕ, List, length, Ok, IfOk, MatchResult};
+ghost use Rattle.rpki_base.specs.Checks.{first_failure, failing};
 ghost use Rattle.rpki_sigmsg.specs.Checks as checks;
 ghost use Rattle.rpki_der.specs.declared.mode.Mode.TheVariants.{Ber};
 ghost use Rattle.rpki_der.specs.Ticks.{nodes};
@@ -13,12 +13,13 @@ ghost use Rattle.rpki_publication.specs.Message.{Reads};
 use crate::error::Error;
 use crate::message::Message;
 use rpki_base::{PublicKey, Scheme, Time, Verifier};
+use rpki_common::OutOfMemory;
 use rpki_der::Steps;
 use rpki_idcert::ValidationError;
 use rpki_sigmsg::SignedMessage;
 use std::alloc::Global;
-use std::marker::Model;
-use std::sync::ledger::Ledger;
+use std::marker::{Brand, Model};
+use std::sync::ledger::{Blank, Ledger};
 
 /// A signed message, and the message that its content is (RFC 8181, 2). In a clause it is the record of both.
 #[derive(Drop)]
@@ -59,9 +60,21 @@ impl PublicationCms {
     pub fn decode(alloc: Global, octets: &[u8]) -> Result<PublicationCms, Error>
         ensures { MatchResult result (BeginsCms octets.now) (RefusesCms octets.now) }
     {
-        let signed = SignedMessage::decode(alloc, octets, false)?;
-        let message = Message::decode_slice(alloc, signed.content().as_slice())?;
-        Ok(PublicationCms { signed, message })
+        PublicationCms::decode_within::<Brand>(alloc, octets, Blank::new(1))
+    }
+
+    fn decode_within<L: Ledger>(
+        alloc: Global,
+        octets: &[u8],
+        blank: Blank,
+    ) -> Result<PublicationCms, Error>
+        requires name { blank.name ≡ L.name }
+        requires parts { blank.parts ≡ L.parts }
+        requires some { 0 < blank.parts }
+        ensures { MatchResult result (BeginsCms octets.now) (RefusesCms octets.now) }
+    {
+        let mut steps = Steps::<L>::new(blank);
+        PublicationCms::decode_counted(alloc, octets, &mut steps)
     }
 
     /// As [`PublicationCms::decode`]. It ticks once for each header and each end mark that it reads, in the signed message alone.
@@ -74,7 +87,10 @@ impl PublicationCms {
         ensures most { steps.new ≤ steps.old + 3 * length octets.now + 8 }
 
         // Where a signed message was found, each value in it ticked.
-        ensures least { FindsSigned result → (v : Value) (rest : List ℕ) → Begins Ber octets.now v rest → steps.old + nodes v ≤ steps.new }
+        ensures least {
+            FindsSigned result → (v : Value) (rest : List ℕ) → Begins Ber octets.now v rest →
+            steps.old + nodes v ≤ steps.new
+        }
     {
         let signed = SignedMessage::decode_counted(alloc, octets, false, steps)?;
         let message = Message::decode_slice(alloc, signed.content().as_slice())?;
@@ -113,6 +129,17 @@ impl PublicationCms {
         (self.signed, self.message)
     }
 
+    /// An equal message with its signed message.
+    pub fn clone(&self, alloc: Global) -> Result<PublicationCms, OutOfMemory>
+        ensures { IfOk result (λ c. c ≡ self.now) }
+    {
+        let signed = self.signed.clone(alloc)?;
+        Ok(PublicationCms {
+            signed,
+            message: self.message,
+        })
+    }
+
     /// Whether the key issued the certificate for the moment and the certificate's key signed the message; if not, Validation
     /// with the first check that fails, as [`SignedMessage::validate_at`] numbers them. It takes no memory.
     pub fn validate_at<P: Scheme, V: Verifier<P>>(
@@ -122,10 +149,16 @@ impl PublicationCms {
         when: Time,
     ) -> Result<(), Error>
         // Ok exactly where the three signatures and all the other checks hold.
-        ensures believed { (result ≡ Ok tt) ↔ checks.IsBelieved P.checks self.now.signed issuer_key.now when }
+        ensures believed {
+            (result ≡ Ok tt) ↔ checks.IsBelieved P.checks self.now.signed issuer_key.now when
+        }
 
         // The first check that fails decides, whatever the scheme answers to the three questions.
-        ensures first_failing { (q : checks.Asked P.checks self.now.signed issuer_key.now) → result ≡ validated (failing checks.kind_of (first_failure 1 (checks.checks self.now.signed issuer_key.now when q.q3 q.q8 q.q10))) }
+        ensures first_failing {
+            (q : checks.Asked P.checks self.now.signed issuer_key.now) →
+            result ≡ validated (failing checks.kind_of
+            (first_failure 1 (checks.checks self.now.signed issuer_key.now when q.q3 q.q8 q.q10)))
+        }
     {
         passed_on(
             self.signed_message()

@@ -6,16 +6,18 @@ use Rattle.std.specs.Prelude.{T, ◌↔◌, int_le, ◌&&◌, not, bytes_eq, Dec
 use Rattle.std.specs.List.{AllByRecursion}
 use Rattle.std.proofs.Math.Logic.{⊎_map}
 use Rattle.std.proofs.lemmas.List.Elements.{All-from_recursion}
-use Rattle.std.proofs.lemmas.Bool.Decides.{same_from_decides}
 use Rattle.sha2.specs.Sha256.{sha256}
 use Rattle.rpki_base.specs.PublicKey.{KeyFields}
-use Rattle.rpki_base.specs.declared.algorithm.SigningAlgorithm.{SigningAlgorithm}
-use Rattle.rpki_idcert.specs.Checks.{first_failure, failing, has_own_identifier, names_issuer, is_true}
+use Rattle.rpki_base.specs.Scheme.{Relation}
+use Rattle.rpki_base.specs.Checks.{first_failure, failing}
+use Rattle.rpki_idcert.specs.Checks.{has_own_identifier, names_issuer, is_true}
 use Rattle.rpki_base.specs.declared.validation.ValidationError.{ValidationError}
 use Rattle.rpki_base.proofs.Checking.{passes}
-use Rattle.rpki_sigmsg.specs.CrlChecks.{same_algorithm}
+use Rattle.rpki_base.proofs.Believing.{decides_yes, none_failing, held_where_ok, passes_where_ok, ok_where_passes}
+use Rattle.rpki_sigmsg.specs.Crl.{CrlFields}
+use Rattle.rpki_sigmsg.specs.CrlChecks.{same_algorithm, IsListSigned, crl_checks, crl_kind, IsListBelieved}
 use Rattle.rpki_sigmsg.specs.Message.{MessageFields}
-use Rattle.rpki_sigmsg.specs.Checks.{checks, kind_of, is_not_revoked, Asked, AreSigned, IsBelieved, SameAnswers, Passes, IsInSpan}
+use Rattle.rpki_sigmsg.specs.Checks.{checks, kind_of, is_not_revoked, Asked, AreSigned, IsBelieved, IsValidation, SameAnswers, Passes, IsInSpan}
 
 -- ---- what is believed
 
@@ -23,27 +25,24 @@ pub on_ok_always : {T E P : Type 0} (r : Result T E) → P → OnOk r P
 on_ok_always (Ok x) p = p
 on_ok_always (Err e) p = tt
 
-so : {X : Type 0} → X → Decides true X
-so x = (λ _. x, λ _. refl)
-
 -- the three questions, where each is answered by yes
-abbrev all_signed : (scheme : SigningAlgorithm → KeyFields → List ℕ → List ℕ → Type 0) (m : MessageFields) (issuer : KeyFields) → AreSigned scheme m issuer → Asked scheme m issuer
-all_signed scheme m issuer s = record { q3 = true; q8 = true; q10 = true; attributes = so s.attributes; certificate = so s.certificate; crl = so s.crl }
+abbrev all_signed : (scheme : Relation) (m : MessageFields) (issuer : KeyFields) → AreSigned scheme m issuer → Asked scheme m issuer
+all_signed scheme m issuer s = record { q3 = true; q8 = true; q10 = true; attributes = decides_yes s.attributes; certificate = decides_yes s.certificate; crl = decides_yes s.crl }
 
-none_failing : (x : Result (Unit {0}) ℕ) → Ok tt ≡ failing kind_of x → x ≡ Ok tt
-none_failing (Ok tt) e = refl
-none_failing (Err n) e = cc
-
-signed_by : (scheme : SigningAlgorithm → KeyFields → List ℕ → List ℕ → Type 0) (m : MessageFields) (issuer : KeyFields) (r : Result (Unit {0}) ValidationError) → OnOk r (AreSigned scheme m issuer) → r ≡ Ok tt → AreSigned scheme m issuer
-signed_by scheme m issuer (Ok u) s e = s
-signed_by scheme m issuer (Err x) s e = cc
-
-pub believed : (scheme : SigningAlgorithm → KeyFields → List ℕ → List ℕ → Type 0) (m : MessageFields) (issuer : KeyFields) (when : ℤ) (r : Result (Unit {0}) ValidationError) → OnOk r (AreSigned scheme m issuer)
+pub believed : (scheme : Relation) (m : MessageFields) (issuer : KeyFields) (when : ℤ) (r : Result (Unit {0}) ValidationError) → OnOk r (AreSigned scheme m issuer)
     → ((q : Asked scheme m issuer) → r ≡ failing kind_of (first_failure 1 (checks m issuer when q.q3 q.q8 q.q10))) → (r ≡ Ok tt) ↔ IsBelieved scheme m issuer when
 believed scheme m issuer when r signed first = (
-  (λ e. let s = signed_by scheme m issuer r signed e in
-      record { signatures = s; passes = none_failing (first_failure 1 (checks m issuer when true true true)) (sym e ∙ first (all_signed scheme m issuer s)) }),
+  (λ e. let s = held_where_ok r signed e in
+      record { signatures = s; passes = none_failing kind_of (first_failure 1 (checks m issuer when true true true)) (sym e ∙ first (all_signed scheme m issuer s)) }),
   (λ b. first (all_signed scheme m issuer b.signatures) ∙ ap (failing kind_of) b.passes),
+)
+
+pub list_believed : (scheme : Relation) (c : CrlFields) (issuer : KeyFields) (when : ℤ) (r : Result (Unit {0}) ValidationError) → OnOk r (IsListSigned scheme c issuer)
+    → ((q : Bool) → Decides q (IsListSigned scheme c issuer) → r ≡ failing crl_kind (first_failure 9 (crl_checks c issuer when q))) → (r ≡ Ok tt) ↔ IsListBelieved scheme c issuer when
+list_believed scheme c issuer when r signed first = (
+  (λ e. let s = held_where_ok r signed e in
+      record { signed = s; passes = passes_where_ok crl_kind (IsListSigned scheme c issuer) 9 (crl_checks c issuer when) r first s e }),
+  (λ b. ok_where_passes crl_kind (IsListSigned scheme c issuer) 9 (crl_checks c issuer when) r first b.signed b.passes),
 )
 
 -- ---- two schemes
@@ -51,12 +50,40 @@ believed scheme m issuer when r signed first = (
 moved : {P Q : Type 0} (b : Bool) → P ↔ Q → Decides b P → Decides b Q
 moved b w d = (λ e. w.0 (d.0 e), λ q. d.1 (w.1 q))
 
-pub same_checks : (s t : SigningAlgorithm → KeyFields → List ℕ → List ℕ → Type 0) (m : MessageFields) (issuer : KeyFields) (when : ℤ) (q : Asked s m issuer) (r : Asked t m issuer) → SameAnswers s t m issuer → checks m issuer when q.q3 q.q8 q.q10 ≡ checks m issuer when r.q3 r.q8 r.q10
-same_checks s t m issuer when q r w =
-    let a : q.q3 ≡ r.q3 = same_from_decides _ _ (moved _ w.attributes q.attributes) r.attributes in
-    let b : q.q8 ≡ r.q8 = same_from_decides _ _ (moved _ w.certificate q.certificate) r.certificate in
-    let c : q.q10 ≡ r.q10 = same_from_decides _ _ (moved _ w.crl q.crl) r.crl in
-    rw (a, b, c) refl
+turned : {P Q : Type 0} → P ↔ Q → Q ↔ P
+turned w = (w.1, w.0)
+
+asked_too : (s t : Relation) (m : MessageFields) (issuer : KeyFields) (r : Asked t m issuer) → SameAnswers s t m issuer → Asked s m issuer
+asked_too s t m issuer r w = record {
+  q3 = r.q3;
+  q8 = r.q8;
+  q10 = r.q10;
+  attributes = moved _ (turned w.attributes) r.attributes;
+  certificate = moved _ (turned w.certificate) r.certificate;
+  crl = moved _ (turned w.crl) r.crl;
+}
+
+believed_too : (s t : Relation) (m : MessageFields) (issuer : KeyFields) (when : ℤ) → SameAnswers s t m issuer → IsBelieved s m issuer when → IsBelieved t m issuer when
+believed_too s t m issuer when w b = record {
+  signatures = record {
+    attributes = w.attributes.0 b.signatures.attributes;
+    certificate = w.certificate.0 b.signatures.certificate;
+    crl = w.crl.0 b.signatures.crl;
+  };
+  passes = b.passes;
+}
+
+same_back : (s t : Relation) (m : MessageFields) (issuer : KeyFields) → SameAnswers s t m issuer → SameAnswers t s m issuer
+same_back s t m issuer w = record { attributes = turned w.attributes; certificate = turned w.certificate; crl = turned w.crl }
+
+pub same_validation : (s t : Relation) (m : MessageFields) (issuer : KeyFields) (when : ℤ) (answer : Result (Unit {0}) ValidationError) → SameAnswers s t m issuer → IsValidation s m issuer when answer → IsValidation t m issuer when answer
+same_validation s t m issuer when answer w v = record {
+  believed = (
+    (λ e. believed_too s t m issuer when w (v.believed.0 e)),
+    (λ b. v.believed.1 (believed_too t s m issuer when (same_back s t m issuer w) b)),
+  );
+  first_failing = λ r. v.first_failing (asked_too s t m issuer r w);
+}
 
 -- ---- one span of moments
 

@@ -1,11 +1,13 @@
 -- The fourteen checks of a signed message under an issuer's key at a moment, and what they mean (RFC 5652, 5.4 and 5.6; RFC 6492, 3.1.2;
 -- RFC 8181, 2).
-use Rattle.std.specs.Prelude.{◌≡◌, ◌↔◌, ◌≤ℤ◌, ℕ, ℤ, Bool, not, ◌||◌, ◌==◌, if◌then◌else◌, bytes_eq, true, Decides, Ok, List, [], ◌∷◌, ◌++◌}
+use Rattle.std.specs.Prelude.{◌≡◌, ◌↔◌, ◌≤ℤ◌, ℕ, ℤ, Bool, not, ◌||◌, ◌==◌, if◌then◌else◌, bytes_eq, true, Decides, Result, Ok, List, [], ◌∷◌, ◌++◌}
 use Rattle.sha2.specs.Sha256.{sha256}
 use Rattle.rpki_base.specs.PublicKey.{KeyFields}
-use Rattle.rpki_base.specs.declared.algorithm.SigningAlgorithm.{SigningAlgorithm}
+use Rattle.rpki_base.specs.Scheme.{Relation}
 use Rattle.rpki_base.specs.declared.algorithm.SigningAlgorithm.TheVariants.{RsaSha256}
-use Rattle.rpki_idcert.specs.Checks.{first_failure, ee_checks, IsSigned}
+use Rattle.rpki_base.specs.Checks.{first_failure, failing}
+use Rattle.rpki_idcert.specs.Checks.{ee_checks, IsSigned}
+use Rattle.rpki_base.specs.declared.validation.ValidationError.{ValidationError}
 use Rattle.rpki_base.specs.declared.validation.ValidationKind.{ValidationKind}
 use Rattle.rpki_base.specs.declared.validation.ValidationKind.TheVariants.{Inspection, Verification}
 use Rattle.rpki_sigmsg.specs.RevokedCertificates.{is_listed}
@@ -13,7 +15,7 @@ use Rattle.rpki_sigmsg.specs.CrlChecks.{crl_checks, IsListSigned}
 use Rattle.rpki_sigmsg.specs.Message.{MessageFields}
 
 -- the question to the scheme: whether the signature of the attributes holds under the key of the certificate
-abbrev pub AreAttributesSigned : (SigningAlgorithm → KeyFields → List ℕ → List ℕ → Type 0) → MessageFields → Type 0
+abbrev pub AreAttributesSigned : Relation → MessageFields → Type 0
 AreAttributesSigned scheme m = scheme RsaSha256 m.certificate.tbs.key m.covered m.signature.value
 
 -- 1 to 3: the signer is named by the certificate's subject key identifier; the content's SHA-256 is the signed digest; q3: the
@@ -42,7 +44,7 @@ abbrev pub kind_of : ℕ → ValidationKind
 kind_of n = if n == 1 || n == 4 then Inspection else Verification
 
 -- the three questions to the scheme, with their answers
-pub record Asked (scheme : SigningAlgorithm → KeyFields → List ℕ → List ℕ → Type 0) (m : MessageFields) (issuer : KeyFields) : Type 0 where
+pub record Asked (scheme : Relation) (m : MessageFields) (issuer : KeyFields) : Type 0 where
   pub q3 : Bool
   pub q8 : Bool
   pub q10 : Bool
@@ -52,20 +54,25 @@ pub record Asked (scheme : SigningAlgorithm → KeyFields → List ℕ → List 
 
 -- the three signatures hold: that of the attributes under the key of the certificate, and those of certificate and CRL under the
 -- issuer's key
-pub record AreSigned (scheme : SigningAlgorithm → KeyFields → List ℕ → List ℕ → Type 0) (m : MessageFields) (issuer : KeyFields) : Type 0 where
+pub record AreSigned (scheme : Relation) (m : MessageFields) (issuer : KeyFields) : Type 0 where
   pub attributes : AreAttributesSigned scheme m
   pub certificate : IsSigned scheme m.certificate issuer
   pub crl : IsListSigned scheme m.crl issuer
 
 -- the three signatures hold, and with them all fourteen checks
-pub record IsBelieved (scheme : SigningAlgorithm → KeyFields → List ℕ → List ℕ → Type 0) (m : MessageFields) (issuer : KeyFields) (when : ℤ) : Type 0 where
+pub record IsBelieved (scheme : Relation) (m : MessageFields) (issuer : KeyFields) (when : ℤ) : Type 0 where
   pub signatures : AreSigned scheme m issuer
   pub passes : first_failure 1 (checks m issuer when true true true) ≡ Ok tt
+
+-- what the checks answer: Ok exactly where the message is believed, and else the first check that fails, whatever the scheme answers
+pub record IsValidation (scheme : Relation) (m : MessageFields) (issuer : KeyFields) (when : ℤ) (answer : Result (Unit {0}) ValidationError) : Type 0 where
+  pub believed : (answer ≡ Ok tt) ↔ IsBelieved scheme m issuer when
+  pub first_failing : (q : Asked scheme m issuer) → answer ≡ failing kind_of (first_failure 1 (checks m issuer when q.q3 q.q8 q.q10))
 
 -- ---- what the checks ask of a scheme
 
 -- two schemes answer the three questions alike
-pub record SameAnswers (s t : SigningAlgorithm → KeyFields → List ℕ → List ℕ → Type 0) (m : MessageFields) (issuer : KeyFields) : Type 0 where
+pub record SameAnswers (s t : Relation) (m : MessageFields) (issuer : KeyFields) : Type 0 where
   pub attributes : AreAttributesSigned s m ↔ AreAttributesSigned t m
   pub certificate : IsSigned s m.certificate issuer ↔ IsSigned t m.certificate issuer
   pub crl : IsListSigned s m.crl issuer ↔ IsListSigned t m.crl issuer

@@ -1,12 +1,13 @@
 -- The checks of a signed message's CRL in their order (RFC 5280, 6.3.3; RFC 6492, 3.1.2).
-use Rattle.std.specs.Prelude.{ℕ, ℤ, int_le, Bool, true, false, ◌&&◌, List, [], ◌∷◌}
+use Rattle.std.specs.Prelude.{◌≡◌, ℕ, ℤ, int_le, Bool, true, false, ◌&&◌, Ok, List, [], ◌∷◌}
 use Rattle.std.specs.Bool.{beq}
 use Rattle.rpki_base.specs.PublicKey.{KeyFields}
-use Rattle.rpki_base.specs.declared.algorithm.SigningAlgorithm.{SigningAlgorithm}
+use Rattle.rpki_base.specs.Scheme.{Relation}
 use Rattle.rpki_base.specs.declared.algorithm.SigningAlgorithm.TheVariants.{RsaSha256}
 use Rattle.rpki_base.specs.declared.rpki_algorithm.RsaIdentifier.{RsaIdentifier}
 use Rattle.rpki_base.specs.declared.rpki_algorithm.RsaIdentifier.TheVariants.{RsaEncryption, Sha256WithRsaEncryption}
 use Rattle.rpki_base.specs.RpkiSignatureAlgorithm.{RpkiAlgorithm}
+use Rattle.rpki_base.specs.Checks.{first_failure}
 use Rattle.rpki_idcert.specs.Checks.{names_issuer}
 use Rattle.rpki_base.specs.declared.validation.ValidationKind.{ValidationKind}
 use Rattle.rpki_base.specs.declared.validation.ValidationKind.TheVariants.{Verification}
@@ -22,7 +23,7 @@ abbrev pub same_algorithm : RpkiAlgorithm → RpkiAlgorithm → Bool
 same_algorithm a b = same_name a.identifier b.identifier && beq a.null b.null
 
 -- the question to the scheme: whether the CRL's signature holds under a key
-abbrev pub IsListSigned : (SigningAlgorithm → KeyFields → List ℕ → List ℕ → Type 0) → CrlFields → KeyFields → Type 0
+abbrev pub IsListSigned : Relation → CrlFields → KeyFields → Type 0
 IsListSigned scheme c key = scheme RsaSha256 key c.signed.slice c.signed.signature.value
 
 -- under the issuer's key, at a moment; q: the CRL is signed under that key
@@ -34,6 +35,11 @@ crl_checks c issuer when q =
     ∷ int_le when c.tbs.next_update
     ∷ names_issuer c.tbs.authority_key_id issuer
     ∷ []
+
+-- the CRL is signed under the issuer's key, and with that all five checks hold
+pub record IsListBelieved (scheme : Relation) (c : CrlFields) (issuer : KeyFields) (when : ℤ) : Type 0 where
+  pub signed : IsListSigned scheme c issuer
+  pub passes : first_failure 9 (crl_checks c issuer when true) ≡ Ok tt
 
 -- all are verifications
 abbrev pub crl_kind : ℕ → ValidationKind

@@ -14,7 +14,7 @@ use Rattle.rpki_der.specs.OctetString.{octet_string}
 use Rattle.rpki_base.specs.Signature.{SignatureParts}
 use Rattle.rpki_base.specs.RpkiSignatureAlgorithm.{RpkiAlgorithm}
 use Rattle.rpki_idcert.specs.IdCert.{CertificateFields, identity_certificate}
-use Rattle.rpki_sigmsg.specs.Names.{signed_data, xml_content}
+use Rattle.rpki_sigmsg.specs.Names.{signed_data_type, xml_content}
 use Rattle.rpki_sigmsg.specs.Algorithm.{digest_algorithm}
 use Rattle.rpki_sigmsg.specs.Attributes.{covered}
 use Rattle.rpki_sigmsg.specs.Crl.{CrlFields, revocation_list}
@@ -87,7 +87,7 @@ signed_parts mode = within sequence (λ vs. do
 -- the whole message: content information that holds signed data (RFC 5652, 3)
 unfoldable pub viewed_message : Mode → Value → Option ViewFields
 viewed_message mode = within sequence (λ vs. do
-  type ← first (oid_is signed_data) vs
+  type ← first (oid_is signed_data_type) vs
   parts ← first (wrapped (context 0) (signed_parts mode)) type.1
   done parts.0 parts.1)
 

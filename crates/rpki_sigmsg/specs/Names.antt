@@ -2,9 +2,9 @@
 -- RFC 5754, 2.2; RFC 6019, 2; RFC 6492, 3.1.1.3).
 use Rattle.std.specs.Prelude.{ℕ, List, [], ◌∷◌}
 
--- 1.2.840.113549.1.7.2
-abbrev pub signed_data : List ℕ
-signed_data = 42 ∷ 134 ∷ 72 ∷ 134 ∷ 247 ∷ 13 ∷ 1 ∷ 7 ∷ 2 ∷ []
+-- id-signedData, 1.2.840.113549.1.7.2
+abbrev pub signed_data_type : List ℕ
+signed_data_type = 42 ∷ 134 ∷ 72 ∷ 134 ∷ 247 ∷ 13 ∷ 1 ∷ 7 ∷ 2 ∷ []
 
 -- 1.2.840.113549.1.9.3
 abbrev pub content_type : List ℕ

@@ -14,7 +14,7 @@ ghost use Rattle.rpki_sigmsg.specs.Attributes.{signed_attributes, covered, add, 
 use crate::names::{BINARY_SIGNING_TIME, CONTENT_TYPE, CT_XML, MESSAGE_DIGEST, SIGNING_TIME};
 use crate::octets::take_shared_octets;
 use bytes::Bytes;
-use rpki_base::Time;
+use rpki_base::{Time, write_constructed};
 use rpki_common::OutOfMemory;
 use rpki_der::{
     Cursor, DecodeError, Steps, Tag, Writer, pass_rest_counted, take_oid_counted,
@@ -258,17 +258,14 @@ pub(crate) fn take_signed_attributes<'a, L: Ledger>(
     }
 }
 
-/// The octets that the signature of the attributes covers, of their octets as they stand; more than 2^30 are refused as want of
-/// memory.
+/// The octets that the signature of the attributes covers, of their octets as they stand; more than length octets can say are
+/// refused as want of memory.
 pub(crate) fn covered_octets(alloc: Global, attributes: &[u8]) -> Result<Bytes, OutOfMemory>
     ensures { IfOk result (λ b. b ≡ covered attributes.now) }
 {
-    if attributes.len() > 1 << 30 {
-        return Err(OutOfMemory);
-    }
     let mut inner = Writer::new(alloc);
     inner.raw(attributes)?;
     let mut out = Writer::new(alloc);
-    out.constructed(Tag::SET, &inner)?;
+    write_constructed(Tag::SET, &inner, &mut out)?;
     Ok(out.into_captured()?.into_bytes())
 }

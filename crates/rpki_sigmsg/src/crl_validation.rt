@@ -1,7 +1,7 @@
 //! Whether the CRL of a signed message may be believed.
 
-ghost use Rattle.std.specs.Prelude.{◌≡◌, Bool, Decides, OnOk};
-ghost use Rattle.rpki_idcert.specs.Checks.{first_failure, failing};
+ghost use Rattle.std.specs.Prelude.{◌≡◌, ◌↔◌, Bool, Decides, Ok, OnOk};
+ghost use Rattle.rpki_base.specs.Checks.{first_failure, failing};
 ghost use Rattle.rpki_sigmsg.specs.CrlChecks as spec;
 
 use crate::crl::SignedMessageCrl;
@@ -41,7 +41,10 @@ impl SignedMessageCrl {
         issuer_key: &PublicKey,
         when: Time,
     ) -> Result<(), u8>
-        ensures first_failing { (q : Bool) → Decides q (spec.IsListSigned P.checks self.now issuer_key.now) → result ≡ first_failure 9 (spec.crl_checks self.now issuer_key.now when q) }
+        ensures first_failing {
+            (q : Bool) → Decides q (spec.IsListSigned P.checks self.now issuer_key.now) →
+            result ≡ first_failure 9 (spec.crl_checks self.now issuer_key.now when q)
+        }
         ensures signed { OnOk result (spec.IsListSigned P.checks self.now issuer_key.now) }
     {
         require(9, self.names_one_algorithm())?;
@@ -62,8 +65,17 @@ impl SignedMessageCrl {
         issuer_key: &PublicKey,
         when: Time,
     ) -> Result<(), ValidationError>
-        ensures first_failing { (q : Bool) → Decides q (spec.IsListSigned P.checks self.now issuer_key.now) → result ≡ failing spec.crl_kind (first_failure 9 (spec.crl_checks self.now issuer_key.now when q)) }
-        ensures signed { OnOk result (spec.IsListSigned P.checks self.now issuer_key.now) }
+        // Ok exactly where the signature and all the other checks hold.
+        ensures believed {
+            (result ≡ Ok tt) ↔ spec.IsListBelieved P.checks self.now issuer_key.now when
+        }
+
+        // The first check that fails decides, whatever the scheme answers.
+        ensures first_failing {
+            (q : Bool) → Decides q (spec.IsListSigned P.checks self.now issuer_key.now) →
+            result ≡ failing spec.crl_kind
+            (first_failure 9 (spec.crl_checks self.now issuer_key.now when q))
+        }
     {
         match self.failure(verifier, issuer_key, when) {
             Ok(()) => Ok(()),

@@ -29,7 +29,7 @@ pub use crl::SignedMessageCrl;
 pub use law::{strict_messages_are_loose, views_are_of_messages};
 pub use message::SignedMessage;
 pub use reference::SignedMessageRef;
-pub use revoked::{CrlEntry, RevokedCertificates};
+pub use revoked::{CrlEntry, RevokedCertificates, equal_entries_are_the_same};
 pub use rpki_der::{DecodeError, OutOfMemory};
 pub use tbs_crl::SignedMessageTbsCrl;
 pub use validation::{moments_are_one_span, three_questions_decide};

@@ -1,6 +1,6 @@
 //! The certificates that a CRL revokes.
 
-ghost use Rattle.std.specs.Prelude.{◌≡◌, ◌<◌, IfOk};
+ghost use Rattle.std.specs.Prelude.{◌≡◌, ◌↔◌, ◌<◌, true, IfOk};
 ghost use Rattle.rpki_der.specs.Grammar.{optional};
 ghost use Rattle.rpki_der.specs.Tags.{sequence};
 ghost use Rattle.rpki_der.specs.Takes.{Takes};
@@ -8,7 +8,7 @@ ghost use Rattle.rpki_der.specs.Ticks.{TakesCounted, TakesPartCounted};
 ghost use Rattle.rpki_der.specs.Whole.{HoldsOne};
 ghost use Rattle.rpki_sigmsg.specs.Ahead.{begins_sequence};
 ghost use Rattle.rpki_sigmsg.specs.Algorithm.{any_sequence};
-ghost use Rattle.rpki_sigmsg.specs.RevokedCertificates.{crl_entry, revoked_certificates, none_revoked, is_listed};
+ghost use Rattle.rpki_sigmsg.specs.RevokedCertificates.{EntryFields, crl_entry, revoked_certificates, none_revoked, is_listed};
 
 use crate::algorithm::pass_sequence;
 use bytes::Bytes;
@@ -39,6 +39,11 @@ impl Model for CrlEntry {
 
     ghost inverse = { λ e. record { user_certificate = e.user_certificate; revocation_date = e.revocation_date } };
 }
+
+/// `==` holds exactly between entries that are the same.
+pub fn equal_entries_are_the_same()
+    ensures { (a b : EntryFields) → (⟦<CrlEntry as PartialEq>⟧.eq a b ≡ true) ↔ (a ≡ b) }
+{}
 
 // Whether the octets begin with the identifier of a SEQUENCE.
 fn begins_sequence(octets: &[u8]) -> bool
@@ -118,7 +123,7 @@ impl CrlEntry {
 /// The certificates that a CRL revokes, as the octets of their entries and as a list (RFC 5280, 5.1.2.6).
 ///
 /// In a clause it is these two.
-#[derive(Drop, PartialEq, Eq)]
+#[derive(Drop)]
 pub struct RevokedCertificates {
     octets: Bytes,
     entries: Sequence<CrlEntry>,

@@ -18,7 +18,7 @@ use std::sync::ledger::{Blank, Ledger};
 /// What is signed of a CRL (RFC 5280, 5.1.2).
 ///
 /// In a clause it is the record of its fields.
-#[derive(Drop, PartialEq, Eq)]
+#[derive(Drop)]
 pub struct SignedMessageTbsCrl {
     algorithm: RpkiSignatureAlgorithm,
     issuer: Name,

@@ -1,8 +1,9 @@
 //! Whether a signed message may be believed.
 
-ghost use Rattle.std.specs.Prelude.{◌≡◌, ◌↔◌, ◌⊎◌, Bool, ℤ, Decides, Ok, OnOk, bytes_eq};
+ghost use Rattle.std.specs.Prelude.{◌≡◌, ◌↔◌, ◌⊎◌, Bool, ℤ, Decides, Result, Ok, OnOk, bytes_eq};
 ghost use Rattle.rpki_base.specs.PublicKey.{KeyFields};
-ghost use Rattle.rpki_idcert.specs.Checks.{first_failure, failing};
+ghost use Rattle.rpki_base.specs.declared.validation.ValidationError.{ValidationError};
+ghost use Rattle.rpki_base.specs.Checks.{first_failure, failing};
 ghost use Rattle.rpki_sigmsg.specs.Message.{MessageFields};
 ghost use Rattle.rpki_sigmsg.specs.Checks as spec;
 
@@ -43,7 +44,10 @@ impl SignedMessage {
 
     // Checks 1 to 3.
     fn own_failure<P: Scheme, V: Verifier<P>>(&self, verifier: &V) -> Result<(), u8>
-        ensures first_failing { (q : Bool) → Decides q (spec.AreAttributesSigned P.checks self.now) → result ≡ first_failure 1 (spec.message_checks self.now q) }
+        ensures first_failing {
+            (q : Bool) → Decides q (spec.AreAttributesSigned P.checks self.now) →
+            result ≡ first_failure 1 (spec.message_checks self.now q)
+        }
         ensures signed { OnOk result (spec.AreAttributesSigned P.checks self.now) }
     {
         require(1, self.names_certificate())?;
@@ -65,7 +69,10 @@ impl SignedMessage {
         issuer_key: &PublicKey,
         when: Time,
     ) -> Result<(), u8>
-        ensures first_failing { (q : spec.Asked P.checks self.now issuer_key.now) → result ≡ first_failure 1 (spec.checks self.now issuer_key.now when q.q3 q.q8 q.q10) }
+        ensures first_failing {
+            (q : spec.Asked P.checks self.now issuer_key.now) →
+            result ≡ first_failure 1 (spec.checks self.now issuer_key.now when q.q3 q.q8 q.q10)
+        }
         ensures signed { OnOk result (spec.AreSigned P.checks self.now issuer_key.now) }
     {
         self.own_failure(verifier)?;
@@ -93,7 +100,11 @@ impl SignedMessage {
         ensures believed { (result ≡ Ok tt) ↔ spec.IsBelieved P.checks self.now issuer_key.now when }
 
         // The first check that fails decides, whatever the scheme answers to the three questions.
-        ensures first_failing { (q : spec.Asked P.checks self.now issuer_key.now) → result ≡ failing spec.kind_of (first_failure 1 (spec.checks self.now issuer_key.now when q.q3 q.q8 q.q10)) }
+        ensures first_failing {
+            (q : spec.Asked P.checks self.now issuer_key.now) →
+            result ≡ failing spec.kind_of
+            (first_failure 1 (spec.checks self.now issuer_key.now when q.q3 q.q8 q.q10))
+        }
     {
         match self.failure(verifier, issuer_key, when) {
             Ok(()) => Ok(()),
@@ -105,13 +116,24 @@ impl SignedMessage {
     }
 }
 
-/// Two schemes that answer the three questions alike accept the same messages, and refuse them at the same check.
+/// What `validate_at` answers depends on the scheme by its three questions alone: two schemes that answer them alike have the same
+/// answer.
 pub fn three_questions_decide<P: Scheme, Q: Scheme>()
-    ensures { (m : MessageFields) (issuer : KeyFields) (when : ℤ) (q : spec.Asked P.checks m issuer) (r : spec.Asked Q.checks m issuer) → spec.SameAnswers P.checks Q.checks m issuer → spec.checks m issuer when q.q3 q.q8 q.q10 ≡ spec.checks m issuer when r.q3 r.q8 r.q10 }
+    ensures {
+        (m : MessageFields) (issuer : KeyFields) (when : ℤ)
+        (answer : Result (Unit {0}) ValidationError) →
+        spec.SameAnswers P.checks Q.checks m issuer →
+        spec.IsValidation P.checks m issuer when answer →
+        spec.IsValidation Q.checks m issuer when answer
+    }
 {}
 
 /// The moments at which a message passes under a key, whatever a scheme answers, are none, or all from the later of notBefore and
 /// thisUpdate to the earlier of notAfter and nextUpdate, both ends in.
 pub fn moments_are_one_span()
-    ensures { (m : MessageFields) (issuer : KeyFields) (q3 q8 q10 : Bool) → ((when : ℤ) → spec.Passes m issuer q3 q8 q10 when → ⊥) ⊎ ((when : ℤ) → spec.Passes m issuer q3 q8 q10 when ↔ spec.IsInSpan m when) }
+    ensures {
+        (m : MessageFields) (issuer : KeyFields) (q3 q8 q10 : Bool) →
+        ((when : ℤ) → spec.Passes m issuer q3 q8 q10 when → ⊥) ⊎
+        ((when : ℤ) → spec.Passes m issuer q3 q8 q10 when ↔ spec.IsInSpan m when)
+    }
 {}

@@ -1,5 +1,5 @@
-use Rattle.rpki_sigmsg.proofs.Meaning.{same_checks}
+use Rattle.rpki_sigmsg.proofs.Meaning.{same_validation}
 use Rattle.rpki_sigmsg.proofs.validation.three_questions_decide.Goals as goal
 
 pub returns : goal.returns
-returns g c = same_checks _ _
+returns g c = same_validation _ _

@@ -1,5 +1,5 @@
 use Rattle.std.proofs.Common.{ap, Ok, Err}
-use Rattle.rpki_idcert.specs.Checks.{failing}
+use Rattle.rpki_base.specs.Checks.{failing}
 use Rattle.rpki_sigmsg.specs.Checks.{kind_of}
 use Rattle.rpki_sigmsg.proofs.Meaning.{believed}
 use Rattle.rpki_sigmsg.proofs.message.SignedMessage.validate_at.Goals as goal
