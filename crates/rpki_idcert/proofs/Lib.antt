@@ -2,3 +2,4 @@ pub mod Fields
 pub mod Gathering
 pub mod Sizes
 pub mod Beliefs
+pub mod Alike
