@@ -8,6 +8,10 @@ use Rattle.rpki_der.specs.Oid.{oid}
 use Rattle.rpki_der.specs.Null.{null}
 use Rattle.rpki_der.specs.Writing.{der_primitive, der_constructed}
 
+--     AlgorithmIdentifier ::= SEQUENCE {
+--       algorithm OBJECT IDENTIFIER,
+--       parameters ANY DEFINED BY algorithm OPTIONAL }
+--
 -- the contents of the object identifier, and whether NULL is there
 unfoldable pub algorithm_identifier : Value → Option (List ℕ × Bool)
 algorithm_identifier = within sequence (λ vs. do

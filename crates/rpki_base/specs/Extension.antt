@@ -15,6 +15,11 @@ pub record ExtensionFields : Type 0 where
   pub critical : Bool
   pub value : List ℕ
 
+--     Extension ::= SEQUENCE {
+--       extnID OBJECT IDENTIFIER,
+--       critical BOOLEAN DEFAULT FALSE,
+--       extnValue OCTET STRING }
+--
 -- an extension; it isn't critical where nothing says so
 unfoldable pub extension : Mode → Value → Option ExtensionFields
 extension mode = within sequence (λ vs. do

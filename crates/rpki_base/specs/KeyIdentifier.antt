@@ -1,4 +1,4 @@
--- Key identifiers (RFC 5280, 4.2.1.2): twenty octets.
+-- KeyIdentifier ::= OCTET STRING (RFC 5280, 4.2.1.1 and 4.2.1.2): twenty octets.
 use Rattle.std.specs.Prelude.{ℕ, ◌==◌, if◌then◌else◌, Option, None, Some, List, length}
 use Rattle.rpki_der.specs.declared.mode.Mode.{Mode}
 use Rattle.rpki_der.specs.Tags.{octet_string_tag}

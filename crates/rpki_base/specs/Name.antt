@@ -16,6 +16,14 @@ unread xs = Some tt
 unfoldable pub each : {X : Type 0} → (Value → Option X) → Values → Option (Unit {0})
 each field vs = every field vs >>= unread
 
+--     RDNSequence ::= SEQUENCE OF RelativeDistinguishedName
+--     RelativeDistinguishedName ::= SET SIZE (1..MAX) OF AttributeTypeAndValue
+--     AttributeTypeAndValue ::= SEQUENCE {
+--       type AttributeType,
+--       value AttributeValue }
+--
+-- How many attributes a SET has isn't looked at, and may be none.
+
 -- an attribute: its type, and one value of any kind
 unfoldable pub name_attribute : Value → Option (Unit {0})
 name_attribute = within sequence (λ vs. do

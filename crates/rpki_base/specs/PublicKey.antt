@@ -41,6 +41,10 @@ key_algorithm = within sequence (λ vs. do
   format ← first named_format vs
   parameters format.0 format.1)
 
+--     SubjectPublicKeyInfo ::= SEQUENCE {
+--       algorithm AlgorithmIdentifier,
+--       subjectPublicKey BIT STRING }
+--
 -- a key; how many bits of the last octet are unused is dropped
 unfoldable pub public_key : Value → Option KeyFields
 public_key = within sequence (λ vs. do

@@ -20,6 +20,7 @@ in_twenty octets = if nat_le (length octets) 20 then Some (replicate (20 - lengt
 abbrev pub serial_number : List ℕ → Option (List ℕ)
 serial_number octets = if is_not_negative octets then in_twenty (without_zero octets) else None
 
+-- CertificateSerialNumber ::= INTEGER
 unfoldable pub serial : Value → Option (List ℕ)
 serial = so integer serial_number
 

@@ -19,6 +19,13 @@ pub record SignedParts (A : Type 0) : Type 0 where
 abbrev pub algorithm_in : {A : Type 0} → (Mode → List ℕ → Option A) → Mode → Value → Option A
 algorithm_in reads mode = so any (reads mode)
 
+-- The form that Certificate (4.1), CertificateList (5.1) and CertificationRequest (RFC 2986, 4.2) have in common:
+--
+--     SEQUENCE {
+--       tbs ANY,
+--       signatureAlgorithm AlgorithmIdentifier,
+--       signatureValue BIT STRING }
+--
 -- the signed value, the algorithm, and the octets of the signature's bits; how many bits of the last octet are unused is dropped
 unfoldable pub signed_data : {A : Type 0} → (Mode → List ℕ → Option A) → Mode → Value → Option (SignedParts A)
 signed_data reads mode = within sequence (λ vs. do

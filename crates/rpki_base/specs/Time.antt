@@ -37,7 +37,7 @@ generalized_time text = do
   year ← four_digits text
   in_year year.0 year.1
 
--- a UTCTime, or a GeneralizedTime
+-- Time ::= CHOICE { utcTime UTCTime, generalTime GeneralizedTime }
 unfoldable pub time : Value → Option ℤ
 time v = option_or (so (primitive utc_time_tag) utc_time v) (so (primitive generalized_time_tag) generalized_time v)
 

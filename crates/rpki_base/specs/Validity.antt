@@ -11,6 +11,9 @@ pub record ValidityFields : Type 0 where
   pub not_before : ℤ
   pub not_after : ℤ
 
+--     Validity ::= SEQUENCE {
+--       notBefore Time,
+--       notAfter Time }
 unfoldable pub validity : Value → Option ValidityFields
 validity = within sequence (λ vs. do
   not_before ← first time vs

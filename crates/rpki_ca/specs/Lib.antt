@@ -1,3 +1,4 @@
+-- Said in contracts, and to be believed: Refusal, Hexadecimal, Words, Command, Receipt, Answer.
 pub mod Refusal
 pub mod Hexadecimal
 pub mod Words

@@ -1,3 +1,5 @@
+-- Said in contracts, and to be believed: Causes, Chaining, Items.
+-- Means for loops and proofs: Collecting.
 pub mod Causes
 pub mod Chaining
 pub mod Items

@@ -24,6 +24,10 @@ path_length vs = do
   length ← optional integer_tag u64 vs
   done tt length.1
 
+--     BasicConstraints ::= SEQUENCE {
+--       cA BOOLEAN DEFAULT FALSE,
+--       pathLenConstraint INTEGER (0..MAX) OPTIONAL }
+--
 -- basicConstraints (4.2.1.9): whether the subject is an authority, which is false where nothing says so
 unfoldable pub basic_constraints : Mode → Value → Option Bool
 basic_constraints mode = within sequence (λ vs. do
@@ -31,6 +35,11 @@ basic_constraints mode = within sequence (λ vs. do
   length ← path_length ca.1
   Some (unwrap_or ca.0 false))
 
+--     AuthorityKeyIdentifier ::= SEQUENCE {
+--       keyIdentifier [0] IMPLICIT KeyIdentifier OPTIONAL,
+--       authorityCertIssuer [1] IMPLICIT GeneralNames OPTIONAL,
+--       authorityCertSerialNumber [2] IMPLICIT CertificateSerialNumber OPTIONAL }
+--
 -- authorityKeyIdentifier (4.2.1.1), in DER: the key identifier, if it is there; what stands behind it is unread
 unfoldable pub authority_key : Value → Option (Option (List ℕ))
 authority_key = within sequence (λ vs. do
@@ -42,6 +51,7 @@ authority_key = within sequence (λ vs. do
 unfoldable pub ca_in : ExtensionFields → Option Bool
 ca_in e = in_der (basic_constraints Der) e.value
 
+-- SubjectKeyIdentifier ::= KeyIdentifier (4.2.1.2)
 unfoldable pub subject_in : ExtensionFields → Option (List ℕ)
 subject_in e = in_der (key_identifier Der) e.value
 

@@ -16,6 +16,11 @@ pub record CertificateFields : Type 0 where
   pub signed : SignedParts RpkiAlgorithm
   pub tbs : TbsFields
 
+--     Certificate ::= SEQUENCE {
+--       tbsCertificate TBSCertificate,
+--       signatureAlgorithm AlgorithmIdentifier,
+--       signatureValue BIT STRING }
+--
 -- how many bits of the signature's last octet are unused is dropped
 unfoldable pub identity_certificate : Mode → Value → Option CertificateFields
 identity_certificate mode = within sequence (λ vs. do

@@ -1,3 +1,5 @@
+-- Said in contracts, and to be believed: TbsIdCert, IdCert, Extensions up to its last part, Spelling, Checks.
+-- Means for readers: Shown, and the last part of Extensions.
 pub mod Extensions
 pub mod Shown
 pub mod TbsIdCert

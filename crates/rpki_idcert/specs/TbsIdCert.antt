@@ -35,7 +35,21 @@ version = wrapped (context 0) (integer_is 2)
 abbrev pub algorithm : Mode → Value → Option RpkiAlgorithm
 algorithm mode = algorithm_in (whole_of x509_algorithm) mode
 
--- The algorithm is read, and is no field: it is always that one. Extensions have to be there, since the subject's key identifier stands in them.
+--     TBSCertificate ::= SEQUENCE {
+--       version [0] EXPLICIT Version DEFAULT v1,
+--       serialNumber CertificateSerialNumber,
+--       signature AlgorithmIdentifier,
+--       issuer Name,
+--       validity Validity,
+--       subject Name,
+--       subjectPublicKeyInfo SubjectPublicKeyInfo,
+--       issuerUniqueID [1] IMPLICIT UniqueIdentifier OPTIONAL,
+--       subjectUniqueID [2] IMPLICIT UniqueIdentifier OPTIONAL,
+--       extensions [3] EXPLICIT Extensions OPTIONAL }
+--
+-- The version is v3, which is spelled 2, and the two unique identifiers can't be there. The algorithm is read, and is no field: it is
+-- always that one.
+-- Extensions have to be there, since the subject's key identifier stands in them.
 unfoldable pub tbs_certificate : Mode → Value → Option TbsFields
 tbs_certificate mode = within sequence (λ vs. do
   version ← first version vs

@@ -12,6 +12,8 @@ use Rattle.rpki_base.specs.SignedData.{algorithm_in}
 use Rattle.rpki_base.specs.RpkiSignatureAlgorithm.{RpkiAlgorithm, cms_algorithm}
 use Rattle.rpki_sigmsg.specs.Names.{sha256_name}
 
+--     DigestAlgorithmIdentifier ::= AlgorithmIdentifier
+--
 -- SHA-256, with NULL or without parameters (RFC 5754, 2)
 unfoldable pub digest_algorithm : Value → Option (Unit {0})
 digest_algorithm = within sequence (λ vs. do

@@ -47,6 +47,12 @@ attributes mode all = do
   binary ← at_most_one binary_in (filter (is binary_signing_time) all)
   Some (record { digest = digest; signing_time = time })
 
+--     SignedAttributes ::= SET SIZE (1..MAX) OF Attribute
+--     Attribute ::= SEQUENCE {
+--       attrType OBJECT IDENTIFIER,
+--       attrValues SET OF AttributeValue }
+--
+-- Of the four known ones attrValues is a SET of exactly one value; of others it isn't looked at.
 -- [0] with attributes, each a SEQUENCE of an identifier and any values: their octets as they stand there, and what they say
 unfoldable pub signed_attributes : Mode → Value → Option (List ℕ × AttributeFields)
 signed_attributes mode = within (context 0) (held (λ vs. every entry vs >>= attributes mode))

@@ -17,6 +17,11 @@ pub record CrlFields : Type 0 where
   pub signed : SignedParts RpkiAlgorithm
   pub tbs : TbsCrlFields
 
+--     CertificateList ::= SEQUENCE {
+--       tbsCertList TBSCertList,
+--       signatureAlgorithm AlgorithmIdentifier,
+--       signatureValue BIT STRING }
+--
 -- how many bits of the signature's last octet are unused is dropped
 unfoldable pub revocation_list : Mode → Value → Option CrlFields
 revocation_list mode = within sequence (λ vs. do

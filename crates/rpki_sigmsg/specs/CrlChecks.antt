@@ -26,7 +26,8 @@ same_algorithm a b = same_name a.identifier b.identifier && beq a.null b.null
 abbrev pub IsListSigned : Relation → CrlFields → KeyFields → Type 0
 IsListSigned scheme c key = scheme RsaSha256 key c.signed.slice c.signed.signature.value
 
--- under the issuer's key, at a moment; q: the CRL is signed under that key
+-- Under the issuer's key, at a moment; q: the CRL is signed under that key. 1 signatureAlgorithm is signature (5.1.1.2); 2 q (6.3.3);
+-- 3 thisUpdate (5.1.2.4); 4 nextUpdate (5.1.2.5); 5 authorityKeyIdentifier, if it is there, is the SHA-1 of the issuer's key (5.2.1)
 abbrev pub crl_checks : CrlFields → KeyFields → ℤ → Bool → List Bool
 crl_checks c issuer when q =
     same_algorithm c.tbs.algorithm c.signed.signature.algorithm

@@ -15,6 +15,11 @@ use Rattle.rpki_base.specs.Names as names
 use Rattle.rpki_base.specs.Extension.{ExtensionFields, extension, is}
 use Rattle.rpki_sigmsg.specs.declared.crl_extensions.Found.{Found}
 
+--     AuthorityKeyIdentifier ::= SEQUENCE {
+--       keyIdentifier [0] IMPLICIT KeyIdentifier OPTIONAL,
+--       authorityCertIssuer [1] IMPLICIT GeneralNames OPTIONAL,
+--       authorityCertSerialNumber [2] IMPLICIT CertificateSerialNumber OPTIONAL }
+--
 -- authorityKeyIdentifier (5.2.1): a SEQUENCE of the key identifier alone
 unfoldable pub issuer_key : Mode → Value → Option (List ℕ)
 issuer_key mode = wrapped sequence (key_identifier_under (context 0) mode)
@@ -23,7 +28,7 @@ issuer_key mode = wrapped sequence (key_identifier_under (context 0) mode)
 unfoldable pub authority_in : ExtensionFields → Option (List ℕ)
 authority_in e = in_der (issuer_key Der) e.value
 
--- cRLNumber (5.2.3): a number, held as twenty octets
+-- CRLNumber ::= INTEGER (0..MAX) (5.2.3), held as twenty octets
 unfoldable pub number_in : ExtensionFields → Option (List ℕ)
 number_in e = in_der serial e.value
 

@@ -42,6 +42,11 @@ pub record ViewFields : Type 0 where
   pub attributes : List ℕ
   pub signature_value : List ℕ
 
+--     EncapsulatedContentInfo ::= SEQUENCE {
+--       eContentType ContentType,
+--       eContent [0] EXPLICIT OCTET STRING OPTIONAL }
+--
+-- eContentType is id-ct-xml, and eContent has to be there.
 -- encapsulated XML: the octets of the OCTET STRING, and its joined octets (RFC 5652, 5.2)
 unfoldable pub encapsulated_content : Mode → Value → Option (List ℕ × List ℕ)
 encapsulated_content mode = within sequence (λ vs. do
@@ -73,6 +78,15 @@ view_of content certificate crl signer = record {
   signature_value = signer.signature_value;
 }
 
+--     SignedData ::= SEQUENCE {
+--       version CMSVersion,
+--       digestAlgorithms DigestAlgorithmIdentifiers,
+--       encapContentInfo EncapsulatedContentInfo,
+--       certificates [0] IMPLICIT CertificateSet OPTIONAL,
+--       crls [1] IMPLICIT RevocationInfoChoices OPTIONAL,
+--       signerInfos SignerInfos }
+--
+-- Each of the four sets has exactly one member: SHA-256, the EE certificate, its issuer's CRL, the signer.
 -- Signed data of version 3 (RFC 5652, 5.1). The CRL is in DER whatever the mode round it.
 unfoldable pub signed_parts : Mode → Value → Option ViewFields
 signed_parts mode = within sequence (λ vs. do
@@ -84,6 +98,10 @@ signed_parts mode = within sequence (λ vs. do
   signer ← first (wrapped set (signer_info mode)) crl.1
   done (view_of content.0 certificate.0 crl.0 signer.0) signer.1)
 
+--     ContentInfo ::= SEQUENCE {
+--       contentType ContentType,
+--       content [0] EXPLICIT ANY DEFINED BY contentType }
+--
 -- the whole message: content information that holds signed data (RFC 5652, 3)
 unfoldable pub viewed_message : Mode → Value → Option ViewFields
 viewed_message mode = within sequence (λ vs. do

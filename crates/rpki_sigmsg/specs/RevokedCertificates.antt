@@ -15,6 +15,11 @@ pub record EntryFields : Type 0 where
   pub user_certificate : List ℕ
   pub revocation_date : ℤ
 
+--     revokedCertificates SEQUENCE OF SEQUENCE {
+--       userCertificate CertificateSerialNumber,
+--       revocationDate Time,
+--       crlEntryExtensions Extensions OPTIONAL } OPTIONAL
+--
 -- an entry: a serial number, a time, and the entry's extensions or none, unread
 unfoldable pub crl_entry : Value → Option EntryFields
 crl_entry = within sequence (λ vs. do

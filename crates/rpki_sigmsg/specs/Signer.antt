@@ -23,6 +23,16 @@ pub record SignerFields : Type 0 where
   pub signature_value : List ℕ
   pub signature : SignatureParts RpkiAlgorithm
 
+--     SignerInfo ::= SEQUENCE {
+--       version CMSVersion,
+--       sid SignerIdentifier,
+--       digestAlgorithm DigestAlgorithmIdentifier,
+--       signedAttrs [0] IMPLICIT SignedAttributes OPTIONAL,
+--       signatureAlgorithm SignatureAlgorithmIdentifier,
+--       signature SignatureValue,
+--       unsignedAttrs [1] IMPLICIT UnsignedAttributes OPTIONAL }
+--
+-- sid is subjectKeyIdentifier [0], signedAttrs have to be there, and unsignedAttrs can't be.
 -- one signer, of version 3, named by its key identifier
 unfoldable pub signer_info : Mode → Value → Option SignerFields
 signer_info mode = within sequence (λ vs. do

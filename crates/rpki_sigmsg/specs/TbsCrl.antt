@@ -23,7 +23,17 @@ pub record TbsCrlFields : Type 0 where
   pub authority_key_id : Option (List ℕ)
   pub crl_number : Option (List ℕ)
 
--- The version is 2, which is spelled 1. The list of entries may be absent; nextUpdate and the extensions have to be there.
+--     TBSCertList ::= SEQUENCE {
+--       version Version OPTIONAL,
+--       signature AlgorithmIdentifier,
+--       issuer Name,
+--       thisUpdate Time,
+--       nextUpdate Time OPTIONAL,
+--       revokedCertificates SEQUENCE OF SEQUENCE { .. } OPTIONAL,
+--       crlExtensions [0] EXPLICIT Extensions OPTIONAL }
+--
+-- The version has to be there and is 2, which is spelled 1. The list of entries may be absent; nextUpdate and the extensions have to be
+-- there.
 unfoldable pub tbs_crl : Mode → Value → Option TbsCrlFields
 tbs_crl mode = within sequence (λ vs. do
   version ← first (integer_is 1) vs

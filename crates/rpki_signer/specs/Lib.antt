@@ -1,1 +1,2 @@
+-- Said in contracts, and to be believed: Toy.
 pub mod Toy

@@ -1,3 +1,8 @@
+-- Said in contracts, and to be believed:
+-- documents and elements: Name, Lexing, Content, Root, Element, Lettered, Lawful, Texts;
+-- what is asked of an element, and answered: Lookup, Finds, Reading;
+-- what is written: Spelling, Draft.
+-- Means for loops, proofs and the element in memory: Joined, Pieces, Plain, Stack, Nodes, Views.
 pub mod Content
 pub mod Draft
 pub mod Element

@@ -42,12 +42,29 @@ One line is written to standard output. The exit status is
      3  Hex           the input is not hexadecimal
      4  CmsDecode     the input begins with no signed message
      5  XmlError      the content is no message of the protocol
-     6  Validation N  N is the number of the first check that fails, from 1 to
-                      14; 2 is that the content has the digest that was signed
+     6  Validation N  N is the number of the first check that fails, as below
      9  TooLong       more than 67108864 octets of input
     10  ReadFault     standard input failed
     11                standard output failed
     12  OutOfMemory   memory ran out
+
+The checks of receive in their order, and where to look if one fails; content
+makes the second alone. EE is the certificate in the message, SKI and AKI are
+its subject and authority key identifier, MOMENT and KEY are your words.
+     1  the signer is named by the EE's SKI                  message
+     2  the content's SHA-256 is the digest that was signed  message
+     3  the EE's key signed the attributes                   message, scheme
+     4  the EE's SKI is the SHA-1 of its key                 certificate
+     5  MOMENT is in the EE's validity                       clock, certificate
+     6  the EE's AKI, if there is one, is that of KEY        KEY
+     7  the EE is no certificate of an authority             certificate
+     8  KEY signed the EE                                    KEY, certificate
+     9  the CRL has one algorithm, inside and outside        CRL
+    10  KEY signed the CRL                                   KEY, CRL
+    11  the CRL's thisUpdate is not after MOMENT             clock, CRL
+    12  the CRL's nextUpdate is not before MOMENT            clock, CRL
+    13  the CRL's AKI, if there is one, is that of KEY       KEY, CRL
+    14  the CRL does not list the EE                         CRL
 Example: rpkica --help; echo $?
 ";
 
