@@ -9,8 +9,10 @@ mod fields;
 mod octets;
 mod running;
 mod step;
+mod walk;
 
 pub use fields::{Fields, is_answered};
 pub use octets::{invalid, octets_of};
 pub use running::{Cases, run};
 pub use step::{Step, step_of};
+pub use walk::{Calls, is_walked};

@@ -34,6 +34,37 @@ fn leave<L: Ledger>(
     Ok(Fields::done(alloc)?)
 }
 
+fn descend<L: Ledger>(
+    alloc: Global,
+    cursor: &mut Cursor<'_>,
+    tag: &[u8],
+    steps: &mut Steps<L>,
+) -> Result<Fields, DecodeError> {
+    let tag = tag_of(tag)?;
+    for count in 0..u64::MAX {
+        match cursor.enter_counted(tag, steps) {
+            Ok(()) => {}
+            Err(DecodeError::Malformed) => return Ok(Fields::number(alloc, count)?),
+            Err(error) => return Err(error),
+        }
+    }
+    Err(DecodeError::Malformed)
+}
+
+fn ascend<L: Ledger>(
+    alloc: Global,
+    cursor: &mut Cursor<'_>,
+    steps: &mut Steps<L>,
+) -> Result<Fields, DecodeError> {
+    for count in 0..u64::MAX {
+        if cursor.depth() == 0 || !cursor.end() {
+            return Ok(Fields::number(alloc, count)?);
+        }
+        cursor.leave_counted(steps)?;
+    }
+    Err(DecodeError::Malformed)
+}
+
 fn leave_since<L: Ledger>(
     alloc: Global,
     cursor: &mut Cursor<'_>,
@@ -85,6 +116,8 @@ pub fn level_answer<L: Ledger>(
     match step.call {
         "enter" => Some(enter(alloc, cursor, &step.argument, steps)),
         "leave" => Some(leave(alloc, cursor, steps)),
+        "descend" => Some(descend(alloc, cursor, &step.argument, steps)),
+        "ascend" => Some(ascend(alloc, cursor, steps)),
         "leave_since" => Some(leave_since(alloc, cursor, &step.argument, steps)),
         "rest" => Some(rest(alloc, cursor, steps)),
         "pass" => Some(pass(alloc, cursor, steps)),

@@ -18,6 +18,30 @@ fn leave(alloc: Global, cursor: &mut Cursor<'_>) -> Result<Fields, DecodeError> 
     Ok(Fields::done(alloc)?)
 }
 
+// Goes in as often as it can: how often that was.
+fn descend(alloc: Global, cursor: &mut Cursor<'_>, tag: &[u8]) -> Result<Fields, DecodeError> {
+    let tag = tag_of(tag)?;
+    for count in 0..u64::MAX {
+        match cursor.enter(tag) {
+            Ok(()) => {}
+            Err(DecodeError::Malformed) => return Ok(Fields::number(alloc, count)?),
+            Err(error) => return Err(error),
+        }
+    }
+    Err(DecodeError::Malformed)
+}
+
+// Goes out as often as it can: how often that was.
+fn ascend(alloc: Global, cursor: &mut Cursor<'_>) -> Result<Fields, DecodeError> {
+    for count in 0..u64::MAX {
+        if cursor.depth() == 0 || !cursor.end() {
+            return Ok(Fields::number(alloc, count)?);
+        }
+        cursor.leave()?;
+    }
+    Err(DecodeError::Malformed)
+}
+
 // Takes as many values as the argument has octets, and leaves: what was passed.
 fn leave_since(
     alloc: Global,
@@ -94,6 +118,8 @@ pub fn answer(
     match step.call {
         "enter" => Some(enter(alloc, cursor, &step.argument)),
         "leave" => Some(leave(alloc, cursor)),
+        "descend" => Some(descend(alloc, cursor, &step.argument)),
+        "ascend" => Some(ascend(alloc, cursor)),
         "leave_since" => Some(leave_since(alloc, cursor, &step.argument)),
         "rest" => Some(rest(alloc, cursor)),
         "pass" => Some(pass(alloc, cursor)),
