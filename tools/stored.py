@@ -6,7 +6,7 @@ import re
 CRATES = pathlib.Path(__file__).resolve().parent.parent / "crates"
 SIZES = (127, 128, 255, 256, 65535, 65536)
 MALFORMED, NOTHING, DONE = "malformed", "none", "ok"
-REPEATED = re.compile(rb"(.{1,16}?)\1{11,}", re.DOTALL)
+REPEATED = re.compile(rb"(.{1,24}?)\1{11,}", re.DOTALL)
 
 
 def terms(octets):

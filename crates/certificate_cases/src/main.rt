@@ -5,6 +5,8 @@
 //! rules of the toy scheme alone, and says what the calls are.
 #![tactic(auto)]
 
+ghost use Rattle.std.specs.Prelude.{◌≡◌, ◌<◌};
+
 mod checking;
 mod reading;
 mod shown;
@@ -12,8 +14,9 @@ mod shown;
 use rpki_der::{Cursor, DecodeError, Steps};
 use std::alloc::Global;
 use std::io;
-use std::sync::ledger::Ledger;
-use stored_cases::{Calls, Cases, Fields, Step, is_walked, run};
+use std::marker::Brand;
+use std::sync::ledger::{Blank, Ledger};
+use stored_cases::{Calls, Cases, Fields, Step, is_walked, is_walked_counted, run};
 
 struct Certificates;
 
@@ -45,9 +48,24 @@ impl Calls for Certificates {
     }
 }
 
+// Whether a line's case is answered as expected by the counted calls.
+fn holds_counted<L: Ledger>(alloc: Global, line: &str, blank: Blank) -> io::Result<bool>
+    requires name { blank.name ≡ L.name }
+    requires parts { blank.parts ≡ L.parts }
+    requires some { 0 < blank.parts }
+{
+    let mut steps = Steps::<L>::new(blank);
+    is_walked_counted(alloc, &Certificates, line, &mut steps)
+}
+
+// Whether a line's case is answered as expected, first by the calls that aren't counted.
+fn holds(alloc: Global, line: &str) -> io::Result<bool> {
+    Ok(is_walked(alloc, &Certificates, line)? && holds_counted::<Brand>(alloc, line, Blank::new(1))?)
+}
+
 impl Cases for Certificates {
     fn holds(&self, alloc: Global, line: &str) -> io::Result<bool> {
-        is_walked(alloc, self, line)
+        holds(alloc, line)
     }
 }
 

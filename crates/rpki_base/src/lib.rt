@@ -51,10 +51,4 @@ pub use time::Time;
 pub use validity::Validity;
 
 #[cfg(test)]
-mod key_tests;
-#[cfg(test)]
-mod name_tests;
-#[cfg(test)]
-mod signature_tests;
-#[cfg(test)]
-mod time_tests;
+mod tests;

@@ -63,5 +63,3 @@ pub use writer::{Captured, Writer};
 
 #[cfg(test)]
 mod tests;
-#[cfg(test)]
-mod tree_tests;

@@ -18,5 +18,3 @@ pub use validation::{ValidationError, ValidationKind, first_false_decides, names
 
 #[cfg(test)]
 mod tests;
-#[cfg(test)]
-mod validation_tests;

@@ -1,15 +1,12 @@
 //! Lines whose steps go through octets with a cursor.
 
-ghost use Rattle.std.specs.Prelude.{◌≡◌, ◌<◌};
-
 use crate::fields::{Fields, is_answered};
 use crate::octets::{invalid, octets_of};
 use crate::step::{Step, step_of};
 use rpki_der::{Cursor, DecodeError, Mode, Steps};
 use std::alloc::Global;
 use std::io;
-use std::marker::Brand;
-use std::sync::ledger::{Blank, Ledger};
+use std::sync::ledger::Ledger;
 
 /// The calls that steps name.
 pub trait Calls {
@@ -84,47 +81,55 @@ fn holds_counted<C: Calls, L: Ledger>(
     mode: Mode,
     octets: &[u8],
     line: &str,
-    blank: Blank,
-) -> io::Result<bool>
-    requires name { blank.name ≡ L.name }
-    requires parts { blank.parts ≡ L.parts }
-    requires some { 0 < blank.parts }
-{
-    let mut steps = Steps::<L>::new(blank);
+    steps: &mut Steps<L>,
+) -> io::Result<bool> {
     let mut cursor = Cursor::new(alloc, mode, octets);
     for word in line.split_whitespace().skip(3) {
         let step = step_of(alloc, word)?;
-        if !is_met_counted(alloc, calls, &mut cursor, &step, &mut steps)? {
+        if !is_met_counted(alloc, calls, &mut cursor, &step, steps)? {
             return Ok(false);
         }
     }
     Ok(true)
 }
 
-fn holds_twice<C: Calls>(
-    alloc: Global,
-    calls: &C,
-    mode: Mode,
-    octets: &[u8],
-    line: &str,
-) -> io::Result<bool> {
-    Ok(holds(alloc, calls, mode, octets, line)?
-        && holds_counted::<C, Brand>(alloc, calls, mode, octets, line, Blank::new(1))?)
-}
-
-/// Whether the steps of a line `NAME MODE OCTETS STEP..` are answered as expected, once by the calls that aren't counted, and once by
-/// the counted ones where there are such. MODE is `der`, `ber`, or `both` for one after the other.
-pub fn is_walked<C: Calls>(alloc: Global, calls: &C, line: &str) -> io::Result<bool> {
+// The mode and the octets that stand behind the line's name.
+fn subject_of<'a>(alloc: Global, line: &'a str) -> io::Result<(&'a str, Vec<u8>)> {
     let mut words = line.split_whitespace().skip(1);
     let (Some(mode), Some(octets)) = (words.next(), words.next()) else {
         return Err(invalid());
     };
-    let octets = octets_of(alloc, octets)?;
+    Ok((mode, octets_of(alloc, octets)?))
+}
+
+/// Whether the steps of a line `NAME MODE OCTETS STEP..` are answered as expected by the calls that aren't counted. MODE is `der`, `ber`,
+/// or `both` for one after the other.
+pub fn is_walked<C: Calls>(alloc: Global, calls: &C, line: &str) -> io::Result<bool> {
+    let (mode, octets) = subject_of(alloc, line)?;
     match mode {
-        "der" => holds_twice(alloc, calls, Mode::Der, &octets, line),
-        "ber" => holds_twice(alloc, calls, Mode::Ber, &octets, line),
-        "both" => Ok(holds_twice(alloc, calls, Mode::Der, &octets, line)?
-            && holds_twice(alloc, calls, Mode::Ber, &octets, line)?),
+        "der" => holds(alloc, calls, Mode::Der, &octets, line),
+        "ber" => holds(alloc, calls, Mode::Ber, &octets, line),
+        "both" => Ok(holds(alloc, calls, Mode::Der, &octets, line)?
+            && holds(alloc, calls, Mode::Ber, &octets, line)?),
+        _ => Err(invalid()),
+    }
+}
+
+/// The same by the counted calls, and by the others where there are none.
+pub fn is_walked_counted<C: Calls, L: Ledger>(
+    alloc: Global,
+    calls: &C,
+    line: &str,
+    steps: &mut Steps<L>,
+) -> io::Result<bool> {
+    let (mode, octets) = subject_of(alloc, line)?;
+    match mode {
+        "der" => holds_counted(alloc, calls, Mode::Der, &octets, line, steps),
+        "ber" => holds_counted(alloc, calls, Mode::Ber, &octets, line, steps),
+        "both" => Ok(
+            holds_counted(alloc, calls, Mode::Der, &octets, line, steps)?
+                && holds_counted(alloc, calls, Mode::Ber, &octets, line, steps)?,
+        ),
         _ => Err(invalid()),
     }
 }

@@ -7,6 +7,8 @@
 //! are.
 #![tactic(auto)]
 
+ghost use Rattle.std.specs.Prelude.{◌≡◌, ◌<◌};
+
 mod counted;
 mod counted_parts;
 mod leaves;
@@ -20,8 +22,9 @@ mod writing;
 use rpki_der::{Cursor, DecodeError, Mode, Steps};
 use std::alloc::Global;
 use std::io;
-use std::sync::ledger::Ledger;
-use stored_cases::{Calls, Cases, Fields, Step, is_walked, run};
+use std::marker::Brand;
+use std::sync::ledger::{Blank, Ledger};
+use stored_cases::{Calls, Cases, Fields, Step, is_walked, is_walked_counted, run};
 
 // What a call without a cursor answers.
 fn answer_of_octets(
@@ -83,9 +86,24 @@ impl Calls for Values {
     }
 }
 
+// Whether a line's case is answered as expected by the counted calls.
+fn holds_counted<L: Ledger>(alloc: Global, line: &str, blank: Blank) -> io::Result<bool>
+    requires name { blank.name ≡ L.name }
+    requires parts { blank.parts ≡ L.parts }
+    requires some { 0 < blank.parts }
+{
+    let mut steps = Steps::<L>::new(blank);
+    is_walked_counted(alloc, &Values, line, &mut steps)
+}
+
+// Whether a line's case is answered as expected, first by the calls that aren't counted.
+fn holds(alloc: Global, line: &str) -> io::Result<bool> {
+    Ok(is_walked(alloc, &Values, line)? && holds_counted::<Brand>(alloc, line, Blank::new(1))?)
+}
+
 impl Cases for Values {
     fn holds(&self, alloc: Global, line: &str) -> io::Result<bool> {
-        is_walked(alloc, self, line)
+        holds(alloc, line)
     }
 }
 
