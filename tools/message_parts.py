@@ -10,6 +10,7 @@ tools/messages.py writes them behind its own. What the calls answer:
     entries whole_entries             the octets of the entries, then number and second of each
     entry whole_entry                 number and second
     lists,SERIAL                      whether the entries have the serial number
+    checked,'FORMAT/MOMENT            ok under key 0 of seed 1 in the format, or the number of the failing check
 """
 
 import hashlib
@@ -170,6 +171,31 @@ def openssl_cases():
     yield line("crl-of-openssl", "both", OF_OPENSSL, step("whole_crl", *fields), step("crl", *fields))
 
 
+# What breaks each check of a CRL alone; an issuer's key on a curve breaks the tenth.
+BREAKS = {
+    9: dict(crl_outer=seq(RSA_SHA256)), 10: dict(spoilt_crl=True), 11: dict(updates=(NOW + 1, LAST)), 12: dict(updates=(FIRST, NOW - 1)),
+    13: dict(crl_authority=OTHER)}
+
+
+def check_cases():
+    made = lambda **options: crl(SimpleNamespace(**{**GOOD, **options}))
+    asked = lambda form="rsa", moment=NOW: f"{form}/{moment}"
+    for moment, *answer in ((FIRST - 1, 11), (FIRST, "ok"), (LAST, "ok"), (LAST + 1, 12)):
+        yield line(f"crl-at-{moment}", "both", made(), step("checked", *answer, argument=asked(moment=moment)))
+    for first, options in BREAKS.items():
+        yield line(f"crl-check-{first}", "both", made(**options), step("checked", first, argument=asked()))
+        for second, more in BREAKS.items():
+            if first < second and (first, second) != (11, 12):
+                yield line(f"crl-checks-{first}-{second}", "both", made(**{**options, **more}), step("checked", first, argument=asked()))
+    yield line("crl-checks-11-12", "both", made(updates=(NOW + 1, NOW - 1)), step("checked", 11, argument=asked()))
+    yield line("crl-on-a-curve", "both", made(), step("checked", 10, argument=asked("ec")))
+    yield line("crl-on-a-curve-and-9", "both", made(crl_outer=seq(RSA_SHA256)), step("checked", 9, argument=asked("ec")))
+    yield line("crl-without-authority", "both", made(crl_authority=None), step("checked", "ok", argument=asked()))
+    yield line("crl-of-another-seed", "both", made(crl_seed=2), step("checked", 10, argument=asked()))
+    yield line("crl-without-null-twice", "both", made(crl_inner=seq(RSA_SHA256), crl_outer=seq(RSA_SHA256)), step("checked", "ok", argument=asked()))
+    yield line("crl-check-of-none", "both", made()[:-1], step("checked", MALFORMED, argument=asked()))
+
+
 def size_cases():
     for n in SIZES:
         part = b"a" * n
@@ -240,5 +266,5 @@ def message_cases():
 
 
 def lines():
-    for cases in (entry_cases, entries_cases, crl_cases, openssl_cases, message_cases, size_cases):
+    for cases in (entry_cases, entries_cases, crl_cases, openssl_cases, check_cases, message_cases, size_cases):
         yield from cases()

@@ -1,5 +1,6 @@
 //! Calls that read messages, CRLs and their parts.
 
+use crate::checking::checked;
 use crate::shown::{
     crl_shown, entries_shown, entry_shown, message_shown, tbs_shown, view_shown,
 };
@@ -170,6 +171,7 @@ fn whole_answer(
         "whole_tbs_crl" => Some(whole_tbs(alloc, mode, octets)),
         "whole_entries" => Some(whole_entries(alloc, mode, octets)),
         "whole_entry" => Some(whole_entry(alloc, mode, octets)),
+        "checked" => Some(checked(alloc, mode, octets, &step.argument)),
         "lists" => Some(lists(alloc, mode, octets, &step.argument)),
         _ => None,
     }
