@@ -58,10 +58,4 @@ pub use validation::{ValidationError, ValidationKind, first_false_decides, requi
 pub use validity::Validity;
 
 #[cfg(test)]
-mod key_tests;
-#[cfg(test)]
-mod name_tests;
-#[cfg(test)]
-mod signature_tests;
-#[cfg(test)]
-mod time_tests;
+mod tests;

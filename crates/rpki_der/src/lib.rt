@@ -64,5 +64,3 @@ pub use writer::{Captured, Writer};
 
 #[cfg(test)]
 mod tests;
-#[cfg(test)]
-mod tree_tests;

@@ -19,5 +19,3 @@ pub use validation::names_issuer;
 
 #[cfg(test)]
 mod tests;
-#[cfg(test)]
-mod validation_tests;

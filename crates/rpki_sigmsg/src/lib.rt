@@ -33,6 +33,3 @@ pub use revoked::{CrlEntry, RevokedCertificates, equal_entries_are_the_same};
 pub use rpki_der::{DecodeError, OutOfMemory};
 pub use tbs_crl::SignedMessageTbsCrl;
 pub use validation::{moments_are_one_span, three_questions_decide};
-
-#[cfg(test)]
-mod crl_tests;

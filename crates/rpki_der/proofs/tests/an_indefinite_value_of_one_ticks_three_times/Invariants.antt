@@ -2,6 +2,3 @@ use Rattle.rpki_der.proofs.tests.an_indefinite_value_of_one_ticks_three_times.Gi
 
 abbrev pub ghosts-takes_marked : goal.ghosts-takes_marked
 ghosts-takes_marked g a = record { name = a.blank.name; parts = a.blank.parts }
-
-abbrev pub ghosts-goes_through : goal.ghosts-goes_through
-ghosts-goes_through g a = record { name = a.blank.name; parts = a.blank.parts }

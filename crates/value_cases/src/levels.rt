@@ -1,0 +1,136 @@
+//! Calls of a cursor: levels, and whole values.
+
+use crate::shown::{item_shown, optional_item, tag_of};
+use rpki_der::{Cursor, DecodeError, pass_rest, take_rest};
+use std::alloc::Global;
+use stored_cases::{Fields, Step};
+
+fn enter(alloc: Global, cursor: &mut Cursor<'_>, tag: &[u8]) -> Result<Fields, DecodeError> {
+    cursor.enter(tag_of(tag)?)?;
+    Ok(Fields::done(alloc)?)
+}
+
+fn leave(alloc: Global, cursor: &mut Cursor<'_>) -> Result<Fields, DecodeError> {
+    if cursor.depth() == 0 {
+        return Err(DecodeError::Malformed);
+    }
+    cursor.leave()?;
+    Ok(Fields::done(alloc)?)
+}
+
+// Goes in as often as it can: how often that was.
+fn descend(alloc: Global, cursor: &mut Cursor<'_>, tag: &[u8]) -> Result<Fields, DecodeError> {
+    let tag = tag_of(tag)?;
+    for count in 0..u64::MAX {
+        match cursor.enter(tag) {
+            Ok(()) => {}
+            Err(DecodeError::Malformed) => return Ok(Fields::number(alloc, count)?),
+            Err(error) => return Err(error),
+        }
+    }
+    Err(DecodeError::Malformed)
+}
+
+// Goes out as often as it can: how often that was.
+fn ascend(alloc: Global, cursor: &mut Cursor<'_>) -> Result<Fields, DecodeError> {
+    for count in 0..u64::MAX {
+        if cursor.depth() == 0 || !cursor.end() {
+            return Ok(Fields::number(alloc, count)?);
+        }
+        cursor.leave()?;
+    }
+    Err(DecodeError::Malformed)
+}
+
+// Takes as many values as the argument has octets, and leaves: what was passed.
+fn leave_since(
+    alloc: Global,
+    cursor: &mut Cursor<'_>,
+    values: &[u8],
+) -> Result<Fields, DecodeError> {
+    let start = cursor.here();
+    for _ in values {
+        cursor.capture()?;
+    }
+    let mut fields = Fields::one(alloc, cursor.since(start))?;
+    if cursor.depth() == 0 {
+        return Err(DecodeError::Malformed);
+    }
+    fields.octets(cursor.leave_since(start)?)?;
+    Ok(fields)
+}
+
+fn rest(alloc: Global, cursor: &mut Cursor<'_>) -> Result<Fields, DecodeError> {
+    if cursor.depth() == 0 {
+        return Err(DecodeError::Malformed);
+    }
+    Ok(Fields::one(alloc, take_rest(cursor)?)?)
+}
+
+fn pass(alloc: Global, cursor: &mut Cursor<'_>) -> Result<Fields, DecodeError> {
+    if cursor.depth() == 0 {
+        return Err(DecodeError::Malformed);
+    }
+    pass_rest(cursor)?;
+    Ok(Fields::done(alloc)?)
+}
+
+fn primitive(alloc: Global, cursor: &mut Cursor<'_>, tag: &[u8]) -> Result<Fields, DecodeError> {
+    Ok(Fields::one(alloc, cursor.take_primitive(tag_of(tag)?)?)?)
+}
+
+fn capture(alloc: Global, cursor: &mut Cursor<'_>) -> Result<Fields, DecodeError> {
+    Ok(Fields::one(alloc, cursor.capture()?)?)
+}
+
+fn next(alloc: Global, cursor: &mut Cursor<'_>) -> Result<Fields, DecodeError> {
+    optional_item(alloc, cursor.next_value()?)
+}
+
+fn item(alloc: Global, cursor: &mut Cursor<'_>, tag: &[u8]) -> Result<Fields, DecodeError> {
+    item_shown(alloc, &cursor.take_if(tag_of(tag)?)?)
+}
+
+fn optional(alloc: Global, cursor: &mut Cursor<'_>, tag: &[u8]) -> Result<Fields, DecodeError> {
+    optional_item(alloc, cursor.take_opt_if(tag_of(tag)?)?)
+}
+
+fn depth(alloc: Global, cursor: &Cursor<'_>) -> Result<Fields, DecodeError> {
+    let mut fields = Fields::new(alloc);
+    fields.print(alloc, cursor.depth())?;
+    Ok(fields)
+}
+
+fn end(alloc: Global, cursor: &Cursor<'_>) -> Result<Fields, DecodeError> {
+    Ok(Fields::truth(alloc, cursor.end())?)
+}
+
+fn here(alloc: Global, cursor: &Cursor<'_>) -> Result<Fields, DecodeError> {
+    Ok(Fields::one(alloc, cursor.here())?)
+}
+
+/// What a call of this module answers; None where the step is none.
+pub fn answer(
+    alloc: Global,
+    cursor: &mut Cursor<'_>,
+    step: &Step<'_>,
+) -> Option<Result<Fields, DecodeError>> {
+    match step.call {
+        "enter" => Some(enter(alloc, cursor, &step.argument)),
+        "leave" => Some(leave(alloc, cursor)),
+        "descend" => Some(descend(alloc, cursor, &step.argument)),
+        "ascend" => Some(ascend(alloc, cursor)),
+        "leave_since" => Some(leave_since(alloc, cursor, &step.argument)),
+        "rest" => Some(rest(alloc, cursor)),
+        "pass" => Some(pass(alloc, cursor)),
+        "primitive" => Some(primitive(alloc, cursor, &step.argument)),
+        "capture" => Some(capture(alloc, cursor)),
+        "next" => Some(next(alloc, cursor)),
+        "item" => Some(item(alloc, cursor, &step.argument)),
+        "optional" => Some(optional(alloc, cursor, &step.argument)),
+        "depth" => Some(depth(alloc, cursor)),
+        "end" => Some(end(alloc, cursor)),
+        "here" => Some(here(alloc, cursor)),
+        _ => None,
+    }
+}

@@ -1,0 +1,120 @@
+//! Calls over octets that have no cursor: leaves that are kept, trees, tags.
+
+use crate::shown::{append_node, bits_shown, pair_shown, tag_of};
+use rpki_der::{
+    BitString, Children, DecodeError, Mode, Node, OctetString, Oid, Tag, read_tree,
+    take_whole_pair, take_whole_primitive,
+};
+use std::alloc::Global;
+use stored_cases::{Fields, Step};
+
+fn tag(alloc: Global, octets: &[u8]) -> Result<Fields, DecodeError> {
+    Ok(Fields::one(alloc, tag_of(octets)?.as_slice())?)
+}
+
+fn primitive(alloc: Global, mode: Mode, octets: &[u8], tag: &[u8]) -> Result<Fields, DecodeError> {
+    match take_whole_primitive(mode, octets, tag_of(tag)?) {
+        Some(contents) => Ok(Fields::one(alloc, contents)?),
+        None => Err(DecodeError::Malformed),
+    }
+}
+
+fn pair(alloc: Global, mode: Mode, octets: &[u8]) -> Result<Fields, DecodeError> {
+    match take_whole_pair(mode, octets) {
+        Some((first, second)) => pair_shown(alloc, &first, second),
+        None => Err(DecodeError::Malformed),
+    }
+}
+
+fn octet_string(alloc: Global, mode: Mode, octets: &[u8]) -> Result<Fields, DecodeError> {
+    let string = OctetString::take(alloc, mode, octets)?;
+    let mut fields = Fields::one(alloc, string.as_slice())?;
+    fields.print(alloc, string.len())?;
+    fields.octets(string.to_bytes(alloc)?.as_slice())?;
+    Ok(fields)
+}
+
+fn bit_string(alloc: Global, mode: Mode, octets: &[u8]) -> Result<Fields, DecodeError> {
+    let string = BitString::take(alloc, mode, octets)?;
+    bits_shown(alloc, string.unused(), string.octets())
+}
+
+fn oid(alloc: Global, mode: Mode, octets: &[u8]) -> Result<Fields, DecodeError> {
+    let oid = Oid::take(alloc, mode, octets)?;
+    let mut fields = Fields::one(alloc, oid.as_slice())?;
+    fields.octets(format!(in alloc; "{oid}")?.as_bytes())?;
+    Ok(fields)
+}
+
+// The node that comes next, each before those in it; None behind the last.
+fn next_node<'a>(inside: &mut Vec<Children<'a>>) -> Option<Node<'a>> {
+    for _ in 0..u64::MAX {
+        match inside.last_mut()?.next() {
+            Some(node) => return Some(node),
+            None => {
+                inside.pop();
+            }
+        }
+    }
+    None
+}
+
+// How many octets the value at the beginning has, and each node in it.
+fn tree(alloc: Global, mode: Mode, octets: &[u8]) -> Result<Fields, DecodeError> {
+    let (tree, size) = read_tree(alloc, mode, octets)?;
+    let mut fields = Fields::new(alloc);
+    fields.print(alloc, size)?;
+    fields.octets(tree.tag().as_slice())?;
+    fields.octets(&[u8::from(tree.is_constructed())])?;
+    fields.octets(tree.content())?;
+    fields.octets(tree.slice())?;
+    let mut inside: Vec<Children<'_>> = Vec::new(alloc);
+    inside.push(tree.children())?;
+    for _ in 0..octets.len() {
+        let Some(node) = next_node(&mut inside) else {
+            return Ok(fields);
+        };
+        append_node(&mut fields, &node)?;
+        inside.push(node.children())?;
+    }
+    Ok(fields)
+}
+
+// How many octets the value at the beginning has, and how many nodes there are.
+fn tree_size(alloc: Global, mode: Mode, octets: &[u8]) -> Result<Fields, DecodeError> {
+    let (tree, size) = read_tree(alloc, mode, octets)?;
+    let mut inside: Vec<Children<'_>> = Vec::new(alloc);
+    inside.push(tree.root().children())?;
+    let mut nodes = 1u64;
+    for _ in 0..octets.len() {
+        let Some(node) = next_node(&mut inside) else {
+            break;
+        };
+        nodes = nodes.saturating_add(1);
+        inside.push(node.children())?;
+    }
+    let mut fields = Fields::new(alloc);
+    fields.print(alloc, size)?;
+    fields.print(alloc, nodes)?;
+    Ok(fields)
+}
+
+/// What a call of this module answers; None where the step is none.
+pub fn answer(
+    alloc: Global,
+    mode: Mode,
+    octets: &[u8],
+    step: &Step<'_>,
+) -> Option<Result<Fields, DecodeError>> {
+    match step.call {
+        "tag" => Some(tag(alloc, octets)),
+        "whole_primitive" => Some(primitive(alloc, mode, octets, &step.argument)),
+        "whole_pair" => Some(pair(alloc, mode, octets)),
+        "octet_string" => Some(octet_string(alloc, mode, octets)),
+        "bit_string" => Some(bit_string(alloc, mode, octets)),
+        "whole_oid" => Some(oid(alloc, mode, octets)),
+        "tree" => Some(tree(alloc, mode, octets)),
+        "tree_size" => Some(tree_size(alloc, mode, octets)),
+        _ => None,
+    }
+}
