@@ -6,9 +6,9 @@ use Rattle.rpki_common.specs.Chaining.{◌>>=◌}
 use Rattle.rpki_common.specs.Items as items
 use Rattle.rpki_xml.specs.Content.{is_declaration, trimmed}
 use Rattle.rpki_xml.specs.Element.{alone, none}
-use Rattle.rpki_xml.specs.Lawful.{IsPlainName, IsPlainHead, ArePlain}
+use Rattle.rpki_xml.specs.PlainElement.{IsPlainName, IsPlainHead, ArePlain}
 use Rattle.rpki_xml.specs.Lexing.{is_octet}
-use Rattle.rpki_xml.specs.Lookup.{only, optional, required}
+use Rattle.rpki_xml.specs.Tables.{only, optional, required}
 use Rattle.rpki_xml.proofs.Octets.{written_is_read}
 use Rattle.rpki_publication.specs.declared.message.Message.{Message}
 use Rattle.rpki_publication.specs.declared.message.Message.TheVariants as message

@@ -8,9 +8,9 @@ use Rattle.rpki_sigmsg.specs.Message.{MessageFields, signed_message}
 use Rattle.rpki_xml.specs.declared.error.XmlError.{XmlError}
 use Rattle.rpki_xml.specs.declared.error.XmlError.TheVariants as xml
 use Rattle.rpki_xml.specs.Element.{Element}
-use Rattle.rpki_xml.specs.Finds.{IsRefused}
+use Rattle.rpki_xml.specs.Answers.{IsRefused}
 use Rattle.rpki_xml.specs.Lexing.{IsDocument}
-use Rattle.rpki_xml.specs.Reading.{Fails}
+use Rattle.rpki_xml.specs.Answers.{Fails}
 use Rattle.rpki_xml.proofs.Documents.{one_document}
 use Rattle.rpki_publication.specs.declared.error.Error.{Error}
 use Rattle.rpki_publication.specs.declared.error.Error.TheVariants as errors

@@ -6,8 +6,8 @@ use Rattle.rpki_common.specs.Chaining.{◌>>=◌}
 use Rattle.rpki_xml.specs.declared.element.Attribute.{Attribute}
 use Rattle.rpki_xml.specs.Element.{Elements, none, Element, alone, is_nil}
 use Rattle.rpki_xml.specs.Lexing.{IsDocument}
-use Rattle.rpki_xml.specs.Lookup.{require, is_named, only, optional, required, is_or_absent, is_empty}
-use Rattle.rpki_xml.specs.Root.{only_element}
+use Rattle.rpki_xml.specs.Tables.{require, is_named, only, optional, required, is_or_absent, is_empty}
+use Rattle.rpki_xml.specs.Tables.{the_child}
 use Rattle.rpki_xml.specs.Spelling.{spelled}
 use Rattle.rpki_publication.specs.declared.message.Message.{Message}
 use Rattle.rpki_publication.specs.declared.message.Message.TheVariants as message
@@ -77,14 +77,14 @@ success_in = bare_in (codes "success")
 -- what stands in a query: one `list` (2.1 and 2.3)
 unfoldable pub query_in : Elements → Option Query
 query_in elements = do
-  e ← only_element elements
+  e ← the_child elements
   _ ← list_in e
   Some query.List
 
 -- what stands in a reply: one `success` (2.1 and 2.2)
 unfoldable pub reply_in : Elements → Option Reply
 reply_in elements = do
-  e ← only_element elements
+  e ← the_child elements
   _ ← success_in e
   Some reply.Success
 

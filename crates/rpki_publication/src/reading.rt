@@ -2,17 +2,17 @@
 
 ghost use Rattle.std.specs.Prelude.{◌≡◌};
 ghost use Rattle.std.specs.Option.{option_copied};
-ghost use Rattle.rpki_xml.specs.Lookup.{is_or_absent};
-ghost use Rattle.rpki_xml.specs.Reading.{Gives};
-ghost use Rattle.rpki_xml.specs.Root.{only_element};
+ghost use Rattle.rpki_xml.specs.Tables.{is_or_absent};
+ghost use Rattle.rpki_xml.specs.Answers.{Gives};
+ghost use Rattle.rpki_xml.specs.Tables.{the_child};
 ghost use Rattle.rpki_publication.specs.Message.{bare_in, query_in, reply_in, body_in, type_in, message_of};
 
 use crate::message::{Message, Query, Reply};
 use rpki_xml::{Children, ElementRef, XmlError};
 
 // The one element that there is.
-fn only_element<'a>(mut children: Children<'a>) -> Result<ElementRef<'a>, XmlError>
-    ensures { Gives (λ e. e) result (only_element children.entry) }
+fn the_child<'a>(mut children: Children<'a>) -> Result<ElementRef<'a>, XmlError>
+    ensures { Gives (the_child children.entry) (λ e. e) result }
 {
     let Some(e) = children.next() else {
         return Err(XmlError::Malformed);
@@ -25,7 +25,7 @@ fn only_element<'a>(mut children: Children<'a>) -> Result<ElementRef<'a>, XmlErr
 
 // An element with nothing but this name.
 fn bare_in(local: &str, e: &ElementRef<'_>) -> Result<(), XmlError>
-    ensures { Gives (λ _. tt) result (bare_in local.now e.now) }
+    ensures { Gives (bare_in local.now e.now) (λ _. tt) result }
 {
     if !e.is_named(local) {
         return Err(XmlError::Malformed);
@@ -38,23 +38,23 @@ fn bare_in(local: &str, e: &ElementRef<'_>) -> Result<(), XmlError>
 }
 
 fn query_in(children: Children<'_>) -> Result<Query, XmlError>
-    ensures { Gives (λ q. q) result (query_in children.entry) }
+    ensures { Gives (query_in children.entry) (λ q. q) result }
 {
-    let e = only_element(children)?;
+    let e = the_child(children)?;
     bare_in("list", &e)?;
     Ok(Query::List)
 }
 
 fn reply_in(children: Children<'_>) -> Result<Reply, XmlError>
-    ensures { Gives (λ r. r) result (reply_in children.entry) }
+    ensures { Gives (reply_in children.entry) (λ r. r) result }
 {
-    let e = only_element(children)?;
+    let e = the_child(children)?;
     bare_in("success", &e)?;
     Ok(Reply::Success)
 }
 
 fn body_in(kind: &str, children: Children<'_>) -> Result<Message, XmlError>
-    ensures { Gives (λ m. m) result (body_in kind.now children.entry) }
+    ensures { Gives (body_in kind.now children.entry) (λ m. m) result }
 {
     match kind {
         "query" => Ok(Message::Query(query_in(children)?)),
@@ -74,7 +74,7 @@ fn is_or_absent(value: Option<&str>, text: &str) -> bool
 
 // The type that a root gives.
 fn type_in<'a>(root: &ElementRef<'a>) -> Result<&'a str, XmlError>
-    ensures { Gives (λ kind. kind.now) result (type_in root.now) }
+    ensures { Gives (type_in root.now) (λ kind. kind.now) result }
 {
     if !root.is_named("msg") || !root.is_textless() {
         return Err(XmlError::Malformed);
@@ -89,7 +89,7 @@ fn type_in<'a>(root: &ElementRef<'a>) -> Result<&'a str, XmlError>
 
 /// The message that an element is read as.
 pub(crate) fn message_of(root: &ElementRef<'_>) -> Result<Message, XmlError>
-    ensures { Gives (λ m. m) result (message_of root.now) }
+    ensures { Gives (message_of root.now) (λ m. m) result }
 {
     let kind = type_in(root)?;
     body_in(kind, root.children())

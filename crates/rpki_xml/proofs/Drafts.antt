@@ -22,6 +22,11 @@ attributes (a ∷ list) octets more names =
     ∙ attributes list octets (more ++ spelled_attribute a.name a.value) names
     ∙ ap (λ (m : List ℕ). started octets m names) (append_assoc more (spelled_attribute a.name a.value) (spelled_attributes list))
 
+-- attributes that follow each other
+pub attributes_follow : (front back : List Attribute) (d : Draft) → with_attributes back (with_attributes front d) ≡ with_attributes (front ++ back) d
+attributes_follow [] back d = refl
+attributes_follow (a ∷ front) back d = attributes_follow front back (with_attribute a.name a.value d)
+
 namespace : (uri : Option (List ℕ)) (octets more : List ℕ) (names : List (List ℕ)) → with_namespace uri (started octets more names) ≡ started octets (more ++ spelled_namespace uri) names
 unfolding with_attribute
 namespace None octets more names = ap (λ (m : List ℕ). started octets m names) (sym (append-nil more))

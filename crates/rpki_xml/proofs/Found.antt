@@ -5,16 +5,11 @@ use Rattle.std.specs.Borrow.{Bor}
 use Rattle.std.specs.List.{AllByRecursion}
 use Rattle.std.specs.Option.{option_copied}
 use Rattle.std.specs.Prelude.{filter, is_some}
-use Rattle.std.specs.Str.{IsUtf8}
 use Rattle.rpki_common.specs.Chaining.{◌>>=◌}
 use Rattle.rpki_common.specs.Items as items
 use Rattle.rpki_xml.specs.Element.{Attribute}
 use Rattle.rpki_xml.specs.Lettered.{AreOctets, IsLetteredAttribute}
-use Rattle.rpki_xml.specs.Lookup.{value_of}
-use Rattle.rpki_xml.specs.Reading.{Fails}
-use Rattle.rpki_xml.specs.declared.error.XmlError.{XmlError}
-use Rattle.rpki_xml.specs.declared.error.XmlError.TheVariants as errors
-use Rattle.rpki_xml.proofs.Letters.{utf8}
+use Rattle.rpki_xml.specs.Tables.{value_of}
 
 -- what was found, what is left, and the whole list of those with the name
 abbrev pub Found : Option (List ℕ) → List Attribute → List Attribute → Type 0
@@ -81,10 +76,6 @@ only_done test list i total le h = sym h ∙ ap (items.only test) (drop_all i li
 
 -- ---- exactly one, and the octets of what was found
 
-pub fails_one : (e : XmlError) (total : List Attribute) → Fails e (items.at_most_one value_of total) → Fails e (items.the_one value_of total)
-fails_one errors.OutOfMemory total h = tt
-fails_one errors.Malformed total h = the_one_fails total h
-
 chosen_lettered : (test : Attribute → Bool) (list : List Attribute) → AllByRecursion IsLetteredAttribute list → AllByRecursion IsLetteredAttribute (filter test list)
 chosen_lettered test [] h = tt
 chosen_lettered test (a ∷ list) h = let more = chosen_lettered test list h.1 in go (test a) more
@@ -105,8 +96,10 @@ one_lettered [] value h e = absurd cc
 one_lettered (a ∷ []) value h e = let is : a.value ≡ value = cc in subst AreOctets is h.0.value
 one_lettered (a ∷ b ∷ more) value h e = absurd cc
 
-pub optional_utf8 : (test : Attribute → Bool) (list : List Attribute) (value : List ℕ) → AllByRecursion IsLetteredAttribute list → items.at_most_one value_of (filter test list) ≡ Some (Some value) → IsUtf8 value
-optional_utf8 test list value h e = utf8 value (value_lettered (filter test list) value (chosen_lettered test list h) e)
+pub optional_octets : (test : Attribute → Bool) (list : List Attribute) (value : List ℕ) → AllByRecursion IsLetteredAttribute list
+    → items.at_most_one value_of (filter test list) ≡ Some (Some value) → AreOctets value
+optional_octets test list value h e = value_lettered (filter test list) value (chosen_lettered test list h) e
 
-pub required_utf8 : (test : Attribute → Bool) (list : List Attribute) (value : List ℕ) → AllByRecursion IsLetteredAttribute list → items.the_one value_of (filter test list) ≡ Some value → IsUtf8 value
-required_utf8 test list value h e = utf8 value (one_lettered (filter test list) value (chosen_lettered test list h) e)
+pub required_octets : (test : Attribute → Bool) (list : List Attribute) (value : List ℕ) → AllByRecursion IsLetteredAttribute list
+    → items.the_one value_of (filter test list) ≡ Some value → AreOctets value
+required_octets test list value h e = one_lettered (filter test list) value (chosen_lettered test list h) e

@@ -5,7 +5,7 @@ use Rattle.std.proofs.lemmas.Bool.{ne_eqb}
 use Rattle.rpki_xml.specs.declared.element.Node.{Node}
 use Rattle.rpki_xml.specs.declared.error.XmlError.{XmlError}
 use Rattle.rpki_xml.specs.declared.error.XmlError.TheVariants as errors
-use Rattle.rpki_xml.specs.Reading.{Fails}
+use Rattle.rpki_xml.specs.Answers.{Fails}
 use Rattle.rpki_xml.specs.Element.{Head, Elements, none, first, alone, joined}
 use Rattle.rpki_xml.specs.Nodes.{Slot, flat, tree_of-flat}
 use Rattle.rpki_xml.specs.Views.{head_of, slots}

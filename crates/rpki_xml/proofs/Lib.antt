@@ -1,3 +1,4 @@
+pub mod AttributeSpellings
 pub mod Contents
 pub mod Documents
 pub mod Drafts
@@ -6,11 +7,14 @@ pub mod Flats
 pub mod Found
 pub mod Held
 pub mod Letters
+pub mod Listed
 pub mod NameSets
 pub mod Octets
 pub mod Plains
+pub mod Repetitions
 pub mod Roots
 pub mod Spelled
 pub mod Stacks
+pub mod Trims
 pub mod Until
 pub mod Written

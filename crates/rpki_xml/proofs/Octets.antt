@@ -9,7 +9,7 @@ use Rattle.rpki_xml.specs.Lexing.{is_octet, IsDocument}
 use Rattle.rpki_xml.specs.Lettered.{AreOctets}
 use Rattle.rpki_xml.specs.Name.{is_name_octet}
 use Rattle.rpki_xml.specs.Spelling.{text_character, value_character, spelled_text, spelled_value, spelled_attribute, spelled_attributes, spelled_namespace, spelled_start, spelled_inside, spelled_end, spelled_all, spelled}
-use Rattle.rpki_xml.specs.Lawful.{IsPlainAttribute, ArePlain}
+use Rattle.rpki_xml.specs.PlainElement.{IsPlainAttribute, ArePlain}
 use Rattle.rpki_xml.proofs.Spelled.{by_three}
 use Rattle.rpki_xml.proofs.Written.{is_document}
 

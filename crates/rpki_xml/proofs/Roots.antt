@@ -12,10 +12,12 @@ use Rattle.rpki_xml.specs.Content.{Piece, is_white}
 use Rattle.rpki_xml.specs.Nodes.{Slot, flat, tree_of, tree_of-flat, IsFlat}
 use Rattle.rpki_xml.specs.Views.{head_of, slots}
 use Rattle.rpki_xml.specs.Stack.{whole, step, Open, open_slot, slots_of, places_of, held, IsHeld}
-use Rattle.rpki_xml.specs.Root.{root_of, IsWhole, only_element, root_element}
+use Rattle.rpki_xml.specs.Tables.{the_child}
+use Rattle.rpki_xml.specs.DocumentNodes.{root_of, IsWhole, root_element}
 use Rattle.rpki_xml.specs.Lexing.{piece_at, is_octet, IsDocument}
-use Rattle.rpki_xml.specs.Finds.{bare_head, IsRefused}
-use Rattle.rpki_xml.specs.Reading.{Fails, Gives}
+use Rattle.rpki_xml.specs.Answers.{IsRefused}
+use Rattle.rpki_xml.specs.Stack.{bare_head}
+use Rattle.rpki_xml.specs.Answers.{Fails, Gives}
 use Rattle.rpki_xml.proofs.Documents.{Reached, at_start, at_end, is_document, no_piece_there, no_step_there}
 use Rattle.rpki_xml.proofs.Held.{held_is, slot_with}
 
@@ -82,7 +84,7 @@ not_white nodes places n rest p black =
     let b : list_all is_white p.d.head.text ≡ false = ap (list_all is_white) (sym p.text_is) ∙ black in
     rw (p.held_are, b) refl
 
-only_none : (es : Elements) → is_some (only_element es) ≡ false → only_element es ≡ None
+only_none : (es : Elements) → is_some (the_child es) ≡ false → the_child es ≡ None
 only_none none e = refl
 only_none (first h cs none) e = absurd cc
 only_none (first h cs (first h' cs' rest)) e = refl
@@ -91,22 +93,22 @@ no_matter : (b : Bool) → cond b no_element no_element ≡ None
 no_matter true = refl
 no_matter false = refl
 
-pub not_one : (nodes : List Node) (places : List ℕ) (n : Node) (rest : List Node) (p : Parts nodes places n rest) → is_some (only_element (tree_of (slots rest))) ≡ false → root_element (held nodes places) ≡ None
+pub not_one : (nodes : List Node) (places : List ℕ) (n : Node) (rest : List Node) (p : Parts nodes places n rest) → is_some (the_child (tree_of (slots rest))) ≡ false → root_element (held nodes places) ≡ None
 unfolding root_element
 not_one nodes places n rest p many =
-    let m : only_element p.d.done ≡ None = only_none p.d.done (ap (λ (es : Elements). is_some (only_element es)) (sym p.tree_is) ∙ many) in
+    let m : the_child p.d.done ≡ None = only_none p.d.done (ap (λ (es : Elements). is_some (the_child es)) (sym p.tree_is) ∙ many) in
     rw (p.held_are, m) (no_matter (list_all is_white p.d.head.text))
 
-only_some : (es : Elements) → is_some (only_element es) ≡ true → (x : Element) × (es ≡ alone x) × (only_element es ≡ Some x)
+only_some : (es : Elements) → is_some (the_child es) ≡ true → (x : Element) × (es ≡ alone x) × (the_child es ≡ Some x)
 only_some none e = absurd cc
 only_some (first h cs none) e = (record { head = h; children = cs }, refl, refl)
 only_some (first h cs (first h' cs' rest)) e = absurd cc
 
-pub root_is : (nodes : List Node) (places : List ℕ) (n : Node) (rest : List Node) (p : Parts nodes places n rest) → nodes ≡ n ∷ rest → list_all is_white n.text ≡ true → is_some (only_element (tree_of (slots rest))) ≡ true → (root_element (held nodes places) ≡ Some (root_of nodes)) × IsWhole nodes
+pub root_is : (nodes : List Node) (places : List ℕ) (n : Node) (rest : List Node) (p : Parts nodes places n rest) → nodes ≡ n ∷ rest → list_all is_white n.text ≡ true → is_some (the_child (tree_of (slots rest))) ≡ true → (root_element (held nodes places) ≡ Some (root_of nodes)) × IsWhole nodes
 unfolding root_element root_of
 root_is nodes places n rest p e white one =
     let b : list_all is_white p.d.head.text ≡ true = ap (list_all is_white) (sym p.text_is) ∙ white in
-    let x = only_some p.d.done (ap (λ (es : Elements). is_some (only_element es)) (sym p.tree_is) ∙ one) in
+    let x = only_some p.d.done (ap (λ (es : Elements). is_some (the_child es)) (sym p.tree_is) ∙ one) in
     let tree : tree_of (slots (drop 1 nodes)) ≡ alone x.0 = ap (λ (l : List Node). tree_of (slots (drop 1 l))) e ∙ p.tree_is ∙ x.1 in
     let root : root_of nodes ≡ x.0 = rw tree refl in
     (rw (p.held_are, b) (x.2 ∙ ap (λ (y : Element). Some y) (sym root)), ap (λ (l : List Node). slots (drop 1 l)) e ∙ sym p.flat_is ∙ ap flat (p.tree_is ∙ x.1) ∙ ap (λ (y : Element). flat (alone y)) (sym root))
@@ -117,14 +119,14 @@ root_some : (opens : List Open) (x : Element) → root_element opens ≡ Some x 
 unfolding root_element
 root_some [] x e = absurd cc
 root_some (d ∷ []) x e =
-    let g = guard (list_all is_white d.head.text) (only_element d.done) x e in
+    let g = guard (list_all is_white d.head.text) (the_child d.done) x e in
     (d, refl, only_is d.done x g.1, g.0)
   where
     guard : (b : Bool) (o : Option Element) (x : Element) → cond b o None ≡ Some x → (b ≡ true) × (o ≡ Some x)
     guard true o x e = (refl, e)
     guard false o x e = absurd cc
 
-    only_is : (es : Elements) (x : Element) → only_element es ≡ Some x → es ≡ alone x
+    only_is : (es : Elements) (x : Element) → the_child es ≡ Some x → es ≡ alone x
     only_is none x e = absurd cc
     only_is (first h cs none) x e = let s : record { head = h; children = cs } ≡ x = cc in ap alone s
     only_is (first h cs (first h' cs' rest)) x e = absurd cc
@@ -201,6 +203,6 @@ pub step_refused : (e : XmlError) (b rest next : List ℕ) (p : Piece) (opens : 
 step_refused errors.OutOfMemory b rest next p opens h found fails = tt
 step_refused errors.Malformed b rest next p opens h found fails = λ x doc. no_step_there b rest next p opens x h found fails doc
 
-pub answered : {X : Type 0} (view : X → Element) (r : Result X XmlError) (b rest : List ℕ) (opens : List Open) → list_all is_octet b ≡ true → Reached b rest opens → true ≡ eqb (length rest) 0 → Gives view r (root_element opens) → MatchResult r (λ x. IsDocument b (view x)) (λ e. IsRefused e b)
+pub answered : {X : Type 0} (view : X → Element) (r : Result X XmlError) (b rest : List ℕ) (opens : List Open) → list_all is_octet b ≡ true → Reached b rest opens → true ≡ eqb (length rest) 0 → Gives (root_element opens) view r → MatchResult r (λ x. IsDocument b (view x)) (λ e. IsRefused e b)
 answered view (Ok x) b rest opens octets h over given = read_ok b opens (view x) octets (subst (λ (l : List ℕ). Reached b l opens) (nil_from_length rest (eqb-true (length rest) 0 (sym over))) h) given
 answered view (Err e) b rest opens octets h over given = read_fails e b opens (subst (λ (l : List ℕ). Reached b l opens) (nil_from_length rest (eqb-true (length rest) 0 (sym over))) h) given

@@ -9,7 +9,7 @@ use Rattle.rpki_xml.specs.Content.{run, leaf, start, end, is_white}
 use Rattle.rpki_xml.specs.Lexing.{any_entity_at, character_at, ends_at, repeated, until, value_in, quoted_at, front_of, back_of, past_white, name_at, attribute_at, begins_close, no_attribute, tag_at, end_at, run_at, markup_at, piece_at}
 use Rattle.rpki_xml.specs.Name.{is_letter, is_name_octet, ends_name, is_name}
 use Rattle.rpki_xml.specs.Spelling.{text_character, value_character, spelled_value, spelled_attribute, spelled_attributes, spelled_end}
-use Rattle.rpki_xml.specs.Lawful.{IsPlainName}
+use Rattle.rpki_xml.specs.PlainElement.{IsPlainName}
 
 -- ---- characters
 
@@ -113,7 +113,7 @@ both true true e = (refl, refl)
 both true false e = absurd cc
 both false b e = absurd cc
 
-front_again : (passes : ℕ → Bool) (n rest : List ℕ) → list_all passes n ≡ true → Stops passes rest → (front_of passes (n ++ rest) ≡ n) × (back_of passes (n ++ rest) ≡ rest)
+pub front_again : (passes : ℕ → Bool) (n rest : List ℕ) → list_all passes n ≡ true → Stops passes rest → (front_of passes (n ++ rest) ≡ n) × (back_of passes (n ++ rest) ≡ rest)
 front_again passes [] rest h s = s
 front_again passes (c ∷ n) rest h s =
     let p = both (passes c) (list_all passes n) h in
@@ -147,7 +147,7 @@ unlike k c no_first is_so = go (eqb c k) refl
 not_white : (c : ℕ) → is_first c ≡ true → is_white c ≡ false
 not_white c h = rw (unlike 9 c refl h, unlike 10 c refl h, unlike 13 c refl h, unlike 32 c refl h) refl
 
-past_white_name : (n rest : List ℕ) → is_name n ≡ true → past_white (n ++ rest) ≡ n ++ rest
+pub past_white_name : (n rest : List ℕ) → is_name n ≡ true → past_white (n ++ rest) ≡ n ++ rest
 past_white_name n rest h =
     let f = first_of_name n h in
     ap (λ (l : List ℕ). past_white (l ++ rest)) f.2 ∙ rw (not_white f.0 f.3) (ap (λ (l : List ℕ). l ++ rest) (sym f.2))
@@ -166,7 +166,7 @@ attribute_again n v rest h =
     let regroup : spelled_attribute n v ++ rest ≡ 32 ∷ (n ++ tail) = ap (λ (l : List ℕ). 32 ∷ l) (append_assoc n (61 ∷ 34 ∷ (spelled_value v ++ 34 ∷ [])) rest ∙ ap (λ (l : List ℕ). n ++ 61 ∷ 34 ∷ l) (append_assoc (spelled_value v) (34 ∷ []) rest)) in
     ap attribute_at regroup ∙ rw (past_white_name n tail h.lawful, name_again n tail h (refl, refl), value_in_again v rest) refl
 
-first_goes_on : (n rest : List ℕ) → is_name n ≡ true → begins_close (n ++ rest) ≡ false
+pub first_goes_on : (n rest : List ℕ) → is_name n ≡ true → begins_close (n ++ rest) ≡ false
 first_goes_on n rest h =
     let f = first_of_name n h in
     ap (λ (l : List ℕ). begins_close (l ++ rest)) f.2 ∙ rw (unlike 47 f.0 refl f.3, unlike 62 f.0 refl f.3) refl

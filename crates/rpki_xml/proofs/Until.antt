@@ -4,7 +4,7 @@ use Rattle.std.proofs.lemmas.List.{append-nil}
 use Rattle.rpki_xml.specs.declared.error.XmlError.{XmlError}
 use Rattle.rpki_xml.specs.declared.error.XmlError.TheVariants as errors
 use Rattle.rpki_common.specs.Chaining.{◌>>=◌}
-use Rattle.rpki_xml.specs.Reading.{Fails}
+use Rattle.rpki_xml.specs.Answers.{Fails}
 use Rattle.rpki_xml.specs.Lexing.{repeated, until}
 
 -- what was read before, and what is still read

@@ -9,7 +9,7 @@ use Rattle.rpki_xml.specs.Element.{Attribute, Head, Elements, none, first, Eleme
 use Rattle.rpki_xml.specs.Content.{Tag, Piece, run, end, Content, pieces, characters, elements_in, text_of, head_of, fits, is_distinct, is_declaration, handed_on, namespace_of, declares, declared, trimmed, is_white, IsLawful}
 use Rattle.rpki_xml.specs.Lexing.{piece_at, Repeats, is_octet, IsDocument}
 use Rattle.rpki_xml.specs.Spelling.{text_character, spelled_text, spelled_attributes, spelled_namespace, spelled_start, spelled_inside, spelled_end, spelled_all, spelled}
-use Rattle.rpki_xml.specs.Lawful.{IsPlainAttribute, IsPlainHead, ArePlain}
+use Rattle.rpki_xml.specs.PlainElement.{IsPlainAttribute, IsPlainHead, ArePlain}
 use Rattle.rpki_xml.proofs.Contents.{declaration, tag_of, text_content, element_content, content_of}
 use Rattle.rpki_xml.proofs.Spelled.{run_again, leaf_again, start_again, end_again, ArePlainAttributes}
 

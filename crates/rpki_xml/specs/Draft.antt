@@ -1,6 +1,5 @@
 -- A document while it is written.
-use Rattle.std.specs.Prelude.{ℕ, List, [], ◌∷◌, ◌++◌, Bool, true, false, Option, Some, None, if◌then◌else◌, drop, codes, map, reverse}
-use Rattle.std.specs.Global.{Vec}
+use Rattle.std.specs.Prelude.{ℕ, List, [], ◌∷◌, ◌++◌, Bool, true, false, Option, Some, None, if◌then◌else◌, drop, codes}
 use Rattle.rpki_xml.specs.Element.{Attribute, Head, Elements, none, first, Element, alone}
 use Rattle.rpki_xml.specs.Spelling.{spelled_text, spelled_attribute, spelled_end, spelled_all}
 
@@ -28,10 +27,6 @@ opened name d = record { octets = settled d.in_start d.octets ++ 60 ∷ name; op
 unfoldable pub with_attribute : List ℕ → List ℕ → Draft → Draft
 with_attribute name value d = record { octets = d.octets ++ spelled_attribute name value; open_names = d.open_names; in_start = d.in_start }
 
-abbrev pub with_optional : List ℕ → Option (List ℕ) → Draft → Draft
-with_optional name None d = d
-with_optional name (Some value) d = with_attribute name value d
-
 -- an empty text leaves the start open
 abbrev pub with_text : List ℕ → Draft → Draft
 with_text [] d = d
@@ -50,8 +45,13 @@ abbrev pub with_attributes : List Attribute → Draft → Draft
 with_attributes [] d = d
 with_attributes (a ∷ more) d = with_attributes more (with_attribute a.name a.value d)
 
+-- the attribute with a value that may be absent: none, or one
+abbrev pub optional_attribute : List ℕ → Option (List ℕ) → List Attribute
+optional_attribute name None = []
+optional_attribute name (Some value) = record { name = name; value = value } ∷ []
+
 abbrev pub with_namespace : Option (List ℕ) → Draft → Draft
-with_namespace uri d = with_optional (codes "xmlns") uri d
+with_namespace uri d = with_attributes (optional_attribute (codes "xmlns") uri) d
 
 -- the draft with whole elements inside its innermost element
 unfoldable pub with_elements : Elements → Draft → Draft
@@ -68,7 +68,3 @@ with_start h d = with_attributes h.attributes (with_namespace h.namespace (opene
 -- what the calls for an element make of a draft: its start, its text, its children, its end
 abbrev pub written : Element → Draft → Draft
 written e d = closed (with_elements e.children (with_text e.head.text (with_start e.head d)))
-
--- the names that the code holds, the innermost last
-abbrev pub names_of : List (Vec ℕ) → List (List ℕ)
-names_of names = reverse (map (λ n. n.items) names)

@@ -29,6 +29,11 @@ abbrev pub joined : Elements → Elements → Elements
 joined none more = more
 joined (first head children rest) more = first head children (joined rest more)
 
+-- the elements as a list
+abbrev pub listed : Elements → List Element
+listed none = []
+listed (first head children rest) = record { head = head; children = children } ∷ listed rest
+
 -- the elements that a list gives, one for each item
 abbrev pub elements_of : {X : Type 0} → (X → Element) → List X → Elements
 elements_of f [] = none

@@ -1,24 +1,26 @@
 -- Said in contracts, and to be believed:
--- documents and elements: Name, Lexing, Content, Root, Element, Lettered, Lawful, Texts;
--- what is asked of an element, and answered: Lookup, Finds, Reading;
--- what is written: Spelling, Draft.
--- Means for loops, proofs and the element in memory: Joined, Pieces, Plain, Stack, Nodes, Views.
+-- documents and elements: Name, Lexing, Runs, Content, Element, Lettered, Texts, Trimmed, AttributeSpelling;
+-- what is asked of an element, and answered: Tables, Answers;
+-- what is written: Spelling, Draft, PlainCharacter, PlainElement.
+-- Means for loops, proofs and the element in memory: Joined, Pieces, Stack, Nodes, DocumentNodes, Views.
+pub mod Answers
+pub mod AttributeSpelling
 pub mod Content
+pub mod DocumentNodes
 pub mod Draft
 pub mod Element
-pub mod Finds
 pub mod Joined
-pub mod Lawful
 pub mod Lettered
 pub mod Lexing
-pub mod Lookup
 pub mod Name
 pub mod Nodes
 pub mod Pieces
-pub mod Plain
-pub mod Reading
-pub mod Root
+pub mod PlainCharacter
+pub mod PlainElement
+pub mod Runs
 pub mod Spelling
 pub mod Stack
+pub mod Tables
 pub mod Texts
+pub mod Trimmed
 pub mod Views

@@ -15,6 +15,10 @@ pub record Open : Type 0 where
   pub head : Head
   pub done : Elements
 
+-- a head with this name, and nothing else
+abbrev pub bare_head : List ℕ → Head
+bare_head name = record { name = name; namespace = None; attributes = []; text = [] }
+
 abbrev pub with_text : List ℕ → Head → Head
 with_text text h = record { name = h.name; namespace = h.namespace; attributes = h.attributes; text = text }
 
@@ -23,7 +27,7 @@ opened h = record { head = h; done = none }
 
 -- the document itself, whose content is read like an element's
 abbrev pub whole : Open
-whole = opened (record { name = []; namespace = None; attributes = []; text = [] })
+whole = opened (bare_head [])
 
 -- an open element after more text and more children
 abbrev pub and_more : List ℕ → Elements → Open → Open

@@ -4,7 +4,7 @@ ghost use Rattle.std.specs.Prelude.{◌≡◌, not};
 ghost use Rattle.std.specs.List.{list_all};
 ghost use Rattle.std.specs.Str.{bytes_eq};
 ghost use Rattle.rpki_xml.specs.Content.{is_distinct};
-ghost use Rattle.rpki_xml.specs.Reading.{Gives};
+ghost use Rattle.rpki_xml.specs.Answers.{Gives};
 
 use crate::element::Attribute;
 use crate::error::XmlError;
@@ -16,7 +16,7 @@ const FEW: usize = 8;
 
 /// Whether no two attributes have one whole name. Malformed never comes.
 pub(crate) fn is_distinct(alloc: Global, attributes: &[Attribute]) -> Result<bool, XmlError>
-    ensures { Gives (λ b. b) result (Some (is_distinct attributes.now)) }
+    ensures { Gives (Some (is_distinct attributes.now)) (λ b. b) result }
 {
     if attributes.len() <= FEW {
         return Ok(is_distinct_in_pairs(attributes));
@@ -50,7 +50,7 @@ fn is_distinct_in_pairs(attributes: &[Attribute]) -> bool
 
 // From the last one on, so that the set has the names of the attributes that follow.
 fn is_distinct_by_set(alloc: Global, attributes: &[Attribute]) -> Result<bool, XmlError>
-    ensures { Gives (λ b. b) result (Some (is_distinct attributes.now)) }
+    ensures { Gives (Some (is_distinct attributes.now)) (λ b. b) result }
 {
     let mut names: BTreeSet<&[u8]> = BTreeSet::new(alloc);
     let mut left = attributes;

@@ -3,13 +3,15 @@
 ghost use Rattle.std.specs.Prelude.{◌≡◌, [], OnOk, IfOk, MatchResult, is_some, true};
 ghost use Rattle.std.specs.List.{list_all};
 ghost use Rattle.std.specs.Option.{option_copied};
-ghost use Rattle.rpki_xml.specs.Finds.{bare_head, IsRefused};
+ghost use Rattle.rpki_xml.specs.Answers.{IsRefused};
+ghost use Rattle.rpki_xml.specs.Stack.{bare_head};
 ghost use Rattle.rpki_xml.specs.Lexing.{is_octet, IsDocument};
 ghost use Rattle.rpki_xml.specs.Name.{local_name};
 ghost use Rattle.rpki_xml.specs.Nodes.{IsFlat, tree_of};
 ghost use Rattle.rpki_xml.specs.Pieces.{piece as piece_of};
-ghost use Rattle.rpki_xml.specs.Reading.{Gives};
-ghost use Rattle.rpki_xml.specs.Root.{root_element, only_element, root_of, IsWhole};
+ghost use Rattle.rpki_xml.specs.Answers.{Gives};
+ghost use Rattle.rpki_xml.specs.Tables.{the_child};
+ghost use Rattle.rpki_xml.specs.DocumentNodes.{root_element, root_of, IsWhole};
 ghost use Rattle.rpki_xml.specs.Stack.{held, IsHeld, step};
 ghost use Rattle.rpki_xml.specs.Views.{head_of, slots};
 
@@ -38,7 +40,7 @@ impl Model for Element {
     ghost use Rattle.rpki_xml.specs.Element.{Element as Tree, alone};
     ghost use Rattle.rpki_xml.specs.Lettered.{AreLettered};
     ghost use Rattle.rpki_xml.specs.Nodes.{element_code};
-    ghost use Rattle.rpki_xml.specs.Root.{root_of, IsWhole};
+    ghost use Rattle.rpki_xml.specs.DocumentNodes.{root_of, IsWhole};
 
     ghost Value = { Tree };
 
@@ -104,7 +106,7 @@ fn take(
     piece: Piece<'_>,
 ) -> Result<(), XmlError>
     requires { IsHeld nodes.old.items places.old.items }
-    ensures given { Gives (λ _. held nodes.new.items places.new.items) result (step (piece_of piece.entry) (held nodes.old.items places.old.items)) }
+    ensures given { Gives (step (piece_of piece.entry) (held nodes.old.items places.old.items)) (λ _. held nodes.new.items places.new.items) result }
     ensures kept { OnOk result (IsHeld nodes.new.items places.new.items) }
 {
     match piece {
@@ -131,7 +133,7 @@ fn take(
 // The nodes, where no element but the document itself is open, which holds one element and white space.
 fn finished(nodes: Vec<Node>, places: &[usize]) -> Result<Vec<Node>, XmlError>
     requires { IsHeld nodes.items places.now }
-    ensures value { Gives (λ v. root_of v.items) result (root_element (held nodes.items places.now)) }
+    ensures value { Gives (root_element (held nodes.items places.now)) (λ v. root_of v.items) result }
     ensures whole { IfOk result (λ v. IsWhole v.items) }
 {
     if places.len() != 1 {
@@ -152,7 +154,7 @@ fn finished(nodes: Vec<Node>, places: &[usize]) -> Result<Vec<Node>, XmlError>
 // Whether there is one element that is no other's child: the first one, with all others below it.
 fn is_one(nodes: &[Node]) -> bool
     requires { IsFlat (slots nodes.now) }
-    ensures { result ≡ is_some (only_element (tree_of (slots nodes.now))) }
+    ensures { result ≡ is_some (the_child (tree_of (slots nodes.now))) }
 {
     match nodes.split_first() {
         None => false,

@@ -1,19 +1,20 @@
 //! An element inside a document, and its children.
 
-ghost use Rattle.std.specs.Prelude.{◌≡◌, MatchOption, MatchResult};
+ghost use Rattle.std.specs.Fn.{FnOnceReturnsAt};
 ghost use Rattle.std.specs.Option.{option_copied};
-ghost use Rattle.rpki_xml.specs.Element.{none, first, is_none, is_nil};
-ghost use Rattle.rpki_xml.specs.Lettered.{AreLettered};
-ghost use Rattle.rpki_xml.specs.Lookup.{is_named, is_first_named, is_empty, optional, required, only};
+ghost use Rattle.std.specs.Prelude.{◌≡◌, ℕ, List, Option};
+ghost use Rattle.rpki_xml.specs.Answers.{Matches};
+ghost use Rattle.rpki_xml.specs.Element.{is_none, is_nil};
+ghost use Rattle.rpki_xml.specs.Lettered.{AreLettered, AreOctets};
 ghost use Rattle.rpki_xml.specs.Name.{local_name};
 ghost use Rattle.rpki_xml.specs.Nodes.{IsFlat, tree_of};
-ghost use Rattle.rpki_xml.specs.Reading.{Gives};
+ghost use Rattle.rpki_xml.specs.Tables.{is_named, is_first_named, is_empty, optional, required, only, optional_by, given_or_absent, is_or_absent, the_child, at_most_one_child, no_child};
 ghost use Rattle.rpki_xml.specs.Texts.{texts};
 ghost use Rattle.rpki_xml.specs.Views.{slots};
 
-use crate::error::XmlError;
+use crate::error::Mismatch;
 use crate::joined::Joined;
-use crate::lookup::{local_of, only_among, optional_among, required_among};
+use crate::lookup::{local_of, only_among, optional_among, require, required_among};
 use bytes::Bytes;
 use std::marker::Model;
 use std::str;
@@ -37,8 +38,8 @@ pub(crate) struct Node {
     pub(crate) below: usize,
 }
 
-/// Elements that follow each other: the children of one. In a clause it is the list of these elements, as `Elements` of
-/// specs/Element.antt has it.
+/// Elements that follow each other: the children of one, or those that are left of them. In a clause it is these elements, as
+/// `Elements` of specs/Element.antt has them.
 #[derive(Drop)]
 pub struct Children<'a> {
     nodes: &'a [Node],
@@ -56,7 +57,9 @@ impl<'a> Model for Children<'a> {
 
     ghost view = { λ c. tree_of (slots c.nodes.now) };
 
-    ghost invariant = { λ c. IsFlat (slots c.nodes.now) × AreLettered (tree_of (slots c.nodes.now)) };
+    ghost invariant = {
+        λ c. IsFlat (slots c.nodes.now) × AreLettered (tree_of (slots c.nodes.now))
+    };
 }
 
 /// An element of a document. In a clause it is a record of its head, which has name, namespace, attributes and text, and of
@@ -77,9 +80,32 @@ impl<'a> Model for ElementRef<'a> {
 
     ghost coded = { element_code };
 
-    ghost view = { λ e. record { head = head_of e.head.now; children = tree_of (slots e.below.now) } };
+    ghost view = {
+        λ e. record { head = head_of e.head.now; children = tree_of (slots e.below.now) }
+    };
 
-    ghost invariant = { λ e. IsLetteredHead (head_of e.head.now) × (IsFlat (slots e.below.now) × AreLettered (tree_of (slots e.below.now))) };
+    ghost invariant = {
+        λ e. IsLetteredHead (head_of e.head.now)
+            × (IsFlat (slots e.below.now) × AreLettered (tree_of (slots e.below.now)))
+    };
+}
+
+impl<'a> Iterator for Children<'a> {
+    ghost use Rattle.std.specs.Iterator.{YieldsFirst, item_count};
+    ghost use Rattle.rpki_xml.specs.Element.{listed};
+
+    type Item = ElementRef<'a>;
+
+    ghost next_gives = { YieldsFirst listed };
+
+    ghost remaining = { item_count listed };
+
+    fn next(&mut self) -> Option<ElementRef<'a>> {
+        let (node, rest) = self.nodes.split_first()?;
+        let (below, after) = rest.split_at(node.below);
+        self.nodes = after;
+        Some(ElementRef { head: node, below })
+    }
 }
 
 impl<'a> Children<'a> {
@@ -90,16 +116,6 @@ impl<'a> Children<'a> {
         ensures { result ≡ tree_of (slots nodes.now) }
     {
         Children { nodes }
-    }
-
-    /// Takes the first element off, where there is one.
-    pub fn next(&mut self) -> Option<ElementRef<'a>>
-        ensures { MatchOption result ((self.old ≡ none) × (self.new ≡ none)) (λ e. self.old ≡ first e.head e.children self.new) }
-    {
-        let (node, rest) = self.nodes.split_first()?;
-        let (below, after) = rest.split_at(node.below);
-        self.nodes = after;
-        Some(ElementRef { head: node, below })
     }
 
     /// Whether there is no element.
@@ -118,6 +134,46 @@ impl<'a> Children<'a> {
             Some((node, _)) => local_of(node.name.as_slice()) == local.as_bytes(),
         }
     }
+
+    /// The one element. Mismatch where there is none, or more than one.
+    pub fn the_one(self) -> Result<ElementRef<'a>, Mismatch>
+        ensures { Matches (the_child self.entry) (λ e. e) result }
+    {
+        let mut children = self;
+        let Some(element) = children.next() else {
+            return Err(Mismatch);
+        };
+        children.no_more()?;
+        Ok(element)
+    }
+
+    /// The one element, where there is one. Mismatch where there is more than one.
+    pub fn at_most_one(self) -> Result<Option<ElementRef<'a>>, Mismatch>
+        ensures { Matches (at_most_one_child self.entry) (λ found. found) result }
+    {
+        let mut children = self;
+        let Some(element) = children.next() else {
+            return Ok(None);
+        };
+        children.no_more()?;
+        Ok(Some(element))
+    }
+
+    /// Nothing. Mismatch where there is an element.
+    pub fn no_more(&self) -> Result<(), Mismatch>
+        ensures { Matches (no_child self.now) (λ _. tt) result }
+    {
+        require(self.is_empty())
+    }
+}
+
+// The octets as a text. This is the one place where octets are taken for a text unchecked: those of a document are ASCII, and
+// the invariants of the types above keep that they are, so that a getter neither looks at them again nor can fail.
+fn as_text(octets: &[u8]) -> &str
+    requires { AreOctets octets.now }
+    ensures { result.now ≡ octets.now }
+{
+    unsafe { str::from_utf8_unchecked(octets) }
 }
 
 impl<'a> ElementRef<'a> {
@@ -125,14 +181,14 @@ impl<'a> ElementRef<'a> {
     pub fn name(&self) -> &'a str
         ensures { result.now ≡ self.now.head.name }
     {
-        unsafe { str::from_utf8_unchecked(self.head.name.as_slice()) }
+        as_text(self.head.name.as_slice())
     }
 
     /// The part of the name behind its colon, or the whole.
     pub fn local(&self) -> &'a str
         ensures { result.now ≡ local_name self.now.head.name }
     {
-        unsafe { str::from_utf8_unchecked(local_of(self.head.name.as_slice())) }
+        as_text(local_of(self.head.name.as_slice()))
     }
 
     /// The namespace that its own declaration gives, where there is one and it is not empty.
@@ -141,7 +197,7 @@ impl<'a> ElementRef<'a> {
     {
         match &self.head.namespace {
             None => None,
-            Some(uri) => Some(unsafe { str::from_utf8_unchecked(uri.as_slice()) }),
+            Some(uri) => Some(as_text(uri.as_slice())),
         }
     }
 
@@ -163,7 +219,7 @@ impl<'a> ElementRef<'a> {
     pub fn text(&self) -> &'a str
         ensures { result.now ≡ self.now.head.text }
     {
-        unsafe { str::from_utf8_unchecked(self.head.text.as_slice()) }
+        as_text(self.head.text.as_slice())
     }
 
     /// Whether it has this local name.
@@ -194,31 +250,71 @@ impl<'a> ElementRef<'a> {
         self.head.text.as_slice().is_empty()
     }
 
-    /// The value of the attribute with this local name, where it is there. Malformed where there are two of them.
-    #[tactic(auto, unfolding(crate::specs::Lookup::optional))]
-    pub fn optional(&self, local: &str) -> Result<Option<&'a str>, XmlError>
-        ensures { Gives option_copied result (optional local.now self.now.head) }
+    /// The value of the attribute with this local name, where it is there. Mismatch where there are two of them.
+    #[tactic(auto, unfolding(crate::specs::Tables::optional))]
+    pub fn optional(&self, local: &str) -> Result<Option<&'a str>, Mismatch>
+        ensures { Matches (optional local.now self.now.head) option_copied result }
     {
         match optional_among(self.head.attributes.as_slice(), local.as_bytes())? {
             None => Ok(None),
-            Some(value) => Ok(Some(unsafe { str::from_utf8_unchecked(value) })),
+            Some(value) => Ok(Some(as_text(value))),
         }
     }
 
-    /// The value of the attribute with this local name. Malformed where it is not there, or where there are two of them.
-    #[tactic(auto, unfolding(crate::specs::Lookup::required))]
-    pub fn required(&self, local: &str) -> Result<&'a str, XmlError>
-        ensures { Gives (λ v. v.now) result (required local.now self.now.head) }
+    /// The value of the attribute with this local name. Mismatch where it is not there, or where there are two of them.
+    #[tactic(auto, unfolding(crate::specs::Tables::required))]
+    pub fn required(&self, local: &str) -> Result<&'a str, Mismatch>
+        ensures { Matches (required local.now self.now.head) (λ v. v.now) result }
     {
         let value = required_among(self.head.attributes.as_slice(), local.as_bytes())?;
-        Ok(unsafe { str::from_utf8_unchecked(value) })
+        Ok(as_text(value))
     }
 
-    /// Nothing. Malformed where there is an attribute with none of these local names.
-    #[tactic(auto, unfolding(crate::specs::Lookup::only))]
-    pub fn only(&self, locals: &[&str]) -> Result<(), XmlError>
-        ensures { Gives (λ _. tt) result (only (texts locals.now) self.now.head) }
+    /// Nothing. Mismatch where there is an attribute with none of these local names.
+    #[tactic(auto, unfolding(crate::specs::Tables::only))]
+    pub fn only(&self, locals: &[&str]) -> Result<(), Mismatch>
+        ensures { Matches (only (texts locals.now) self.now.head) (λ _. tt) result }
     {
         only_among(self.head.attributes.as_slice(), locals)
+    }
+
+    /// Nothing. Mismatch where the attribute with this local name has another value, or where there are two of them.
+    pub fn given_or_absent(&self, local: &str, text: &str) -> Result<(), Mismatch>
+        ensures { Matches (given_or_absent local.now text.now self.now.head) (λ _. tt) result }
+    {
+        let value = self.optional(local)?;
+        require(is_or_absent(value, text))
+    }
+
+    /// What a rule reads of the attribute with this local name, where it is there. Mismatch where the rule reads nothing of it,
+    /// or where there are two of them. In a clause the rule is any function `reading` that says what its calls return.
+    pub fn optional_by<T, F>(&self, local: &str, rule: F) -> Result<Option<T>, Mismatch>
+    where
+        F: FnOnce(&'a str) -> Option<T> + Drop,
+        requires { F.IsAlwaysCallable rule }
+        ensures {
+            (reading : List ℕ → Option T)
+                → ((text : List ℕ) → (read : Option T)
+                    → FnOnceReturnsAt F.FnOnce rule text read → read ≡ reading text)
+                → Matches (optional_by reading local.now self.now.head) (λ found. found) result
+        }
+    {
+        let Some(value) = self.optional(local)? else {
+            return Ok(None);
+        };
+        match rule(value) {
+            None => Err(Mismatch),
+            Some(read) => Ok(Some(read)),
+        }
+    }
+}
+
+// Whether a value is absent, or the given one.
+fn is_or_absent(value: Option<&str>, text: &str) -> bool
+    ensures { result ≡ is_or_absent (option_copied value.entry) text.now }
+{
+    match value {
+        None => true,
+        Some(value) => value == text,
     }
 }

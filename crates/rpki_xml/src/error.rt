@@ -1,4 +1,4 @@
-//! Why a document was not read.
+//! Why a document, or a part of one, was not read.
 
 ghost use Rattle.std.specs.Prelude.{◌≡◌};
 ghost use Rattle.rpki_xml.specs.declared.error.XmlError.TheVariants as variant;
@@ -6,6 +6,11 @@ ghost use Rattle.rpki_xml.specs.declared.error.XmlError.TheVariants as variant;
 use rpki_common::OutOfMemory;
 use std::alloc::{AllocError, AllocFailed};
 use thiserror::Error;
+
+/// An element is not what a table asks for: what a call answers that takes no memory.
+#[derive(Clone, Copy, Debug, PartialEq, Eq, Error)]
+#[error("malformed XML")]
+pub struct Mismatch;
 
 /// Why a document, or a part of one, was not read.
 #[derive(Clone, Copy, Debug, PartialEq, Eq, Error)]
@@ -16,6 +21,14 @@ pub enum XmlError {
     /// Memory ran out.
     #[error("out of memory")]
     OutOfMemory,
+}
+
+impl From<Mismatch> for XmlError {
+    ghost from_gives = { λ _ e. e ≡ variant.Malformed };
+
+    fn from(_: Mismatch) -> XmlError {
+        XmlError::Malformed
+    }
 }
 
 impl From<OutOfMemory> for XmlError {

@@ -1,7 +1,7 @@
 //! Texts that are put together of runs.
 
 ghost use Rattle.std.specs.Prelude.{◌≡◌, ◌++◌, [], Some};
-ghost use Rattle.rpki_xml.specs.Reading.{Gives};
+ghost use Rattle.rpki_xml.specs.Answers.{Gives};
 
 use crate::error::XmlError;
 use bytes::Bytes;
@@ -61,7 +61,7 @@ impl Joined {
 
     /// The text with one more run. Malformed never comes.
     pub(crate) fn with(self, alloc: Global, run: Bytes) -> Result<Joined, XmlError>
-        ensures { Gives (λ text. text) result (Some (self ++ run)) }
+        ensures { Gives (Some (self ++ run)) (λ text. text) result }
     {
         let Joined { runs } = self;
         match runs {
@@ -88,7 +88,7 @@ impl Joined {
     /// A part of the text, which ends `behind` octets before its end. It shares the octets of a run that stands alone.
     /// Malformed never comes.
     pub(crate) fn part(&self, alloc: Global, part: &[u8], behind: usize) -> Result<Joined, XmlError>
-        ensures { Gives (λ text. text) result (Some part.now) }
+        ensures { Gives (Some part.now) (λ text. text) result }
     {
         match &self.runs {
             Runs::One(run) => Ok(Joined::one(shared(alloc, run, part, behind)?)),
@@ -105,7 +105,7 @@ pub(crate) fn shared(
     part: &[u8],
     behind: usize,
 ) -> Result<Bytes, XmlError>
-    ensures { Gives (λ octets. octets) result (Some part.now) }
+    ensures { Gives (Some part.now) (λ octets. octets) result }
 {
     let end = source.len().saturating_sub(behind);
     let start = end.saturating_sub(part.len());

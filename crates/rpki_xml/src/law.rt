@@ -1,12 +1,18 @@
 //! Laws about documents, and about what is written.
 
-ghost use Rattle.std.specs.Prelude.{◌≡◌, ℕ, List};
-ghost use Rattle.rpki_xml.specs.Draft.{Draft, empty_draft, with_element, with_elements, written};
-ghost use Rattle.rpki_xml.specs.Element.{Element, Elements, alone, joined};
-ghost use Rattle.rpki_xml.specs.Lawful.{ArePlain};
+ghost use Rattle.std.specs.Prelude.{◌≡◌, ◌↔◌, ◌++◌, ℕ, List, Bool, true, false, Some};
+ghost use Rattle.rpki_xml.specs.AttributeSpelling.{IsAttributeSpelling};
+ghost use Rattle.rpki_xml.specs.Draft.{Draft, empty_draft, with_attributes, with_element, with_elements, written};
+ghost use Rattle.rpki_xml.specs.Element.{Attribute, Element, Elements, alone, joined};
 ghost use Rattle.rpki_xml.specs.Lettered.{AreLettered};
-ghost use Rattle.rpki_xml.specs.Lexing.{IsDocument};
+ghost use Rattle.rpki_xml.specs.Lexing.{IsDocument, attribute_at, character_at, ends_at, no_attribute, until};
+ghost use Rattle.rpki_xml.specs.PlainElement.{ArePlain};
+ghost use Rattle.rpki_xml.specs.Runs.{RunsTo};
 ghost use Rattle.rpki_xml.specs.Spelling.{spelled};
+ghost use Rattle.rpki_xml.specs.Trimmed.{AreTrimmed};
+ghost use Rattle.rpki_xml.specs.declared.error.XmlError.{XmlError};
+
+use crate::error::XmlError;
 
 /// Octets are at most one element's document.
 pub fn at_most_one()
@@ -37,4 +43,52 @@ pub fn calls_follow()
 /// What was written once the calls for one element are over is its spelling.
 pub fn done_is_spelled()
     ensures { (e : Element) → (with_element e empty_draft).octets ≡ spelled e }
+{}
+
+/// The texts that are read have no outer white space.
+pub fn texts_are_trimmed()
+    ensures { (b : List ℕ) (x : Element) → IsDocument b x → AreTrimmed (alone x) }
+{}
+
+/// A value that may be absent, written, is an attribute of the element where it is there, and nothing where it is not: the call
+/// `attr_opt` and the list of attributes say the same.
+pub fn optional_attributes_follow()
+    ensures {
+        (front back : List Attribute) (d : Draft)
+            → with_attributes back (with_attributes front d) ≡ with_attributes (front ++ back) d
+    }
+{}
+
+/// Reading until it stops is reading again and again, each time where it has not stopped yet, to the place where it stops:
+/// characters of a text or a value, and attributes of a start.
+pub fn runs_are_repetitions()
+    ensures characters {
+        (at_end : Bool) (stop : ℕ) (b : List ℕ) (text rest : List ℕ)
+            → (until (ends_at at_end stop) character_at b ≡ Some (text, rest))
+                ↔ RunsTo (ends_at at_end stop) character_at b text rest
+    }
+    ensures attributes {
+        (b : List ℕ) (attributes : List Attribute) (rest : List ℕ)
+            → (until no_attribute attribute_at b ≡ Some (attributes, rest))
+                ↔ RunsTo no_attribute attribute_at b attributes rest
+    }
+{}
+
+/// Every lawful spelling of an attribute is read as that attribute, whatever follows it: in either quote, with white space round
+/// the `=`, and each character as itself or as an entity.
+pub fn spelled_attributes_are_read()
+    ensures stands {
+        (s : List ℕ) (a : Attribute) (rest : List ℕ)
+            → IsAttributeSpelling s a → no_attribute (s ++ rest) ≡ false
+    }
+    ensures read {
+        (s : List ℕ) (a : Attribute) (rest : List ℕ)
+            → IsAttributeSpelling s a → attribute_at (s ++ rest) ≡ Some (a, rest)
+    }
+{}
+
+/// `==` holds exactly between errors that are the same.
+pub fn equal_errors_are_the_same()
+    ensures same { (a b : XmlError) → ⟦<XmlError as PartialEq>⟧.eq a b ≡ true → a ≡ b }
+    ensures equal { (a b : XmlError) → a ≡ b → ⟦<XmlError as PartialEq>⟧.eq a b ≡ true }
 {}

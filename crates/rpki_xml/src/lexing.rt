@@ -7,8 +7,8 @@ ghost use Rattle.rpki_xml.specs.Content.{behind};
 ghost use Rattle.rpki_xml.specs.Lexing.{ends_at, until, value_in, quoted_at, attribute_at, begins_white, begins_close, no_attribute, past_next, passed_at, run_at, front_of, back_of, past_white, any_entity_at, character_at, name_at, end_at, tag_at, markup_at, piece_at, is_octet};
 ghost use Rattle.rpki_xml.specs.Name.{is_letter, is_name_octet, ends_name, is_name};
 ghost use Rattle.rpki_xml.specs.Pieces.{piece};
-ghost use Rattle.rpki_xml.specs.Plain.{is_plain};
-ghost use Rattle.rpki_xml.specs.Reading.{Gives};
+ghost use Rattle.rpki_xml.specs.PlainCharacter.{is_plain};
+ghost use Rattle.rpki_xml.specs.Answers.{Gives};
 
 use crate::element::Attribute;
 use crate::error::XmlError;
@@ -171,7 +171,7 @@ fn character_at(b: &[u8]) -> Option<(u8, &[u8])>
 }
 
 fn end_at(b: &[u8]) -> Result<(Piece<'_>, &[u8]), XmlError>
-    ensures value { Gives (λ x. (piece x.0, x.1.now)) result (end_at b.now) }
+    ensures value { Gives (end_at b.now) (λ x. (piece x.0, x.1.now)) result }
     ensures shorter { IfOk result (λ x. length x.1.now ≤ length b.now) }
 {
     let Some((name, rest)) = name_at(b) else {
@@ -220,7 +220,7 @@ fn characters_until<'a>(
     stop: u8,
     b: &'a [u8],
 ) -> Result<(Bytes, &'a [u8]), XmlError>
-    ensures value { Gives (λ x. (x.0, x.1.now)) result (until (ends_at at_end stop) character_at b.now) }
+    ensures value { Gives (until (ends_at at_end stop) character_at b.now) (λ x. (x.0, x.1.now)) result }
     ensures shorter { IfOk result (λ x. length x.1.now ≤ length b.now) }
     ensures moved { IfOk result (λ x. ends_at at_end stop b.now ≡ false → length x.1.now < length b.now) }
 {
@@ -238,7 +238,7 @@ fn resolved_until<'a>(
     stop: u8,
     b: &'a [u8],
 ) -> Result<(Bytes, &'a [u8]), XmlError>
-    ensures value { Gives (λ x. (x.0, x.1.now)) result (until (ends_at at_end stop) character_at b.now) }
+    ensures value { Gives (until (ends_at at_end stop) character_at b.now) (λ x. (x.0, x.1.now)) result }
     ensures shorter { IfOk result (λ x. length x.1.now ≤ length b.now) }
     ensures moved { IfOk result (λ x. ends_at at_end stop b.now ≡ false → length x.1.now < length b.now) }
 {
@@ -266,7 +266,7 @@ fn value_in<'a>(
     quote: u8,
     b: &'a [u8],
 ) -> Result<(Bytes, &'a [u8]), XmlError>
-    ensures value { Gives (λ x. (x.0, x.1.now)) result (value_in quote b.now) }
+    ensures value { Gives (value_in quote b.now) (λ x. (x.0, x.1.now)) result }
     ensures shorter { IfOk result (λ x. length x.1.now ≤ length b.now) }
 {
     let (value, rest) = characters_until(alloc, source, false, quote, b)?;
@@ -278,7 +278,7 @@ fn value_in<'a>(
 
 #[tactic(auto, unfolding(crate::specs::Lexing::quoted_at))]
 fn quoted_at<'a>(alloc: Global, source: &Bytes, b: &'a [u8]) -> Result<(Bytes, &'a [u8]), XmlError>
-    ensures value { Gives (λ x. (x.0, x.1.now)) result (quoted_at b.now) }
+    ensures value { Gives (quoted_at b.now) (λ x. (x.0, x.1.now)) result }
     ensures shorter { IfOk result (λ x. length x.1.now < length b.now) }
 {
     match b {
@@ -298,7 +298,7 @@ fn attribute_at<'a>(
     source: &Bytes,
     b: &'a [u8],
 ) -> Result<(Attribute, &'a [u8]), XmlError>
-    ensures value { Gives (λ x. (x.0, x.1.now)) result (attribute_at b.now) }
+    ensures value { Gives (attribute_at b.now) (λ x. (x.0, x.1.now)) result }
     ensures shorter { IfOk result (λ x. length x.1.now < length b.now) }
 {
     let Some((name, behind_name)) = name_at(past_white(b)) else {
@@ -341,7 +341,7 @@ fn attributes_at<'a>(
     source: &Bytes,
     b: &'a [u8],
 ) -> Result<(Vec<Attribute>, &'a [u8]), XmlError>
-    ensures value { Gives (λ x. (x.0.items, x.1.now)) result (until no_attribute attribute_at b.now) }
+    ensures value { Gives (until no_attribute attribute_at b.now) (λ x. (x.0.items, x.1.now)) result }
     ensures shorter { IfOk result (λ x. length x.1.now ≤ length b.now) }
 {
     let mut attributes = Vec::new(alloc);
@@ -355,7 +355,7 @@ fn attributes_at<'a>(
 }
 
 fn tag_at<'a>(alloc: Global, source: &Bytes, b: &'a [u8]) -> Result<(Piece<'a>, &'a [u8]), XmlError>
-    ensures value { Gives (λ x. (piece x.0, x.1.now)) result (tag_at b.now) }
+    ensures value { Gives (tag_at b.now) (λ x. (piece x.0, x.1.now)) result }
     ensures shorter { IfOk result (λ x. length x.1.now ≤ length b.now) }
 {
     let Some((name, rest)) = name_at(b) else {
@@ -389,7 +389,7 @@ fn past_next<'a>(close: &[u8], b: &'a [u8]) -> Option<&'a [u8]>
 }
 
 fn passed_at<'a>(close: &[u8], b: &'a [u8]) -> Result<(Piece<'a>, &'a [u8]), XmlError>
-    ensures value { Gives (λ x. (piece x.0, x.1.now)) result (passed_at close.now b.now) }
+    ensures value { Gives (passed_at close.now b.now) (λ x. (piece x.0, x.1.now)) result }
     ensures shorter { IfOk result (λ x. length x.1.now ≤ length b.now) }
 {
     match past_next(close, b) {
@@ -399,7 +399,7 @@ fn passed_at<'a>(close: &[u8], b: &'a [u8]) -> Result<(Piece<'a>, &'a [u8]), Xml
 }
 
 fn run_at<'a>(alloc: Global, source: &Bytes, b: &'a [u8]) -> Result<(Piece<'a>, &'a [u8]), XmlError>
-    ensures value { Gives (λ x. (piece x.0, x.1.now)) result (run_at b.now) }
+    ensures value { Gives (run_at b.now) (λ x. (piece x.0, x.1.now)) result }
     ensures moved { IfOk result (λ x. ends_at true 60 b.now ≡ false → length x.1.now < length b.now) }
 {
     let (text, rest) = characters_until(alloc, source, true, b'<', b)?;
@@ -412,7 +412,7 @@ fn markup_at<'a>(
     source: &Bytes,
     b: &'a [u8],
 ) -> Result<(Piece<'a>, &'a [u8]), XmlError>
-    ensures value { Gives (λ x. (piece x.0, x.1.now)) result (markup_at b.now) }
+    ensures value { Gives (markup_at b.now) (λ x. (piece x.0, x.1.now)) result }
     ensures shorter { IfOk result (λ x. length x.1.now ≤ length b.now) }
 {
     if let Some(rest) = behind(b"/", b) {
@@ -434,7 +434,7 @@ pub(crate) fn piece_at<'a>(
     source: &Bytes,
     b: &'a [u8],
 ) -> Result<(Piece<'a>, &'a [u8]), XmlError>
-    ensures value { Gives (λ x. (piece x.0, x.1.now)) result (piece_at b.now) }
+    ensures value { Gives (piece_at b.now) (λ x. (piece x.0, x.1.now)) result }
     ensures shorter { IfOk result (λ x. length x.1.now < length b.now) }
 {
     match b {

@@ -26,11 +26,13 @@ mod writer;
 
 pub use document::{Element, read_document};
 pub use element::{Attribute, Children, ElementRef};
-pub use error::XmlError;
+pub use error::{Mismatch, XmlError};
 pub use law::{
     at_most_one, calls_follow, calls_spell, documents_are_lettered, done_is_spelled,
-    spelled_is_read,
+    equal_errors_are_the_same, optional_attributes_follow, runs_are_repetitions,
+    spelled_attributes_are_read, spelled_is_read, texts_are_trimmed,
 };
+pub use lookup::require;
 pub use writer::ElementWriter;
 
 #[cfg(test)]

@@ -3,13 +3,13 @@
 ghost use Rattle.std.specs.Prelude.{◌≡◌, filter};
 ghost use Rattle.std.specs.Option.{option_copied};
 ghost use Rattle.rpki_common.specs.Items as items;
-ghost use Rattle.rpki_xml.specs.Lookup.{is_called, is_listed, value_of};
+ghost use Rattle.rpki_xml.specs.Tables.{is_called, is_listed, value_of, require};
 ghost use Rattle.rpki_xml.specs.Name.{local_name};
-ghost use Rattle.rpki_xml.specs.Reading.{Gives};
+ghost use Rattle.rpki_xml.specs.Answers.{Matches};
 ghost use Rattle.rpki_xml.specs.Texts.{texts};
 
 use crate::element::Attribute;
-use crate::error::XmlError;
+use crate::error::Mismatch;
 
 /// The part of a name behind its colon, or the whole.
 pub(crate) fn local_of(name: &[u8]) -> &[u8]
@@ -45,14 +45,17 @@ fn is_listed(attribute: &Attribute, locals: &[&str]) -> bool
 pub(crate) fn optional_among<'a>(
     attributes: &'a [Attribute],
     local: &[u8],
-) -> Result<Option<&'a [u8]>, XmlError>
-    ensures { Gives option_copied result (items.at_most_one value_of (filter (is_called local.now) attributes.now)) }
+) -> Result<Option<&'a [u8]>, Mismatch>
+    ensures {
+        let called = filter (is_called local.now) attributes.now in
+        Matches (items.at_most_one value_of called) option_copied result
+    }
 {
     let mut found: Option<&[u8]> = None;
     for attribute in attributes {
         if is_called(attribute, local) {
             if found.is_some() {
-                return Err(XmlError::Malformed);
+                return Err(Mismatch);
             }
             found = Some(attribute.value.as_slice());
         }
@@ -64,23 +67,33 @@ pub(crate) fn optional_among<'a>(
 pub(crate) fn required_among<'a>(
     attributes: &'a [Attribute],
     local: &[u8],
-) -> Result<&'a [u8], XmlError>
-    ensures { Gives (λ v. v.now) result (items.the_one value_of (filter (is_called local.now) attributes.now)) }
+) -> Result<&'a [u8], Mismatch>
+    ensures {
+        let called = filter (is_called local.now) attributes.now in
+        Matches (items.the_one value_of called) (λ v. v.now) result
+    }
 {
     match optional_among(attributes, local)? {
-        None => Err(XmlError::Malformed),
+        None => Err(Mismatch),
         Some(value) => Ok(value),
     }
 }
 
 /// No attributes but those with these local names.
-pub(crate) fn only_among(attributes: &[Attribute], locals: &[&str]) -> Result<(), XmlError>
-    ensures { Gives (λ _. tt) result (items.only (is_listed (texts locals.now)) attributes.now) }
+pub(crate) fn only_among(attributes: &[Attribute], locals: &[&str]) -> Result<(), Mismatch>
+    ensures { Matches (items.only (is_listed (texts locals.now)) attributes.now) (λ _. tt) result }
 {
     for attribute in attributes {
         if !is_listed(attribute, locals) {
-            return Err(XmlError::Malformed);
+            return Err(Mismatch);
         }
     }
     Ok(())
+}
+
+/// A test that must pass: Mismatch where it fails.
+pub fn require(test: bool) -> Result<(), Mismatch>
+    ensures { Matches (require test) (λ _. tt) result }
+{
+    if test { Ok(()) } else { Err(Mismatch) }
 }

@@ -3,7 +3,7 @@
 ghost use Rattle.std.specs.Prelude.{◌≡◌, ◌≤◌, OnOk, length, reverse, Some};
 ghost use Rattle.std.specs.List.{list_all};
 ghost use Rattle.rpki_xml.specs.Content.{is_white, trimmed, without_white};
-ghost use Rattle.rpki_xml.specs.Reading.{Gives};
+ghost use Rattle.rpki_xml.specs.Answers.{Gives};
 ghost use Rattle.rpki_xml.specs.Stack.{held, IsHeld, settled, add_element, begin_element, end_element, add_run};
 ghost use Rattle.rpki_xml.specs.Views.{head_of};
 
@@ -22,7 +22,7 @@ pub(crate) fn add_run(
     run: Bytes,
 ) -> Result<(), XmlError>
     requires { IsHeld nodes.old.items places.now }
-    ensures given { Gives (λ _. held nodes.new.items places.now) result (add_run run (held nodes.old.items places.now)) }
+    ensures given { Gives (add_run run (held nodes.old.items places.now)) (λ _. held nodes.new.items places.now) result }
     ensures kept { OnOk result (IsHeld nodes.new.items places.now) }
 {
     let Some((place, _)) = places.split_last() else {
@@ -43,7 +43,7 @@ pub(crate) fn add_element(
 ) -> Result<(), XmlError>
     requires held { IsHeld nodes.old.items places.now }
     requires below { node.below ≡ 0 }
-    ensures given { Gives (λ _. held nodes.new.items places.now) result (add_element (head_of node) (held nodes.old.items places.now)) }
+    ensures given { Gives (add_element (head_of node) (held nodes.old.items places.now)) (λ _. held nodes.new.items places.now) result }
     ensures kept { OnOk result (IsHeld nodes.new.items places.now) }
 {
     if places.is_empty() {
@@ -61,7 +61,7 @@ pub(crate) fn begin_element(
 ) -> Result<(), XmlError>
     requires held { IsHeld nodes.old.items places.old.items }
     requires below { node.below ≡ 0 }
-    ensures given { Gives (λ _. held nodes.new.items places.new.items) result (begin_element (head_of node) (held nodes.old.items places.old.items)) }
+    ensures given { Gives (begin_element (head_of node) (held nodes.old.items places.old.items)) (λ _. held nodes.new.items places.new.items) result }
     ensures kept { OnOk result (IsHeld nodes.new.items places.new.items) }
 {
     if places.is_empty() {
@@ -80,7 +80,7 @@ pub(crate) fn end_element(
     name: &[u8],
 ) -> Result<(), XmlError>
     requires { IsHeld nodes.old.items places.old.items }
-    ensures given { Gives (λ _. held nodes.new.items places.new.items) result (end_element name.now (held nodes.old.items places.old.items)) }
+    ensures given { Gives (end_element name.now (held nodes.old.items places.old.items)) (λ _. held nodes.new.items places.new.items) result }
     ensures kept { OnOk result (IsHeld nodes.new.items places.new.items) }
 {
     let Some(place) = places.pop() else {
@@ -103,7 +103,7 @@ pub(crate) fn end_element(
 
 // The text of an element with so many elements below it.
 fn settled(alloc: Global, below: usize, text: Joined) -> Result<Joined, XmlError>
-    ensures { Gives (λ t. t) result (settled below text) }
+    ensures { Gives (settled below text) (λ t. t) result }
 {
     if below == 0 {
         return trimmed_of(alloc, text);
@@ -116,7 +116,7 @@ fn settled(alloc: Global, below: usize, text: Joined) -> Result<Joined, XmlError
 
 #[tactic(auto, unfolding(crate::specs::Content::trimmed))]
 fn trimmed_of(alloc: Global, text: Joined) -> Result<Joined, XmlError>
-    ensures { Gives (λ t. t) result (Some (trimmed text)) }
+    ensures { Gives (Some (trimmed text)) (λ t. t) result }
 {
     let begun = without_leading(text.as_slice());
     let trimmed = without_trailing(begun);

@@ -5,7 +5,7 @@ ghost use Rattle.std.specs.Option.{option_copied};
 ghost use Rattle.rpki_xml.specs.Content.{declares, declared, is_declaration, handed_on, namespace_of, head_of as tag_head};
 ghost use Rattle.rpki_xml.specs.Name.{prefix_of};
 ghost use Rattle.rpki_xml.specs.Pieces.{tag as tag_of};
-ghost use Rattle.rpki_xml.specs.Reading.{Gives};
+ghost use Rattle.rpki_xml.specs.Answers.{Gives};
 ghost use Rattle.rpki_xml.specs.Views.{head_of};
 
 use crate::element::{Attribute, Node};
@@ -63,7 +63,7 @@ fn declared<'a>(name: &[u8], attributes: &'a [Attribute]) -> Option<&'a Bytes>
 
 #[tactic(auto, unfolding(crate::specs::Content::namespace_of))]
 fn namespace_of(name: &[u8], attributes: &[Attribute]) -> Result<Option<Bytes>, XmlError>
-    ensures { Gives (λ n. n) result (Some (namespace_of (record { name = name.now; attributes = attributes.now }))) }
+    ensures { Gives (Some (namespace_of (record { name = name.now; attributes = attributes.now }))) (λ n. n) result }
 {
     match declared(name, attributes) {
         None => Ok(None),
@@ -88,7 +88,7 @@ fn handed_on(attributes: Vec<Attribute>) -> Vec<Attribute>
 
 /// The element that a start begins, without children and text.
 pub(crate) fn node_of(tag: Tag) -> Result<Node, XmlError>
-    ensures head { Gives head_of result (Some (tag_head (tag_of tag) [])) }
+    ensures head { Gives (Some (tag_head (tag_of tag) [])) head_of result }
     ensures below { IfOk result (λ n. n.below ≡ 0) }
 {
     let Tag { name, attributes } = tag;

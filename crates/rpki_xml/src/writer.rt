@@ -3,7 +3,8 @@
 ghost use Rattle.std.specs.Prelude.{◌≡◌, ◌++◌, ◌∷◌, [], OnOk, OnErr, IfOk};
 ghost use Rattle.std.specs.Option.{option_copied};
 ghost use Rattle.rpki_xml.specs.Spelling.{spelled_text, spelled_value, spelled_attribute, text_character, value_character};
-ghost use Rattle.rpki_xml.specs.Draft.{empty_draft, opened, with_attribute, with_optional, with_text, closed, ending, settled, names_of};
+ghost use Rattle.rpki_xml.specs.Draft.{empty_draft, opened, with_attribute, with_text, closed, ending, settled, with_attributes, optional_attribute};
+ghost use Rattle.rpki_xml.specs.Views.{names_of};
 
 use bytes::Bytes;
 use rpki_common::OutOfMemory;
@@ -24,7 +25,8 @@ pub struct ElementWriter {
 }
 
 impl Model for ElementWriter {
-    ghost use Rattle.rpki_xml.specs.Draft.{Draft, names_of};
+    ghost use Rattle.rpki_xml.specs.Draft.{Draft};
+    ghost use Rattle.rpki_xml.specs.Views.{names_of};
 
     ghost Value = { Draft };
 
@@ -79,7 +81,10 @@ impl ElementWriter {
 
     /// The same, where there is a value.
     pub fn attr_opt(&mut self, name: &str, value: Option<&str>) -> Result<(), OutOfMemory>
-        ensures ok { OnOk result (self.new ≡ with_optional name.now (option_copied value.entry) self.old) }
+        ensures ok {
+            let attributes = optional_attribute name.now (option_copied value.entry) in
+            OnOk result (self.new ≡ with_attributes attributes self.old)
+        }
         ensures err { OnErr result (self.new ≡ self.old) }
     {
         match value {

@@ -1,7 +1,7 @@
 use Rattle.std.proofs.lemmas.Result.{err_from_is_err_and}
 use Rattle.std.specs.Global.{Vec}
 use Rattle.rpki_xml.specs.declared.element.Node.{Node}
-use Rattle.rpki_xml.specs.Root.{root_of}
+use Rattle.rpki_xml.specs.DocumentNodes.{root_of}
 use Rattle.rpki_xml.specs.Pieces.{piece}
 use Rattle.rpki_xml.specs.Stack.{held}
 use Rattle.rpki_xml.proofs.Documents.{one_more}

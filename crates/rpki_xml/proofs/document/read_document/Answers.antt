@@ -1,4 +1,4 @@
-use Rattle.rpki_xml.specs.Root.{root_of}
+use Rattle.rpki_xml.specs.DocumentNodes.{root_of}
 use Rattle.rpki_xml.proofs.Letters.{document_lettered}
 use Rattle.rpki_xml.proofs.document.read_document.Goals as goal
 

@@ -1,6 +1,6 @@
 use Rattle.std.proofs.Common.{sym, arith, refl, ◌<◌, length}
 use Rattle.rpki_xml.specs.Lexing.{ends_at, character_at}
-use Rattle.rpki_xml.specs.Plain.{is_plain}
+use Rattle.rpki_xml.specs.PlainCharacter.{is_plain}
 use Rattle.rpki_xml.specs.declared.error.XmlError.TheVariants as errors
 use Rattle.rpki_xml.proofs.Until.{until_starts, until_more, until_fails, until_done}
 use Rattle.rpki_xml.proofs.Plains.{until_plain, back_smaller}

@@ -1,6 +1,6 @@
 use Rattle.std.proofs.Common.{◌≡◌, ◌++◌, drop, take}
 use Rattle.rpki_xml.specs.Lexing.{front_of, back_of}
-use Rattle.rpki_xml.specs.Plain.{is_plain}
+use Rattle.rpki_xml.specs.PlainCharacter.{is_plain}
 use Rattle.rpki_xml.proofs.lexing.split_plain.Given as goal
 
 abbrev pub invariant-loop-i : goal.invariant-loop-i

@@ -1,5 +1,5 @@
 use Rattle.std.proofs.Common.{◌≡◌, drop}
-use Rattle.rpki_xml.specs.Lookup.{is_listed}
+use Rattle.rpki_xml.specs.Tables.{is_listed}
 use Rattle.rpki_xml.specs.Texts.{texts}
 use Rattle.rpki_xml.proofs.lookup.is_listed.Given as goal
 

@@ -1,6 +1,6 @@
 use Rattle.std.proofs.Common.{◌≡◌, drop}
 use Rattle.rpki_common.specs.Items as items
-use Rattle.rpki_xml.specs.Lookup.{is_listed}
+use Rattle.rpki_xml.specs.Tables.{is_listed}
 use Rattle.rpki_xml.specs.Texts.{texts}
 use Rattle.rpki_xml.proofs.lookup.only_among.Given as goal
 

@@ -1,7 +1,7 @@
 use Rattle.std.proofs.Common.{sym}
 use Rattle.std.specs.Option.{option_copied}
 use Rattle.std.specs.Prelude.{filter}
-use Rattle.rpki_xml.specs.Lookup.{is_called}
+use Rattle.rpki_xml.specs.Tables.{is_called}
 use Rattle.rpki_xml.proofs.Found.{found_twice, found_done}
 use Rattle.rpki_xml.proofs.lookup.optional_among.Goals as goal
 

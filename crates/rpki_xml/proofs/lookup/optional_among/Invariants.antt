@@ -1,7 +1,7 @@
 use Rattle.std.proofs.Common.{drop}
 use Rattle.std.specs.Prelude.{filter}
 use Rattle.std.specs.Option.{option_copied}
-use Rattle.rpki_xml.specs.Lookup.{is_called}
+use Rattle.rpki_xml.specs.Tables.{is_called}
 use Rattle.rpki_xml.proofs.Found.{Found}
 use Rattle.rpki_xml.proofs.lookup.optional_among.Given as goal
 

@@ -1,6 +1,7 @@
 use Rattle.std.proofs.Common.{sym, subst, ◌∙◌}
 use Rattle.rpki_xml.specs.Lettered.{AreLettered}
-use Rattle.rpki_xml.specs.Root.{root_of}
+use Rattle.rpki_xml.specs.DocumentNodes.{root_of}
+use Rattle.rpki_xml.proofs.Listed.{next_is, next_none}
 use Rattle.rpki_xml.proofs.Roots.{whole_parts, whole_some, none_alone, first_alone}
 use Rattle.rpki_xml.proofs.document.Element.as_ref.Goals as goal
 
@@ -19,9 +20,9 @@ over-children-requires-clause-lettered c =
 pub unreachable-requires-in_default-next : goal.unreachable-requires-in_default-next
 unreachable-requires-in_default-next c =
     let p = whole_parts c.self.inside.nodes.value.items c.in-Some.field-0-0.now c.in-Some.below.now (rw (c.deref-2.ensures.value, c.deref.ensures) at c.in-Some.ensures.cases.0) c.self.invariant.0 in
-    none_alone (root_of c.self.inside.nodes.value.items) (sym c.in_default-next.ensures.0 ∙ c.over-children.ensures ∙ p.1)
+    none_alone (root_of c.self.inside.nodes.value.items) (sym (next_none c.over-children.result c.in_default-next.ensures.steps.0) ∙ c.over-children.ensures ∙ p.1)
 
 pub returns : goal.returns
 returns c =
     let p = whole_parts c.self.inside.nodes.value.items c.in-Some.field-0-0.now c.in-Some.below.now (rw (c.deref-2.ensures.value, c.deref.ensures) at c.in-Some.ensures.cases.0) c.self.invariant.0 in
-    first_alone c.in-Some-next.root (root_of c.self.inside.nodes.value.items) c.next.new.self (sym c.in-Some-next.ensures ∙ c.over-children.ensures ∙ p.1) ∙ c.self.view_is
+    first_alone c.in-Some-next.root (root_of c.self.inside.nodes.value.items) c.next.new.self (sym (next_is c.over-children.result c.in-Some-next.root c.next.new.self c.in-Some-next.ensures.steps) ∙ c.over-children.ensures ∙ p.1) ∙ c.self.view_is

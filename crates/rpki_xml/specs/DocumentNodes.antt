@@ -1,9 +1,10 @@
--- The one element of a document.
+-- The one element of a document, as it lies in the list of nodes: a means for the document in memory.
 use Rattle.std.specs.Prelude.{◌≡◌, List, [], ◌∷◌, Option, Some, None, drop, if◌then◌else◌}
 use Rattle.std.specs.List.{list_all}
 use Rattle.rpki_xml.specs.declared.element.Node.{Node}
 use Rattle.rpki_xml.specs.Element.{Elements, none, first, Element, alone}
 use Rattle.rpki_xml.specs.Content.{is_white}
+use Rattle.rpki_xml.specs.Tables.{the_child}
 use Rattle.rpki_xml.specs.Nodes.{flat, tree_of}
 use Rattle.rpki_xml.specs.Views.{slots}
 use Rattle.rpki_xml.specs.Stack.{Open}
@@ -21,13 +22,8 @@ root_of nodes = first_of (tree_of (slots (drop 1 nodes)))
 abbrev pub IsWhole : List Node → Type 0
 IsWhole nodes = slots (drop 1 nodes) ≡ flat (alone (root_of nodes))
 
-abbrev pub only_element : Elements → Option Element
-only_element none = None
-only_element (first head children none) = Some (record { head = head; children = children })
-only_element (first head children (first h cs rest)) = None
-
 -- the element of a document whose pieces were all read
 unfoldable pub root_element : List Open → Option Element
 root_element [] = None
-root_element (d ∷ []) = if list_all is_white d.head.text then only_element d.done else None
+root_element (d ∷ []) = if list_all is_white d.head.text then the_child d.done else None
 root_element (d ∷ o ∷ outer) = None
