@@ -54,10 +54,12 @@ impl<R: Read> Source for StdSource<R> {
         // What each source promises, beside what it would tell.
         ensures bound { ReadsAtMost result into.new }
         ensures cause { HasCause self.old.faults self.new.faults result }
+        ensures kept { OnOk result (self.new.faults ≡ self.old.faults) }
 
         // The call is one of the reader's, and counts its fault.
-        ensures passed { ReadConsumes (R.remaining self.old.reader) (R.remaining self.new.reader) result into.new }
-        ensures ok { OnOk result (self.new.faults ≡ self.old.faults) }
+        ensures passed {
+            ReadConsumes (R.remaining self.old.reader) (R.remaining self.new.reader) result into.new
+        }
         ensures err { OnErr result (self.new.faults ≡ count_after self.old.faults) }
     {
         match self.reader.read(into) {
@@ -116,10 +118,12 @@ impl<W: Write> Sink for StdSink<W> {
         ensures bound { WritesAtMost result from.now }
         ensures some { IfOk result (λ k. 0 < length from.now → 0 < k) }
         ensures cause { HasCause self.old.faults self.new.faults result }
+        ensures kept { OnOk result (self.new.faults ≡ self.old.faults) }
 
         // The call is one of the writer's, and counts its fault.
-        ensures passed { WriteAppends (W.contents self.old.writer) (W.contents self.new.writer) result from.now }
-        ensures ok { OnOk result (self.new.faults ≡ self.old.faults) }
+        ensures passed {
+            WriteAppends (W.contents self.old.writer) (W.contents self.new.writer) result from.now
+        }
         ensures err { OnErr result (self.new.faults ≡ count_after self.old.faults) }
     {
         match self.writer.write(from) {
