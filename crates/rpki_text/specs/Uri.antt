@@ -64,24 +64,42 @@ uri_fault scheme has_parts text =
     else if not (has_scheme scheme text) then Some BadScheme
     else parts_fault has_parts (parts_behind scheme text)
 
--- The first rule that a text breaks, or none where it is an rsync URI (RFC 5781).
-abbrev pub rsync_fault : List ℕ → Option Error
-rsync_fault = uri_fault (codes "rsync://") has_host_and_module
+-- A kind of URIs.
+pub record Kind : Type 0 where
+  -- the scheme and its `://`
+  pub scheme : List ℕ
+  -- whether what stands behind the scheme, cut at each slash, has the parts that it must have
+  pub has_parts : List (List ℕ) → Bool
+  -- the path in what stands behind the scheme
+  pub path : List ℕ → List ℕ
 
--- The first rule that a text breaks, or none where it is an https URI (RFC 9110, section 4.2.2).
-abbrev pub https_fault : List ℕ → Option Error
-https_fault = uri_fault (codes "https://") has_host
+-- RFC 5781: the path of an rsync URI begins behind the slash after its module.
+abbrev pub rsync : Kind
+rsync = record {
+  scheme = codes "rsync://";
+  has_parts = has_host_and_module;
+  path = λ rest. after_first is_slash (after_first is_slash rest)
+}
+
+-- RFC 9110, section 4.2.2: the path of an https URI begins behind the slash after its host, and is
+-- empty where there is no such slash.
+abbrev pub https : Kind
+https = record {
+  scheme = codes "https://";
+  has_parts = has_host;
+  path = λ rest. after_first is_slash rest
+}
+
+-- The first rule that a text breaks, or none where it is a URI of this kind.
+abbrev pub fault_of : Kind → List ℕ → Option Error
+fault_of kind text = uri_fault kind.scheme kind.has_parts text
+
+-- The path of a URI of this kind.
+abbrev pub path_of : Kind → List ℕ → List ℕ
+path_of kind text = kind.path (drop (length kind.scheme) text)
 
 abbrev pub ends_with_slash : List ℕ → Bool
 ends_with_slash text = ends_with nat_eq text (codes "/")
-
--- The path of an rsync URI, which begins behind the slash after its module.
-abbrev pub rsync_path : List ℕ → List ℕ
-rsync_path text = after_first is_slash (after_first is_slash (drop (length (codes "rsync://")) text))
-
--- The path of an https URI, which begins behind the slash after its host; empty where there is no such slash.
-abbrev pub https_path : List ℕ → List ℕ
-https_path text = after_first is_slash (drop (length (codes "https://")) text)
 
 -- A path that is empty or ends with a slash names a directory.
 abbrev pub names_directory : List ℕ → Bool
