@@ -1,4 +1,5 @@
--- Key identifiers as messages spell them: 20 octets in the URL-safe alphabet of RFC 4648, section 5.
+-- Key identifiers as messages spell them: 20 octets in the URL-safe alphabet of RFC 4648, section
+-- 5.
 use Rattle.std.specs.Prelude.{◌≡◌, ℕ, ◌==◌, if◌then◌else◌, ◌⊎◌, List, length}
 use Rattle.std.specs.declared.option.Option.{Option}
 use Rattle.std.specs.declared.option.Option.TheVariants.{None, Some}

@@ -26,7 +26,7 @@ abbrev pub after_taking : List ℕ → SinkState → SinkState
 after_taking octets s = record s {
   written = s.written ++ octets;
   room = s.room - length octets;
-  calls = count_after s.calls
+  calls = count_after s.calls;
 }
 
 -- A sink after a call that failed.

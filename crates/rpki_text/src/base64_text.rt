@@ -78,17 +78,15 @@ impl Base64 {
         })
     }
 
-    /// The octets that base64 text spells, as a message holds it: white space in it counts for nothing,
-    /// and the rest is the one text that RFC 4648 gives these octets, with its padding and with zeros
-    /// in the bits that are left over.
+    /// The octets that base64 text spells, as a message holds it: white space in it counts for
+    /// nothing, and the rest is the one text that RFC 4648 gives these octets, with its padding and
+    /// with zeros in the bits that are left over.
     pub fn from_str(alloc: Global, text: &str) -> Result<Base64, Base64Error>
         ensures content { IfOk result (λ b. base64_content text.now ≡ Some b) }
         ensures spelled { IfOk result (λ b. IsBase64Text text.now b) }
         ensures malformed { IsErrOf result Base64Error.Malformed → base64_content text.now ≡ None }
-        ensures none {
-            IsErrOf result Base64Error.Malformed
-            → (octets : List ℕ) → ¬ (IsBase64Text text.now octets)
-        }
+        ensures none { IsErrOf result Base64Error.Malformed
+            → (octets : List ℕ) → ¬ (IsBase64Text text.now octets) }
     {
         let spelling = without_space(alloc, text.as_bytes())?;
         let content = match STANDARD.decode(alloc, &spelling) {
@@ -102,9 +100,8 @@ impl Base64 {
     /// The octets that the one string of a JSON text spells, read as [`Base64::from_str`] does.
     pub fn from_json(alloc: Global, text: &str) -> Result<Base64, JsonError>
         ensures content { IfOk result (λ b. base64_content_of_json text.now ≡ Some b) }
-        ensures malformed {
-            IsErrOf result JsonError.Malformed → base64_content_of_json text.now ≡ None
-        }
+        ensures malformed { IsErrOf result JsonError.Malformed
+            → base64_content_of_json text.now ≡ None }
     {
         let spelling = read_string(alloc, text)?;
         match Base64::from_str(alloc, spelling.as_str()) {
@@ -116,12 +113,9 @@ impl Base64 {
 
     /// The base64 text as a JSON text, which is one string.
     pub fn to_json(&self, alloc: Global) -> Result<String, OutOfMemory>
-        ensures text {
-            IfOk result (λ s. string_bytes s ≡ compact_text (string (encode_of standard self.now)))
-        }
-        ensures again {
-            IfOk result (λ s. base64_content_of_json (string_bytes s) ≡ Some self.now)
-        }
+        ensures text { IfOk result (λ s.
+            string_bytes s ≡ compact_text (string (encode_of standard self.now))) }
+        ensures again { IfOk result (λ s. base64_content_of_json (string_bytes s) ≡ Some self.now) }
     {
         write_string(alloc, self.as_str())
     }

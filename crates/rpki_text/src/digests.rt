@@ -43,13 +43,11 @@ impl Hash {
         }
     }
 
-    /// The digest whose 64 hexadecimal digits, in either case, are `text`, and `None` for any other text. It takes no
-    /// memory.
+    /// The digest whose 64 hexadecimal digits, in either case, are `text`, and `None` for any other
+    /// text. It takes no memory.
     pub fn from_str(text: &str) -> Option<Hash>
         ensures digest { result ≡ digest_of_text text.now }
-        ensures found {
-            IsSome result ↔ ((length text.now ≡ 64) × AllPass is_hex_digit text.now)
-        }
+        ensures found { IsSome result ↔ ((length text.now ≡ 64) × AllPass is_hex_digit text.now) }
         ensures value { IfSome result (λ h. decode_of text.now ≡ Ok h) }
     {
         match <[u8; 32] as FromHex>::from_hex(text) {

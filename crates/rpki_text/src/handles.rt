@@ -107,8 +107,8 @@ impl From<OutOfMemory> for InvalidHandle {
     }
 }
 
-/// The name of a party. The marker `T` says in which part it is named, and takes no place. In a clause
-/// a handle is the list of its octets.
+/// The name of a party. The marker `T` says in which part it is named, and takes no place. In a
+/// clause a handle is the list of its octets.
 #[derive(Debug, Drop)]
 pub struct Handle<T> {
     name: Text,
@@ -134,8 +134,8 @@ impl<T> Handle<T> {
         }
     }
 
-    /// The handle that `text` is: 1 to 255 letters, digits, `-`, `_` and `/`. Memory is taken for such
-    /// a text alone.
+    /// The handle that `text` is: 1 to 255 letters, digits, `-`, `_` and `/`. Memory is taken for
+    /// such a text alone.
     pub fn from_str(alloc: Global, text: &str) -> Result<Handle<T>, InvalidHandle>
         ensures name { IfOk result (λ h. h ≡ text.now) }
         ensures accepted { OnOk result (IsHandle text.now) }
@@ -167,9 +167,8 @@ impl<T> Handle<T> {
     /// The handle as a JSON text, which is one string.
     pub fn to_json(&self, alloc: Global) -> Result<String, OutOfMemory>
         ensures text { IfOk result (λ s. string_bytes s ≡ compact_text (string self.now)) }
-        ensures again {
-            IfOk result (λ s. IsHandle self.now → handle_of_json (string_bytes s) ≡ Some self.now)
-        }
+        ensures again { IfOk result (λ s. IsHandle self.now
+            → handle_of_json (string_bytes s) ≡ Some self.now) }
     {
         write_string(alloc, self.as_str())
     }
@@ -247,9 +246,7 @@ fn is_handle(text: &str) -> bool
     ensures { IsTrue result ↔ IsHandle text.now }
 {
     let octets = text.as_bytes();
-    !octets.is_empty()
-        && octets.len() <= 255
-        && octets.iter().all(|octet| is_handle_octet(*octet))
+    !octets.is_empty() && octets.len() <= 255 && octets.iter().all(|octet| is_handle_octet(*octet))
 }
 
 impl<T> PartialEq for Handle<T> {

@@ -12,8 +12,8 @@ use std::alloc::Global;
 /// The most octets of a text that spells a key identifier.
 const MOST_OCTETS: usize = 28;
 
-/// The 20 octets that `text` spells in the URL-safe alphabet (RFC 4648, section 5), with its padding or
-/// without, and `None` where it spells no 20 octets. It takes no memory.
+/// The 20 octets that `text` spells in the URL-safe alphabet (RFC 4648, section 5), with its
+/// padding or without, and `None` where it spells no 20 octets. It takes no memory.
 pub fn read_key_identifier(text: &str) -> Option<[u8; 20]>
     ensures octets { result ≡ key_identifier_of_text text.now }
     ensures spelled { IfSome result (λ octets. IsKeyIdentifierText text.now octets) }

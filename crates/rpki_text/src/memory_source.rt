@@ -32,22 +32,20 @@ impl Model for MemorySource {
 
     ghost Value = { SourceState };
 
-    ghost view = {
-        λ s. record {
-            rest = drop s.at s.octets.items;
-            piece = s.piece;
-            calls = s.calls;
-            failing = s.failing.items;
-            faults = s.faults
-        }
-    };
+    ghost view = { λ s. record {
+      rest = drop s.at s.octets.items;
+      piece = s.piece;
+      calls = s.calls;
+      failing = s.failing.items;
+      faults = s.faults;
+    } };
 
     ghost invariant = { λ s. (s.at ≤ length s.octets.items) × (1 ≤ s.piece) };
 }
 
 impl MemorySource {
-    /// A source of `octets`, which gives at most `piece` of them a call, and fails at each call whose
-    /// number, counted from 0, stands in `failing`.
+    /// A source of `octets`, which gives at most `piece` of them a call, and fails at each call
+    /// whose number, counted from 0, stands in `failing`.
     pub fn new(
         alloc: Global,
         octets: &[u8],
@@ -92,21 +90,18 @@ impl Source for MemorySource {
     fn read(&mut self, into: &mut [u8]) -> Result<usize, Failed>
         // What each source promises.
         ensures bound { ReadsAtMost result into.new }
-        ensures next {
-            IfOk result (λ k. Consumes (Some self.old.rest) (Some self.new.rest) (take k into.new))
-        }
-        ensures end {
-            IfOk result (λ k. k ≡ 0 → 0 < length into.new → IsAtEnd (Some self.new.rest))
-        }
+        ensures next { IfOk result (λ k.
+            Consumes (Some self.old.rest) (Some self.new.rest) (take k into.new)) }
+        ensures end { IfOk result (λ k.
+            k ≡ 0 → 0 < length into.new → IsAtEnd (Some self.new.rest)) }
         ensures failed { OnErr result (Some self.new.rest ≡ Some self.old.rest) }
         ensures cause { HasCause self.old.faults self.new.faults result }
         ensures kept { OnOk result (self.new.faults ≡ self.old.faults) }
 
         // Which answer, and what the source and `into` are then.
         ensures fails { IsErr result ↔ Contains self.old.failing self.old.calls }
-        ensures count {
-            IfOk result (λ k. k ≡ min self.old.piece (min (length into.new) (length self.old.rest)))
-        }
+        ensures count { IfOk result (λ k.
+            k ≡ min self.old.piece (min (length into.new) (length self.old.rest))) }
         ensures given { IfOk result (λ k. into.new ≡ take k self.old.rest ++ drop k into.old) }
         ensures ok { IfOk result (λ k. self.new ≡ after_giving k self.old) }
         ensures err { OnErr result (self.new ≡ after_failing self.old) }

@@ -24,9 +24,8 @@ pub trait Source {
     /// stands still where it isn't.
     fn read(&mut self, into: &mut [u8]) -> Result<usize, Failed>
         ensures bound { ReadsAtMost result into.new }
-        ensures next {
-            IfOk result (λ k. Consumes (rest self.old) (rest self.new) (take k into.new))
-        }
+        ensures next { IfOk result (λ k.
+            Consumes (rest self.old) (rest self.new) (take k into.new)) }
         ensures end { IfOk result (λ k. k ≡ 0 → 0 < length into.new → IsAtEnd (rest self.new)) }
         ensures failed { OnErr result (rest self.new ≡ rest self.old) }
         ensures cause { HasCause (faults self.old) (faults self.new) result }
@@ -42,15 +41,14 @@ pub trait Sink {
     /// How often the sink has failed. The count may stop at 2^64 - 1.
     ghost faults: { Self → ℕ };
 
-    /// Writes octets from the front of `from`, and answers how many it took: for a `from` that isn't
-    /// empty, 1 at least. After `Failed` nothing was taken. The count of faults rises where the
-    /// answer is `Failed`, and stands still where it isn't.
+    /// Writes octets from the front of `from`, and answers how many it took: for a `from` that
+    /// isn't empty, 1 at least. After `Failed` nothing was taken. The count of faults rises where
+    /// the answer is `Failed`, and stands still where it isn't.
     fn write(&mut self, from: &[u8]) -> Result<usize, Failed>
         ensures bound { WritesAtMost result from.now }
         ensures some { IfOk result (λ k. 0 < length from.now → 0 < k) }
-        ensures next {
-            IfOk result (λ k. Appends (written self.old) (written self.new) (take k from.now))
-        }
+        ensures next { IfOk result (λ k.
+            Appends (written self.old) (written self.new) (take k from.now)) }
         ensures failed { OnErr result (written self.new ≡ written self.old) }
         ensures cause { HasCause (faults self.old) (faults self.new) result }
         ensures kept { OnOk result (faults self.new ≡ faults self.old) };

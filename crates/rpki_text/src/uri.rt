@@ -24,7 +24,8 @@ use std::fmt;
 use std::hash::{Hash, Hasher};
 use std::marker::{Model, PhantomData};
 
-/// Why a text is no URI. The rules are tried in the order of the variants, and the first that is broken is told.
+/// Why a text is no URI. The rules are tried in the order of the variants, and the first that is
+/// broken is told.
 #[derive(Clone, Copy, Debug, PartialEq, Eq, thiserror::Error)]
 pub enum Error {
     /// The text has more than 65535 octets.
@@ -108,13 +109,13 @@ impl<K: UriKind> Model for Uri<K> {
 }
 
 impl<K: UriKind> Uri<K> {
-    /// The URI that `text` is, or the first rule that it breaks. Memory is taken for a lawful text alone.
+    /// The URI that `text` is, or the first rule that it breaks. Memory is taken for a lawful text
+    /// alone.
     pub fn from_str(alloc: Global, text: &str) -> Result<Self, Error>
         ensures text { IfOk result (λ u. u ≡ text.now) }
         ensures accepted { OnOk result (fault_of K.kind text.now ≡ None) }
-        ensures fault {
-            IfErr result (λ e. e ≢ Error.OutOfMemory → fault_of K.kind text.now ≡ Some e)
-        }
+        ensures fault { IfErr result (λ e. e ≢ Error.OutOfMemory
+            → fault_of K.kind text.now ≡ Some e) }
         ensures memory { IsErrOf result Error.OutOfMemory → fault_of K.kind text.now ≡ None }
     {
         check::<K>(text.as_bytes())?;
@@ -129,10 +130,8 @@ impl<K: UriKind> Uri<K> {
     pub fn join(&self, alloc: Global, path: &[u8]) -> Result<Self, Error>
         ensures text { IfOk result (λ u. u ≡ joined_text self.now path.now) }
         ensures accepted { OnOk result (fault_of K.kind (joined_text self.now path.now) ≡ None) }
-        ensures fault {
-            IfErr result (λ e.
-                e ≢ Error.OutOfMemory → fault_of K.kind (joined_text self.now path.now) ≡ Some e)
-        }
+        ensures fault { IfErr result (λ e.
+            e ≢ Error.OutOfMemory → fault_of K.kind (joined_text self.now path.now) ≡ Some e) }
     {
         let joined = joined(alloc, self.as_str().as_bytes(), path)?;
         check::<K>(&joined)?;
@@ -271,18 +270,15 @@ fn behind_scheme<K: UriKind>(text: &str) -> &[u8]
     &text.as_bytes()[K::scheme().len()..]
 }
 
-/// What stands behind the scheme of `text`, which is short enough and holds only octets that a URI may hold.
+/// What stands behind the scheme of `text`, which is short enough and holds only octets that a URI
+/// may hold.
 fn check_scheme<'a>(text: &'a [u8], scheme: &[u8]) -> Result<&'a [u8], Error>
-    ensures rest {
-        IfOk result (λ rest. (has_parts : List (List ℕ) → Bool)
-            → uri_fault scheme.now has_parts text.now
-            ≡ parts_fault has_parts (slice_split is_slash rest.now))
-    }
+    ensures rest { IfOk result (λ rest. (has_parts : List (List ℕ) → Bool)
+        → uri_fault scheme.now has_parts text.now
+        ≡ parts_fault has_parts (slice_split is_slash rest.now)) }
     ensures ascii { OnOk result (IsAscii text.now) }
-    ensures fault {
-        IfErr result (λ e. (has_parts : List (List ℕ) → Bool)
-            → uri_fault scheme.now has_parts text.now ≡ Some e)
-    }
+    ensures fault { IfErr result (λ e. (has_parts : List (List ℕ) → Bool)
+        → uri_fault scheme.now has_parts text.now ≡ Some e) }
     ensures memory { ¬ (IsErrOf result Error.OutOfMemory) }
 {
     if text.len() > MOST_OCTETS {
@@ -321,10 +317,8 @@ fn first_slash(text: &[u8]) -> Option<usize>
 
 /// What stands before the first slash, and what stands behind it if there is one.
 fn cut(text: &[u8]) -> (&[u8], Option<&[u8]>)
-    ensures parts {
-        slice_split is_slash text.now
-        ≡ result.0.now ∷ option_map_or (λ rest. slice_split is_slash rest.now) result.1 []
-    }
+    ensures parts { slice_split is_slash text.now
+        ≡ result.0.now ∷ option_map_or (λ rest. slice_split is_slash rest.now) result.1 [] }
     ensures after { after_first is_slash text.now ≡ option_map_or (λ rest. rest.now) result.1 [] }
     ensures shorter { IfSome result.1 (λ rest. length rest.now < length text.now) }
 {
@@ -349,7 +343,8 @@ fn has_host_and_module(rest: &[u8]) -> bool
     !host.is_empty() && !module.is_empty()
 }
 
-/// Whether a part of `rest`, which is cut at each slash, is `.` or `..`. The first part, which is the host, doesn't count.
+/// Whether a part of `rest`, which is cut at each slash, is `.` or `..`. The first part, which is
+/// the host, doesn't count.
 fn has_dot_segment(rest: &[u8]) -> bool
     ensures { result ≡ tells_dots_behind (slice_split is_slash rest.now) }
 {

@@ -7,5 +7,5 @@ writing-preserved g c =
     let inv = c.writing.invariant in record {
       kept = c.in_ok-count.ensures.kept ∙ inv.kept;
       appended = write_more _ _ _ _ inv.appended.0 c.writing.rest.now c.in_ok-count.count
-        inv.appended.1 inv.appended.2 c.in_ok-count.ensures.next c.in_ok-count.ensures.bound;
+          inv.appended.1 inv.appended.2 c.in_ok-count.ensures.next c.in_ok-count.ensures.bound;
     }

@@ -6,7 +6,7 @@ abbrev pub invariant-writing : goal.invariant-writing
 invariant-writing g l = record {
   kept : g.O.Sink.faults l.sink ≡ g.O.Sink.faults l.initial.sink;
   appended : (front : List ℕ) × (l.octets ≡ front ++ l.rest)
-    × Appends (g.O.Sink.written l.initial.sink) (g.O.Sink.written l.sink) front;
+      × Appends (g.O.Sink.written l.initial.sink) (g.O.Sink.written l.sink) front;
 }
 
 abbrev pub decreases-writing : goal.decreases-writing
