@@ -1,5 +1,5 @@
 -- Octets and their base64 text.
-use Rattle.std.proofs.Common.{◌≡◌, ◌↔◌, ℕ, zero, suc, ◌+◌, ◌*◌, ◌/◌, ◌%◌, ◌≤◌, Bool, true, false, ◌&&◌, List, [], ◌∷◌, length, Option, Some, None, Result, Ok, Err, replicate, filter, unwrap_or, option_and_then, refl, sym, ap, subst, ◌∙◌, arith, length-append}
+use Rattle.std.proofs.Common.{◌≡◌, ℕ, zero, suc, ◌+◌, ◌*◌, ◌/◌, ◌%◌, ◌≤◌, Bool, true, false, ◌&&◌, List, [], ◌∷◌, length, Option, Some, None, Result, Ok, Err, replicate, filter, unwrap_or, option_and_then, refl, sym, ap, subst, ◌∙◌, arith, length-append}
 use Rattle.std.specs.List.{list_all, slice_index}
 use Rattle.std.specs.Result.{result_ok}
 use Rattle.std.proofs.lemmas.Option.{none-some, same_Some}
@@ -10,11 +10,11 @@ use Rattle.base64.specs.declared.engine.general_purpose.GeneralPurpose.{GeneralP
 use Rattle.base64.specs.Rfc4648.{encode_symbols, padding_len}
 use Rattle.base64.specs.declared.decode.DecodeError.{DecodeError}
 use Rattle.std.proofs.lemmas.List.{length-replicate}
-use Rattle.base64.proofs.EngineFacts.{decode_of-encode_of, decode_of_iff}
+use Rattle.base64.proofs.EngineFacts.{decode_of-encode_of}
 use Rattle.base64.proofs.RoundTrip.{length-encode_symbols}
 use Rattle.base64.proofs.Streams.{decoded_of-ok}
 use Rattle.rpki_text.specs.Json.{string_of_json}
-use Rattle.rpki_text.specs.Base64.{is_not_space, base64_content, base64_content_of_json, held_content, IsHeld}
+use Rattle.rpki_text.specs.Base64.{is_not_space, IsBase64Text, base64_content, base64_content_of_json, held_content, IsHeld}
 
 -- the text of octets is read as these octets
 pub decoded_of-encode : (content : List ℕ) → IsBytes content → decoded_of standard (encode_of standard content) ≡ Some content
@@ -97,13 +97,19 @@ pub decode_of-told : (e : GeneralPurpose) (s c : List ℕ) → decoded_of e s �
 unfolding decoded_of
 decode_of-told e s c h = told_by e s c (decode_of e s) refl h
 
--- a text spells the octets whose base64 text it is, once its white space is dropped
-pub base64_content-iff : (text content : List ℕ) → IsBytes (filter is_not_space text) → IsBytes content
-    → (base64_content text ≡ Some content) ↔ (filter is_not_space text ≡ encode_of standard content)
-base64_content-iff text content octets fits = (
-  λ e. (decode_of_iff standard (filter is_not_space text) content (refl, refl) octets fits).0 (decode_of-told standard (filter is_not_space text) content e),
-  λ e. ap (λ (l : List ℕ). decoded_of standard l) e ∙ decoded_of-encode content fits,
-)
+-- what was decoded under the standard engine is the text of what is held
+pub is_spelled : (text spelled content value : List ℕ) → value ≡ content → spelled ≡ filter is_not_space text
+    → IsBytes content → spelled ≡ encode_of standard content → IsBase64Text text value
+is_spelled text spelled content value held e fits is =
+    (subst (λ (l : List ℕ). IsBytes l) (sym held) fits, sym e ∙ is ∙ ap (λ (l : List ℕ). encode_of standard l) (sym held))
+
+-- a base64 text spells its octets
+pub base64_content-is : (text octets : List ℕ) → IsBase64Text text octets → base64_content text ≡ Some octets
+base64_content-is text octets h = ap (λ (l : List ℕ). decoded_of standard l) h.1 ∙ decoded_of-encode octets h.0
+
+-- a text that spells none is the text of none
+pub no_base64 : (text : List ℕ) → base64_content text ≡ None → (octets : List ℕ) → IsBase64Text text octets → ⊥
+no_base64 text e octets h = none-some octets (sym e ∙ base64_content-is text octets h)
 
 -- the text that is held, and what it spells
 pub held_is : (text value : List ℕ) → IsHeld text → held_content text ≡ value → text ≡ encode_of standard value

@@ -1,5 +1,5 @@
 -- Key identifiers and their texts.
-use Rattle.std.proofs.Common.{◌≡◌, ◌≢◌, ◌↔◌, ℕ, ◌-◌, ◌%◌, ◌<◌, ◌≤◌, Bool, true, false, ◌==◌, if◌then◌else◌, inl, inr, List, [], length, Option, Some, None, IfSome, Result, Ok, replicate, refl, sym, ap, ◌∙◌, arith, length-append}
+use Rattle.std.proofs.Common.{◌≡◌, ◌≢◌, ℕ, ◌-◌, ◌%◌, ◌<◌, ◌≤◌, Bool, true, false, ◌==◌, if◌then◌else◌, inl, inr, List, [], length, Option, Some, None, IfSome, IfNone, Result, Ok, replicate, refl, sym, ap, ◌∙◌, arith, length-append}
 use Rattle.std.specs.Option.{option_or}
 use Rattle.std.specs.Result.{result_ok, is_ok}
 use Rattle.std.proofs.lemmas.Bool.{true≢false}
@@ -90,15 +90,15 @@ spelled e text k strict fits h =
     let p = twenty-told (decoded_of e text) k h in
     (decode_of_strict e text k strict fits (decode_of-told e text k p.0), p.1)
 
-pub plain-told : (text k : List ℕ) → IsBytes text → twenty (decoded_of url_safe_no_pad text) ≡ Some k → IsKeyIdentifierText text k
-plain-told text k fits h = let p = spelled url_safe_no_pad text k (refl, refl) fits h in (p.1, inl p.0)
+pub plain-told : (text k : List ℕ) → IsBytes text → IsBytes k → twenty (decoded_of url_safe_no_pad text) ≡ Some k → IsKeyIdentifierText text k
+plain-told text k bytes fits h = let p = spelled url_safe_no_pad text k (refl, refl) bytes h in (fits, p.1, inl p.0)
 
-pub padded-told : (text k : List ℕ) → IsBytes text → twenty (decoded_of url_safe text) ≡ Some k → IsKeyIdentifierText text k
-padded-told text k fits h = let p = spelled url_safe text k (refl, refl) fits h in (p.1, inr p.0)
+pub padded-told : (text k : List ℕ) → IsBytes text → IsBytes k → twenty (decoded_of url_safe text) ≡ Some k → IsKeyIdentifierText text k
+padded-told text k bytes fits h = let p = spelled url_safe text k (refl, refl) bytes h in (fits, p.1, inr p.0)
 
-pub padded-if : (text : List ℕ) (o : Option (List ℕ)) → IsBytes text → o ≡ twenty (decoded_of url_safe text) → IfSome o (λ k. IsKeyIdentifierText text k)
-padded-if text None fits h = tt
-padded-if text (Some k) fits h = padded-told text k fits (sym h)
+pub padded-if : (text : List ℕ) (o : Option (List ℕ)) → IsBytes text → IfSome o (λ k. IsBytes k) → o ≡ twenty (decoded_of url_safe text) → IfSome o (λ k. IsKeyIdentifierText text k)
+padded-if text None bytes fits h = tt
+padded-if text (Some k) bytes fits h = padded-told text k bytes fits (sym h)
 
 never : (o r : Option (List ℕ)) → o ≡ r → ((k : List ℕ) → o ≡ Some k → ⊥) → o ≡ None
 never o None e h = e
@@ -145,17 +145,18 @@ key_identifier-padded octets fits bytes n =
     either (twenty (decoded_of url_safe_no_pad text)) (twenty (decoded_of url_safe text)) (no_plain text bytes (λ e. omega (arith, e, size)))
     ∙ twenty-some (decoded_of url_safe text) octets read n
 
-told_by_option : (text k : List ℕ) (o : Option (List ℕ)) → IsBytes text → twenty (decoded_of url_safe_no_pad text) ≡ o → option_or o (twenty (decoded_of url_safe text)) ≡ Some k
-    → IsKeyIdentifierText text k
-told_by_option text k None fits e h = padded-told text k fits h
-told_by_option text k (Some x) fits e h = plain-told text k fits (e ∙ h)
-
 -- a text spells the twenty octets whose text it is, with its padding or without
-pub key_identifier-iff : (text octets : List ℕ) → IsBytes text → IsBytes octets → (key_identifier_of_text text ≡ Some octets) ↔ IsKeyIdentifierText text octets
-key_identifier-iff text octets bytes fits = (
-  λ h. told_by_option text octets (twenty (decoded_of url_safe_no_pad text)) bytes refl h,
-  λ h. elim h.1 [
-    | inl e ↦ ap (λ (l : List ℕ). key_identifier_of_text l) e ∙ key_identifier-plain octets fits h.0
-    | inr e ↦ ap (λ (l : List ℕ). key_identifier_of_text l) e ∙ key_identifier-padded octets fits (rw (← e) bytes) h.0
-  ],
-)
+pub key_identifier-is : (text octets : List ℕ) → IsBytes text → IsKeyIdentifierText text octets → key_identifier_of_text text ≡ Some octets
+key_identifier-is text octets bytes h = elim h.2 [
+  | inl e ↦ ap (λ (l : List ℕ). key_identifier_of_text l) e ∙ key_identifier-plain octets h.0 h.1
+  | inr e ↦ ap (λ (l : List ℕ). key_identifier_of_text l) e ∙ key_identifier-padded octets h.0 (rw (← e) bytes) h.1
+]
+
+-- a text that spells none is the text of none
+pub none-told : (text : List ℕ) → IsBytes text → key_identifier_of_text text ≡ None → (octets : List ℕ) → IsKeyIdentifierText text octets → ⊥
+none-told text bytes none octets h = none-some octets (sym none ∙ key_identifier-is text octets bytes h)
+
+pub none-if : (text : List ℕ) (o : Option (List ℕ)) → IsBytes text → o ≡ key_identifier_of_text text
+    → IfNone o ((octets : List ℕ) → IsKeyIdentifierText text octets → ⊥)
+none-if text None bytes e = none-told text bytes (sym e)
+none-if text (Some k) bytes e = tt

@@ -8,12 +8,12 @@ use Rattle.std.proofs.lemmas.Bool.{false≢true, true≢false}
 use Rattle.std.proofs.lemmas.Bool.Decides.{nat_tests, Decides-ltb, same_from_decides}
 use Rattle.std.proofs.lemmas.Option.{none-some, same_Some}
 use Rattle.std.proofs.lemmas.Grind.{common_steps}
-use Rattle.std.proofs.lemmas.List.{take_all, drop_all, take_min, drop_min, length-map, length-take}
+use Rattle.std.proofs.lemmas.List.{take_all, drop_all, take_min, drop_min}
 use Rattle.std.proofs.lemmas.List.Sums.{fails_before_first}
 use Rattle.std.proofs.lemmas.List.Splits.{slice_split_first, slice_split_none, length-slice_split}
-use Rattle.rpki_text.specs.Uri.{is_uri_octet, is_slash, is_empty, has_scheme, parts_behind, has_host_and_module, has_dot_segment, parts_fault, uri_fault}
+use Rattle.rpki_text.specs.Uri.{is_uri_octet, is_slash, is_empty, has_scheme, parts_behind, has_host_and_module, parts_fault, uri_fault}
 use Rattle.rpki_text.specs.declared.uri.Error.{Error}
-use Rattle.rpki_text.specs.declared.uri.Error.TheVariants.{TooLong, BadCharacter, BadScheme, BadUri, DotSegments}
+use Rattle.rpki_text.specs.declared.uri.Error.TheVariants.{TooLong, BadCharacter, BadScheme}
 
 -- the rest of a list, as a slice of it
 pub rest_of : (n : ℕ) (xs : List ℕ) → take (length xs - n) (drop n xs) ≡ drop n xs
@@ -83,39 +83,6 @@ same_scheme scheme text k has_parts short octets same e =
     let rest : take (length text - k) (drop k text) ≡ drop (length scheme) text = rest_of k text ∙ ap (λ n. drop n text) e ∙ drop_min (length scheme) text in
     past_two scheme text has_parts short octets ∙ ap (λ (b : Bool). if not b then Some BadScheme else parts_fault has_parts (parts_behind scheme text)) same
     ∙ ap (λ (l : List ℕ). parts_fault has_parts (slice_split is_slash l)) (sym rest)
-
--- the parts break the rule of their scheme
-pub bad_parts : (has_parts : List (List ℕ) → Bool) (parts : List (List ℕ)) (r : Bool) → r ≡ has_parts parts → r ≡ false → parts_fault has_parts parts ≡ Some BadUri
-bad_parts has_parts parts r e f = ap (λ (b : Bool). if not b then Some BadUri else if has_dot_segment parts then Some DotSegments else None) (sym e ∙ f)
-
--- the parts keep the rule of their scheme
-pub good_parts : (has_parts : List (List ℕ) → Bool) (parts : List (List ℕ)) (r dots : Bool) → r ≡ has_parts parts → r ≡ true → dots ≡ has_dot_segment parts
-    → parts_fault has_parts parts ≡ (if dots then Some DotSegments else None)
-good_parts has_parts parts r dots e f d =
-    ap (λ (b : Bool). if not b then Some BadUri else if has_dot_segment parts then Some DotSegments else None) (sym e ∙ f)
-    ∙ ap (λ (b : Bool). if b then Some DotSegments else None) (sym d)
-
--- a text with a scheme is at least as long
-pub scheme_fits : (scheme text : List ℕ) → has_scheme scheme text ≡ true → length scheme ≤ length text
-scheme_fits scheme text e =
-    let same = (bytes_decides (map to_ascii_lowercase (take (length scheme) text)) (map to_ascii_lowercase scheme)).0 e in
-    let sizes = ap (λ (l : List ℕ). length l) same in
-    let front = length-map (take (length scheme) text) to_ascii_lowercase in
-    let whole = length-map scheme to_ascii_lowercase in
-    let taken = length-take (length scheme) text in
-    omega (arith, sizes, front, whole, taken)
-
-lawful : (long octets scheme : Bool) (rest : Option Error)
-    → (if long then Some TooLong else if not octets then Some BadCharacter else if not scheme then Some BadScheme else rest) ≡ None → scheme ≡ true
-lawful true octets scheme rest e = absurd (none-some TooLong (sym e))
-lawful false false scheme rest e = absurd (none-some BadCharacter (sym e))
-lawful false true false rest e = absurd (none-some BadScheme (sym e))
-lawful false true true rest e = refl
-
--- a lawful text is at least as long as its scheme
-pub lawful_fits : (scheme text : List ℕ) (has_parts : List (List ℕ) → Bool) → uri_fault scheme has_parts text ≡ None → length scheme ≤ length text
-lawful_fits scheme text has_parts e =
-    scheme_fits scheme text (lawful (nat_lt 65535 (length text)) (list_all is_uri_octet text) (has_scheme scheme text) (parts_fault has_parts (parts_behind scheme text)) e)
 
 -- a host and a module, cut off one after the other
 pub two_cuts : (rest host module_name : List ℕ) (first second : Option (Bor (List ℕ))) (behind : Bor (List ℕ)) (no_host no_module : Bool)

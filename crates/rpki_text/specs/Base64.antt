@@ -5,12 +5,18 @@ use Rattle.base64.specs.Engines.{standard}
 use Rattle.base64.specs.GeneralPurpose.{encode_of, decoded_of, IsBytes}
 use Rattle.rpki_text.specs.Json.{string_of_json}
 
--- The octets of text that are no white space: all but the tab, the line feed, the carriage return and the space.
+-- The octets of text that are no white space: all but the tab, the line feed, the carriage return
+-- and the space.
 abbrev pub is_not_space : ℕ → Bool
 is_not_space octet = not ((octet == 9) || (octet == 10) || (octet == 13) || (octet == 32))
 
--- The octets that base64 text spells, once its white space is dropped. The text is the one that RFC 4648, section 4, gives these
--- octets (proofs/Base64Laws.antt): the standard alphabet, its padding, and zeros in the bits that are left over.
+-- A text that, once its white space is dropped, is the one that RFC 4648, section 4, gives some
+-- octets: in the standard alphabet, with its padding, and with zeros in the bits that are left
+-- over.
+abbrev pub IsBase64Text : List ℕ → List ℕ → Type 0
+IsBase64Text text octets = IsBytes octets × (filter is_not_space text ≡ encode_of standard octets)
+
+-- The octets that base64 text spells, once its white space is dropped.
 abbrev pub base64_content : List ℕ → Option (List ℕ)
 base64_content text = decoded_of standard (filter is_not_space text)
 

@@ -8,8 +8,8 @@ use Rattle.rpki_text.specs.Json.{string_of_json}
 -- A letter, a digit, or one of the three marks `-`, `_` and `/`.
 abbrev pub is_handle_octet : ℕ → Bool
 is_handle_octet octet =
-    (nat_le 65 octet && nat_le octet 90) || (nat_le 97 octet && nat_le octet 122) || (nat_le 48 octet && nat_le octet 57)
-    || (octet == 45) || (octet == 95) || (octet == 47)
+    (nat_le 65 octet && nat_le octet 90) || (nat_le 97 octet && nat_le octet 122)
+    || (nat_le 48 octet && nat_le octet 57) || (octet == 45) || (octet == 95) || (octet == 47)
 
 -- RFC 8183, appendix A: 1 to 255 of these octets.
 abbrev pub IsHandle : List ℕ → Type 0

@@ -1,5 +1,6 @@
 -- A source in memory, as clauses see it.
-use Rattle.std.specs.Prelude.{ℕ, List}
+use Rattle.std.specs.Prelude.{ℕ, List, drop}
+use Rattle.rpki_text.specs.Counts.{count_after}
 
 pub record SourceState : Type 0 where
   -- the octets still to come
@@ -12,3 +13,16 @@ pub record SourceState : Type 0 where
   pub failing : List ℕ
   -- how many calls failed
   pub faults : ℕ
+
+-- A source of `octets` before its first call.
+abbrev pub source_of : List ℕ → ℕ → List ℕ → SourceState
+source_of octets piece failing =
+    record { rest = octets; piece = piece; calls = 0; failing = failing; faults = 0 }
+
+-- A source after a call that gave `count` octets.
+abbrev pub after_giving : ℕ → SourceState → SourceState
+after_giving count s = record s { rest = drop count s.rest; calls = count_after s.calls }
+
+-- A source after a call that failed.
+abbrev pub after_failing : SourceState → SourceState
+after_failing s = record s { calls = count_after s.calls; faults = count_after s.faults }

@@ -6,4 +6,6 @@ use Rattle.std.specs.Io.KnownBytes.{Appends}
 
 -- The octets written grew by some front of `octets`, and not by all of them.
 abbrev pub AppendsPart : Option (List ℕ) → Option (List ℕ) → List ℕ → Type 0
-AppendsPart before after octets = (front : List ℕ) × StartsWith octets front × (length front < length octets) × Appends before after front
+AppendsPart before after octets =
+    (front : List ℕ) × StartsWith octets front × (length front < length octets)
+    × Appends before after front

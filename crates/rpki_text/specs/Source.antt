@@ -5,8 +5,10 @@ use Rattle.std.specs.Io.KnownBytes.{Consumes}
 
 -- The next `count` octets were taken.
 abbrev pub Takes : Option (List ℕ) → Option (List ℕ) → ℕ → Type 0
-Takes before after count = (octets : List ℕ) × Consumes before after octets × (length octets ≡ count)
+Takes before after count =
+    (octets : List ℕ) × Consumes before after octets × (length octets ≡ count)
 
 -- Some of the next octets were taken, and not more than `most`.
 abbrev pub TakesAtMost : Option (List ℕ) → Option (List ℕ) → ℕ → Type 0
-TakesAtMost before after most = (octets : List ℕ) × Consumes before after octets × (length octets ≤ most)
+TakesAtMost before after most =
+    (octets : List ℕ) × Consumes before after octets × (length octets ≤ most)

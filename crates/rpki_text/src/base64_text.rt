@@ -1,6 +1,6 @@
 //! Octets that travel as base64 text.
 
-ghost use Rattle.std.specs.Prelude.{◌≡◌, ◌≤◌, ◌+◌, ◌*◌, ◌/◌, ◌≢◌, Some, None, Ok, IfOk, IsErrOf, length, filter, nat_eq, string_bytes};
+ghost use Rattle.std.specs.Prelude.{ℕ, List, ◌≡◌, ◌↔◌, ◌≤◌, ◌+◌, ◌*◌, ◌/◌, Some, None, Ok, IfOk, IsErrOf, IsTrue, length, filter, nat_eq, string_bytes};
 ghost use Rattle.std.specs.Cmp.Lexicographic.{pointwise, nat_list_eq_equiv};
 ghost use Rattle.std.specs.Cmp.{partial_equiv_from_equiv};
 ghost use Rattle.base64.specs.Engines.{standard};
@@ -8,7 +8,7 @@ ghost use Rattle.base64.specs.GeneralPurpose.{encode_of, decode_of};
 ghost use Rattle.serde_json.specs.Data.{string};
 ghost use Rattle.serde_json.specs.Written.{compact_text};
 ghost use Rattle.sha2.specs.Sha256.{sha256};
-ghost use Rattle.rpki_text.specs.Base64.{is_not_space, base64_content, base64_content_of_json};
+ghost use Rattle.rpki_text.specs.Base64.{is_not_space, IsBase64Text, base64_content, base64_content_of_json};
 ghost use Rattle.rpki_text.specs.declared.base64_text.Base64Error.TheVariants as variant;
 
 use crate::digests::Hash;
@@ -49,8 +49,8 @@ impl From<OutOfMemory> for Base64Error {
     }
 }
 
-/// Octets, held as their base64 text (RFC 4648, section 4): the standard alphabet, padded, with no white space. In a clause
-/// it is the list of the octets.
+/// Octets, held as their base64 text (RFC 4648, section 4): the standard alphabet, padded, with no
+/// white space. In a clause it is the list of the octets.
 #[derive(Debug, Drop)]
 pub struct Base64 {
     text: Text,
@@ -78,11 +78,15 @@ impl Base64 {
         })
     }
 
-    /// The octets that base64 text spells, as a message holds it: white space in it counts for nothing, and the rest is the
-    /// one text that RFC 4648 gives these octets, with its padding and with zeros in the bits that are left over.
+    /// The octets that base64 text spells, as a message holds it: white space in it counts for
+    /// nothing, and the rest is the one text that RFC 4648 gives these octets, with its padding and
+    /// with zeros in the bits that are left over.
     pub fn from_str(alloc: Global, text: &str) -> Result<Base64, Base64Error>
         ensures content { IfOk result (λ b. base64_content text.now ≡ Some b) }
+        ensures spelled { IfOk result (λ b. IsBase64Text text.now b) }
         ensures malformed { IsErrOf result Base64Error.Malformed → base64_content text.now ≡ None }
+        ensures none { IsErrOf result Base64Error.Malformed
+            → (octets : List ℕ) → ¬ (IsBase64Text text.now octets) }
     {
         let spelling = without_space(alloc, text.as_bytes())?;
         let content = match STANDARD.decode(alloc, &spelling) {
@@ -96,7 +100,8 @@ impl Base64 {
     /// The octets that the one string of a JSON text spells, read as [`Base64::from_str`] does.
     pub fn from_json(alloc: Global, text: &str) -> Result<Base64, JsonError>
         ensures content { IfOk result (λ b. base64_content_of_json text.now ≡ Some b) }
-        ensures malformed { IsErrOf result JsonError.Malformed → base64_content_of_json text.now ≡ None }
+        ensures malformed { IsErrOf result JsonError.Malformed
+            → base64_content_of_json text.now ≡ None }
     {
         let spelling = read_string(alloc, text)?;
         match Base64::from_str(alloc, spelling.as_str()) {
@@ -108,7 +113,8 @@ impl Base64 {
 
     /// The base64 text as a JSON text, which is one string.
     pub fn to_json(&self, alloc: Global) -> Result<String, OutOfMemory>
-        ensures text { IfOk result (λ s. string_bytes s ≡ compact_text (string (encode_of standard self.now))) }
+        ensures text { IfOk result (λ s.
+            string_bytes s ≡ compact_text (string (encode_of standard self.now))) }
         ensures again { IfOk result (λ s. base64_content_of_json (string_bytes s) ≡ Some self.now) }
     {
         write_string(alloc, self.as_str())
@@ -178,7 +184,10 @@ impl PartialEq for Base64 {
 
     ghost laws = { partial_equiv_from_equiv nat_list_eq_equiv };
 
-    fn eq(&self, other: &Base64) -> bool {
+    fn eq(&self, other: &Base64) -> bool
+        ensures value { result ≡ pointwise nat_eq self.now other.now }
+        ensures same { IsTrue result ↔ (self.now ≡ other.now) }
+    {
         self.text == other.text
     }
 }

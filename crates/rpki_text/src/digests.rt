@@ -1,6 +1,11 @@
 //! Digests.
 
-ghost use Rattle.std.specs.Prelude.{◌≡◌, ◌↔◌, length, Ok, Some, IsSome, IfSome};
+ghost use Rattle.std.specs.Prelude.{◌≡◌, ◌↔◌, length, nat_eq, Ok, Some, IsSome, IfSome, IsTrue};
+ghost use Rattle.std.specs.Hash as fed;
+ghost use Rattle.std.specs.Cmp.Lexicographic.{pointwise, nat_list_eq_equiv};
+ghost use Rattle.std.specs.Cmp.{partial_equiv_from_equiv};
+ghost use Rattle.std.specs.Cmp.Rules.{hashing};
+ghost use Rattle.std.proofs.Common.{rules};
 ghost use Rattle.std.specs.List.{AllPass};
 ghost use Rattle.hex.specs.Hex.{decode_of, encode_lower, is_hex_digit};
 ghost use Rattle.sha2.specs.Sha256.{sha256};
@@ -9,10 +14,11 @@ ghost use Rattle.rpki_text.specs.Hash.{digest_of_text};
 use hex::FromHex;
 use sha2::{Digest, Sha256};
 use std::fmt;
+use std::hash::Hasher;
 use std::marker::Model;
 
 /// The SHA-256 digest of an object. In a clause it is the list of its 32 octets.
-#[derive(Clone, Copy, Debug, PartialEq, Eq, Hash)]
+#[derive(Clone, Copy, Debug)]
 pub struct Hash {
     octets: [u8; 32],
 }
@@ -37,8 +43,8 @@ impl Hash {
         }
     }
 
-    /// The digest whose 64 hexadecimal digits, in either case, are `text`, and `None` for any other text. It takes no
-    /// memory.
+    /// The digest whose 64 hexadecimal digits, in either case, are `text`, and `None` for any other
+    /// text. It takes no memory.
     pub fn from_str(text: &str) -> Option<Hash>
         ensures digest { result ≡ digest_of_text text.now }
         ensures found { IsSome result ↔ ((length text.now ≡ 64) × AllPass is_hex_digit text.now) }
@@ -72,6 +78,33 @@ fn digits_are_read_back(octets: &[u8])
     ensures { digest_of_text (encode_lower octets.now) ≡ Some octets.now }
 {
     let _first = octets[0];
+}
+
+impl PartialEq for Hash {
+    ghost eq = { pointwise nat_eq };
+
+    ghost laws = { partial_equiv_from_equiv nat_list_eq_equiv };
+
+    fn eq(&self, other: &Hash) -> bool
+        ensures value { result ≡ pointwise nat_eq self.now other.now }
+        ensures same { IsTrue result ↔ (self.now ≡ other.now) }
+    {
+        self.as_slice() == other.as_slice()
+    }
+}
+
+impl Eq for Hash {
+    ghost laws = { nat_list_eq_equiv };
+}
+
+impl std::hash::Hash for Hash {
+    ghost hash_input = { fed.slice fed.u8 };
+
+    ghost respects_eq = { Prim.search (hashing, rules) };
+
+    fn hash<H: Hasher>(&self, state: &mut H) {
+        self.as_slice().hash(state);
+    }
 }
 
 /// 64 hexadecimal digits in lower case. Printing takes no memory.

@@ -107,8 +107,8 @@ impl From<OutOfMemory> for InvalidHandle {
     }
 }
 
-/// The name of a party. The marker `T` says in which part it is named, and takes no place. In a clause a handle is the list
-/// of its octets.
+/// The name of a party. The marker `T` says in which part it is named, and takes no place. In a
+/// clause a handle is the list of its octets.
 #[derive(Debug, Drop)]
 pub struct Handle<T> {
     name: Text,
@@ -134,11 +134,13 @@ impl<T> Handle<T> {
         }
     }
 
-    /// The handle that `text` is: 1 to 255 letters, digits, `-`, `_` and `/`.
+    /// The handle that `text` is: 1 to 255 letters, digits, `-`, `_` and `/`. Memory is taken for
+    /// such a text alone.
     pub fn from_str(alloc: Global, text: &str) -> Result<Handle<T>, InvalidHandle>
         ensures name { IfOk result (λ h. h ≡ text.now) }
         ensures accepted { OnOk result (IsHandle text.now) }
         ensures pattern { IsErrOf result InvalidHandle.Pattern → ¬ (IsHandle text.now) }
+        ensures memory { IsErrOf result InvalidHandle.OutOfMemory → IsHandle text.now }
     {
         if !is_handle(text) {
             return Err(InvalidHandle::Pattern);
@@ -165,7 +167,8 @@ impl<T> Handle<T> {
     /// The handle as a JSON text, which is one string.
     pub fn to_json(&self, alloc: Global) -> Result<String, OutOfMemory>
         ensures text { IfOk result (λ s. string_bytes s ≡ compact_text (string self.now)) }
-        ensures again { IfOk result (λ s. IsHandle self.now → handle_of_json (string_bytes s) ≡ Some self.now) }
+        ensures again { IfOk result (λ s. IsHandle self.now
+            → handle_of_json (string_bytes s) ≡ Some self.now) }
     {
         write_string(alloc, self.as_str())
     }
@@ -251,7 +254,10 @@ impl<T> PartialEq for Handle<T> {
 
     ghost laws = { partial_equiv_from_equiv nat_list_eq_equiv };
 
-    fn eq(&self, other: &Self) -> bool {
+    fn eq(&self, other: &Self) -> bool
+        ensures value { result ≡ pointwise nat_eq self.now other.now }
+        ensures same { IsTrue result ↔ (self.now ≡ other.now) }
+    {
         self.as_str() == other.as_str()
     }
 }

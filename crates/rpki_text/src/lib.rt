@@ -4,19 +4,22 @@
 //!
 //! - [`uri::Rsync`] and [`uri::Https`]: the two kinds of URIs that messages hold.
 //! - [`Hash`]: a SHA-256 digest, as 64 hexadecimal digits.
-//! - [`Base64`]: octets that travel as base64 text. [`read_key_identifier`] and [`key_identifier_text`] are for the key
-//!   identifiers in messages, which have an alphabet of their own.
-//! - [`Handle`]: the name of a party. A marker says which one, so that the handle of a child is never taken for that of a
-//!   parent.
+//! - [`Base64`]: octets that travel as base64 text. [`read_key_identifier`] and
+//!   [`key_identifier_text`] are for the key identifiers in messages, which have an alphabet of
+//!   their own.
+//! - [`Handle`]: the name of a party. A marker says which one, so that the handle of a child is
+//!   never taken for that of a parent.
 //!
 //! Where octets come from and go to, in pieces, and each failure of the outside is counted:
 //!
-//! - [`Source`] and [`Sink`]: what is read from and written to. Each has a count of its faults that never falls, so a
-//!   contract can say that a call answers a fault only where the outside failed.
-//! - [`read_all`] and [`write_all`]: a source read to its end within a limit, and octets written whole.
-//! - [`MemorySource`] and [`MemorySink`]: ones in memory that give and take pieces and fail at listed calls, so that a
-//!   caller can be tried at each failure.
-//! - [`StdSource`] and [`StdSink`]: ones over what `std` reads and writes, as a file or standard input.
+//! - [`Source`] and [`Sink`]: what is read from and written to. Each has a count of its faults that
+//!   never falls, so a contract can say that a call answers a fault only where the outside failed.
+//! - [`read_all`] and [`write_all`]: a source read to its end within a limit, and octets written
+//!   whole.
+//! - [`MemorySource`] and [`MemorySink`]: ones in memory that give and take pieces and fail at
+//!   listed calls, so that a caller can be tried at each failure.
+//! - [`StdSource`] and [`StdSink`]: ones over what `std` reads and writes, as a file or standard
+//!   input.
 //!
 //! Nothing here knows what a message means.
 #![tactic(auto)]
@@ -51,6 +54,6 @@ pub use traits::{Failed, Sink, Source};
 pub use writing::write_all;
 
 #[cfg(test)]
-mod tests;
+mod outside_tests;
 #[cfg(test)]
 mod text_tests;

@@ -1,10 +1,10 @@
 //! A source in memory.
 
-ghost use Rattle.std.specs.Prelude.{◌≡◌, ◌↔◌, ◌≤◌, ◌<◌, ◌++◌, min, drop, take, length, Contains, IfOk, OnErr, IsErr, Some};
+ghost use Rattle.std.specs.Prelude.{◌≡◌, ◌↔◌, ◌≤◌, ◌<◌, ◌++◌, min, drop, take, length, Contains, IfOk, OnOk, OnErr, IsErr, Some};
 ghost use Rattle.std.specs.Io.{ReadsAtMost};
 ghost use Rattle.std.specs.Io.KnownBytes.{Consumes, IsAtEnd};
 ghost use Rattle.rpki_common.specs.Causes.{HasCause};
-ghost use Rattle.rpki_text.specs.Counts.{count_after};
+ghost use Rattle.rpki_text.specs.MemorySource.{source_of, after_giving, after_failing};
 
 use crate::traits::{Failed, Source};
 use rpki_common::OutOfMemory;
@@ -13,9 +13,9 @@ use std::marker::Model;
 
 /// A source in memory, which gives its octets in pieces and fails at listed calls.
 ///
-/// In a clause it is a record of the octets still to come (`rest`), the most that a call gives (`piece`), how many calls
-/// of `read` there were (`calls`), the numbers of the calls that fail, counted from 0 (`failing`), and how many failed
-/// (`faults`). Both counts stop at 2^64 - 1.
+/// In a clause it is a record of the octets still to come (`rest`), the most that a call gives
+/// (`piece`), how many calls of `read` there were (`calls`), the numbers of the calls that fail,
+/// counted from 0 (`failing`), and how many failed (`faults`). Both counts stop at 2^64 - 1.
 #[derive(Drop)]
 pub struct MemorySource {
     octets: Vec<u8>,
@@ -32,14 +32,20 @@ impl Model for MemorySource {
 
     ghost Value = { SourceState };
 
-    ghost view = { λ s. record { rest = drop s.at s.octets.items; piece = s.piece; calls = s.calls; failing = s.failing.items; faults = s.faults } };
+    ghost view = { λ s. record {
+      rest = drop s.at s.octets.items;
+      piece = s.piece;
+      calls = s.calls;
+      failing = s.failing.items;
+      faults = s.faults;
+    } };
 
     ghost invariant = { λ s. (s.at ≤ length s.octets.items) × (1 ≤ s.piece) };
 }
 
 impl MemorySource {
-    /// A source of `octets`, which gives at most `piece` of them a call, and fails at each call whose number, counted from
-    /// 0, stands in `failing`.
+    /// A source of `octets`, which gives at most `piece` of them a call, and fails at each call
+    /// whose number, counted from 0, stands in `failing`.
     pub fn new(
         alloc: Global,
         octets: &[u8],
@@ -47,7 +53,7 @@ impl MemorySource {
         failing: &[u64],
     ) -> Result<MemorySource, OutOfMemory>
         requires { 1 ≤ piece }
-        ensures { IfOk result (λ s. s ≡ record { rest = octets.now; piece = piece; calls = 0; failing = failing.now; faults = 0 }) }
+        ensures { IfOk result (λ s. s ≡ source_of octets.now piece failing.now) }
     {
         Ok(MemorySource {
             octets: octets.to_vec(alloc)?,
@@ -84,17 +90,21 @@ impl Source for MemorySource {
     fn read(&mut self, into: &mut [u8]) -> Result<usize, Failed>
         // What each source promises.
         ensures bound { ReadsAtMost result into.new }
-        ensures next { IfOk result (λ k. Consumes (Some self.old.rest) (Some self.new.rest) (take k into.new)) }
-        ensures end { IfOk result (λ k. k ≡ 0 → 0 < length into.new → IsAtEnd (Some self.new.rest)) }
+        ensures next { IfOk result (λ k.
+            Consumes (Some self.old.rest) (Some self.new.rest) (take k into.new)) }
+        ensures end { IfOk result (λ k.
+            k ≡ 0 → 0 < length into.new → IsAtEnd (Some self.new.rest)) }
         ensures failed { OnErr result (Some self.new.rest ≡ Some self.old.rest) }
         ensures cause { HasCause self.old.faults self.new.faults result }
+        ensures kept { OnOk result (self.new.faults ≡ self.old.faults) }
 
         // Which answer, and what the source and `into` are then.
         ensures fails { IsErr result ↔ Contains self.old.failing self.old.calls }
-        ensures count { IfOk result (λ k. k ≡ min self.old.piece (min (length into.new) (length self.old.rest))) }
+        ensures count { IfOk result (λ k.
+            k ≡ min self.old.piece (min (length into.new) (length self.old.rest))) }
         ensures given { IfOk result (λ k. into.new ≡ take k self.old.rest ++ drop k into.old) }
-        ensures ok { IfOk result (λ k. self.new ≡ record self.old { rest = drop k self.old.rest; calls = count_after self.old.calls }) }
-        ensures err { OnErr result (self.new ≡ record self.old { calls = count_after self.old.calls; faults = count_after self.old.faults }) }
+        ensures ok { IfOk result (λ k. self.new ≡ after_giving k self.old) }
+        ensures err { OnErr result (self.new ≡ after_failing self.old) }
         ensures untouched { OnErr result (into.new ≡ into.old) }
     {
         let fails = self.failing.contains(&self.calls);

@@ -39,8 +39,9 @@ impl<T: Drop> From<AllocFailed<T>> for ReadAllError {
 /// The most octets that one call reads.
 const BLOCK: usize = 8192;
 
-/// Adds `octets` behind `out`. Where room is missing, `out` grows by a quarter of its length, or by a block if that is
-/// more, so the old room and the new one take at most 2.25 times what is held, and a block.
+/// Adds `octets` behind `out`. Where room is missing, `out` grows by a quarter of its length, or by
+/// a block if that is more, so the old room and the new one take at most 2.25 times what is held,
+/// and a block.
 fn append(out: &mut Vec<u8>, octets: &[u8]) -> Result<(), AllocError>
     ensures ok { OnOk result (out.new.items ≡ out.old.items ++ octets.now) }
     ensures err { OnErr result (out.new.items ≡ out.old.items) }
@@ -51,11 +52,12 @@ fn append(out: &mut Vec<u8>, octets: &[u8]) -> Result<(), AllocError>
     out.extend_from_slice(octets)
 }
 
-/// Reads `source` to the end of input, to its first fault, or until one octet more than `limit` was read. `limit` counts
-/// octets, and every number is allowed.
+/// Reads `source` to the end of input, to its first fault, or until one octet more than `limit` was
+/// read. `limit` counts octets, and every number is allowed.
 ///
-/// What was read before an error is gone. The octet past the limit takes no memory, nor does the end of input. While it
-/// reads, the result takes at most 2.25 times the memory of the octets read, and a block.
+/// What was read before an error is gone. The octet past the limit takes no memory, nor does the
+/// end of input. While it reads, the result takes at most 2.25 times the memory of the octets read,
+/// and a block.
 pub fn read_all<I: Source>(
     alloc: Global,
     source: &mut I,
@@ -67,13 +69,20 @@ pub fn read_all<I: Source>(
     ensures end { OnOk result (IsAtEnd (I.rest source.new)) }
     ensures within { IfOk result (λ v. length v.items ≤ limit) }
 
-    // When each error comes, and how much was read before it.
-    ensures cause { IsErrOf result ReadAllError.Read → Rose (I.faults source.old) (I.faults source.new) }
-    ensures read { IsErrOf result ReadAllError.Read → TakesAtMost (I.rest source.old) (I.rest source.new) limit }
-    ensures too_long { IsErrOf result ReadAllError.TooLong → Takes (I.rest source.old) (I.rest source.new) (limit + 1) }
-    ensures memory { IsErrOf result ReadAllError.OutOfMemory → TakesAtMost (I.rest source.old) (I.rest source.new) limit }
-
+    // A fault of the source is told, and nothing else is told as one.
+    ensures cause { IsErrOf result ReadAllError.Read
+        → Rose (I.faults source.old) (I.faults source.new) }
+    ensures kept { ¬ (IsErrOf result ReadAllError.Read)
+        → I.faults source.new ≡ I.faults source.old }
     ensures later { I.faults source.old ≤ I.faults source.new }
+
+    // How much was read: never more than one octet past the limit, and that octet for `TooLong`
+    // alone.
+    ensures most { TakesAtMost (I.rest source.old) (I.rest source.new) (limit + 1) }
+    ensures too_long { IsErrOf result ReadAllError.TooLong
+        → Takes (I.rest source.old) (I.rest source.new) (limit + 1) }
+    ensures no_more { ¬ (IsErrOf result ReadAllError.TooLong)
+        → TakesAtMost (I.rest source.old) (I.rest source.new) limit }
 {
     let mut out = Vec::new(alloc);
     let mut block = [0u8; BLOCK];

@@ -12,8 +12,8 @@ use std::marker::Model;
 
 /// A source over a reader of `std`. It doesn't tell the octets still to come.
 ///
-/// In a clause it is a record of the reader (`reader`) and of how many calls failed (`faults`), a count that stops at
-/// 2^64 - 1.
+/// In a clause it is a record of the reader (`reader`) and of how many calls failed (`faults`), a
+/// count that stops at 2^64 - 1.
 #[derive(Drop)]
 pub struct StdSource<R> {
     reader: R,
@@ -54,10 +54,11 @@ impl<R: Read> Source for StdSource<R> {
         // What each source promises, beside what it would tell.
         ensures bound { ReadsAtMost result into.new }
         ensures cause { HasCause self.old.faults self.new.faults result }
+        ensures kept { OnOk result (self.new.faults ≡ self.old.faults) }
 
         // The call is one of the reader's, and counts its fault.
-        ensures passed { ReadConsumes (R.remaining self.old.reader) (R.remaining self.new.reader) result into.new }
-        ensures ok { OnOk result (self.new.faults ≡ self.old.faults) }
+        ensures passed { ReadConsumes (R.remaining self.old.reader)
+            (R.remaining self.new.reader) result into.new }
         ensures err { OnErr result (self.new.faults ≡ count_after self.old.faults) }
     {
         match self.reader.read(into) {
@@ -72,8 +73,8 @@ impl<R: Read> Source for StdSource<R> {
 
 /// A sink over a writer of `std`. It doesn't tell the octets written.
 ///
-/// In a clause it is a record of the writer (`writer`) and of how many calls failed (`faults`), a count that stops at
-/// 2^64 - 1.
+/// In a clause it is a record of the writer (`writer`) and of how many calls failed (`faults`), a
+/// count that stops at 2^64 - 1.
 #[derive(Drop)]
 pub struct StdSink<W> {
     writer: W,
@@ -109,17 +110,18 @@ impl<W: Write> Sink for StdSink<W> {
 
     ghost faults = { λ s. s.faults };
 
-    /// Writes to the writer once. Each of its errors is a fault, and so is a writer that takes nothing of a `from` that
-    /// isn't empty.
+    /// Writes to the writer once. Each of its errors is a fault, and so is a writer that takes
+    /// nothing of a `from` that isn't empty.
     fn write(&mut self, from: &[u8]) -> Result<usize, Failed>
         // What each sink promises, beside what it would tell.
         ensures bound { WritesAtMost result from.now }
         ensures some { IfOk result (λ k. 0 < length from.now → 0 < k) }
         ensures cause { HasCause self.old.faults self.new.faults result }
+        ensures kept { OnOk result (self.new.faults ≡ self.old.faults) }
 
         // The call is one of the writer's, and counts its fault.
-        ensures passed { WriteAppends (W.contents self.old.writer) (W.contents self.new.writer) result from.now }
-        ensures ok { OnOk result (self.new.faults ≡ self.old.faults) }
+        ensures passed { WriteAppends (W.contents self.old.writer)
+            (W.contents self.new.writer) result from.now }
         ensures err { OnErr result (self.new.faults ≡ count_after self.old.faults) }
     {
         match self.writer.write(from) {

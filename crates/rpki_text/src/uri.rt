@@ -2,19 +2,30 @@
 //!
 //! A URI is kept as it was written, and two are equal where their texts are.
 
-ghost use Rattle.std.specs.Prelude.{ℕ, Bool, List, ◌≡◌, ◌≢◌, ◌↔◌, ◌≤◌, ◌<◌, ◌∷◌, [], length, Some, None, IfOk, IfErr, IfSome, IfNone, OnOk, IsTrue, not};
+ghost use Rattle.std.specs.Prelude.{ℕ, Bool, List, ◌≡◌, ◌≢◌, ◌↔◌, ◌≤◌, ◌<◌, ◌∷◌, [], length, drop, nat_eq, Some, None, IfOk, IfErr, IfSome, OnOk, IsErrOf, IsTrue};
 ghost use Rattle.std.specs.List.{list_all, slice_split, position, after_first};
 ghost use Rattle.std.specs.Option.{option_map_or};
 ghost use Rattle.std.specs.Str.{IsAscii};
-ghost use Rattle.rpki_text.specs.Uri.{is_uri_octet as tells_octet, is_slash, is_dot_segment as tells_dots, has_host_and_module as tells_host_and_module, has_host as tells_host, has_dot_segment as tells_dots_behind, rsync_fault, https_fault, rsync_path as path_of_rsync, https_path as path_of_https, names_directory as tells_directory, uri_fault, parts_fault, without_slash as text_without_slash, joined as joined_text};
+ghost use Rattle.std.specs.Hash as fed;
+ghost use Rattle.std.specs.Cmp.Lexicographic.{pointwise, nat_list_eq_equiv};
+ghost use Rattle.std.specs.Cmp.{partial_equiv_from_equiv};
+ghost use Rattle.std.specs.Cmp.Rules.{hashing};
+ghost use Rattle.std.proofs.Common.{rules};
+ghost use Rattle.rpki_text.specs.Uri.{Kind, rsync, https, fault_of, path_of, is_slash, uri_fault, parts_fault};
+ghost use Rattle.rpki_text.specs.Uri.{is_uri_octet as tells_octet, is_dot_segment as tells_dots};
+ghost use Rattle.rpki_text.specs.Uri.{has_host_and_module as tells_host_and_module};
+ghost use Rattle.rpki_text.specs.Uri.{has_dot_segment as tells_dots_behind, names_directory as tells_directory};
+ghost use Rattle.rpki_text.specs.Uri.{without_slash as text_without_slash, joined as joined_text};
 ghost use Rattle.rpki_text.specs.declared.uri.Error.TheVariants as variant;
 
 use rpki_common::{OutOfMemory, Text};
 use std::alloc::{AllocError, Global};
 use std::fmt;
-use std::marker::Model;
+use std::hash::{Hash, Hasher};
+use std::marker::{Model, PhantomData};
 
-/// Why a text is no URI. The rules are tried in the order of the variants, and the first that is broken is told.
+/// Why a text is no URI. The rules are tried in the order of the variants, and the first that is
+/// broken is told.
 #[derive(Clone, Copy, Debug, PartialEq, Eq, thiserror::Error)]
 pub enum Error {
     /// The text has more than 65535 octets.
@@ -56,171 +67,193 @@ impl From<OutOfMemory> for Error {
 /// The most octets of a URI.
 const MOST_OCTETS: usize = 65535;
 
-/// An rsync URI, with a host, a module and a path (RFC 5781). In a clause it is the list of its octets.
-#[derive(Debug, PartialEq, Eq, Hash, Drop)]
-pub struct Rsync {
-    text: Text,
+/// A kind of URIs. A value that no code holds gives it its meaning: `kind`.
+pub trait UriKind {
+    ghost kind: { Kind };
+
+    /// The scheme and its `://`.
+    fn scheme() -> &'static [u8]
+        ensures { result.now ≡ kind.scheme };
+
+    /// Whether `rest`, which stands behind the scheme, has the parts that it must have.
+    fn has_parts(rest: &[u8]) -> bool
+        ensures { result ≡ kind.has_parts (slice_split is_slash rest.now) };
+
+    /// The path in `rest`, which stands behind the scheme; empty where it is missing.
+    fn path(rest: &[u8]) -> &[u8]
+        ensures { result.now ≡ kind.path rest.now };
 }
 
-impl Model for Rsync {
+/// A URI of the kind `K`. In a clause it is the list of its octets.
+#[derive(Debug, Drop)]
+pub struct Uri<K: UriKind> {
+    text: Text,
+    kind: PhantomData<K>,
+}
+
+/// An rsync URI, with a host, a module and a path (RFC 5781).
+pub type Rsync = Uri<RsyncKind>;
+
+/// An https URI, with a host and a path, which may be missing (RFC 9110, section 4.2.2).
+pub type Https = Uri<HttpsKind>;
+
+impl<K: UriKind> Model for Uri<K> {
     ghost use Rattle.std.specs.Prelude.{◌≡◌, ℕ, List, None};
-    ghost use Rattle.rpki_text.specs.Uri.{rsync_fault};
+    ghost use Rattle.rpki_text.specs.Uri.{fault_of};
 
     ghost Value = { List ℕ };
 
     ghost view = { λ u. u.text };
 
-    ghost invariant = { λ u. rsync_fault u.text ≡ None };
-
-    ghost inverse = { λ d. record { text = d } };
+    ghost invariant = { λ u. fault_of K.kind u.text ≡ None };
 }
 
-impl Rsync {
-    /// The URI that `text` is, or the first rule that it breaks.
-    pub fn from_str(alloc: Global, text: &str) -> Result<Rsync, Error>
+impl<K: UriKind> Uri<K> {
+    /// The URI that `text` is, or the first rule that it breaks. Memory is taken for a lawful text
+    /// alone.
+    pub fn from_str(alloc: Global, text: &str) -> Result<Self, Error>
         ensures text { IfOk result (λ u. u ≡ text.now) }
-        ensures accepted { OnOk result (rsync_fault text.now ≡ None) }
-        ensures fault { IfErr result (λ e. e ≢ Error.OutOfMemory → rsync_fault text.now ≡ Some e) }
+        ensures accepted { OnOk result (fault_of K.kind text.now ≡ None) }
+        ensures fault { IfErr result (λ e. e ≢ Error.OutOfMemory
+            → fault_of K.kind text.now ≡ Some e) }
+        ensures memory { IsErrOf result Error.OutOfMemory → fault_of K.kind text.now ≡ None }
     {
-        check_rsync(text.as_bytes())?;
-        Ok(Rsync {
+        check::<K>(text.as_bytes())?;
+        Ok(Uri {
             text: Text::from_str(alloc, text)?,
+            kind: PhantomData,
         })
     }
 
-    /// This URI with `path` behind it and exactly one slash between the two, or the first rule that this text breaks.
-    pub fn join(&self, alloc: Global, path: &[u8]) -> Result<Rsync, Error>
+    /// This URI with `path` behind it and exactly one slash between the two, or the first rule that
+    /// this text breaks.
+    pub fn join(&self, alloc: Global, path: &[u8]) -> Result<Self, Error>
         ensures text { IfOk result (λ u. u ≡ joined_text self.now path.now) }
-        ensures accepted { OnOk result (rsync_fault (joined_text self.now path.now) ≡ None) }
-        ensures fault { IfErr result (λ e. e ≢ Error.OutOfMemory → rsync_fault (joined_text self.now path.now) ≡ Some e) }
+        ensures accepted { OnOk result (fault_of K.kind (joined_text self.now path.now) ≡ None) }
+        ensures fault { IfErr result (λ e.
+            e ≢ Error.OutOfMemory → fault_of K.kind (joined_text self.now path.now) ≡ Some e) }
     {
         let joined = joined(alloc, self.as_str().as_bytes(), path)?;
-        check_rsync(&joined)?;
-        Ok(Rsync {
+        check::<K>(&joined)?;
+        Ok(Uri {
             text: Text::from_str(alloc, ascii_text(&joined))?,
-        })
-    }
-
-    /// Whether the path is empty or ends with a slash.
-    pub fn path_is_dir(&self) -> bool
-        ensures { result ≡ tells_directory (path_of_rsync self.now) }
-    {
-        names_directory(rsync_path(self.as_str().as_bytes()))
-    }
-
-    /// The text, which is read as this URI again.
-    pub fn as_str(&self) -> &str
-        ensures text { result.now ≡ self.now }
-        ensures lawful { rsync_fault result.now ≡ None }
-    {
-        self.text.as_str()
-    }
-
-    /// An equal URI that shares the text with this one.
-    pub fn clone(&self, alloc: Global) -> Result<Rsync, OutOfMemory>
-        ensures { IfOk result (λ u. u ≡ self.now) }
-    {
-        Ok(Rsync {
-            text: self.text.clone(alloc)?,
-        })
-    }
-}
-
-impl fmt::Display for Rsync {
-    ghost output = { λ u. Some u };
-
-    fn fmt<W: fmt::Write>(&self, f: &mut fmt::Formatter<W>) -> fmt::Result {
-        f.write_str(self.text.as_str())
-    }
-}
-
-/// An https URI, with a host and a path, which may be missing (RFC 9110, section 4.2.2). In a clause it is the list of its
-/// octets.
-#[derive(Debug, PartialEq, Eq, Hash, Drop)]
-pub struct Https {
-    text: Text,
-}
-
-impl Model for Https {
-    ghost use Rattle.std.specs.Prelude.{◌≡◌, ℕ, List, None};
-    ghost use Rattle.rpki_text.specs.Uri.{https_fault};
-
-    ghost Value = { List ℕ };
-
-    ghost view = { λ u. u.text };
-
-    ghost invariant = { λ u. https_fault u.text ≡ None };
-
-    ghost inverse = { λ d. record { text = d } };
-}
-
-impl Https {
-    /// The URI that `text` is, or the first rule that it breaks.
-    pub fn from_str(alloc: Global, text: &str) -> Result<Https, Error>
-        ensures text { IfOk result (λ u. u ≡ text.now) }
-        ensures accepted { OnOk result (https_fault text.now ≡ None) }
-        ensures fault { IfErr result (λ e. e ≢ Error.OutOfMemory → https_fault text.now ≡ Some e) }
-    {
-        check_https(text.as_bytes())?;
-        Ok(Https {
-            text: Text::from_str(alloc, text)?,
-        })
-    }
-
-    /// This URI with `path` behind it and exactly one slash between the two, or the first rule that this text breaks.
-    pub fn join(&self, alloc: Global, path: &[u8]) -> Result<Https, Error>
-        ensures text { IfOk result (λ u. u ≡ joined_text self.now path.now) }
-        ensures accepted { OnOk result (https_fault (joined_text self.now path.now) ≡ None) }
-        ensures fault { IfErr result (λ e. e ≢ Error.OutOfMemory → https_fault (joined_text self.now path.now) ≡ Some e) }
-    {
-        let joined = joined(alloc, self.as_str().as_bytes(), path)?;
-        check_https(&joined)?;
-        Ok(Https {
-            text: Text::from_str(alloc, ascii_text(&joined))?,
+            kind: PhantomData,
         })
     }
 
     /// Whether the path is missing, is empty or ends with a slash.
     pub fn path_is_dir(&self) -> bool
-        ensures { result ≡ tells_directory (path_of_https self.now) }
+        ensures { result ≡ tells_directory (path_of K.kind self.now) }
     {
-        names_directory(https_path(self.as_str().as_bytes()))
+        names_directory(K::path(behind_scheme::<K>(self.as_str())))
     }
 
     /// The text, which is read as this URI again.
     pub fn as_str(&self) -> &str
         ensures text { result.now ≡ self.now }
-        ensures lawful { https_fault result.now ≡ None }
+        ensures lawful { fault_of K.kind result.now ≡ None }
     {
         self.text.as_str()
     }
 
     /// An equal URI that shares the text with this one.
-    pub fn clone(&self, alloc: Global) -> Result<Https, OutOfMemory>
+    pub fn clone(&self, alloc: Global) -> Result<Self, OutOfMemory>
         ensures { IfOk result (λ u. u ≡ self.now) }
     {
-        Ok(Https {
+        Ok(Uri {
             text: self.text.clone(alloc)?,
+            kind: PhantomData,
         })
     }
 }
 
-impl fmt::Display for Https {
+impl<K: UriKind> PartialEq for Uri<K> {
+    ghost eq = { pointwise nat_eq };
+
+    ghost laws = { partial_equiv_from_equiv nat_list_eq_equiv };
+
+    fn eq(&self, other: &Self) -> bool
+        ensures value { result ≡ pointwise nat_eq self.now other.now }
+        ensures same { IsTrue result ↔ (self.now ≡ other.now) }
+    {
+        self.as_str() == other.as_str()
+    }
+}
+
+impl<K: UriKind> Eq for Uri<K> {
+    ghost laws = { nat_list_eq_equiv };
+}
+
+impl<K: UriKind> Hash for Uri<K> {
+    ghost hash_input = { fed.str };
+
+    ghost respects_eq = { Prim.search (hashing, rules) };
+
+    fn hash<H: Hasher>(&self, state: &mut H) {
+        self.as_str().hash(state);
+    }
+}
+
+impl<K: UriKind> fmt::Display for Uri<K> {
     ghost output = { λ u. Some u };
 
     fn fmt<W: fmt::Write>(&self, f: &mut fmt::Formatter<W>) -> fmt::Result {
-        f.write_str(self.text.as_str())
+        f.write_str(self.as_str())
     }
 }
 
-/// Whether `text` is an rsync URI.
-fn check_rsync(text: &[u8]) -> Result<(), Error>
-    ensures accepted { OnOk result (rsync_fault text.now ≡ None) }
+/// The kind of [`Rsync`].
+#[derive(Clone, Copy, Debug, PartialEq, Eq, Hash)]
+pub struct RsyncKind;
+
+impl UriKind for RsyncKind {
+    ghost kind = { rsync };
+
+    fn scheme() -> &'static [u8] {
+        b"rsync://"
+    }
+
+    fn has_parts(rest: &[u8]) -> bool {
+        has_host_and_module(rest)
+    }
+
+    fn path(rest: &[u8]) -> &[u8] {
+        match cut(rest).1 {
+            Some(behind) => cut(behind).1.unwrap_or(b""),
+            None => b"",
+        }
+    }
+}
+
+/// The kind of [`Https`].
+#[derive(Clone, Copy, Debug, PartialEq, Eq, Hash)]
+pub struct HttpsKind;
+
+impl UriKind for HttpsKind {
+    ghost kind = { https };
+
+    fn scheme() -> &'static [u8] {
+        b"https://"
+    }
+
+    fn has_parts(rest: &[u8]) -> bool {
+        !cut(rest).0.is_empty()
+    }
+
+    fn path(rest: &[u8]) -> &[u8] {
+        cut(rest).1.unwrap_or(b"")
+    }
+}
+
+/// Whether `text` is a URI of the kind `K`.
+fn check<K: UriKind>(text: &[u8]) -> Result<(), Error>
+    ensures accepted { OnOk result (fault_of K.kind text.now ≡ None) }
     ensures ascii { OnOk result (IsAscii text.now) }
-    ensures fault { IfErr result (λ e. rsync_fault text.now ≡ Some e) }
+    ensures fault { IfErr result (λ e. fault_of K.kind text.now ≡ Some e) }
+    ensures memory { ¬ (IsErrOf result Error.OutOfMemory) }
 {
-    let rest = check_scheme(text, b"rsync://")?;
-    if !has_host_and_module(rest) {
+    let rest = check_scheme(text, K::scheme())?;
+    if !K::has_parts(rest) {
         return Err(Error::BadUri);
     }
     if has_dot_segment(rest) {
@@ -229,27 +262,24 @@ fn check_rsync(text: &[u8]) -> Result<(), Error>
     Ok(())
 }
 
-/// Whether `text` is an https URI.
-fn check_https(text: &[u8]) -> Result<(), Error>
-    ensures accepted { OnOk result (https_fault text.now ≡ None) }
-    ensures ascii { OnOk result (IsAscii text.now) }
-    ensures fault { IfErr result (λ e. https_fault text.now ≡ Some e) }
+/// What stands behind the scheme of a URI of the kind `K`.
+fn behind_scheme<K: UriKind>(text: &str) -> &[u8]
+    requires { fault_of K.kind text.now ≡ None }
+    ensures { result.now ≡ drop (length K.kind.scheme) text.now }
 {
-    let rest = check_scheme(text, b"https://")?;
-    if !has_host(rest) {
-        return Err(Error::BadUri);
-    }
-    if has_dot_segment(rest) {
-        return Err(Error::DotSegments);
-    }
-    Ok(())
+    &text.as_bytes()[K::scheme().len()..]
 }
 
-/// What stands behind the scheme of `text`, which is short enough and holds only octets that a URI may hold.
+/// What stands behind the scheme of `text`, which is short enough and holds only octets that a URI
+/// may hold.
 fn check_scheme<'a>(text: &'a [u8], scheme: &[u8]) -> Result<&'a [u8], Error>
-    ensures rest { IfOk result (λ rest. (has_parts : List (List ℕ) → Bool) → uri_fault scheme.now has_parts text.now ≡ parts_fault has_parts (slice_split is_slash rest.now)) }
+    ensures rest { IfOk result (λ rest. (has_parts : List (List ℕ) → Bool)
+        → uri_fault scheme.now has_parts text.now
+        ≡ parts_fault has_parts (slice_split is_slash rest.now)) }
     ensures ascii { OnOk result (IsAscii text.now) }
-    ensures fault { IfErr result (λ e. (has_parts : List (List ℕ) → Bool) → uri_fault scheme.now has_parts text.now ≡ Some e) }
+    ensures fault { IfErr result (λ e. (has_parts : List (List ℕ) → Bool)
+        → uri_fault scheme.now has_parts text.now ≡ Some e) }
+    ensures memory { ¬ (IsErrOf result Error.OutOfMemory) }
 {
     if text.len() > MOST_OCTETS {
         return Err(Error::TooLong);
@@ -287,7 +317,8 @@ fn first_slash(text: &[u8]) -> Option<usize>
 
 /// What stands before the first slash, and what stands behind it if there is one.
 fn cut(text: &[u8]) -> (&[u8], Option<&[u8]>)
-    ensures parts { slice_split is_slash text.now ≡ result.0.now ∷ option_map_or (λ rest. slice_split is_slash rest.now) result.1 [] }
+    ensures parts { slice_split is_slash text.now
+        ≡ result.0.now ∷ option_map_or (λ rest. slice_split is_slash rest.now) result.1 [] }
     ensures after { after_first is_slash text.now ≡ option_map_or (λ rest. rest.now) result.1 [] }
     ensures shorter { IfSome result.1 (λ rest. length rest.now < length text.now) }
 {
@@ -312,14 +343,8 @@ fn has_host_and_module(rest: &[u8]) -> bool
     !host.is_empty() && !module.is_empty()
 }
 
-/// Whether `rest`, cut at each slash, begins with a host.
-fn has_host(rest: &[u8]) -> bool
-    ensures { result ≡ tells_host (slice_split is_slash rest.now) }
-{
-    !cut(rest).0.is_empty()
-}
-
-/// Whether a part of `rest`, which is cut at each slash, is `.` or `..`. The first part, which is the host, doesn't count.
+/// Whether a part of `rest`, which is cut at each slash, is `.` or `..`. The first part, which is
+/// the host, doesn't count.
 fn has_dot_segment(rest: &[u8]) -> bool
     ensures { result ≡ tells_dots_behind (slice_split is_slash rest.now) }
 {
@@ -339,25 +364,6 @@ fn is_dot_segment(segment: &[u8]) -> bool
     ensures { result ≡ tells_dots segment.now }
 {
     segment == b".".as_slice() || segment == b"..".as_slice()
-}
-
-/// The path of an rsync URI.
-fn rsync_path(text: &[u8]) -> &[u8]
-    requires { 8 ≤ length text.now }
-    ensures { result.now ≡ path_of_rsync text.now }
-{
-    match cut(&text[b"rsync://".len()..]).1 {
-        Some(behind) => cut(behind).1.unwrap_or(b""),
-        None => b"",
-    }
-}
-
-/// The path of an https URI, which is empty where it is missing.
-fn https_path(text: &[u8]) -> &[u8]
-    requires { 8 ≤ length text.now }
-    ensures { result.now ≡ path_of_https text.now }
-{
-    cut(&text[b"https://".len()..]).1.unwrap_or(b"")
 }
 
 /// Whether a path is empty or ends with a slash.

@@ -1,8 +1,8 @@
 -- Said in contracts, and to be believed:
 -- documents and elements: Name, Lexing, Runs, Content, Element, Lettered, Texts, Trimmed, AttributeSpelling;
 -- what is asked of an element, and answered: Tables, Answers;
--- what is written: Spelling, Draft, PlainCharacter, PlainElement.
--- Means for loops, proofs and the element in memory: Joined, Pieces, Stack, Nodes, DocumentNodes, Views.
+-- what is written: Spelling, Draft, PlainElement.
+-- Means for loops, proofs and the element in memory: PlainCharacter, Joined, Pieces, Stack, Nodes, DocumentNodes, Views.
 pub mod Answers
 pub mod AttributeSpelling
 pub mod Content

@@ -1,6 +1,6 @@
 use Rattle.base64.specs.GeneralPurpose.{decoded_of}
 use Rattle.rpki_text.proofs.key_identifiers.unpadded_octets.Goals as goal
 
-pub returns : goal.returns
+pub returns-clause-octets : goal.returns-clause-octets
 unfolding decoded_of
-returns c = c.twenty_octets.ensures
+returns-clause-octets c = c.twenty_octets.ensures.octets

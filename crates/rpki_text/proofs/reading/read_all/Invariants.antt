@@ -1,4 +1,4 @@
-use Rattle.std.proofs.Common.{◌≤◌, ◌-◌, length, vec_len}
+use Rattle.std.proofs.Common.{◌≡◌, ◌≤◌, ◌-◌, length, vec_len}
 use Rattle.std.specs.Io.KnownBytes.{Consumes}
 use Rattle.rpki_text.proofs.reading.read_all.Given as goal
 
@@ -6,7 +6,7 @@ abbrev pub invariant-reading : goal.invariant-reading
 invariant-reading g l = record {
   taken : Consumes (g.I.Source.rest l.initial.source) (g.I.Source.rest l.source) l.out.items;
   within : length l.out.items ≤ l.limit;
-  later : g.I.Source.faults l.initial.source ≤ g.I.Source.faults l.source;
+  kept : g.I.Source.faults l.source ≡ g.I.Source.faults l.initial.source;
 }
 
 abbrev pub decreases-reading : goal.decreases-reading

@@ -3,60 +3,30 @@ use std::io;
 use std::test::Fail;
 
 #[test]
-fn a_source_of_single_octets_is_read_whole(rt: HostRuntime) -> Result<(), Fail> {
-    let alloc = rt.alloc();
-    let mut source = MemorySource::new(alloc, b"manifest".as_slice(), 1, [0u64; 0].as_slice())?;
-    assert_eq!(rt;
-        read_all(alloc, &mut source, 100)?.as_slice(),
-        b"manifest".as_slice()
-    );
-    assert_eq!(rt; source.faults(), 0);
-    assert_eq!(rt; read_all(alloc, &mut source, 0)?.len(), 0);
-    Ok(())
-}
-
-#[test]
-fn many_blocks_are_read_whole(rt: HostRuntime) -> Result<(), Fail> {
-    let alloc = rt.alloc();
-    let mut octets = vec![in alloc; 7u8; 100_000]?;
-    octets.push(8)?;
-    let mut source = MemorySource::new(alloc, &octets, usize::MAX, [0u64; 0].as_slice())?;
-    assert!(rt; read_all(alloc, &mut source, u64::MAX)? == octets);
-    Ok(())
-}
-
-#[test]
-fn the_limit_is_the_last_length_that_is_read(rt: HostRuntime) -> Result<(), Fail> {
-    let alloc = rt.alloc();
-    for (limit, fits) in [
-        (0, false),
-        (7, false),
-        (8, true),
-        (9, true),
-        (u64::MAX, true),
-    ] {
-        let mut source = MemorySource::new(alloc, b"manifest".as_slice(), 3, [0u64; 0].as_slice())?;
-        match read_all(alloc, &mut source, limit) {
-            Ok(read) => assert!(rt; fits && read.len() == 8),
-            Err(error) => assert!(rt; !fits && error == ReadAllError::TooLong),
-        }
-    }
-    Ok(())
-}
-
-#[test]
 fn a_listed_call_fails_and_what_was_read_before_is_gone(rt: HostRuntime) -> Result<(), Fail> {
     let alloc = rt.alloc();
     let mut source = MemorySource::new(alloc, b"manifest".as_slice(), 4, [1u64].as_slice())?;
-    match read_all(alloc, &mut source, 100) {
-        Ok(_) => assert!(rt; false),
-        Err(error) => assert_eq!(rt; error, ReadAllError::Read),
-    }
+    assert_eq!(rt;
+        read_all(alloc, &mut source, 100).err(),
+        Some(ReadAllError::Read)
+    );
     assert_eq!(rt; source.faults(), 1);
     assert_eq!(rt;
         read_all(alloc, &mut source, 100)?.as_slice(),
         b"fest".as_slice()
     );
+    Ok(())
+}
+
+#[test]
+fn a_source_that_fails_once_is_not_asked_again(rt: HostRuntime) -> Result<(), Fail> {
+    let alloc = rt.alloc();
+    let mut source = MemorySource::new(alloc, b"manifest".as_slice(), 8, [0u64].as_slice())?;
+    assert_eq!(rt;
+        read_all(alloc, &mut source, 8).err(),
+        Some(ReadAllError::Read)
+    );
+    assert_eq!(rt; source.faults(), 1);
     Ok(())
 }
 
@@ -72,16 +42,6 @@ fn a_failing_sink_keeps_what_it_took(rt: HostRuntime) -> Result<(), Fail> {
     assert_eq!(rt; sink.faults(), 1);
     assert_eq!(rt; write_all(&mut sink, b" world".as_slice()), Ok(()));
     assert_eq!(rt; sink.written(), b"hello world".as_slice());
-    Ok(())
-}
-
-#[test]
-fn a_full_sink_fails(rt: HostRuntime) -> Result<(), Fail> {
-    let alloc = rt.alloc();
-    let mut sink = MemorySink::new(alloc, 4, 3, [0u64; 0].as_slice())?;
-    assert_eq!(rt; write_all(&mut sink, b"hello".as_slice()), Err(Failed));
-    assert_eq!(rt; sink.written(), b"hell".as_slice());
-    assert_eq!(rt; sink.faults(), 1);
     Ok(())
 }
 
@@ -134,10 +94,10 @@ fn a_reader_of_std_is_read_whole(rt: HostRuntime) -> Result<(), Fail> {
 #[test]
 fn an_error_of_a_reader_is_counted(rt: HostRuntime) -> Result<(), Fail> {
     let mut source = StdSource::new(Broken);
-    match read_all(rt.alloc(), &mut source, 8) {
-        Ok(_) => assert!(rt; false),
-        Err(error) => assert_eq!(rt; error, ReadAllError::Read),
-    }
+    assert_eq!(rt;
+        read_all(rt.alloc(), &mut source, 8).err(),
+        Some(ReadAllError::Read)
+    );
     assert_eq!(rt; source.faults(), 1);
     Ok(())
 }

@@ -1,0 +1,283 @@
+#!/usr/bin/env python3
+"""Writes the cases on which crates/text_cases calls rpki_text: its data/cases.txt, and the stdout beside it.
+
+The expected answers come from Python's base64, hashlib, json and re, and where no library says it from the rows below. None
+comes from the program under test.
+
+A line is `NAME CALL ANSWER INPUT INPUT`, as crates/text_cases/src/main.rt says.
+"""
+
+import base64
+import hashlib
+import json
+import pathlib
+import re
+
+ROOT = pathlib.Path(__file__).resolve().parent.parent
+CRATE = ROOT / "crates" / "text_cases"
+
+# Where counts of one and of two octets end, and the most octets of a URI.
+SIZES = 127, 128, 255, 256, 65535, 65536
+
+URI_OCTETS = b"!#$%&'()*+,-./0123456789:;=?@ABCDEFGHIJKLMNOPQRSTUVWXYZ[]_abcdefghijklmnopqrstuvwxyz~"
+HANDLE = re.compile(r"[-_A-Za-z0-9/]{1,255}")
+DIGEST = re.compile(r"[0-9A-Fa-f]{64}")
+
+
+# ---- fields
+
+
+def pieces(octets):
+    """Octets as pieces: what stands eight times or more in a row by its number, and what stands between."""
+    start = 0
+    for run in re.finditer(rb"(.{1,65}?)\1{7,}", octets, re.DOTALL):
+        if start < run.start():
+            yield octets[start:run.start()].hex()
+        yield f"{run[1].hex()}*{len(run[0]) // len(run[1])}"
+        start = run.end()
+    if start < len(octets):
+        yield octets[start:].hex()
+
+
+def field(given):
+    octets = given.encode() if isinstance(given, str) else bytes(given)
+    found = "+".join(pieces(octets)) or "-"
+    assert found == "-" or b"".join(spelled(piece) for piece in found.split("+")) == octets
+    return found
+
+
+def spelled(piece):
+    digits, _, count = piece.partition("*")
+    return bytes.fromhex(digits) * int(count or "1")
+
+
+class Refused(Exception):
+    """A call that answers with a refusal."""
+
+
+def line(name, call, answer, first, second=b""):
+    told = answer.args[0] if isinstance(answer, Refused) else "=" + field(answer)
+    return " ".join((name, call, told, field(first), field(second)))
+
+
+def answered(rule, *given):
+    try:
+        return rule(*given)
+    except Refused as refusal:
+        return refusal
+
+
+# ---- the rules, by Python's libraries
+
+
+def octets_of_base64(text):
+    """RFC 4648, section 4, once white space is dropped: the text that Python writes of what it reads."""
+    bare = re.sub("[\t\n\r ]", "", text)
+    try:
+        octets = base64.b64decode(bare.encode("ascii"), validate=True)
+    except ValueError:
+        raise Refused("Malformed") from None
+    if base64.b64encode(octets).decode() != bare:
+        raise Refused("Malformed")
+    return octets
+
+
+def string_of_json(text):
+    try:
+        found = json.loads(text)
+    except ValueError:
+        raise Refused("Malformed") from None
+    if not isinstance(found, str):
+        raise Refused("Malformed")
+    return found
+
+
+def handle_of(text, refusal="Pattern"):
+    if not HANDLE.fullmatch(text):
+        raise Refused(refusal)
+    return text
+
+
+def digest_of(text):
+    if not DIGEST.fullmatch(text):
+        raise Refused("None")
+    return text.lower()
+
+
+def octets_of_ski(text):
+    """20 octets in the URL-safe alphabet of RFC 4648, section 5, with padding or without."""
+    try:
+        octets = base64.b64decode((text.rstrip("=") + "=").encode("ascii"), b"-_", validate=True)
+    except ValueError:
+        raise Refused("None") from None
+    written = base64.urlsafe_b64encode(octets).decode()
+    if len(octets) != 20 or text not in (written, written.rstrip("=")):
+        raise Refused("None")
+    return octets
+
+
+# ---- rows
+
+
+def uri_rows():
+    for scheme, rows in (("rsync", RSYNC), ("https", HTTPS)):
+        for number, (text, refusal) in enumerate(rows):
+            answer = Refused(refusal) if refusal else text
+            yield line(f"{scheme}-{number}", scheme, answer, text)
+        for size in SIZES:
+            text = f"{scheme}://localhost/repo/".ljust(size, "a")
+            answer = text if size <= 65535 else Refused("TooLong")
+            yield line(f"{scheme}-of-{size}", scheme, answer, text)
+            base = f"{scheme}://localhost/repo/"
+            yield line(f"{scheme}-joined-to-{size}", f"{scheme}_join", answer, base, text[len(base):])
+            yield line(f"{scheme}-is-dir-of-{size}", f"{scheme}_is_dir", answer if size > 65535 else "false", text)
+        for octet in range(256):
+            path = bytes((97, octet))
+            base = f"{scheme}://localhost/repo/x"
+            answer = base + "/a" + chr(octet) if octet in URI_OCTETS else Refused("BadCharacter")
+            yield line(f"{scheme}-octet-{octet:02x}", f"{scheme}_join", answer, base, path)
+        for number, (base, path, joined) in enumerate(JOINED):
+            answer = Refused("DotSegments") if joined is None else f"{scheme}:{joined}"
+            yield line(f"{scheme}-joined-{number}", f"{scheme}_join", answer, f"{scheme}:{base}", path)
+    for number, (text, answer) in enumerate(DIRECTORIES):
+        yield line(f"is-dir-{number}", text[:5].lower() + "_is_dir", answer, text)
+
+
+def hash_rows():
+    for size in (0, 1, 3, *SIZES):
+        octets = b"a" * size
+        yield line(f"hash-of-{size}", "hash_of", hashlib.sha256(octets).hexdigest(), octets)
+    digits = hashlib.sha256(b"abc").hexdigest()
+    texts = ["", digits, digits.upper(), digits.title(), digits[:-1], digits + "0", " " + digits[1:], digits[:-1] + "\n"]
+    texts += [chr(octet) + digits[1:] for octet in range(256)] + ["a" * size for size in SIZES]
+    for number, text in enumerate(texts):
+        yield line(f"hash-{number}", "hash", answered(digest_of, text), text)
+
+
+def base64_rows():
+    contents = [b"", b"a", b"ab", b"abc", bytes(range(256))] + [b"\xa5" * size for size in SIZES]
+    contents += [b"\x00" * size for size in (10, 16, 1024, 1025, 12322)]
+    for number, octets in enumerate(contents):
+        text = base64.b64encode(octets).decode()
+        yield line(f"base64-of-{number}", "base64_of", text, octets)
+        yield line(f"base64-size-{number}", "base64_size", str(len(text) * 3 // 4), octets)
+        yield line(f"base64-hash-{number}", "base64_hash", hashlib.sha256(octets).hexdigest(), octets)
+        yield line(f"base64-to-json-{number}", "base64_to_json", json.dumps(text), octets)
+        yield line(f"base64-read-{number}", "base64", octets, text)
+        yield line(f"base64-spaced-{number}", "base64", octets, "\n".join(re.findall(".{1,64}", text)) + "\r\n")
+    texts = BASE64 + [chr(octet) + "Q==" for octet in range(256)] + ["YQ=" + chr(octet) for octet in range(128)]
+    texts += ["A" * size for size in SIZES] + [" " * size for size in SIZES]
+    for number, text in enumerate(texts):
+        yield line(f"base64-text-{number}", "base64", answered(octets_of_base64, text), text)
+    for number, text in enumerate(JSON + [json.dumps(text) for text in texts]):
+        answer = answered(lambda text: octets_of_base64(string_of_json(text)), text)
+        yield line(f"base64-json-{number}", "base64_json", answer, text)
+
+
+def handle_rows():
+    texts = ["Carol", "Carol/1", "", "a\\b", "Carol ", " Carol", "Ca rol", "-_/", "\u00e9"]
+    texts += [chr(octet) for octet in range(256)] + ["a" * size for size in SIZES] + ["a" * 254 + "/", "a" * 254 + " "]
+    for number, text in enumerate(texts):
+        yield line(f"handle-{number}", "handle", answered(handle_of, text), text)
+        yield line(f"handle-to-json-{number}", "handle_to_json", json.dumps(text, ensure_ascii=False), text)
+    for number, text in enumerate(JSON + [json.dumps(text) for text in texts]):
+        answer = answered(lambda text: handle_of(string_of_json(text), "Malformed"), text)
+        yield line(f"handle-json-{number}", "handle_json", answer, text)
+
+
+def ski_rows():
+    for number, octets in enumerate((bytes(20), b"\xff" * 20, bytes(range(20)), hashlib.sha1(b"abc").digest())):
+        yield line(f"ski-of-{number}", "ski_of", base64.urlsafe_b64encode(octets).rstrip(b"="), octets)
+    text = base64.urlsafe_b64encode(hashlib.sha1(b"abc").digest()).decode()
+    bare = text.rstrip("=")
+    texts = [text, bare, "", text + "=", bare[:-1], bare + "A", bare[:-1] + "B", bare[:-1] + "+", " " + bare]
+    texts += [bare[:26] + "\n=", "_" * 26 + "8", "_" * 26 + "8=", "_" * 27, "A" * 27 + "=", "A" * 28, "A" * 26 + "=="]
+    texts += [chr(octet) + bare[1:] for octet in range(256)] + ["A" * size for size in SIZES]
+    for number, text in enumerate(texts):
+        yield line(f"ski-{number}", "ski", answered(octets_of_ski, text), text)
+
+
+def piece_rows():
+    for size in (0, 1, *SIZES):
+        octets = b"\x5a" * size
+        for piece in (1, 7, 65536):
+            kept = octets if size <= 65535 else Refused("TooLong")
+            yield line(f"read-{size}-by-{piece}", "read_all", kept, octets, b"\x00" * piece)
+            kept = octets if size <= 65535 else Refused("Failed")
+            yield line(f"write-{size}-by-{piece}", "write_all", kept, octets, b"\x00" * piece)
+
+
+# Texts and the first rule that each breaks, by what RFC 5781 and RFC 9110 ask for.
+RSYNC = [
+    ("rsync://localhost/repo/", None),
+    ("RSync://localhost/repo/x/..y/z.cer", None),
+    ("rsync://localhost/repo/x/.../z", None),
+    ("rsync://localhost/repo", "BadUri"),
+    ("rsync://localhost", "BadUri"),
+    ("rsync://localhost//x", "BadUri"),
+    ("rsync:///repo/x", "BadUri"),
+    ("rsync://", "BadUri"),
+    ("rsync://./repo/x", None),
+    ("rsync://localhost/./x", "DotSegments"),
+    ("rsync://localhost/repo/x/../y", "DotSegments"),
+    ("rsync://localhost/repo/.", "DotSegments"),
+    ("rsync://localhost/repo/..", "DotSegments"),
+    ("https://localhost/repo/x", "BadScheme"),
+    ("rsync:/", "BadScheme"),
+    ("", "BadScheme"),
+    ("https://local host/", "BadCharacter"),
+    ("rsync://localhost/repo/\u00e9", "BadCharacter"),
+    ("\u00e9" * 32768, "TooLong"),
+]
+HTTPS = [
+    ("https://localhost", None),
+    ("HTTPS://localhost/", None),
+    ("https://localhost/a//b", None),
+    ("https://..", None),
+    ("https://", "BadUri"),
+    ("https:///a", "BadUri"),
+    ("https://localhost/..", "DotSegments"),
+    ("https://localhost/a/./b", "DotSegments"),
+    ("http://localhost/", "BadScheme"),
+    ("https:/", "BadScheme"),
+    ("https://localhost/\\", "BadCharacter"),
+]
+JOINED = [
+    ("//localhost/repo/x", "/y", "//localhost/repo/x/y"),
+    ("//localhost/repo/x", "y", "//localhost/repo/x/y"),
+    ("//localhost/repo/x/", "y", "//localhost/repo/x/y"),
+    ("//localhost/repo/x/", "/y", "//localhost/repo/x/y"),
+    ("//localhost/repo/x", "//y/", "//localhost/repo/x//y/"),
+    ("//localhost/repo/x", "", "//localhost/repo/x/"),
+    ("//localhost/repo/x", "../z", None),
+    ("//localhost/repo/x", "/.", None),
+]
+DIRECTORIES = [
+    ("rsync://localhost/repo/", "true"),
+    ("rsync://localhost/repo/x/", "true"),
+    ("rsync://localhost/repo/x", "false"),
+    ("https://localhost", "true"),
+    ("https://localhost/", "true"),
+    ("https://localhost/x", "false"),
+    ("https://localhost/x/", "true"),
+]
+BASE64 = [
+    "YQ==", "\n\tYW \r\nJj\n", " Y Q = = ", "  ", "YQ", "YQ=", "YR==", "YQ===", "=", "YWJj=", "Y-==", "Y_==",
+    "YQ==YQ==", "YQ\u000b==", "Y\u00a0Q==", "YWI=", "YWJ=", "+/+/",
+]
+JSON = [
+    ' "Y\\nQ\\u003d=" ', '"????????"', '"YR=="', "YQ==", '["YQ=="]', "1.5", "null", '"YQ==', '"YQ==" x', "",
+    '"Carol\\/1"', '"Ca rol"', "Carol", '{"a":"Carol"}', "true", '""', '"\\u0043arol"',
+]
+
+
+def main():
+    lines = [*uri_rows(), *hash_rows(), *base64_rows(), *handle_rows(), *ski_rows(), *piece_rows()]
+    names = [line.split(" ")[0] for line in lines]
+    assert len(names) == len(set(names))
+    (CRATE / "data" / "cases.txt").write_text("".join(line + "\n" for line in lines))
+    (CRATE / "stdout").write_text(f"{len(lines)} cases, 0 differ\n")
+
+
+if __name__ == "__main__":
+    main()
