@@ -68,7 +68,7 @@ fn append_validity(
 // What is written of what is signed.
 fn written(alloc: Global, tbs: &TbsIdCert) -> Result<Writer, OutOfMemory> {
     let mut out = Writer::new(alloc);
-    tbs.encode_ref(alloc, &mut out)?;
+    tbs.encode_ref(&mut out)?;
     Ok(out)
 }
 
@@ -88,7 +88,7 @@ pub fn tbs_shown(alloc: Global, tbs: &TbsIdCert) -> Result<Fields, DecodeError> 
 // What three calls write of a certificate, if they agree.
 fn written_certificate(alloc: Global, cert: &IdCert) -> Result<Writer, DecodeError> {
     let mut out = Writer::new(alloc);
-    cert.encode_ref(alloc, &mut out)?;
+    cert.encode_ref(&mut out)?;
     let captured = cert.to_captured(alloc)?;
     let bytes = cert.to_bytes(alloc)?;
     if captured.as_slice() != out.as_slice() || bytes.as_slice() != out.as_slice() {

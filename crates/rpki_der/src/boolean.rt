@@ -1,7 +1,6 @@
 //! BOOLEAN.
 
-ghost use Rattle.std.specs.Prelude.{◌≡◌, ◌<◌};
-ghost use Rattle.rpki_der.specs.Takes.{Takes};
+ghost use Rattle.std.specs.Prelude.{◌≡◌};
 ghost use Rattle.rpki_der.specs.Ticks.{TakesCounted, TakesPartCounted};
 ghost use Rattle.rpki_der.specs.Grammar.{optional};
 ghost use Rattle.rpki_der.specs.Tags.{boolean_tag};
@@ -15,8 +14,7 @@ use crate::item::Item;
 use crate::mode::Mode;
 use crate::steps::Steps;
 use crate::tag::Tag;
-use std::marker::Brand;
-use std::sync::ledger::{Blank, Ledger};
+use std::sync::ledger::Ledger;
 
 // What the contents of a BOOLEAN say.
 fn truth(mode: Mode, octets: &[u8]) -> Option<bool>
@@ -42,26 +40,6 @@ pub fn take_boolean_counted<L: Ledger>(
         Some(value) => Ok(value),
         None => Err(DecodeError::Malformed),
     }
-}
-
-fn take_boolean_within<L: Ledger>(
-    cursor: &mut Cursor<'_>,
-    blank: Blank,
-) -> Result<bool, DecodeError>
-    requires name { blank.name ≡ L.name }
-    requires parts { blank.parts ≡ L.parts }
-    requires some { 0 < blank.parts }
-    ensures { Takes (spec.boolean cursor.old.mode) (λ x. x) cursor.old cursor.new result }
-{
-    let mut steps = Steps::<L>::new(blank);
-    take_boolean_counted(cursor, &mut steps)
-}
-
-/// The BOOLEAN that stands next (X.690, 8.2). In DER true is spelled FF alone.
-pub fn take_boolean(cursor: &mut Cursor<'_>) -> Result<bool, DecodeError>
-    ensures { Takes (spec.boolean cursor.old.mode) (λ x. x) cursor.old cursor.new result }
-{
-    take_boolean_within::<Brand>(cursor, Blank::new(1))
 }
 
 // What a value with the tag of BOOLEAN says, if it is one.

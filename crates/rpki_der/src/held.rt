@@ -1,16 +1,15 @@
 //! The octets of a level's values.
 
-ghost use Rattle.std.specs.Prelude.{◌≡◌, ◌≢◌, ◌+◌, ◌<◌, [], IfOk, OnOk, OnErr, MatchResult};
+ghost use Rattle.std.specs.Prelude.{◌≡◌, ◌≢◌, ◌+◌, [], IfOk, OnOk, OnErr, MatchResult};
 ghost use Rattle.rpki_der.specs.Position.{top, Leaves};
-ghost use Rattle.rpki_der.specs.Takes.{RefusesToLeave, TakesRest};
+ghost use Rattle.rpki_der.specs.Takes.{RefusesToLeave};
 ghost use Rattle.rpki_der.specs.Ticks.{marks, TakesRestCounted};
 ghost use Rattle.rpki_der.specs.Held.{as_octets, up_to};
 
 use crate::cursor::Cursor;
 use crate::error::DecodeError;
 use crate::steps::Steps;
-use std::marker::Brand;
-use std::sync::ledger::{Blank, Ledger};
+use std::sync::ledger::Ledger;
 
 impl<'a> Cursor<'a> {
     /// The octets from here on: up to the end of the level where it is known, and otherwise of the octets round it.
@@ -46,33 +45,6 @@ impl<'a> Cursor<'a> {
         Ok(contents)
     }
 
-    fn leave_since_within<L: Ledger>(
-        &mut self,
-        start: &'a [u8],
-        blank: Blank,
-    ) -> Result<&'a [u8], DecodeError>
-        requires name { blank.name ≡ L.name }
-        requires parts { blank.parts ≡ L.parts }
-        requires some { 0 < blank.parts }
-        requires inside { self.old.levels ≢ [] }
-        ensures place { MatchResult result (λ _. Leaves self.old self.new) (RefusesToLeave self.old) }
-        ensures contents { IfOk result (λ x. x.now ≡ up_to start.now self.old.here) }
-        ensures err { OnErr result (self.new ≡ self.old) }
-    {
-        let mut steps = Steps::<L>::new(blank);
-        self.leave_since_counted(start, &mut steps)
-    }
-
-    /// Goes out of the innermost constructed value, and gives its contents from `start` on, which is what `here` gave
-    /// before; an end mark isn't among them.
-    pub fn leave_since(&mut self, start: &'a [u8]) -> Result<&'a [u8], DecodeError>
-        requires inside { self.old.levels ≢ [] }
-        ensures place { MatchResult result (λ _. Leaves self.old self.new) (RefusesToLeave self.old) }
-        ensures contents { IfOk result (λ x. x.now ≡ up_to start.now self.old.here) }
-        ensures err { OnErr result (self.new ≡ self.old) }
-    {
-        self.leave_since_within::<Brand>(start, Blank::new(1))
-    }
 }
 
 /// The octets of what is left of the innermost constructed value, values of any kind, and goes out of it. It ticks once
@@ -89,27 +61,4 @@ pub fn take_rest_counted<'a, L: Ledger>(
         cursor.capture_counted(steps)?;
     }
     cursor.leave_since_counted(start, steps)
-}
-
-fn take_rest_within<'a, L: Ledger>(
-    cursor: &mut Cursor<'a>,
-    blank: Blank,
-) -> Result<&'a [u8], DecodeError>
-    requires name { blank.name ≡ L.name }
-    requires parts { blank.parts ≡ L.parts }
-    requires some { 0 < blank.parts }
-    requires inside { cursor.old.levels ≢ [] }
-    ensures { TakesRest as_octets (λ x. x.now) cursor.old cursor.new result }
-{
-    let mut steps = Steps::<L>::new(blank);
-    take_rest_counted(cursor, &mut steps)
-}
-
-/// The octets of what is left of the innermost constructed value, values of any kind, without its end mark, and goes out
-/// of it.
-pub fn take_rest<'a>(cursor: &mut Cursor<'a>) -> Result<&'a [u8], DecodeError>
-    requires { cursor.old.levels ≢ [] }
-    ensures { TakesRest as_octets (λ x. x.now) cursor.old cursor.new result }
-{
-    take_rest_within::<Brand>(cursor, Blank::new(1))
 }

@@ -1,8 +1,7 @@
 //! NULL.
 
-ghost use Rattle.std.specs.Prelude.{◌≡◌, ◌<◌};
+ghost use Rattle.std.specs.Prelude.{◌≡◌};
 ghost use Rattle.rpki_der.specs.Grammar.{optional};
-ghost use Rattle.rpki_der.specs.Takes.{TakesPart};
 ghost use Rattle.rpki_der.specs.Tags.{null_tag};
 ghost use Rattle.rpki_der.specs.Item.{TakesOptionalAs};
 ghost use Rattle.rpki_der.specs.Null.{null, null_shown, present};
@@ -13,8 +12,7 @@ use crate::error::DecodeError;
 use crate::item::Item;
 use crate::steps::Steps;
 use crate::tag::Tag;
-use std::marker::Brand;
-use std::sync::ledger::{Blank, Ledger};
+use std::sync::ledger::Ledger;
 
 // Whether a value with the tag of NULL is NULL.
 fn is_null(item: &Item<'_>) -> bool
@@ -41,26 +39,4 @@ pub fn take_opt_null_counted<L: Ledger>(
             }
         }
     }
-}
-
-fn take_opt_null_within<L: Ledger>(
-    cursor: &mut Cursor<'_>,
-    blank: Blank,
-) -> Result<bool, DecodeError>
-    requires name { blank.name ≡ L.name }
-    requires parts { blank.parts ≡ L.parts }
-    requires some { 0 < blank.parts }
-    ensures fields { TakesPart (optional null_tag null) present cursor.old cursor.new result }
-    ensures next { TakesOptionalAs null_tag null present cursor.old cursor.new result }
-{
-    let mut steps = Steps::<L>::new(blank);
-    take_opt_null_counted(cursor, &mut steps)
-}
-
-/// Whether NULL stands next, which is then passed. A value with its tag that isn't NULL is malformed.
-pub fn take_opt_null(cursor: &mut Cursor<'_>) -> Result<bool, DecodeError>
-    ensures fields { TakesPart (optional null_tag null) present cursor.old cursor.new result }
-    ensures next { TakesOptionalAs null_tag null present cursor.old cursor.new result }
-{
-    take_opt_null_within::<Brand>(cursor, Blank::new(1))
 }

@@ -1,8 +1,7 @@
 //! INTEGER.
 
-ghost use Rattle.std.specs.Prelude.{◌≡◌, ◌<◌};
+ghost use Rattle.std.specs.Prelude.{◌≡◌};
 ghost use Rattle.std.specs.Option.{option_copied};
-ghost use Rattle.rpki_der.specs.Takes.{Takes};
 ghost use Rattle.rpki_der.specs.Ticks.{TakesCounted};
 ghost use Rattle.rpki_der.specs.Lengths.{number};
 ghost use Rattle.rpki_der.specs.Number as spec;
@@ -11,8 +10,7 @@ use crate::cursor::Cursor;
 use crate::error::DecodeError;
 use crate::steps::Steps;
 use crate::tag::Tag;
-use std::marker::Brand;
-use std::sync::ledger::{Blank, Ledger};
+use std::sync::ledger::Ledger;
 
 // The octets, if they are a two's complement number in the fewest octets.
 fn minimal(octets: &[u8]) -> Option<&[u8]>
@@ -64,26 +62,6 @@ pub fn take_integer_counted<'a, L: Ledger>(
     }
 }
 
-fn take_integer_within<'a, L: Ledger>(
-    cursor: &mut Cursor<'a>,
-    blank: Blank,
-) -> Result<&'a [u8], DecodeError>
-    requires name { blank.name ≡ L.name }
-    requires parts { blank.parts ≡ L.parts }
-    requires some { 0 < blank.parts }
-    ensures { Takes spec.integer (λ x. x.now) cursor.old cursor.new result }
-{
-    let mut steps = Steps::<L>::new(blank);
-    take_integer_counted(cursor, &mut steps)
-}
-
-/// The contents octets of the INTEGER that stands next (X.690, 8.3): a two's complement number in the fewest octets.
-pub fn take_integer<'a>(cursor: &mut Cursor<'a>) -> Result<&'a [u8], DecodeError>
-    ensures { Takes spec.integer (λ x. x.now) cursor.old cursor.new result }
-{
-    take_integer_within::<Brand>(cursor, Blank::new(1))
-}
-
 /// The INTEGER that stands next, which isn't negative and is below 2^64. It ticks once.
 pub fn take_u64_counted<L: Ledger>(
     cursor: &mut Cursor<'_>,
@@ -96,21 +74,4 @@ pub fn take_u64_counted<L: Ledger>(
         Some(number) => Ok(number),
         None => Err(DecodeError::Malformed),
     }
-}
-
-fn take_u64_within<L: Ledger>(cursor: &mut Cursor<'_>, blank: Blank) -> Result<u64, DecodeError>
-    requires name { blank.name ≡ L.name }
-    requires parts { blank.parts ≡ L.parts }
-    requires some { 0 < blank.parts }
-    ensures { Takes spec.u64 (λ x. x) cursor.old cursor.new result }
-{
-    let mut steps = Steps::<L>::new(blank);
-    take_u64_counted(cursor, &mut steps)
-}
-
-/// The INTEGER that stands next, if it isn't negative and is below 2^64; Malformed where another does.
-pub fn take_u64(cursor: &mut Cursor<'_>) -> Result<u64, DecodeError>
-    ensures { Takes spec.u64 (λ x. x) cursor.old cursor.new result }
-{
-    take_u64_within::<Brand>(cursor, Blank::new(1))
 }

@@ -79,24 +79,3 @@ pub fn take_oid_if_counted<L: Ledger>(
         None => Err(DecodeError::Malformed),
     }
 }
-
-fn take_oid_if_within<L: Ledger>(
-    cursor: &mut Cursor<'_>,
-    wanted: &[u8],
-    blank: Blank,
-) -> Result<(), DecodeError>
-    requires name { blank.name ≡ L.name }
-    requires parts { blank.parts ≡ L.parts }
-    requires some { 0 < blank.parts }
-    ensures { Takes (oid_is wanted.now) (λ x. x) cursor.old cursor.new result }
-{
-    let mut steps = Steps::<L>::new(blank);
-    take_oid_if_counted(cursor, wanted, &mut steps)
-}
-
-/// Passes the object identifier whose contents octets are `wanted`, if it stands next; Malformed where another does.
-pub fn take_oid_if(cursor: &mut Cursor<'_>, wanted: &[u8]) -> Result<(), DecodeError>
-    ensures { Takes (oid_is wanted.now) (λ x. x) cursor.old cursor.new result }
-{
-    take_oid_if_within::<Brand>(cursor, wanted, Blank::new(1))
-}

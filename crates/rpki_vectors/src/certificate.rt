@@ -59,7 +59,7 @@ pub(crate) fn write_certificate(
     write_name(alloc, &setting.issuer, &mut fields)?;
     write_validity(alloc, setting, &mut fields)?;
     write_name(alloc, &setting.subject, &mut fields)?;
-    setting.subject.encode_ref(alloc, &mut fields)?;
+    setting.subject.encode_ref(&mut fields)?;
     write_extensions(alloc, setting, &mut fields)?;
     write_signed(alloc, &setting.issuer, &fields, out)
 }

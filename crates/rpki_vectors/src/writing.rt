@@ -89,5 +89,5 @@ pub(crate) fn write_signed(
     let value = ToyScheme::signature(alloc, key, signed.as_slice())?;
     let signature = Signature::new(RpkiSignatureAlgorithm::default(), value);
     let slice = signed.into_captured()?.into_bytes();
-    SignedData::new(slice, signature).encode_ref(alloc, out)
+    SignedData::new(slice, signature).encode_ref(out)
 }

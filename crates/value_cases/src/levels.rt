@@ -1,7 +1,7 @@
 //! Calls of a cursor: levels, and whole values.
 
 use crate::shown::{item_shown, optional_item, tag_of};
-use rpki_der::{Cursor, DecodeError, pass_rest, take_rest};
+use rpki_der::{Cursor, DecodeError};
 use std::alloc::Global;
 use stored_cases::{Fields, Step};
 
@@ -40,39 +40,6 @@ fn ascend(alloc: Global, cursor: &mut Cursor<'_>) -> Result<Fields, DecodeError>
         cursor.leave()?;
     }
     Err(DecodeError::Malformed)
-}
-
-// Takes as many values as the argument has octets, and leaves: what was passed.
-fn leave_since(
-    alloc: Global,
-    cursor: &mut Cursor<'_>,
-    values: &[u8],
-) -> Result<Fields, DecodeError> {
-    let start = cursor.here();
-    for _ in values {
-        cursor.capture()?;
-    }
-    let mut fields = Fields::one(alloc, cursor.since(start))?;
-    if cursor.depth() == 0 {
-        return Err(DecodeError::Malformed);
-    }
-    fields.octets(cursor.leave_since(start)?)?;
-    Ok(fields)
-}
-
-fn rest(alloc: Global, cursor: &mut Cursor<'_>) -> Result<Fields, DecodeError> {
-    if cursor.depth() == 0 {
-        return Err(DecodeError::Malformed);
-    }
-    Ok(Fields::one(alloc, take_rest(cursor)?)?)
-}
-
-fn pass(alloc: Global, cursor: &mut Cursor<'_>) -> Result<Fields, DecodeError> {
-    if cursor.depth() == 0 {
-        return Err(DecodeError::Malformed);
-    }
-    pass_rest(cursor)?;
-    Ok(Fields::done(alloc)?)
 }
 
 fn primitive(alloc: Global, cursor: &mut Cursor<'_>, tag: &[u8]) -> Result<Fields, DecodeError> {
@@ -120,9 +87,6 @@ pub fn answer(
         "leave" => Some(leave(alloc, cursor)),
         "descend" => Some(descend(alloc, cursor, &step.argument)),
         "ascend" => Some(ascend(alloc, cursor)),
-        "leave_since" => Some(leave_since(alloc, cursor, &step.argument)),
-        "rest" => Some(rest(alloc, cursor)),
-        "pass" => Some(pass(alloc, cursor)),
         "primitive" => Some(primitive(alloc, cursor, &step.argument)),
         "capture" => Some(capture(alloc, cursor)),
         "next" => Some(next(alloc, cursor)),

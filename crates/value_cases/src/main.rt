@@ -45,6 +45,42 @@ fn answer_of_octets(
     writing::answer(alloc, octets, step)
 }
 
+// What a call answers that has a counted form alone.
+fn answer_of_counted<L: Ledger>(
+    alloc: Global,
+    cursor: &mut Cursor<'_>,
+    step: &Step<'_>,
+    blank: Blank,
+) -> Option<Result<Fields, DecodeError>>
+    requires name { blank.name ≡ L.name }
+    requires parts { blank.parts ≡ L.parts }
+    requires some { 0 < blank.parts }
+{
+    let mut steps = Steps::<L>::new(blank);
+    if let Some(answer) = counted::level_answer(alloc, cursor, step, &mut steps) {
+        return Some(answer);
+    }
+    counted::leaf_answer(alloc, cursor, step, &mut steps)
+}
+
+// What a call with a cursor answers.
+fn answer_at(
+    alloc: Global,
+    cursor: &mut Cursor<'_>,
+    step: &Step<'_>,
+) -> Option<Result<Fields, DecodeError>> {
+    if let Some(answer) = levels::answer(alloc, cursor, step) {
+        return Some(answer);
+    }
+    if let Some(answer) = leaves::answer(alloc, cursor, step) {
+        return Some(answer);
+    }
+    if let Some(answer) = answer_of_counted::<Brand>(alloc, cursor, step, Blank::new(1)) {
+        return Some(answer);
+    }
+    parts::answer(alloc, cursor, step)
+}
+
 struct Values;
 
 impl Calls for Values {
@@ -54,13 +90,7 @@ impl Calls for Values {
         cursor: &mut Cursor<'_>,
         step: &Step<'_>,
     ) -> Option<Result<Fields, DecodeError>> {
-        if let Some(answer) = levels::answer(alloc, cursor, step) {
-            return Some(answer);
-        }
-        if let Some(answer) = leaves::answer(alloc, cursor, step) {
-            return Some(answer);
-        }
-        if let Some(answer) = parts::answer(alloc, cursor, step) {
+        if let Some(answer) = answer_at(alloc, cursor, step) {
             return Some(answer);
         }
         answer_of_octets(alloc, cursor.mode(), cursor.here(), step)

@@ -112,7 +112,7 @@ pub fn name_shown(alloc: Global, name: &Name) -> Result<Fields, DecodeError> {
 /// What is written of a key.
 pub fn written_key(alloc: Global, key: &PublicKey) -> Result<Writer, OutOfMemory> {
     let mut out = Writer::new(alloc);
-    key.encode_ref(alloc, &mut out)?;
+    key.encode_ref(&mut out)?;
     Ok(out)
 }
 
@@ -165,7 +165,7 @@ pub fn written_data<Alg: SignatureAlgorithm>(
     data: &SignedData<Alg>,
 ) -> Result<Writer, OutOfMemory> {
     let mut out = Writer::new(alloc);
-    data.encode_ref(alloc, &mut out)?;
+    data.encode_ref(&mut out)?;
     Ok(out)
 }
 
