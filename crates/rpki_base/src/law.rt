@@ -46,29 +46,15 @@ pub fn printed_time_is_read_again()
 /// `==` holds exactly between values that are the same.
 pub fn equal_values_are_the_same()
     ensures time { (a b : ℤ) → (⟦<Time as PartialEq>⟧.eq a b ≡ true) ↔ (a ≡ b) }
-    ensures validity {
-        (a b : ValidityFields) → (⟦<Validity as PartialEq>⟧.eq a b ≡ true) ↔ (a ≡ b)
-    }
+    ensures validity { (a b : ValidityFields) → (⟦<Validity as PartialEq>⟧.eq a b ≡ true) ↔ (a ≡ b) }
     ensures serial { (a b : List ℕ) → (⟦<Serial as PartialEq>⟧.eq a b ≡ true) ↔ (a ≡ b) }
-    ensures identifier {
-        (a b : List ℕ) → (⟦<KeyIdentifier as PartialEq>⟧.eq a b ≡ true) ↔ (a ≡ b)
-    }
+    ensures identifier { (a b : List ℕ) → (⟦<KeyIdentifier as PartialEq>⟧.eq a b ≡ true) ↔ (a ≡ b) }
     ensures name { (a b : List ℕ) → (⟦<Name as PartialEq>⟧.eq a b ≡ true) ↔ (a ≡ b) }
-    ensures format {
-        (a b : PublicKeyFormat) → (⟦<PublicKeyFormat as PartialEq>⟧.eq a b ≡ true) ↔ (a ≡ b)
-    }
+    ensures format { (a b : PublicKeyFormat) → (⟦<PublicKeyFormat as PartialEq>⟧.eq a b ≡ true) ↔ (a ≡ b) }
     ensures key { (a b : KeyFields) → (⟦<PublicKey as PartialEq>⟧.eq a b ≡ true) ↔ (a ≡ b) }
-    ensures kind {
-        (a b : SigningAlgorithm) → (⟦<SigningAlgorithm as PartialEq>⟧.eq a b ≡ true) ↔ (a ≡ b)
-    }
-    ensures rpki_algorithm {
-        (a b : RpkiAlgorithm) →
-        (⟦<RpkiSignatureAlgorithm as PartialEq>⟧.eq a b ≡ true) ↔ (a ≡ b)
-    }
-    ensures bgpsec_algorithm {
-        (a b : Unit {0}) → (⟦<BgpsecSignatureAlgorithm as PartialEq>⟧.eq a b ≡ true) ↔ (a ≡ b)
-    }
-    ensures error {
-        (a b : ValidationError) → (⟦<ValidationError as PartialEq>⟧.eq a b ≡ true) ↔ (a ≡ b)
-    }
+    ensures kind { (a b : SigningAlgorithm) → (⟦<SigningAlgorithm as PartialEq>⟧.eq a b ≡ true) ↔ (a ≡ b) }
+    ensures rpki_algorithm { (a b : RpkiAlgorithm) →
+        (⟦<RpkiSignatureAlgorithm as PartialEq>⟧.eq a b ≡ true) ↔ (a ≡ b) }
+    ensures bgpsec_algorithm { (a b : Unit {0}) → (⟦<BgpsecSignatureAlgorithm as PartialEq>⟧.eq a b ≡ true) ↔ (a ≡ b) }
+    ensures error { (a b : ValidationError) → (⟦<ValidationError as PartialEq>⟧.eq a b ≡ true) ↔ (a ≡ b) }
 {}

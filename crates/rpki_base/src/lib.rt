@@ -37,8 +37,7 @@ pub use errors::{SignatureVerificationError, ToyFault, VerificationError};
 pub use extension::{Extension, take_extension_counted};
 pub use key_identifier::KeyIdentifier;
 pub use law::{
-    equal_values_are_the_same, printed_time_is_read_again, serial_is_read_again,
-    time_is_read_again,
+    equal_values_are_the_same, printed_time_is_read_again, serial_is_read_again, time_is_read_again,
 };
 pub use name::{Name, made_name_is_read, read_name_is_read_again};
 pub use names::{

@@ -205,12 +205,8 @@ impl Name {
 /// What `encode_ref` writes of a name that was read is read again as that name, by the rules that it was read by; and in BER, where
 /// it was read in DER.
 pub fn read_name_is_read_again()
-    ensures again {
-        (mode : Mode) (v : Value) (octets rest more : List ℕ) → Begins mode octets v rest →
-        (n : List ℕ) → name v ≡ Some n → Begins mode (n ++ more) v more
-    }
-    ensures loosely {
-        (v : Value) (octets rest more : List ℕ) → Begins Der octets v rest →
-        (n : List ℕ) → name v ≡ Some n → Begins Ber (n ++ more) v more
-    }
+    ensures again { (mode : Mode) (v : Value) (octets rest more : List ℕ) → Begins mode octets v rest →
+        (n : List ℕ) → name v ≡ Some n → Begins mode (n ++ more) v more }
+    ensures loosely { (v : Value) (octets rest more : List ℕ) → Begins Der octets v rest →
+        (n : List ℕ) → name v ≡ Some n → Begins Ber (n ++ more) v more }
 {}

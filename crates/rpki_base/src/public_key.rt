@@ -171,11 +171,9 @@ fn write_algorithm(format: PublicKeyFormat, out: &mut Writer) -> Result<(), OutO
 
 /// What `encode_ref` writes of a key is taken again as the same key, in both modes and whatever stands behind it.
 pub fn written_key_is_taken()
-    ensures {
-        (mode : Mode) (key : spec.KeyFields) (rest : List ℕ) →
+    ensures { (mode : Mode) (key : spec.KeyFields) (rest : List ℕ) →
         spec.CanBeSpelled key →
-        (v : Value) × Begins mode (spec.spelled_key key ++ rest) v rest × (spec.public_key v ≡ Some key)
-    }
+        (v : Value) × Begins mode (spec.spelled_key key ++ rest) v rest × (spec.public_key v ≡ Some key) }
 {}
 
 fn take_from_within<L: Ledger>(

@@ -142,13 +142,11 @@ impl<Alg: SignatureAlgorithm> SignedData<Alg> {
 /// What `encode_ref` writes is taken again as the same signed data, in each mode in which the signed octets are one value, where
 /// the algorithm is a named one.
 pub fn written_data_are_taken<Alg: SignatureAlgorithm>()
-    ensures {
-        (mode : Mode) (d : SignedParts Alg) (signed : Value) (rest : List ℕ) →
+    ensures { (mode : Mode) (d : SignedParts Alg) (signed : Value) (rest : List ℕ) →
         CanBeSpelled Alg.spelled d → Begins mode d.slice signed [] →
         Alg.is_named d.signature.algorithm →
         (v : Value) × Begins mode (spelled_data Alg.spelled d ++ rest) v rest ×
-        (signed_data Alg.reads mode v ≡ Some d)
-    }
+        (signed_data Alg.reads mode v ≡ Some d) }
 {}
 
 /// # Validation

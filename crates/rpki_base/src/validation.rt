@@ -41,16 +41,10 @@ pub fn require(number: u8, holds: bool) -> Result<(), u8>
 
 /// A list of checks passes exactly where all its values are true, and fails at the first false one.
 pub fn first_false_decides()
-    ensures passes {
-        (n : ℕ) (list : List Bool) →
-        All (λ b. b ≡ true) list → spec.first_failure n list ≡ Ok tt
-    }
-    ensures fails {
-        (n k : ℕ) (list : List Bool) →
-        spec.first_failure n list ≡ Err k → spec.FirstFalse n k list
-    }
-    ensures first {
-        (n k : ℕ) (list : List Bool) →
-        spec.FirstFalse n k list → spec.first_failure n list ≡ Err k
-    }
+    ensures passes { (n : ℕ) (list : List Bool) →
+        All (λ b. b ≡ true) list → spec.first_failure n list ≡ Ok tt }
+    ensures fails { (n k : ℕ) (list : List Bool) →
+        spec.first_failure n list ≡ Err k → spec.FirstFalse n k list }
+    ensures first { (n k : ℕ) (list : List Bool) →
+        spec.FirstFalse n k list → spec.first_failure n list ≡ Err k }
 {}

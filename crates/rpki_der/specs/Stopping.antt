@@ -10,16 +10,16 @@ pub data Headers (mode : Mode) (start : List ℕ) (outer : List Level) : ℕ →
   Nothing : Headers mode start outer 0 start outer
   -- a primitive value
   Over : (n : ℕ) (here : List ℕ) (levels : List Level) (identifier lengths contents rest : List ℕ)
-    → Headers mode start outer n here levels → Begins mode here (Primitive identifier lengths contents) rest
-    → Headers mode start outer (n + 1) rest levels
+      → Headers mode start outer n here levels → Begins mode here (Primitive identifier lengths contents) rest
+      → Headers mode start outer (n + 1) rest levels
   -- the header of a constructed value
   Into : (n : ℕ) (here : List ℕ) (levels : List Level) (identifier : List ℕ) (level : Level) (inner : List ℕ)
-    → Headers mode start outer n here levels → Opens mode here identifier level inner
-    → Headers mode start outer (n + 1) inner (level ∷ levels)
+      → Headers mode start outer n here levels → Opens mode here identifier level inner
+      → Headers mode start outer (n + 1) inner (level ∷ levels)
   -- the end of a level, by an end mark or not
   Out : (n : ℕ) (here : List ℕ) (levels : List Level) (level : Level) (rest : List ℕ)
-    → Headers mode start outer n here (level ∷ levels) → Ends level here rest
-    → Headers mode start outer (n + marks level) rest levels
+      → Headers mode start outer n here (level ∷ levels) → Ends level here rest
+      → Headers mode start outer (n + marks level) rest levels
 
 -- From start on, inside the levels outer, there were at most as many ticks as headers and end marks stand there one behind the other,
 -- and k more.

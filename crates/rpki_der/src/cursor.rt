@@ -249,9 +249,7 @@ impl<'a> Cursor<'a> {
         ensures err { OnErr result (self.new ≡ self.old) }
         ensures ticks { OnOk result ((v : Value) × Begins self.old.mode self.old.here v self.new.here × (steps.new ≡ steps.old + counts v)) }
         ensures refused { OnErr result (steps.new ≤ steps.old + length self.old.here + 1) }
-        ensures stopped {
-            OnErr result (StopsAt self.old.mode self.old.here steps.old steps.new)
-        }
+        ensures stopped { OnErr result (StopsAt self.old.mode self.old.here steps.old steps.new) }
     {
         let rest = skip_value(self.alloc, self.mode, self.here, steps)?;
         let value = &self.here[..self.here.len() - rest.len()];

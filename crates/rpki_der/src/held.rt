@@ -44,7 +44,6 @@ impl<'a> Cursor<'a> {
         self.leave_counted(steps)?;
         Ok(contents)
     }
-
 }
 
 /// The octets of what is left of the innermost constructed value, values of any kind, and goes out of it. It ticks once

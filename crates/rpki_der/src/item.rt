@@ -143,9 +143,7 @@ impl<'a> Cursor<'a> {
         ensures malformed { result ≡ Err DecodeError.Malformed → NoValue self.old.mode self.old.here }
         ensures err { OnErr result (self.new ≡ self.old) }
         ensures refused { OnErr result (steps.new ≤ steps.old + length self.old.here) }
-        ensures stopped {
-            OnErr result (StopsIn 0 self.old.mode self.old.here [] steps.old steps.new)
-        }
+        ensures stopped { OnErr result (StopsIn 0 self.old.mode self.old.here [] steps.old steps.new) }
     {
         match take_part_behind(self.mode, identifier, behind) {
             Some(part) => {
@@ -166,9 +164,7 @@ impl<'a> Cursor<'a> {
         ensures err { OnErr result (self.new ≡ self.old) }
         ensures ticks { IfOk result (λ found. OnSome found ((v : Value) × Begins self.old.mode self.old.here v self.new.here × (steps.new ≡ steps.old + counts v))) }
         ensures refused { OnErr result (steps.new ≤ steps.old + length self.old.here + 1) }
-        ensures stopped {
-            OnErr result (StopsAt self.old.mode self.old.here steps.old steps.new)
-        }
+        ensures stopped { OnErr result (StopsAt self.old.mode self.old.here steps.old steps.new) }
     {
         if self.end() {
             return Ok(None);
@@ -216,9 +212,7 @@ impl<'a> Cursor<'a> {
         ensures ticks { OnOk result ((v : Value) × Begins self.old.mode self.old.here v self.new.here × (steps.new ≡ steps.old + counts v)) }
         ensures other { OtherFirst tag self.old.here → steps.new ≡ steps.old + 1 }
         ensures refused { OnErr result (steps.new ≤ steps.old + length self.old.here + 1) }
-        ensures stopped {
-            OnErr result (StopsAt self.old.mode self.old.here steps.old steps.new)
-        }
+        ensures stopped { OnErr result (StopsAt self.old.mode self.old.here steps.old steps.new) }
     {
         steps.tick();
         match take_identifier(self.here) {
@@ -260,9 +254,7 @@ impl<'a> Cursor<'a> {
         ensures err { OnErr result (self.new ≡ self.old) }
         ensures ticks { IfOk result (λ found. OnSome found ((v : Value) × Begins self.old.mode self.old.here v self.new.here × (steps.new ≡ steps.old + counts v))) }
         ensures refused { OnErr result (steps.new ≤ steps.old + length self.old.here + 1) }
-        ensures stopped {
-            OnErr result (StopsAt self.old.mode self.old.here steps.old steps.new)
-        }
+        ensures stopped { OnErr result (StopsAt self.old.mode self.old.here steps.old steps.new) }
     {
         if self.end() {
             return Ok(None);

@@ -46,8 +46,8 @@ pub use integer::take_integer_if_counted;
 pub use item::Item;
 pub use law::{
     alone_is, at_most_one_value, equal_values_are_the_same, levels_are_read_in_turn,
-    strict_is_loose, value_at_is, whole_is_its_parts, whole_is_the_value,
-    written_in_turn, written_is_read,
+    strict_is_loose, value_at_is, whole_is_its_parts, whole_is_the_value, written_in_turn,
+    written_is_read,
 };
 pub use leaf::{BitString, OctetString, Oid};
 pub use mode::Mode;

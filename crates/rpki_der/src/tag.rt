@@ -114,12 +114,10 @@ impl Tag {
 
     /// The tags that have names, in the order of their declaration. Each is that of the standard (X.680, 8.4; X.690, 8.1.2).
     pub fn named() -> [Tag; 13]
-        ensures {
-            result ≡
+        ensures { result ≡
             boolean_tag ∷ integer_tag ∷ bit_string_tag ∷ octet_string_tag ∷ null_tag ∷ oid_tag ∷
             sequence ∷ set ∷ utc_time_tag ∷ generalized_time_tag ∷
-            context 0 ∷ context 1 ∷ context 3 ∷ []
-        }
+            context 0 ∷ context 1 ∷ context 3 ∷ [] }
     {
         [
             Tag::BOOLEAN,

@@ -13,8 +13,8 @@ mod tbs;
 mod validation;
 
 pub use id_cert::IdCert;
-pub use tbs::{TbsIdCert, equal_certificates_are_the_same};
 pub use rpki_base::{ValidationError, ValidationKind, first_false_decides, require};
+pub use tbs::{TbsIdCert, equal_certificates_are_the_same};
 pub use validation::names_issuer;
 
 #[cfg(test)]

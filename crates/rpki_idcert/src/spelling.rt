@@ -28,10 +28,8 @@ fn write_extension(
     out: &mut Writer,
 ) -> Result<(), OutOfMemory>
     requires short { length identifier.now + length value.now + 64 < 2 ^ 32 }
-    ensures ok {
-        OnOk result
-        (out.new ≡ out.old ++ spec.spelled_extension identifier.now critical value.now)
-    }
+    ensures ok { OnOk result
+        (out.new ≡ out.old ++ spec.spelled_extension identifier.now critical value.now) }
     ensures err { OnErr result (out.new ≡ out.old) }
 {
     let mut inner = out.inner();
@@ -115,11 +113,9 @@ impl TbsIdCert {
 
     // Appends the extensions under their tags.
     fn write_tagged_extensions(&self, out: &mut Writer) -> Result<(), OutOfMemory>
-        ensures ok {
-            OnOk result
+        ensures ok { OnOk result
             (out.new ≡ out.old ++
-            der_constructed (context 3) (der_constructed sequence (spec.spelled_extensions self.now)))
-        }
+            der_constructed (context 3) (der_constructed sequence (spec.spelled_extensions self.now))) }
     {
         let mut extensions = out.inner();
         self.write_extensions(&mut extensions)?;

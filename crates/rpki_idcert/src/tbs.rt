@@ -38,42 +38,34 @@ impl Model for TbsIdCert {
 
     ghost Value = { TbsFields };
 
-    ghost view = {
-        λ t. record {
-            serial = t.serial;
-            issuer = t.issuer;
-            validity = t.validity;
-            subject = t.subject;
-            key = t.key;
-            basic_ca = t.basic_ca;
-            subject_key_id = t.subject_key_id;
-            authority_key_id = t.authority_key_id
-        }
-    };
+    ghost view = { λ t. record {
+      serial = t.serial;
+      issuer = t.issuer;
+      validity = t.validity;
+      subject = t.subject;
+      key = t.key;
+      basic_ca = t.basic_ca;
+      subject_key_id = t.subject_key_id;
+      authority_key_id = t.authority_key_id;
+    } };
 
-    ghost inverse = {
-        λ t. record {
-            serial = t.serial;
-            issuer = t.issuer;
-            validity = t.validity;
-            subject = t.subject;
-            key = t.key;
-            basic_ca = t.basic_ca;
-            subject_key_id = t.subject_key_id;
-            authority_key_id = t.authority_key_id
-        }
-    };
+    ghost inverse = { λ t. record {
+      serial = t.serial;
+      issuer = t.issuer;
+      validity = t.validity;
+      subject = t.subject;
+      key = t.key;
+      basic_ca = t.basic_ca;
+      subject_key_id = t.subject_key_id;
+      authority_key_id = t.authority_key_id;
+    } };
 }
 
 /// `==` holds exactly between fields that are the same, and between certificates whose signed data are.
 pub fn equal_certificates_are_the_same()
-    ensures fields {
-        (a b : TbsFields) → (⟦<TbsIdCert as PartialEq>⟧.eq a b ≡ true) ↔ (a ≡ b)
-    }
-    ensures certificates {
-        (a b : CertificateFields) →
-        (⟦<IdCert as PartialEq>⟧.eq a b ≡ true) ↔ (a.signed ≡ b.signed)
-    }
+    ensures fields { (a b : TbsFields) → (⟦<TbsIdCert as PartialEq>⟧.eq a b ≡ true) ↔ (a ≡ b) }
+    ensures certificates { (a b : CertificateFields) →
+        (⟦<IdCert as PartialEq>⟧.eq a b ≡ true) ↔ (a.signed ≡ b.signed) }
 {}
 
 /// # Data access

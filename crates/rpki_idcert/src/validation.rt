@@ -97,10 +97,8 @@ impl IdCert {
         first: u8,
     ) -> Result<(), u8>
         requires { first ≤ 200 }
-        ensures first_failing {
-            (q : Bool) → Decides q (spec.IsSigned P.checks self.now issuer_key.now) →
-            result ≡ first_failure first (spec.ee_checks self.now issuer_key.now when q)
-        }
+        ensures first_failing { (q : Bool) → Decides q (spec.IsSigned P.checks self.now issuer_key.now) →
+            result ≡ first_failure first (spec.ee_checks self.now issuer_key.now when q) }
         ensures signed { OnOk result (spec.IsSigned P.checks self.now issuer_key.now) }
     {
         require(first, self.tbs().has_own_identifier())?;
@@ -121,16 +119,12 @@ impl IdCert {
         when: Time,
     ) -> Result<(), ValidationError>
         // Ok exactly where the signature and all the other checks hold.
-        ensures believed {
-            (result ≡ Ok tt) ↔ spec.IsEeBelieved P.checks self.now issuer_key.now when
-        }
+        ensures believed { (result ≡ Ok tt) ↔ spec.IsEeBelieved P.checks self.now issuer_key.now when }
 
         // The first check that fails decides, whatever the scheme answers.
-        ensures first_failing {
-            (q : Bool) → Decides q (spec.IsSigned P.checks self.now issuer_key.now) →
+        ensures first_failing { (q : Bool) → Decides q (spec.IsSigned P.checks self.now issuer_key.now) →
             result ≡ failing spec.ee_kind
-            (first_failure 1 (spec.ee_checks self.now issuer_key.now when q))
-        }
+            (first_failure 1 (spec.ee_checks self.now issuer_key.now when q)) }
     {
         match self.ee_failure(verifier, issuer_key, when, 1) {
             Ok(()) => Ok(()),
@@ -143,14 +137,10 @@ impl IdCert {
 
     // Whether the signature holds under its own key, where the certificate names itself as its issuer.
     fn is_own<P: Scheme, V: Verifier<P>>(&self, verifier: &V) -> bool
-        ensures answer {
-            (q : Bool) → Decides q (spec.IsSigned P.checks self.now self.now.tbs.key) →
-            result ≡ (not (spec.names_itself self.now.tbs) || q)
-        }
-        ensures signed {
-            result ≡ true → spec.names_itself self.now.tbs ≡ true →
-            spec.IsSigned P.checks self.now self.now.tbs.key
-        }
+        ensures answer { (q : Bool) → Decides q (spec.IsSigned P.checks self.now self.now.tbs.key) →
+            result ≡ (not (spec.names_itself self.now.tbs) || q) }
+        ensures signed { result ≡ true → spec.names_itself self.now.tbs ≡ true →
+            spec.IsSigned P.checks self.now self.now.tbs.key }
         ensures unasked { spec.names_itself self.now.tbs ≡ false → result ≡ true }
     {
         if self.tbs().names_itself() {
@@ -161,18 +151,12 @@ impl IdCert {
     }
 
     fn ta_failure<P: Scheme, V: Verifier<P>>(&self, verifier: &V, when: Time) -> Result<(), u8>
-        ensures first_failing {
-            (q : Bool) → Decides q (spec.IsSigned P.checks self.now self.now.tbs.key) →
-            result ≡ first_failure 1 (spec.ta_checks self.now when q)
-        }
-        ensures signed {
-            OnOk result
-            (spec.names_itself self.now.tbs ≡ true → spec.IsSigned P.checks self.now self.now.tbs.key)
-        }
-        ensures unasked {
-            spec.names_itself self.now.tbs ≡ false →
-            result ≡ first_failure 1 (spec.ta_checks self.now when true)
-        }
+        ensures first_failing { (q : Bool) → Decides q (spec.IsSigned P.checks self.now self.now.tbs.key) →
+            result ≡ first_failure 1 (spec.ta_checks self.now when q) }
+        ensures signed { OnOk result
+            (spec.names_itself self.now.tbs ≡ true → spec.IsSigned P.checks self.now self.now.tbs.key) }
+        ensures unasked { spec.names_itself self.now.tbs ≡ false →
+            result ≡ first_failure 1 (spec.ta_checks self.now when true) }
     {
         require(1, self.tbs().has_own_identifier())?;
         require(2, self.tbs().basic_ca().is_some())?;
@@ -194,10 +178,8 @@ impl IdCert {
         ensures believed { (result ≡ Ok tt) ↔ spec.IsTaBelieved P.checks self.now when }
 
         // The first check that fails decides, whatever the scheme answers.
-        ensures first_failing {
-            (q : Bool) → Decides q (spec.IsSigned P.checks self.now self.now.tbs.key) →
-            result ≡ failing spec.ta_kind (first_failure 1 (spec.ta_checks self.now when q))
-        }
+        ensures first_failing { (q : Bool) → Decides q (spec.IsSigned P.checks self.now self.now.tbs.key) →
+            result ≡ failing spec.ta_kind (first_failure 1 (spec.ta_checks self.now when q)) }
     {
         match self.ta_failure(verifier, when) {
             Ok(()) => Ok(()),

@@ -41,10 +41,8 @@ impl SignedMessageCrl {
         issuer_key: &PublicKey,
         when: Time,
     ) -> Result<(), u8>
-        ensures first_failing {
-            (q : Bool) → Decides q (spec.IsListSigned P.checks self.now issuer_key.now) →
-            result ≡ first_failure 9 (spec.crl_checks self.now issuer_key.now when q)
-        }
+        ensures first_failing { (q : Bool) → Decides q (spec.IsListSigned P.checks self.now issuer_key.now) →
+            result ≡ first_failure 9 (spec.crl_checks self.now issuer_key.now when q) }
         ensures signed { OnOk result (spec.IsListSigned P.checks self.now issuer_key.now) }
     {
         require(9, self.names_one_algorithm())?;
@@ -66,16 +64,12 @@ impl SignedMessageCrl {
         when: Time,
     ) -> Result<(), ValidationError>
         // Ok exactly where the signature and all the other checks hold.
-        ensures believed {
-            (result ≡ Ok tt) ↔ spec.IsListBelieved P.checks self.now issuer_key.now when
-        }
+        ensures believed { (result ≡ Ok tt) ↔ spec.IsListBelieved P.checks self.now issuer_key.now when }
 
         // The first check that fails decides, whatever the scheme answers.
-        ensures first_failing {
-            (q : Bool) → Decides q (spec.IsListSigned P.checks self.now issuer_key.now) →
+        ensures first_failing { (q : Bool) → Decides q (spec.IsListSigned P.checks self.now issuer_key.now) →
             result ≡ failing spec.crl_kind
-            (first_failure 9 (spec.crl_checks self.now issuer_key.now when q))
-        }
+            (first_failure 9 (spec.crl_checks self.now issuer_key.now when q)) }
     {
         match self.failure(verifier, issuer_key, when) {
             Ok(()) => Ok(()),

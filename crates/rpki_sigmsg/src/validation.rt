@@ -44,10 +44,8 @@ impl SignedMessage {
 
     // Checks 1 to 3.
     fn own_failure<P: Scheme, V: Verifier<P>>(&self, verifier: &V) -> Result<(), u8>
-        ensures first_failing {
-            (q : Bool) → Decides q (spec.AreAttributesSigned P.checks self.now) →
-            result ≡ first_failure 1 (spec.message_checks self.now q)
-        }
+        ensures first_failing { (q : Bool) → Decides q (spec.AreAttributesSigned P.checks self.now) →
+            result ≡ first_failure 1 (spec.message_checks self.now q) }
         ensures signed { OnOk result (spec.AreAttributesSigned P.checks self.now) }
     {
         require(1, self.names_certificate())?;
@@ -69,10 +67,8 @@ impl SignedMessage {
         issuer_key: &PublicKey,
         when: Time,
     ) -> Result<(), u8>
-        ensures first_failing {
-            (q : spec.Asked P.checks self.now issuer_key.now) →
-            result ≡ first_failure 1 (spec.checks self.now issuer_key.now when q.q3 q.q8 q.q10)
-        }
+        ensures first_failing { (q : spec.Asked P.checks self.now issuer_key.now) →
+            result ≡ first_failure 1 (spec.checks self.now issuer_key.now when q.q3 q.q8 q.q10) }
         ensures signed { OnOk result (spec.AreSigned P.checks self.now issuer_key.now) }
     {
         self.own_failure(verifier)?;
@@ -100,11 +96,9 @@ impl SignedMessage {
         ensures believed { (result ≡ Ok tt) ↔ spec.IsBelieved P.checks self.now issuer_key.now when }
 
         // The first check that fails decides, whatever the scheme answers to the three questions.
-        ensures first_failing {
-            (q : spec.Asked P.checks self.now issuer_key.now) →
+        ensures first_failing { (q : spec.Asked P.checks self.now issuer_key.now) →
             result ≡ failing spec.kind_of
-            (first_failure 1 (spec.checks self.now issuer_key.now when q.q3 q.q8 q.q10))
-        }
+            (first_failure 1 (spec.checks self.now issuer_key.now when q.q3 q.q8 q.q10)) }
     {
         match self.failure(verifier, issuer_key, when) {
             Ok(()) => Ok(()),
@@ -119,21 +113,17 @@ impl SignedMessage {
 /// What `validate_at` answers depends on the scheme by its three questions alone: two schemes that answer them alike have the same
 /// answer.
 pub fn three_questions_decide<P: Scheme, Q: Scheme>()
-    ensures {
-        (m : MessageFields) (issuer : KeyFields) (when : ℤ)
+    ensures { (m : MessageFields) (issuer : KeyFields) (when : ℤ)
         (answer : Result (Unit {0}) ValidationError) →
         spec.SameAnswers P.checks Q.checks m issuer →
         spec.IsValidation P.checks m issuer when answer →
-        spec.IsValidation Q.checks m issuer when answer
-    }
+        spec.IsValidation Q.checks m issuer when answer }
 {}
 
 /// The moments at which a message passes under a key, whatever a scheme answers, are none, or all from the later of notBefore and
 /// thisUpdate to the earlier of notAfter and nextUpdate, both ends in.
 pub fn moments_are_one_span()
-    ensures {
-        (m : MessageFields) (issuer : KeyFields) (q3 q8 q10 : Bool) →
+    ensures { (m : MessageFields) (issuer : KeyFields) (q3 q8 q10 : Bool) →
         ((when : ℤ) → spec.Passes m issuer q3 q8 q10 when → ⊥) ⊎
-        ((when : ℤ) → spec.Passes m issuer q3 q8 q10 when ↔ spec.IsInSpan m when)
-    }
+        ((when : ℤ) → spec.Passes m issuer q3 q8 q10 when ↔ spec.IsInSpan m when) }
 {}
