@@ -1,13 +1,16 @@
 //! Identity certificates.
 
-ghost use Rattle.std.specs.Prelude.{◌≡◌, ◌↔◌, ◌<◌, ◌≤ℤ◌, ◌++◌, IsOk, IfOk, OnOk, OnErr};
+ghost use Rattle.std.specs.Prelude.{◌≡◌, ◌↔◌, ◌<◌, ◌≤ℤ◌, ◌++◌, Some, IsOk, IfOk, OnOk, OnErr};
 ghost use Rattle.rpki_der.specs.declared.mode.Mode.TheVariants.{Der};
 ghost use Rattle.rpki_der.specs.Takes.{Takes, Decodes};
 ghost use Rattle.rpki_der.specs.Ticks.{TakesCounted};
-ghost use Rattle.rpki_der.specs.Whole.{HoldsOne};
+ghost use Rattle.rpki_der.specs.declared.mode.Mode.{Mode};
+ghost use Rattle.rpki_der.specs.Value.{Value, IsValue};
+ghost use Rattle.rpki_der.specs.Whole.{HoldsOne, whole_of};
 ghost use Rattle.rpki_base.specs.SignedData.{spelled_data, CanBeSpelled};
 ghost use Rattle.rpki_base.specs.RpkiSignatureAlgorithm.{spelled_x509};
-ghost use Rattle.rpki_idcert.specs.IdCert.{identity_certificate};
+ghost use Rattle.rpki_idcert.specs.IdCert.{CertificateFields, identity_certificate};
+ghost use Rattle.rpki_idcert.specs.TbsIdCert.{tbs_certificate};
 
 use crate::tbs::{TbsIdCert, take_held};
 use bytes::Bytes;
@@ -42,6 +45,16 @@ impl Model for IdCert {
 
     ghost inverse = { λ c. record { signed = c.signed; tbs = c.tbs } };
 }
+
+/// The fields of a certificate that was read are what the octets that are signed are read as, by the same rules: equal signed data
+/// have equal fields.
+pub fn signed_octets_determine_the_fields()
+    ensures {
+        (mode : Mode) (v : Value) (c : CertificateFields) →
+        IsValue mode v → identity_certificate mode v ≡ Some c →
+        whole_of (tbs_certificate mode) mode c.signed.slice ≡ Some c.tbs
+    }
+{}
 
 /// # Data access
 impl IdCert {

@@ -12,7 +12,7 @@ mod spelling;
 mod tbs;
 mod validation;
 
-pub use id_cert::IdCert;
+pub use id_cert::{IdCert, signed_octets_determine_the_fields};
 pub use rpki_base::{ValidationError, ValidationKind, first_false_decides, require};
 pub use tbs::{TbsIdCert, equal_certificates_are_the_same};
 pub use validation::names_issuer;

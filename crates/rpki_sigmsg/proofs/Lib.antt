@@ -5,3 +5,4 @@ pub mod CrlGathering
 pub mod Meaning
 pub mod Loosening
 pub mod Bounds
+pub mod InTurn

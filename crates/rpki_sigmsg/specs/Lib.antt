@@ -13,3 +13,4 @@ pub mod Crl
 pub mod CrlChecks
 pub mod Message
 pub mod Checks
+pub mod Places

@@ -4,8 +4,9 @@ ghost use Rattle.std.specs.Prelude.{◌≡◌, List, ℕ, Some, None};
 ghost use Rattle.rpki_der.specs.declared.mode.Mode.{Mode};
 ghost use Rattle.rpki_der.specs.declared.mode.Mode.TheVariants.{Ber, Der};
 ghost use Rattle.rpki_der.specs.Takes.{BeginsAs};
-ghost use Rattle.rpki_der.specs.Value.{Value};
+ghost use Rattle.rpki_der.specs.Value.{Value, spelling};
 ghost use Rattle.rpki_sigmsg.specs.Message.{MessageFields, ViewFields, signed_message, viewed_message};
+ghost use Rattle.rpki_sigmsg.specs.Places.{StandInTurn, parts_of};
 
 /// What is a message in DER is the same message in BER, and so is a view of one: what strict decoding accepts, loose decoding
 /// accepts with the same fields (X.690, 10).
@@ -18,4 +19,13 @@ pub fn strict_messages_are_loose()
 pub fn views_are_of_messages()
     ensures seen { (mode : Mode) (v : Value) (w : ViewFields) → viewed_message mode v ≡ Some w → signed_message mode v ≡ Some w.message }
     ensures none { (mode : Mode) (v : Value) → viewed_message mode v ≡ None → signed_message mode v ≡ None }
+{}
+
+/// The five parts of a view stand in the octets of its message, in the order in which they are read: each is a piece of these octets,
+/// between what stands before it and what stands behind it.
+pub fn parts_stand_in_turn()
+    ensures {
+        (mode : Mode) (v : Value) (w : ViewFields) →
+        viewed_message mode v ≡ Some w → StandInTurn (parts_of w) (spelling v)
+    }
 {}

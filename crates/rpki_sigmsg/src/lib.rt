@@ -26,7 +26,7 @@ mod tbs_crl;
 mod validation;
 
 pub use crl::SignedMessageCrl;
-pub use law::{strict_messages_are_loose, views_are_of_messages};
+pub use law::{parts_stand_in_turn, strict_messages_are_loose, views_are_of_messages};
 pub use message::SignedMessage;
 pub use reference::SignedMessageRef;
 pub use revoked::{CrlEntry, RevokedCertificates, equal_entries_are_the_same};

@@ -1,0 +1,202 @@
+-- The five parts of a view stand in the octets of the message, in their order.
+use Rattle.std.proofs.Common.{◌≡◌, ℕ, Bool, true, false, Option, None, Some, List, [], ◌∷◌, ◌++◌, refl, sym, ap, subst, ◌∙◌, append_assoc}
+use Rattle.std.specs.Prelude.{if◌then◌else◌}
+use Rattle.std.proofs.lemmas.List.{append-nil}
+use Rattle.rpki_common.specs.Chaining.{◌>>=◌}
+use Rattle.rpki_common.proofs.Truths.{none_some, same_some}
+use Rattle.rpki_der.specs.declared.mode.Mode.{Mode}
+use Rattle.rpki_der.specs.Identifier.{has_tag}
+use Rattle.rpki_der.specs.Tags.{sequence, set, context}
+use Rattle.rpki_der.specs.Value.{Form, Value, Primitive, Constructed, Values, End, ◌▸◌, lengths_of, end_mark, spelling, spellings}
+use Rattle.rpki_der.specs.Grammar.{within, first, done, wrapped}
+use Rattle.rpki_der.specs.Held.{held, with_octets}
+use Rattle.rpki_der.specs.OctetString.{octet_string}
+use Rattle.rpki_idcert.specs.IdCert.{identity_certificate}
+use Rattle.rpki_sigmsg.specs.Attributes.{AttributeFields, signed_attributes}
+use Rattle.rpki_sigmsg.specs.Message.{ViewFields, encapsulated_content, crl_in_der, signed_parts, viewed_message}
+use Rattle.rpki_sigmsg.specs.Places.{StandInTurn, parts_of}
+use Rattle.rpki_sigmsg.specs.Signer.{SignerFields, signer_info}
+
+-- ---- parts in turn
+
+in_front : (parts : List (List ℕ)) (front octets : List ℕ) → StandInTurn parts octets → StandInTurn parts (front ++ octets)
+in_front [] front octets s = tt
+in_front (p ∷ parts) front octets s = (front ++ s.0, s.1, ap (λ (o : List ℕ). front ++ o) s.2 ∙ sym (append_assoc front s.0 (p ++ s.1)), s.3)
+
+longer : (p before behind octets more : List ℕ) → octets ≡ before ++ (p ++ behind) → octets ++ more ≡ before ++ (p ++ (behind ++ more))
+longer p before behind octets more e = ap (λ (o : List ℕ). o ++ more) e ∙ append_assoc before (p ++ behind) more ∙ ap (λ (o : List ℕ). before ++ o) (append_assoc p behind more)
+
+followed : (parts later : List (List ℕ)) (a b : List ℕ) → StandInTurn parts a → StandInTurn later b → StandInTurn (parts ++ later) (a ++ b)
+followed [] later a b s t = in_front later a b t
+followed (p ∷ parts) later a b s t = (s.0, s.1 ++ b, longer p s.0 s.1 a b s.2, followed parts later s.1 b s.3 t)
+
+before_more : (parts : List (List ℕ)) (a b : List ℕ) → StandInTurn parts a → StandInTurn parts (a ++ b)
+before_more [] a b s = tt
+before_more (p ∷ parts) a b s = (s.0, s.1 ++ b, longer p s.0 s.1 a b s.2, before_more parts s.1 b s.3)
+
+whole : (octets : List ℕ) → StandInTurn (octets ∷ []) octets
+whole octets = ([], [], sym (append-nil octets), tt)
+
+inside : (parts : List (List ℕ)) (i : List ℕ) (f : Form) (inner : Values) → StandInTurn parts (spellings inner) → StandInTurn parts (spelling (Constructed i f inner))
+inside parts i f inner s = in_front parts i _ (in_front parts (lengths_of f) _ (before_more parts (spellings inner) (end_mark f) s))
+
+-- ---- what a grammar reads, and where it stands
+
+record Bound {X Y : Type 0} (o : Option X) (f : X → Option Y) (y : Y) : Type 0 where
+  x : X
+  found : o ≡ Some x
+  then' : f x ≡ Some y
+
+bound : {X Y : Type 0} (o : Option X) (f : X → Option Y) (y : Y) → (o >>= f) ≡ Some y → Bound o f y
+unfolding ◌>>=◌
+bound None f y e = absurd (none_some y e)
+bound (Some x) f y e = record { x = x; found = refl; then' = e }
+
+chosen : {X : Type 0} (b : Bool) (o : Option X) (x : X) → (if b then o else None) ≡ Some x → o ≡ Some x
+chosen true o x e = e
+chosen false o x e = absurd (none_some x e)
+
+done_is : {X : Type 0} (x y : X) (vs : Values) → done x vs ≡ Some y → x ≡ y
+unfolding done
+done_is x y End e = same_some x y e
+done_is x y (v ▸ vs) e = absurd (none_some y e)
+
+record FirstIs {X : Type 0} (grammar : Value → Option X) (vs : Values) (p : X × Values) : Type 0 where
+  value : Value
+  parts : vs ≡ value ▸ p.1
+  reads : grammar value ≡ Some p.0
+
+first_is : {X : Type 0} (grammar : Value → Option X) (vs : Values) (p : X × Values) → first grammar vs ≡ Some p → FirstIs grammar vs p
+unfolding first
+first_is grammar End p e = absurd (none_some p e)
+first_is {X} grammar (v ▸ vs) p e =
+    let b = bound (grammar v) _ p e in
+    let is : (b.x, vs) ≡ p = same_some _ _ b.then' in
+    record {
+      value = v;
+      parts = ap (λ (q : X × Values). v ▸ q.1) is;
+      reads = b.found ∙ ap Some (ap (λ (q : X × Values). q.0) is);
+    }
+
+abbrev Shows : {X : Type 0} → (Value → Option X) → (X → List (List ℕ)) → Type 0
+Shows {X} grammar pick = (v : Value) (x : X) → grammar v ≡ Some x → StandInTurn (pick x) (spelling v)
+
+abbrev ShowsFields : {X : Type 0} → (Values → Option X) → (X → List (List ℕ)) → Type 0
+ShowsFields {X} fields pick = (vs : Values) (x : X) → fields vs ≡ Some x → StandInTurn (pick x) (spellings vs)
+
+-- the first value has nothing to show
+pass : {X : Type 0} (grammar : Value → Option X) (later : List (List ℕ)) (vs : Values) (p : X × Values) → FirstIs grammar vs p → StandInTurn later (spellings p.1) → StandInTurn later (spellings vs)
+pass grammar later vs p f s = subst (StandInTurn later) (sym (ap spellings f.parts)) (in_front later (spelling f.value) (spellings p.1) s)
+
+-- the first value shows something, and what stands behind it too
+step : {X : Type 0} (grammar : Value → Option X) (pick : X → List (List ℕ)) (later : List (List ℕ)) (vs : Values) (p : X × Values) → Shows grammar pick → FirstIs grammar vs p → StandInTurn later (spellings p.1) → StandInTurn (pick p.0 ++ later) (spellings vs)
+step grammar pick later vs p shows f s =
+    subst (StandInTurn (pick p.0 ++ later)) (sym (ap spellings f.parts)) (followed (pick p.0) later (spelling f.value) (spellings p.1) (shows f.value p.0 f.reads) s)
+
+last : {X : Type 0} (grammar : Value → Option X) (pick : X → List (List ℕ)) (vs : Values) (p : X × Values) → Shows grammar pick → FirstIs grammar vs p → StandInTurn (pick p.0) (spellings vs)
+last grammar pick vs p shows f =
+    subst (StandInTurn (pick p.0)) (sym (ap spellings f.parts)) (before_more (pick p.0) (spelling f.value) (spellings p.1) (shows f.value p.0 f.reads))
+
+shows_within : {X : Type 0} (tag : List ℕ) (fields : Values → Option X) (pick : X → List (List ℕ)) → ShowsFields fields pick → Shows (within tag fields) pick
+unfolding within
+shows_within tag fields pick s (Primitive i l c) x e = absurd (none_some x e)
+shows_within tag fields pick s (Constructed i f vs) x e = inside (pick x) i f vs (s vs x (chosen (has_tag tag i) (fields vs) x e))
+
+shows_wrapped : {X : Type 0} (tag : List ℕ) (grammar : Value → Option X) (pick : X → List (List ℕ)) → Shows grammar pick → Shows (wrapped tag grammar) pick
+unfolding wrapped
+shows_wrapped tag grammar pick shows = shows_within tag _ pick (λ vs y e.
+    let b = bound (first grammar vs) _ y e in
+    let f = first_is grammar vs b.x b.found in
+    let is = done_is _ y _ b.then' in
+    subst (λ z. StandInTurn (pick z) (spellings vs)) is (last grammar pick vs b.x shows f))
+
+abbrev front_of : {X : Type 0} → List ℕ × X → List (List ℕ)
+front_of p = p.0 ∷ []
+
+shows_octets : {X : Type 0} (grammar : Value → Option X) → Shows (with_octets grammar) front_of
+unfolding with_octets
+shows_octets {X} grammar v p e =
+    let b = bound (grammar v) _ p e in
+    let is : (spelling v, b.x) ≡ p = same_some _ _ b.then' in
+    subst (λ (o : List ℕ). StandInTurn (o ∷ []) (spelling v)) (ap (λ (q : List ℕ × X). q.0) is) (whole (spelling v))
+
+shows_held : {X : Type 0} (fields : Values → Option X) → ShowsFields (held fields) front_of
+unfolding held
+shows_held {X} fields vs p e =
+    let b = bound (fields vs) _ p e in
+    let is : (spellings vs, b.x) ≡ p = same_some _ _ b.then' in
+    subst (λ (o : List ℕ). StandInTurn (o ∷ []) (spellings vs)) (ap (λ (q : List ℕ × X). q.0) is) (whole (spellings vs))
+
+-- ---- the parts of a message
+
+shows_content : (mode : Mode) → Shows (encapsulated_content mode) front_of
+unfolding encapsulated_content
+shows_content mode = shows_within sequence _ front_of (λ vs y e.
+    let b = bound _ _ y e in
+    let f = first_is _ vs b.x b.found in
+    let c = bound _ _ y b.then' in
+    let g = first_is _ b.x.1 c.x c.found in
+    let is = done_is c.x.0 y c.x.1 c.then' in
+    pass _ _ vs b.x f (subst (λ (z : List ℕ × List ℕ). StandInTurn (front_of z) (spellings b.x.1)) is (last _ front_of b.x.1 c.x (shows_wrapped (context 0) (with_octets (octet_string mode)) front_of (shows_octets (octet_string mode))) g)))
+
+shows_attributes : (mode : Mode) → Shows (signed_attributes mode) front_of
+unfolding signed_attributes
+shows_attributes mode = shows_within (context 0) _ front_of (shows_held _)
+
+abbrev signed_parts_of : SignerFields → List (List ℕ)
+signed_parts_of s = s.attributes ∷ s.signature_value ∷ []
+
+shows_signer : (mode : Mode) → Shows (signer_info mode) signed_parts_of
+unfolding signer_info
+shows_signer mode = shows_within sequence _ signed_parts_of (λ vs y e.
+    let a = bound _ _ y e in
+    let fa = first_is _ vs a.x a.found in
+    let b = bound _ _ y a.then' in
+    let fb = first_is _ a.x.1 b.x b.found in
+    let c = bound _ _ y b.then' in
+    let fc = first_is _ b.x.1 c.x c.found in
+    let d = bound _ _ y c.then' in
+    let fd = first_is _ c.x.1 d.x d.found in
+    let k = bound _ _ y d.then' in
+    let fk = first_is _ d.x.1 k.x k.found in
+    let m = bound _ _ y k.then' in
+    let fm = first_is _ k.x.1 m.x m.found in
+    let is = done_is _ y m.x.1 m.then' in
+    let signature = last _ front_of k.x.1 m.x (shows_octets (octet_string mode)) fm in
+    let parts = pass _ _ vs a.x fa (pass _ _ a.x.1 b.x fb (pass _ _ b.x.1 c.x fc (step _ front_of _ c.x.1 d.x (shows_attributes mode) fd (pass _ _ d.x.1 k.x fk signature)))) in
+    subst (λ (z : SignerFields). StandInTurn (signed_parts_of z) (spellings vs)) is parts)
+
+shows_parts : (mode : Mode) → Shows (signed_parts mode) parts_of
+unfolding signed_parts
+shows_parts mode = shows_within sequence _ parts_of (λ vs y e.
+    let a = bound _ _ y e in
+    let fa = first_is _ vs a.x a.found in
+    let b = bound _ _ y a.then' in
+    let fb = first_is _ a.x.1 b.x b.found in
+    let c = bound _ _ y b.then' in
+    let fc = first_is _ b.x.1 c.x c.found in
+    let d = bound _ _ y c.then' in
+    let fd = first_is _ c.x.1 d.x d.found in
+    let k = bound _ _ y d.then' in
+    let fk = first_is _ d.x.1 k.x k.found in
+    let m = bound _ _ y k.then' in
+    let fm = first_is _ k.x.1 m.x m.found in
+    let is = done_is _ y m.x.1 m.then' in
+    let signer = last _ signed_parts_of k.x.1 m.x (shows_wrapped set (signer_info mode) signed_parts_of (shows_signer mode)) fm in
+    let crl = step _ front_of _ d.x.1 k.x (shows_wrapped (context 1) (with_octets crl_in_der) front_of (shows_octets crl_in_der)) fk signer in
+    let certificate = step _ front_of _ c.x.1 d.x (shows_wrapped (context 0) (with_octets (identity_certificate mode)) front_of (shows_octets (identity_certificate mode))) fd crl in
+    let parts = pass _ _ vs a.x fa (pass _ _ a.x.1 b.x fb (step _ front_of _ b.x.1 c.x (shows_content mode) fc certificate)) in
+    subst (λ (z : ViewFields). StandInTurn (parts_of z) (spellings vs)) is parts)
+
+shows_view : (mode : Mode) → Shows (viewed_message mode) parts_of
+unfolding viewed_message
+shows_view mode = shows_within sequence _ parts_of (λ vs y e.
+    let b = bound _ _ y e in
+    let f = first_is _ vs b.x b.found in
+    let c = bound _ _ y b.then' in
+    let g = first_is _ b.x.1 c.x c.found in
+    let is = done_is c.x.0 y c.x.1 c.then' in
+    pass _ _ vs b.x f (subst (λ (z : ViewFields). StandInTurn (parts_of z) (spellings b.x.1)) is (last _ parts_of b.x.1 c.x (shows_wrapped (context 0) (signed_parts mode) parts_of (shows_parts mode)) g)))
+
+pub in_turn : (mode : Mode) (v : Value) (w : ViewFields) → viewed_message mode v ≡ Some w → StandInTurn (parts_of w) (spelling v)
+in_turn mode v w e = shows_view mode v w e
