@@ -30,8 +30,12 @@ impl Calls for Certificates {
         if let Some(answer) = reading::answer(alloc, cursor, step.call) {
             return Some(answer);
         }
-        if let Some(answer) = reading::whole_answer(alloc, cursor.mode(), cursor.here(), step.call)
-        {
+        if let Some(answer) = reading::whole_answer(
+            alloc,
+            cursor.mode(),
+            cursor.here(),
+            step.call,
+        ) {
             return Some(answer);
         }
         checking::answer(alloc, cursor.mode(), cursor.here(), step)
@@ -60,7 +64,10 @@ fn holds_counted<L: Ledger>(alloc: Global, line: &[u8], blank: Blank) -> io::Res
 
 // Whether a line's case is answered as expected, first by the calls that aren't counted.
 fn holds(alloc: Global, line: &str) -> io::Result<bool> {
-    Ok(is_walked(alloc, &Certificates, line)? && holds_counted::<Brand>(alloc, line.as_bytes(), Blank::new(1))?)
+    Ok(
+        is_walked(alloc, &Certificates, line)?
+            && holds_counted::<Brand>(alloc, line.as_bytes(), Blank::new(1))?,
+    )
 }
 
 impl Cases for Certificates {

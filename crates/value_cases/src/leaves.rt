@@ -47,7 +47,11 @@ pub fn small(argument: &[u8]) -> Result<u8, DecodeError>
     }
 }
 
-fn integer_if(alloc: Global, cursor: &mut Cursor<'_>, wanted: &[u8]) -> Result<Fields, DecodeError> {
+fn integer_if(
+    alloc: Global,
+    cursor: &mut Cursor<'_>,
+    wanted: &[u8],
+) -> Result<Fields, DecodeError> {
     take_integer_if(cursor, small(wanted)?)?;
     Ok(Fields::done(alloc)?)
 }

@@ -98,7 +98,10 @@ fn holds_counted<L: Ledger>(alloc: Global, line: &[u8], blank: Blank) -> io::Res
 
 // Whether a line's case is answered as expected, first by the calls that aren't counted.
 fn holds(alloc: Global, line: &str) -> io::Result<bool> {
-    Ok(is_walked(alloc, &Values, line)? && holds_counted::<Brand>(alloc, line.as_bytes(), Blank::new(1))?)
+    Ok(
+        is_walked(alloc, &Values, line)?
+            && holds_counted::<Brand>(alloc, line.as_bytes(), Blank::new(1))?,
+    )
 }
 
 impl Cases for Values {
