@@ -22,7 +22,8 @@ import itertools
 from types import SimpleNamespace
 
 from messages import (
-    ALGORITHM, AUTHORITY_KEY, BASIC_CONSTRAINTS, FIRST, LAST, NOW, NULL, RSA, RSA_SHA256, SUBJECT_KEY, bits, indefinite, integer, key_bits,
+    ALGORITHM, AUTHORITY_KEY, BASIC_CONSTRAINTS, FIRST, LAST, NOW, NULL, RSA, RSA_SHA256, SUBJECT_KEY, bits, indefinite,
+    integer, key_bits,
     key_identifier, name, octet_string, oid, overlong, seq, sign, time, value)
 from stored import DONE, MALFORMED, SIZES, step, terms, write
 from values import EC, P256, attribute, relative
@@ -59,9 +60,11 @@ def spelled_key(key):
 
 # What a certificate is made of. A None leaves a part out or has it follow from the others; a function turns what it is given.
 GOOD = dict(
-    version=value(0xA0, integer(2)), serial=1, inner=ALGORITHM, issuer=name(1, 0), validity=(FIRST, LAST), subject=name(1, 1), key=1,
+    version=value(0xA0, integer(2)), serial=1, inner=ALGORITHM, issuer=name(1, 0), validity=(FIRST, LAST), subject=name(1, 1),
+    key=1,
     spelled_validity=None, spelled_key=None, constraints=None, subject_key=None, authority=None, extensions=lambda xs: xs,
-    tagged=lambda xs: value(0xA3, seq(*xs)), outer=ALGORITHM, signer=0, signature=None, spoilt=False, behind=b"", tbs=seq, whole=seq)
+    tagged=lambda xs: value(0xA3, seq(*xs)), outer=ALGORITHM, signer=0, signature=None, spoilt=False, behind=b"", tbs=seq,
+    whole=seq)
 
 
 def options_of(**options):
@@ -86,7 +89,8 @@ def signed_part(o):
 def written_part(o):
     """What is written of what is signed: the fields, with the algorithm with NULL."""
     return seq(
-        value(0xA0, integer(2)), integer(o.serial), ALGORITHM, o.issuer, seq(*map(time, o.validity)), o.subject, spelled_key(o.key),
+        value(0xA0, integer(2)), integer(o.serial), ALGORITHM, o.issuer, seq(*map(time, o.validity)), o.subject,
+        spelled_key(o.key),
         value(0xA3, seq(*listed(o, written=True))))
 
 
@@ -120,14 +124,16 @@ def read(label, mode="both", written_outer=None, **options):
     octets, shown = certificate(o), fields(o, written_outer)
     yield line(label, mode, octets, step("whole", *shown))
     decoded = [step("decoded_in_mode", *shown), step("decoded", MALFORMED)] if mode == "ber" else [step("decoded", *shown)]
-    yield line(f"{label}-behind", mode, octets + NULL, step("whole", MALFORMED), *decoded, step("certificate", *shown), step("capture", NULL))
+    yield line(f"{label}-behind", mode, octets + NULL, step("whole", MALFORMED), *decoded, step("certificate", *shown),
+        step("capture", NULL))
     yield line(f"{label}-signed", mode, signed_part(o), step("tbs", *tbs_fields(o)), step("capture", MALFORMED))
     if mode == "ber":
         yield from refused(f"{label}-in-der", "der", octets)
 
 
 def refused(label, mode, octets):
-    yield line(label, mode, octets, step("whole", MALFORMED), step("decoded", MALFORMED), step("decoded_in_mode", MALFORMED), step("certificate", MALFORMED))
+    yield line(label, mode, octets, step("whole", MALFORMED), step("decoded", MALFORMED), step("decoded_in_mode", MALFORMED),
+        step("certificate", MALFORMED))
 
 
 def malformed(label, mode="both", **options):
@@ -159,7 +165,8 @@ def good_cases():
     yield from read("key-without-null", spelled_key=seq(seq(RSA), bits(key_bits(1, 1))))
     yield from read("times-of-1950-and-2049", validity=(-631152000, 2524607999))
     yield from read("times-of-1949-and-2050", validity=(-631152001, 2524608000))
-    yield from read("times-in-the-other-form", spelled_validity=seq(value(0x18, b"20231114220820Z"), value(0x18, b"20231114221820Z")))
+    yield from read("times-in-the-other-form",
+        spelled_validity=seq(value(0x18, b"20231114220820Z"), value(0x18, b"20231114221820Z")))
     yield from read("from-year-0-to-9999", validity=(-62167219200, 253402300799))
     yield from read("validity-backwards", validity=(LAST, FIRST))
 
@@ -171,28 +178,40 @@ def extension_cases():
     yield from read("extensions-in-another-order", constraints=True, authority=OTHER, extensions=lambda xs: xs[::-1])
     yield from read("constraints-of-false", constraints=False, extensions=lambda xs: [constraints(FALSE), xs[1]])
     yield from read("constraints-with-a-length", constraints=True, extensions=lambda xs: [constraints(TRUE, integer(0)), xs[1]])
-    yield from read("constraints-with-the-longest-length", constraints=True, extensions=lambda xs: [constraints(TRUE, integer((1 << 64) - 1)), xs[1]])
+    yield from read("constraints-with-the-longest-length", constraints=True,
+        extensions=lambda xs: [constraints(TRUE, integer((1 << 64) - 1)), xs[1]])
     yield from read("constraints-of-a-length-alone", constraints=False, extensions=lambda xs: [constraints(integer(3)), xs[1]])
-    yield from read("constraints-not-critical", constraints=True, extensions=lambda xs: [extension(BASIC_CONSTRAINTS, seq(TRUE)), xs[1]])
-    yield from read("constraints-with-octets-behind", constraints=True, extensions=lambda xs: [extension(BASIC_CONSTRAINTS, seq(TRUE) + b"\0"), xs[1]])
-    yield from read("subject-with-octets-behind", extensions=lambda xs: [extension(SUBJECT_KEY, octet_string(key_identifier(1, 1)) + b"xyz")])
+    yield from read("constraints-not-critical", constraints=True,
+        extensions=lambda xs: [extension(BASIC_CONSTRAINTS, seq(TRUE)), xs[1]])
+    yield from read("constraints-with-octets-behind", constraints=True,
+        extensions=lambda xs: [extension(BASIC_CONSTRAINTS, seq(TRUE) + b"\0"), xs[1]])
+    yield from read("subject-with-octets-behind",
+        extensions=lambda xs: [extension(SUBJECT_KEY, octet_string(key_identifier(1, 1)) + b"xyz")])
     yield from read("empty-authority", extensions=last(authority_key()))
     yield from read("authority-without-key", extensions=last(authority_key(value(0xA1, seq()), value(0x82, b"\1"))))
-    yield from read("authority-and-more", authority=OTHER, extensions=lambda xs: [xs[0], authority_key(value(0x80, OTHER), value(0xA1, seq()), value(0x82, b"\1"))])
+    yield from read("authority-and-more", authority=OTHER,
+        extensions=lambda xs: [xs[0], authority_key(value(0x80, OTHER), value(0xA1, seq()), value(0x82, b"\1"))])
     yield from read("two-authorities", authority=OTHER, extensions=lambda xs: [authority_key(value(0x80, bytes(20))), *xs])
     yield from read("last-authority-empty", extensions=last(authority_key(value(0x80, OTHER)), authority_key()))
     yield from read("critical-false", extensions=lambda xs: [extension(SUBJECT_KEY, octet_string(key_identifier(1, 1)), FALSE)])
     for label, new in {
-            "constraints-twice": [constraints(TRUE), constraints(TRUE)], "empty-constraints-twice": [constraints(), constraints()],
+            "constraints-twice": [constraints(TRUE), constraints(TRUE)],
+            "empty-constraints-twice": [constraints(), constraints()],
             "subject-twice": [subject_key(OTHER)], "constraints-negative": [constraints(TRUE, value(2, b"\xff"))],
-            "constraints-of-a-long-length": [constraints(TRUE, integer(1 << 64))], "constraints-behind": [constraints(TRUE, integer(1), NULL)],
-            "constraints-of-two-lengths": [constraints(integer(1), integer(1))], "constraints-turned": [constraints(integer(1), TRUE)],
+            "constraints-of-a-long-length": [constraints(TRUE, integer(1 << 64))],
+            "constraints-behind": [constraints(TRUE, integer(1), NULL)],
+            "constraints-of-two-lengths": [constraints(integer(1), integer(1))],
+            "constraints-turned": [constraints(integer(1), TRUE)],
             "constraints-of-null": [constraints(NULL)], "constraints-set": [extension(BASIC_CONSTRAINTS, value(0x31, b""))],
             "constraints-of-01": [constraints(b"\1\1\1")], "constraints-overlong": [extension(BASIC_CONSTRAINTS, b"\x30\x81\0")],
-            "constraints-indefinite": [extension(BASIC_CONSTRAINTS, indefinite(0x30, b""))], "constraints-of-nothing": [extension(BASIC_CONSTRAINTS, b"")],
-            "authority-of-19": [authority_key(value(0x80, OTHER[:19]))], "authority-of-21": [authority_key(value(0x80, OTHER + b"x"))],
-            "authority-in-segments": [authority_key(value(0xA0, octet_string(OTHER)))], "authority-of-no-sequence": [extension(AUTHORITY_KEY, octet_string(OTHER))],
-            "authority-of-no-value": [authority_key(b"\0\0")], "extension-without-value": [seq(oid("1.2"))], "extension-of-null": [seq(oid("1.2"), NULL)],
+            "constraints-indefinite": [extension(BASIC_CONSTRAINTS, indefinite(0x30, b""))],
+            "constraints-of-nothing": [extension(BASIC_CONSTRAINTS, b"")],
+            "authority-of-19": [authority_key(value(0x80, OTHER[:19]))],
+            "authority-of-21": [authority_key(value(0x80, OTHER + b"x"))],
+            "authority-in-segments": [authority_key(value(0xA0, octet_string(OTHER)))],
+            "authority-of-no-sequence": [extension(AUTHORITY_KEY, octet_string(OTHER))],
+            "authority-of-no-value": [authority_key(b"\0\0")], "extension-without-value": [seq(oid("1.2"))],
+            "extension-of-null": [seq(oid("1.2"), NULL)],
             "extension-behind": [seq(oid("1.2"), octet_string(b""), NULL)], "extension-no-sequence": [NULL]}.items():
         yield from malformed(label, extensions=last(*new))
     yield from malformed("without-subject", extensions=lambda xs: [])
@@ -264,9 +283,11 @@ def size_cases():
         yield from read(f"extension-of-{n}", extensions=lambda xs: [*xs, extension(oid("1.2"), part)])
         yield from read(f"{n}-extensions", extensions=lambda xs: [*xs, *[extension(oid("1.2"), b"")] * n])
         yield from read(f"{n}-authorities", authority=OTHER, extensions=lambda xs: [xs[0], *[authority_key()] * (n - 1), xs[1]])
-        yield from read(f"authority-and-{n}", authority=OTHER, extensions=lambda xs: [xs[0], authority_key(value(0x80, OTHER), NULL * n)])
+        yield from read(f"authority-and-{n}", authority=OTHER,
+            extensions=lambda xs: [xs[0], authority_key(value(0x80, OTHER), NULL * n)])
         own = octet_string(octet_string(key_identifier(1, 1)))
-        yield from read(f"subject-in-{n}-segments", "ber", extensions=lambda xs: [seq(SUBJECT_KEY, indefinite(0x24, octet_string(b"") * n + own))])
+        yield from read(f"subject-in-{n}-segments", "ber",
+            extensions=lambda xs: [seq(SUBJECT_KEY, indefinite(0x24, octet_string(b"") * n + own))])
 
 
 # ---- checks
@@ -289,10 +310,12 @@ def checked(label, call, answer, moment=NOW, number=0, **options):
 
 # What breaks each check of an end entity alone, and of a trust anchor.
 END_ENTITY = {
-    1: dict(subject_key=OTHER), 2: dict(validity=(FIRST, NOW - 1)), 3: dict(authority=OTHER), 4: dict(constraints=True), 5: dict(spoilt=True)}
+    1: dict(subject_key=OTHER), 2: dict(validity=(FIRST, NOW - 1)), 3: dict(authority=OTHER), 4: dict(constraints=True),
+    5: dict(spoilt=True)}
 ANCHOR = dict(constraints=True, authority=key_identifier(1, 1), issuer=name(1, 1), signer=1)
 BELOW = {
-    1: dict(subject_key=OTHER, authority=OTHER), 2: dict(constraints=None), 3: dict(constraints=False), 4: dict(validity=(NOW + 1, LAST)),
+    1: dict(subject_key=OTHER, authority=OTHER), 2: dict(constraints=None), 3: dict(constraints=False),
+    4: dict(validity=(NOW + 1, LAST)),
     5: dict(spoilt=True)}
 
 
@@ -325,9 +348,11 @@ def check_cases():
     yield checked("below-another", "anchor", [DONE], constraints=True, authority=key_identifier(1, 9), signer=9)
     yield checked("on-a-curve", "anchor", failing("verification", 5), **{**ANCHOR, "key": ("ec", key_bits(1, 1))})
     for label, authority, named in (("absent", None, True), ("issuer", key_identifier(1, 0), True), ("another", OTHER, False)):
-        yield line(f"named-{label}", "both", certificate(options_of(authority=authority)), step("named", *([DONE] if named else [7]), argument=asked()))
+        yield line(f"named-{label}", "both", certificate(options_of(authority=authority)),
+            step("named", *([DONE] if named else [7]), argument=asked()))
     cut = certificate(options_of())[:-1]
-    yield line("check-of-none", "both", cut, *[step(call, MALFORMED, argument=asked()) for call in ("end_entity", "anchor", "validity", "within", "named")])
+    yield line("check-of-none", "both", cut, *[step(call, MALFORMED, argument=asked()) for call in ("end_entity", "anchor",
+        "validity", "within", "named")])
     loose = certificate(options_of(tbs=lambda *parts: indefinite(0x30, b"".join(parts))))
     yield line("end_entity-of-an-indefinite-value", "ber", loose, step("end_entity", DONE, argument=asked()))
 
@@ -379,7 +404,8 @@ def stored(label, octets, signed, signature, **options):
     """A certificate whose fields are stated: the places of its signed octets, and how many octets its signature has."""
     shown = *tbs_fields(options_of(**options)), octets[slice(*signed)], octets[-signature:], octets
     return line(
-        label, "both", octets, step("whole", *shown), step("decoded", *shown), step("certificate", *shown), step("capture", MALFORMED))
+        label, "both", octets, step("whole", *shown), step("decoded", *shown), step("certificate", *shown),
+        step("capture", MALFORMED))
 
 
 def elsewhere_cases():
@@ -390,7 +416,8 @@ def elsewhere_cases():
     key_at = OPENSSL.index(seq(RSA, NULL)) + len(seq(RSA, NULL)) + 4
     yield stored(
         "of-openssl", OPENSSL, (4, 8 + 0x151), 128, serial=0x0123456789ABCDEF, issuer=plain, validity=(1795766756, 2111126756),
-        subject=plain, key=("rsa", OPENSSL[key_at:key_at + 140]), subject_key=OPENSSL_KEY, constraints=True, authority=OPENSSL_KEY)
+        subject=plain, key=("rsa", OPENSSL[key_at:key_at + 140]), subject_key=OPENSSL_KEY, constraints=True,
+        authority=OPENSSL_KEY)
     yield from of_cryptography()
 
 
@@ -410,7 +437,8 @@ def of_cryptography():
             subject=cert.subject.public_bytes(), key=("rsa" if is_rsa else "ec", key), subject_key=held["2.5.29.14"].digest,
             constraints=held["2.5.29.19"].ca, authority=held["2.5.29.35"].key_identifier)
         shown = (*tbs_fields(o), cert.tbs_certificate_bytes, cert.signature, octets)
-        yield line(label, "both", octets, step("whole", *shown), step("decoded", *shown), step("certificate", *shown), step("capture", MALFORMED))
+        yield line(label, "both", octets, step("whole", *shown), step("decoded", *shown), step("certificate", *shown),
+            step("capture", MALFORMED))
 
 
 def lines():

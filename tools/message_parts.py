@@ -16,8 +16,10 @@ tools/messages.py writes them behind its own. What the calls answer:
 import hashlib
 
 from messages import (
-    ALGORITHM, AUTHORITY_KEY, CRL_NUMBER, FIRST, GOOD, LAST, NOW, NULL, OTHER, QUERY, RSA, RSA_SHA256, SIGNING_TIME, SimpleNamespace, XML,
-    attribute, bits, certificate, crl, indefinite, integer, key_identifier, message, name, octet_string, oid, overlong, segmented, seq,
+    ALGORITHM, AUTHORITY_KEY, CRL_NUMBER, FIRST, GOOD, LAST, NOW, NULL, OTHER, QUERY, RSA, RSA_SHA256, SIGNING_TIME,
+    SimpleNamespace, XML,
+    attribute, bits, certificate, crl, indefinite, integer, key_identifier, message, name, octet_string, oid, overlong,
+    segmented, seq,
     signer, time, value, without)
 from stored import MALFORMED, SIZES, step, terms
 
@@ -47,16 +49,19 @@ REASON = seq(seq(oid("2.5.29.21"), octet_string(b"\x0a\1\1")))
 
 def entry_cases():
     for label, octets, fields in (
-            ("plain", entry(1, NOW), (1, NOW)), ("with-a-reason", entry(258, NOW, REASON), (258, NOW)), ("of-1949", entry(0, -631152001), (0, -631152001)),
+            ("plain", entry(1, NOW), (1, NOW)), ("with-a-reason", entry(258, NOW, REASON), (258, NOW)),
+            ("of-1949", entry(0, -631152001), (0, -631152001)),
             ("long", entry((1 << 160) - 1, NOW, seq()), ((1 << 160) - 1, NOW))):
         shown = entry_fields(*fields)
-        yield line(f"entry-{label}", "both", octets + NULL, step("whole_entry", MALFORMED), step("entry", *shown), step("capture", NULL))
+        yield line(f"entry-{label}", "both", octets + NULL, step("whole_entry", MALFORMED), step("entry", *shown),
+            step("capture", NULL))
         yield line(f"whole-entry-{label}", "both", octets, step("whole_entry", *shown))
     loose = indefinite(0x30, integer(1) + time(NOW) + indefinite(0x30, NULL))
     yield line("entry-indefinite", "ber", loose, step("whole_entry", *entry_fields(1, NOW)), step("entry", *entry_fields(1, NOW)))
     yield from refused("entry-indefinite-in-der", "der", loose, "entry", "whole_entry")
     for label, octets in {
-            "negative": seq(value(2, b"\xff"), time(NOW)), "without-time": seq(integer(1)), "turned": seq(time(NOW), integer(1)), "empty": seq(),
+            "negative": seq(value(2, b"\xff"), time(NOW)), "without-time": seq(integer(1)),
+            "turned": seq(time(NOW), integer(1)), "empty": seq(),
             "behind": entry(1, NOW, REASON, NULL), "of-null": entry(1, NOW, NULL)}.items():
         yield from refused(f"no-entry-{label}", "both", octets, "entry", "whole_entry")
 
@@ -72,11 +77,13 @@ def list_fields(*pairs):
 def entries_cases():
     for label, pairs in (("none", ()), ("one", ((5, NOW),)), ("three", ((1, NOW), ((1 << 160) - 1, LAST), (1, FIRST)))):
         octets, shown = list_of(*pairs), list_fields(*pairs)
-        yield line(f"entries-{label}", "both", octets + NULL, step("whole_entries", MALFORMED), step("entries", *shown), step("capture", NULL))
+        yield line(f"entries-{label}", "both", octets + NULL, step("whole_entries", MALFORMED), step("entries", *shown),
+            step("capture", NULL))
         listed = [step("lists", number in dict(pairs), argument=integer(number)) for number in (0, 1, 5, 256, (1 << 160) - 1)]
         yield line(f"whole-entries-{label}", "both", octets, step("whole_entries", *shown), *listed)
     loose = list_of((5, NOW), spell=lambda octets: indefinite(0x30, octets))
-    yield line("entries-indefinite", "ber", loose, step("whole_entries", *list_fields((5, NOW))), step("entries", *list_fields((5, NOW))))
+    yield line("entries-indefinite", "ber", loose, step("whole_entries", *list_fields((5, NOW))),
+        step("entries", *list_fields((5, NOW))))
     for label, octets in {"set": value(0x31, b""), "of-null": seq(NULL), "cut": seq(entry(1, NOW)[:-1])}.items():
         yield from refused(f"no-entries-{label}", "both", octets, "entries", "whole_entries")
 
@@ -121,30 +128,42 @@ UNKNOWN = seq(oid("2.5.29.28"), b"\1\1\xff", octet_string(NULL))
 def crl_cases():
     yield from crl_lines("plain", tbs_of(), tbs_fields())
     yield from crl_lines("of-a-name", tbs_of(issuer=name(1, 0)), tbs_fields(issuer=name(1, 0)))
-    yield from crl_lines("with-both-extensions", tbs_of(authority(value(0x80, OTHER)), numbered(7)), tbs_fields(authority_key=OTHER, number=7))
-    yield from crl_lines("with-extensions-turned", tbs_of(numbered(0), authority(value(0x80, OTHER))), tbs_fields(authority_key=OTHER, number=0))
+    yield from crl_lines("with-both-extensions", tbs_of(authority(value(0x80, OTHER)), numbered(7)),
+        tbs_fields(authority_key=OTHER, number=7))
+    yield from crl_lines("with-extensions-turned", tbs_of(numbered(0), authority(value(0x80, OTHER))),
+        tbs_fields(authority_key=OTHER, number=0))
     yield from crl_lines("with-a-long-number", tbs_of(numbered((1 << 160) - 1)), tbs_fields(number=(1 << 160) - 1))
-    yield from crl_lines("with-unknown-extensions", tbs_of(UNKNOWN, authority(value(0x80, OTHER)), UNKNOWN), tbs_fields(authority_key=OTHER))
+    yield from crl_lines("with-unknown-extensions", tbs_of(UNKNOWN, authority(value(0x80, OTHER)), UNKNOWN),
+        tbs_fields(authority_key=OTHER))
     yield from crl_lines("of-no-entries", tbs_of(entries=seq()), tbs_fields())
     pairs = (2, FIRST), (3, LAST)
     yield from crl_lines("of-two-entries", tbs_of(entries=list_of(*pairs)), tbs_fields(entries=list_fields(*pairs)[0], count=2))
-    yield from crl_lines("with-reasons", tbs_of(entries=seq(entry(1, NOW, REASON))), tbs_fields(entries=entry(1, NOW, REASON), count=1))
+    yield from crl_lines("with-reasons", tbs_of(entries=seq(entry(1, NOW, REASON))),
+        tbs_fields(entries=entry(1, NOW, REASON), count=1))
     yield from crl_lines("inner-without-null", tbs_of(inner=seq(RSA_SHA256)), tbs_fields())
     yield from crl_lines("outer-without-null", tbs_of(), tbs_fields(), outer=seq(RSA_SHA256))
     yield from crl_lines("of-an-empty-signature", tbs_of(), tbs_fields(), signature=b"")
-    yield from crl_lines("of-far-times", tbs_of(updates=(-62167219200, 253402300799)), tbs_fields(updates=(-62167219200, 253402300799)))
+    yield from crl_lines("of-far-times", tbs_of(updates=(-62167219200, 253402300799)),
+        tbs_fields(updates=(-62167219200, 253402300799)))
     key = authority(value(0x80, OTHER))
     for label, tbs in {
-            "two-authorities": tbs_of(key, key), "two-numbers": tbs_of(numbered(7), numbered(7)), "authority-of-19": tbs_of(authority(value(0x80, OTHER[1:]))),
-            "empty-authority": tbs_of(authority()), "authority-and-more": tbs_of(authority(value(0x80, OTHER), NULL)), "negative-number":
-            tbs_of(seq(CRL_NUMBER, octet_string(b"\2\1\xff"))), "number-of-null": tbs_of(seq(CRL_NUMBER, octet_string(NULL))), "version-0": tbs_of(version=integer(0)),
-            "without-version": tbs_of(version=b""), "without-extensions": tbs_of(tagged=b""), "extensions-twice": tbs_of(tagged=value(0xA0, seq() + seq())),
-            "extensions-under-another-tag": tbs_of(tagged=value(0xA1, seq())), "of-three-times": tbs_of(updates=(FIRST, LAST, LAST)), "of-one-time": tbs_of(updates=(FIRST,)),
-            "entry-of-null": tbs_of(entries=seq(NULL)), "inner-of-signers": tbs_of(inner=seq(RSA, NULL)), "extension-of-null": tbs_of(NULL)}.items():
+            "two-authorities": tbs_of(key, key), "two-numbers": tbs_of(numbered(7), numbered(7)),
+            "authority-of-19": tbs_of(authority(value(0x80, OTHER[1:]))),
+            "empty-authority": tbs_of(authority()), "authority-and-more": tbs_of(authority(value(0x80, OTHER), NULL)),
+            "negative-number":
+            tbs_of(seq(CRL_NUMBER, octet_string(b"\2\1\xff"))), "number-of-null": tbs_of(seq(CRL_NUMBER, octet_string(NULL))),
+                "version-0": tbs_of(version=integer(0)),
+            "without-version": tbs_of(version=b""), "without-extensions": tbs_of(tagged=b""),
+            "extensions-twice": tbs_of(tagged=value(0xA0, seq() + seq())),
+            "extensions-under-another-tag": tbs_of(tagged=value(0xA1, seq())),
+            "of-three-times": tbs_of(updates=(FIRST, LAST, LAST)), "of-one-time": tbs_of(updates=(FIRST,)),
+            "entry-of-null": tbs_of(entries=seq(NULL)), "inner-of-signers": tbs_of(inner=seq(RSA, NULL)),
+            "extension-of-null": tbs_of(NULL)}.items():
         yield from refused(f"no-tbs-crl-{label}", "both", tbs, "tbs_crl", "whole_tbs_crl")
         yield from refused(f"no-crl-{label}", "both", crl_of(tbs), "crl", "whole_crl")
     for label, octets in {
-            "of-signers": crl_of(tbs_of(), seq(RSA, NULL)), "behind": crl_of(tbs_of(), ALGORITHM, b"x", NULL), "cut": crl_of(tbs_of())[:-1], "set":
+            "of-signers": crl_of(tbs_of(), seq(RSA, NULL)), "behind": crl_of(tbs_of(), ALGORITHM, b"x", NULL),
+            "cut": crl_of(tbs_of())[:-1], "set":
             value(0x31, crl_of(tbs_of())[2:]), "without-signature": seq(tbs_of(), ALGORITHM)}.items():
         yield from refused(f"no-crl-{label}", "both", octets, "crl", "whole_crl")
     loose = tbs_of(issuer=value(0x30, b"", overlong))
@@ -173,7 +192,8 @@ def openssl_cases():
 
 # What breaks each check of a CRL alone; an issuer's key on a curve breaks the tenth.
 BREAKS = {
-    9: dict(crl_outer=seq(RSA_SHA256)), 10: dict(spoilt_crl=True), 11: dict(updates=(NOW + 1, LAST)), 12: dict(updates=(FIRST, NOW - 1)),
+    9: dict(crl_outer=seq(RSA_SHA256)), 10: dict(spoilt_crl=True), 11: dict(updates=(NOW + 1, LAST)),
+    12: dict(updates=(FIRST, NOW - 1)),
     13: dict(crl_authority=OTHER)}
 
 
@@ -186,13 +206,15 @@ def check_cases():
         yield line(f"crl-check-{first}", "both", made(**options), step("checked", first, argument=asked()))
         for second, more in BREAKS.items():
             if first < second and (first, second) != (11, 12):
-                yield line(f"crl-checks-{first}-{second}", "both", made(**{**options, **more}), step("checked", first, argument=asked()))
+                yield line(f"crl-checks-{first}-{second}", "both", made(**{**options, **more}),
+                    step("checked", first, argument=asked()))
     yield line("crl-checks-11-12", "both", made(updates=(NOW + 1, NOW - 1)), step("checked", 11, argument=asked()))
     yield line("crl-on-a-curve", "both", made(), step("checked", 10, argument=asked("ec")))
     yield line("crl-on-a-curve-and-9", "both", made(crl_outer=seq(RSA_SHA256)), step("checked", 9, argument=asked("ec")))
     yield line("crl-without-authority", "both", made(crl_authority=None), step("checked", "ok", argument=asked()))
     yield line("crl-of-another-seed", "both", made(crl_seed=2), step("checked", 10, argument=asked()))
-    yield line("crl-without-null-twice", "both", made(crl_inner=seq(RSA_SHA256), crl_outer=seq(RSA_SHA256)), step("checked", "ok", argument=asked()))
+    yield line("crl-without-null-twice", "both", made(crl_inner=seq(RSA_SHA256), crl_outer=seq(RSA_SHA256)),
+        step("checked", "ok", argument=asked()))
     yield line("crl-check-of-none", "both", made()[:-1], step("checked", MALFORMED, argument=asked()))
 
 
@@ -207,7 +229,8 @@ def size_cases():
         entries = entry(1, NOW) * n
         yield from crl_lines(f"{n}-entries", tbs_of(entries=value(0x30, entries)), tbs_fields(entries=entries, count=n))
         yield from message_lines(f"content-of-{n}", content=part)
-        yield from message_lines(f"content-in-{n}-segments", "ber", content=part, content_string=lambda octets: indefinite(0x24, octet_string(b"a") * len(octets)))
+        yield from message_lines(f"content-in-{n}-segments", "ber", content=part,
+            content_string=lambda octets: indefinite(0x24, octet_string(b"a") * len(octets)))
         unknown = attribute(oid("1.3.6.1.4.1.99999.1"), octet_string(part))
         yield from message_lines(f"attribute-of-{n}", attributes=lambda xs: [*xs, unknown])
         yield from message_lines(f"{n}-attributes", attributes=lambda xs: [*xs, *[attribute(oid("1.2"), NULL)] * n])
@@ -224,7 +247,8 @@ def message_fields(**options):
     tbs = crl_octets[start:crl_octets.rindex(o.crl_outer)]
     signed_at = o.signed_at if options.get("has_time", True) else b""
     return (
-        XML[2:], o.content, digest, o.digested is None, signed_at, o.signer_id or key_identifier(o.seed, o.ee), certificate(o), tbs)
+        XML[2:], o.content, digest, o.digested is None, signed_at, o.signer_id or key_identifier(o.seed, o.ee), certificate(o),
+        tbs)
 
 
 def view_fields(**options):
@@ -243,7 +267,8 @@ def message_lines(label, mode="both", has_time=True, **options):
     fields = message_fields(has_time=has_time, **options)
     decoded = step("decoded", *fields)
     yield line(f"fields-{label}", mode, octets, step("whole_message", *fields))
-    yield line(f"fields-{label}-behind", mode, octets + NULL, step("whole_message", MALFORMED), decoded, step("message", *fields), step("capture", NULL))
+    yield line(f"fields-{label}-behind", mode, octets + NULL, step("whole_message", MALFORMED), decoded,
+        step("message", *fields), step("capture", NULL))
     yield line(f"view-{label}", mode, octets + NULL, step("view", *view_fields(**options)), step("capture", NULL))
 
 
@@ -258,7 +283,8 @@ def message_cases():
     yield from message_lines("revoked", entries=(1, 2, 3))
     yield from message_lines("in-segments", "ber", content_string=segmented)
     yield from message_lines("indefinite", "ber", outer=indefinite)
-    for label, options in (("two-signers", dict(signers=lambda x: x + x)), ("no-crl", dict(crls=lambda x: b"")), ("data-version-1", dict(data_version=1))):
+    for label, options in (("two-signers", dict(signers=lambda x: x + x)), ("no-crl", dict(crls=lambda x: b"")),
+            ("data-version-1", dict(data_version=1))):
         octets = message(**options)
         yield from refused(label, "both", octets, "whole_message", "decoded", "message", "view")
     yield from refused("cut-message", "both", message()[:-1], "whole_message", "decoded", "message", "view")

@@ -28,7 +28,8 @@ SPELLED = {
         b"<p:msg xmlns:p='urn:p' version='4' type='query'><p:list/></p:msg>"],
     REPLY: [b"<msg type='reply' version='4'>\n  <success />\n</msg>"],
 }
-NO_MESSAGES = [b"", b"a", b"<msg version='4' type='query'><success/></msg>", b"<msg version='5' type='query'><list/></msg>", QUERY + b"."]
+NO_MESSAGES = [b"", b"a", b"<msg version='4' type='query'><success/></msg>", b"<msg version='5' type='query'><list/></msg>",
+    QUERY + b"."]
 NO_XML, NO_CMS = ("refused", "malformed XML"), ("refused", "Could not decode CMS")
 
 
@@ -52,10 +53,13 @@ def lines():
     yield read("made-elsewhere", bytes.fromhex(QUERY_MESSAGE), QUERY, QUERY)
     yield read("behind", message() + b"\0\xff", QUERY, QUERY)
     for number, content in enumerate(NO_MESSAGES):
-        yield line(f"no-message-{number}", message(content=content), *[step(call, *NO_XML) for call in ("decoded", "signed", "message")])
+        yield line(f"no-message-{number}", message(content=content),
+            *[step(call, *NO_XML) for call in ("decoded", "signed", "message")])
     yield line("content-a", bytes.fromhex(CONTENT_A), step("decoded", *NO_XML), step("checked", *NO_XML, argument=NOW))
-    for label, octets in (("text", QUERY), ("empty", b""), ("cut", message()[:-1]), ("two-signers", message(signers=lambda x: x + x))):
-        yield line(f"no-envelope-{label}", octets, *[step(call, *NO_CMS) for call in ("decoded", "signed", "message")], step("checked", *NO_CMS, argument=NOW))
+    for label, octets in (("text", QUERY), ("empty", b""), ("cut", message()[:-1]),
+            ("two-signers", message(signers=lambda x: x + x))):
+        yield line(f"no-envelope-{label}", octets, *[step(call, *NO_CMS) for call in ("decoded", "signed", "message")],
+            step("checked", *NO_CMS, argument=NOW))
     failing = lambda check: ("refused", f"CMS is not valid: check {check} failed")
     for moment, *answer in ((FIRST - 1, *failing(5)), (FIRST, DONE), (LAST, DONE), (LAST + 1, *failing(5))):
         yield line(f"at-{moment}", message(), step("checked", *answer, argument=moment))

@@ -22,7 +22,8 @@ def terms(octets):
 def text(characters):
     """A text, legible where it can be."""
     octets = characters.encode()
-    return "'" + characters if re.fullmatch(r"[!-&(-{}~]{1,200}", characters) and not re.search("[;|=]", characters) else terms(octets)
+    return "'" + characters if re.fullmatch(r"[!-&(-{}~]{1,200}", characters) and not re.search("[;|=]",
+        characters) else terms(octets)
 
 
 def spelled(field):

@@ -29,7 +29,8 @@ import datetime
 import hashlib
 
 from messages import (
-    ALGORITHM, COMMON_NAME, NULL, RSA, RSA_SHA256, SUBJECT_KEY, bits, indefinite, integer, length, octet_string, oid, overlong, seq,
+    ALGORITHM, COMMON_NAME, NULL, RSA, RSA_SHA256, SUBJECT_KEY, bits, indefinite, integer, length, octet_string, oid, overlong,
+    seq,
     time, value)
 from stored import DONE, MALFORMED, NOTHING, SIZES, step, terms, write
 
@@ -111,7 +112,8 @@ def shape_cases():
         behind = b"\5\0"
         octets = root.octets + behind
         preorder = [field for item in root.preorder() for field in item]
-        yield case(f"tree-{name}", mode, octets, step("tree", len(root.octets), *preorder), step("next", *root.item()), end(behind))
+        yield case(f"tree-{name}", mode, octets, step("tree", len(root.octets), *preorder), step("next", *root.item()),
+            end(behind))
         yield case(f"walk-{name}", mode, octets, *root.walk(), step("null", True), step("end", True), step("next", NOTHING))
         yield case(f"item-{name}", mode, octets, step("item", *root.item(), argument=root.tag), end(behind))
         yield case(f"optional-{name}", mode, octets, step("optional", *root.item(), argument=root.tag), end(behind))
@@ -138,7 +140,8 @@ def refused(name, mode, octets, *calls):
 
 NO_VALUES = {
     "end-mark": "0000", "identifier-00": "0001ff", "identifier-20": "2000", "no-length": "04", "no-contents": "0401",
-    "short": "300400", "unended": "3080020100", "half-an-end-mark": "308000", "length-85": "3085000000000000", "length-ff": "04ff",
+    "short": "300400", "unended": "3080020100", "half-an-end-mark": "308000", "length-85": "3085000000000000",
+    "length-ff": "04ff",
     "primitive-indefinite": "04800000", "identifier-of-five": "1f8181810100", "unended-identifier": "1f81",
     "child-past-the-end": "3003040261", "child-without-length": "300104", "end-mark-in-definite": "30020000",
     "end-mark-with-contents": "308000010000",
@@ -148,7 +151,8 @@ NO_VALUES = {
 def no_value_cases():
     for name, octets in NO_VALUES.items():
         yield from refused(f"no-value-{name}", "both", bytes.fromhex(octets), "next", "capture", "tree", "tree_size")
-    for name, octets in {"indefinite": "30800000", "indefinite-string": "24800000", "overlong": "0482000161", "81": "04810161"}.items():
+    for name, octets in {"indefinite": "30800000", "indefinite-string": "24800000", "overlong": "0482000161",
+            "81": "04810161"}.items():
         yield from refused(f"no-value-in-der-{name}", "der", bytes.fromhex(octets), "next", "capture", "tree")
     yield from refused("no-octets", "both", b"", "capture", "tree", "enter,10", "item,05", "primitive,05")
     yield case("nothing-left", "both", b"", step("next", NOTHING), step("optional", NOTHING, argument=b"\5"), step("end", True))
@@ -206,18 +210,24 @@ def string_cases():
     }
     for name, root in loose.items():
         octets = root.octets
-        yield case(f"string-{name}", "ber", octets, step("octet_string", b"ab", 2, b"ab"), step("octets", b"ab", argument=b"\4"), end())
+        yield case(f"string-{name}", "ber", octets, step("octet_string", b"ab", 2, b"ab"),
+            step("octets", b"ab", argument=b"\4"), end())
         yield from refused(f"strict-string-{name}", "der", octets, "octet_string", "octets,04")
         yield case(
-            f"string-{name}-behind", "ber", octets + b"\4", step("octet_string", MALFORMED), step("octets", b"ab", argument=b"\4"),
+            f"string-{name}-behind", "ber", octets + b"\4", step("octet_string", MALFORMED),
+            step("octets", b"ab", argument=b"\4"),
             end(b"\4"))
-    yield case("string", "both", octet_string(b"ab"), step("octet_string", b"ab", 2, b"ab"), step("octets", b"ab", argument=b"\4"), end())
-    yield case("no-string-length", "both", octet_string(b""), step("octet_string", b"", 0, b""), step("octets", b"", argument=b"\4"))
+    yield case("string", "both", octet_string(b"ab"), step("octet_string", b"ab", 2, b"ab"),
+        step("octets", b"ab", argument=b"\4"), end())
+    yield case("no-string-length", "both", octet_string(b""), step("octet_string", b"", 0, b""),
+        step("octets", b"", argument=b"\4"))
     tagged = indefinite(0xA0, A.octets + B.octets)
-    yield case("string-under-a-tag", "ber", tagged, step("octet_string", MALFORMED), step("octets", b"ab", argument=b"\x80"), end())
+    yield case("string-under-a-tag", "ber", tagged, step("octet_string", MALFORMED), step("octets", b"ab", argument=b"\x80"),
+        end())
     yield case("string-under-a-tag-whole", "both", value(0x80, b"ab"), step("octets", b"ab", argument=b"\x80"), end())
     for name, octets in {
-            "another-segment": "2403800161", "a-sequence-inside": "24023000", "tagged-segments": "a003800161", "unended": "2480040161",
+            "another-segment": "2403800161", "a-sequence-inside": "24023000", "tagged-segments": "a003800161",
+            "unended": "2480040161",
             "nested-indefinite": "248024800401610000", "a-null-inside": "24800500" + "0000"}.items():
         calls = ("octets,80",) if octets[0] == "a" else ("octet_string", "octets,04")
         yield from refused(f"no-string-{name}", "both", bytes.fromhex(octets), *calls)
@@ -238,8 +248,10 @@ def arc_text(contents):
 
 
 PRINTED = {
-    "2a864886f70d": "1.2.840.113549", "2700": "0.39.0", "28": "1.0", "4f": "1.39", "50": "2.0", "8837": "2.999", "2b0e03021a": "1.3.14.3.2.26",
-    "00": "0.0", "508181818181818181810102": None, "81818181818181818101": None, "ffffffffffffffff7f": None, "55ffffffffffffffff7f": None,
+    "2a864886f70d": "1.2.840.113549", "2700": "0.39.0", "28": "1.0", "4f": "1.39", "50": "2.0", "8837": "2.999",
+    "2b0e03021a": "1.3.14.3.2.26",
+    "00": "0.0", "508181818181818181810102": None, "81818181818181818101": None, "ffffffffffffffff7f": None,
+    "55ffffffffffffffff7f": None,
     "8001": None,
 }
 
@@ -276,7 +288,8 @@ def leaf_cases():
         yield from refused(f"no-boolean-{octets}", "both", bytes.fromhex(octets), "boolean")
         yield case(f"no-optional-boolean-{octets}", "both", bytes.fromhex(octets), step("optional_boolean", MALFORMED))
     yield case("another-than-boolean", "both", NULL, step("optional_boolean", NOTHING), end(NULL))
-    yield case("null", "both", NULL + integer(0), step("null", True), step("null", False), step("integer", b"\0"), step("null", False))
+    yield case("null", "both", NULL + integer(0), step("null", True), step("null", False), step("integer", b"\0"),
+        step("null", False))
     yield from refused("null-constructed", "both", b"\x25\0", "null")
     yield from refused("null-with-contents", "both", b"\5\1\0", "null")
     yield case("null-overlong", "ber", b"\5\x81\0", step("null", True), end())
@@ -305,11 +318,13 @@ def whole_cases():
     yield case("pair-overlong", "ber", value(0x30, value(0x80, b"x", overlong), overlong), step("whole_pair", b"\x80", b"x"))
     for name, octets in {
             "of-none": seq(), "of-three": seq(NULL, NULL, NULL), "behind": seq(NULL) + NULL, "set": value(0x31, NULL),
-            "constructed-inside": seq(seq()), "constructed-second": seq(NULL, seq()), "no-value": seq(b"\5"), "empty": b""}.items():
+            "constructed-inside": seq(seq()), "constructed-second": seq(NULL, seq()), "no-value": seq(b"\5"),
+            "empty": b""}.items():
         yield case(f"no-pair-{name}", "both", octets, step("whole_pair", MALFORMED))
     yield case("no-pair-indefinite-in-der", "der", indefinite(0x30, integer(5)), step("whole_pair", MALFORMED))
     for name, octets, mode, *answer in (
-            ("alone", b"\4\1a", "both", b"a"), ("behind", b"\4\1a\5\0", "both", MALFORMED), ("overlong", b"\4\x81\1a", "ber", b"a"),
+            ("alone", b"\4\1a", "both", b"a"), ("behind", b"\4\1a\5\0", "both", MALFORMED),
+            ("overlong", b"\4\x81\1a", "ber", b"a"),
             ("overlong-in-der", b"\4\x81\1a", "der", MALFORMED), ("constructed", b"\x24\0", "both", MALFORMED),
             ("another", NULL, "both", MALFORMED)):
         yield case(f"whole-primitive-{name}", mode, octets, step("whole_primitive", *answer, argument=b"\4"))
@@ -351,41 +366,51 @@ def time_cases():
         yield case(f"general-{printed}", "both", general, step("whole_time", *fields), step("time", *fields), end())
     for seconds in (-62167219201, 253402300800, (1 << 63) - 1, -(1 << 63)):
         yield case(f"no-moment-{seconds}", "der", str(seconds).encode(), step("moment", MALFORMED))
-    yield case("time-overlong", "ber", value(0x17, b"491231235959Z", overlong), step("whole_time", 2524607999, time(2524607999), "2049-12-31T23:59:59Z"))
+    yield case("time-overlong", "ber", value(0x17, b"491231235959Z", overlong),
+        step("whole_time", 2524607999, time(2524607999), "2049-12-31T23:59:59Z"))
 
 
 NO_TIMES = (
-    (0x18, "19000229000000Z"), (0x18, "20230229000000Z"), (0x18, "99990229000000Z"), (0x18, "20161231235960Z"), (0x17, "230229000000Z"),
+    (0x18, "19000229000000Z"), (0x18, "20230229000000Z"), (0x18, "99990229000000Z"), (0x18, "20161231235960Z"),
+    (0x17, "230229000000Z"),
     (0x17, "161231235960Z"), (0x17, "161231240000Z"), (0x17, "1612312359590"), (0x17, "1612312359Z"), (0x18, "491231235959Z"),
     (0x37, "491231235959Z"), (0x17, "20491231235959Z"), (0x17, "161301000000Z"), (0x17, "160001000000Z"), (0x17, "160100000000Z"),
-    (0x17, "160431000000Z"), (0x17, "160101006000Z"), (0x17, "16010100000 Z"), (0x17, "160101000000z"), (0x18, "20160101000000.0Z"),
+    (0x17, "160431000000Z"), (0x17, "160101006000Z"), (0x17, "16010100000 Z"), (0x17, "160101000000z"),
+    (0x18, "20160101000000.0Z"),
     (0x17, "160101000000+0000"), (0x17, ""), (0x19, "160101000000Z"))
 
 
 def no_time_cases():
     for tag, contents in NO_TIMES:
-        yield from refused(f"no-time-{tag:x}-{contents.replace(' ', '_')}", "both", value(tag, contents.encode()), "time", "whole_time")
-    yield case("time-behind", "both", time(0) + b"\0", step("whole_time", MALFORMED), step("time", 0, time(0), "1970-01-01T00:00:00Z"), end(b"\0"))
+        yield from refused(f"no-time-{tag:x}-{contents.replace(' ', '_')}", "both", value(tag, contents.encode()), "time",
+            "whole_time")
+    yield case("time-behind", "both", time(0) + b"\0", step("whole_time", MALFORMED),
+        step("time", 0, time(0), "1970-01-01T00:00:00Z"), end(b"\0"))
 
 
 # Texts in and near the form of RFC 3339, and what they are.
 TEXTS = {
-    "2023-11-14T23:13:20.9+01:00": 1700000000, "2023-11-14T21:43:20.000123-00:30": 1700000000, "2023-11-15T22:12:20+23:59": 1700000000,
+    "2023-11-14T23:13:20.9+01:00": 1700000000, "2023-11-14T21:43:20.000123-00:30": 1700000000,
+    "2023-11-15T22:12:20+23:59": 1700000000,
     "2000-02-29T00:00:00Z": 951782400, "2023-11-14T22:13:20-00:00": 1700000000, "2023-11-14T22:13:20+00:00": 1700000000,
     "0000-01-01T00:01:00+00:01": -62167219200, "9999-12-31T23:58:59-00:01": 253402300799,
     **dict.fromkeys((
         "1900-02-29T00:00:00Z", "2023-02-29T00:00:00Z", "9999-02-29T00:00:00Z", "2016-12-31T23:59:60Z", "2023-11-14T24:00:00Z",
         "2023-13-01T00:00:00Z", "2023-00-01T00:00:00Z", "2023-04-31T00:00:00Z", "2023-11-14T22:13:20.Z", "2023-11-14t22:13:20Z",
-        "2023-11-14T22:13:20z", "2023-11-14T22:13:20", "2023-11-14T22:13:20+24:00", "2023-11-14T22:13:20+01:60", "2023-11-14T22:13:20+0100",
-        "2023-11-14T22:13:20Z ", " 2023-11-14T22:13:20Z", "0000-01-01T00:00:00+00:01", "9999-12-31T23:59:59-00:01", "", "2023-11-14",
-        "2023-11-14 22:13:20Z", "+2023-11-14T22:13:20Z", "02023-11-14T22:13:20Z", "2023-11-14T22:60:20Z", "2023-11-14T22:13:20,5Z",
+        "2023-11-14T22:13:20z", "2023-11-14T22:13:20", "2023-11-14T22:13:20+24:00", "2023-11-14T22:13:20+01:60",
+        "2023-11-14T22:13:20+0100",
+        "2023-11-14T22:13:20Z ", " 2023-11-14T22:13:20Z", "0000-01-01T00:00:00+00:01", "9999-12-31T23:59:59-00:01", "",
+        "2023-11-14",
+        "2023-11-14 22:13:20Z", "+2023-11-14T22:13:20Z", "02023-11-14T22:13:20Z", "2023-11-14T22:60:20Z",
+        "2023-11-14T22:13:20,5Z",
         "2023-1-14T22:13:20Z")),
 }
 
 
 def text_cases():
     for number, (characters, seconds) in enumerate(TEXTS.items()):
-        printed = lambda n: (datetime.datetime(1970, 1, 1) + datetime.timedelta(seconds=n)).strftime("%Y-%m-%dT%H:%M:%SZ").rjust(20, "0")
+        printed = lambda n: (datetime.datetime(1970, 1,
+            1) + datetime.timedelta(seconds=n)).strftime("%Y-%m-%dT%H:%M:%SZ").rjust(20, "0")
         if seconds is None:
             fields = [MALFORMED]
         elif seconds == -62167219200:
@@ -401,13 +426,16 @@ def validity_cases():
     holds = [step("holds_at", moment in range(first, last + 1), argument=moment) for moment in (first - 1, first, last, last + 1)]
     yield case("validity", "both", octets + NULL, step("whole_validity", MALFORMED), step("validity", first, last), end(NULL))
     yield case("whole-validity", "both", octets, step("whole_validity", first, last), *holds)
-    yield case("validity-of-one-second", "both", seq(time(first), time(first)), step("holds_at", True, argument=first), step("validity", first, first))
+    yield case("validity-of-one-second", "both", seq(time(first), time(first)), step("holds_at", True, argument=first),
+        step("validity", first, first))
     yield case("validity-backwards", "both", seq(time(last), time(first)), step("validity", last, first))
     yield case("validity-in-two-forms", "both", seq(time(first), value(0x18, b"20000102000000Z")), step("validity", first, last))
-    yield case("validity-indefinite", "ber", indefinite(0x30, time(first) + time(last)), step("whole_validity", first, last), step("validity", first, last))
+    yield case("validity-indefinite", "ber", indefinite(0x30, time(first) + time(last)), step("whole_validity", first, last),
+        step("validity", first, last))
     yield from refused("validity-indefinite-in-der", "der", indefinite(0x30, time(first) + time(last)), "whole_validity")
     for name, octets in {
-            "of-three": seq(time(first), time(last), time(last)), "of-one": seq(time(first)), "set": value(0x31, time(first) + time(last)),
+            "of-three": seq(time(first), time(last), time(last)), "of-one": seq(time(first)),
+            "set": value(0x31, time(first) + time(last)),
             "of-integers": seq(integer(1), integer(2)), "empty": seq()}.items():
         yield case(f"no-validity-{name}", "both", octets, step("whole_validity", MALFORMED), step("validity", MALFORMED))
 
@@ -419,12 +447,14 @@ def serial_cases():
     for number in (0, 1, 5, 127, 128, 255, 256, (1 << 64) - 1, 1 << 64, (1 << 159) - 1, 1 << 159, (1 << 160) - 1):
         octets = integer(number)
         fields = number.to_bytes(20, "big"), octets
-        yield case(f"serial-{number:x}", "both", octets + NULL, step("whole_serial", MALFORMED), step("serial", *fields), end(NULL))
+        yield case(f"serial-{number:x}", "both", octets + NULL, step("whole_serial", MALFORMED), step("serial", *fields),
+            end(NULL))
         yield case(f"whole-serial-{number:x}", "both", octets, step("whole_serial", *fields))
         if number < 1 << 64:
             yield case(f"serial-of-{number}", "der", str(number).encode(), step("number", *fields))
     for octets in (
-            "0200", "0201ff", "020180", "0202007f", "0214" + "80" * 20, "0215" + "01" * 21, "0216" + "0080" + "01" * 20, "2201" + "00",
+            "0200", "0201ff", "020180", "0202007f", "0214" + "80" * 20, "0215" + "01" * 21, "0216" + "0080" + "01" * 20,
+            "2201" + "00",
             "2203020100", "0500"):
         yield from refused(f"no-serial-{octets[:8]}-{len(octets)}", "both", bytes.fromhex(octets), "serial", "whole_serial")
     yield case("serial-overlong", "ber", value(2, b"\5", overlong), step("serial", (5).to_bytes(20, "big"), integer(5)))
@@ -476,21 +506,24 @@ MADE_ELSEWHERE = bytes.fromhex(
 
 
 def name_cases():
-    yield case("name-made-elsewhere", "both", MADE_ELSEWHERE, step("whole_name", MADE_ELSEWHERE), step("name", MADE_ELSEWHERE), end())
+    yield case("name-made-elsewhere", "both", MADE_ELSEWHERE, step("whole_name", MADE_ELSEWHERE), step("name", MADE_ELSEWHERE),
+        end())
     for name, octets, strict in names():
         mode = "both" if strict else "ber"
         yield case(f"name-{name}", mode, octets + NULL, step("whole_name", MALFORMED), step("name", octets), end(NULL))
         yield case(f"whole-name-{name}", mode, octets, step("whole_name", octets))
         if not strict:
             yield from refused(f"strict-name-{name}", "der", octets, "whole_name")
-    for octets in ("", "3100", "30023000", "300431023000", "3007310530030601" + "2a", "300b3109300706012a05000500", "300030", "3002" + "0500",
+    for octets in ("", "3100", "30023000", "300431023000", "3007310530030601" + "2a", "300b3109300706012a05000500", "300030",
+            "3002" + "0500",
                    "300731053003020100", "30073105300306010500"):
         yield case(f"no-name-{octets}", "both", bytes.fromhex(octets), step("whole_name", MALFORMED))
 
 
 def extension_cases():
     for name, parts, critical, strict in (
-            ("critical", b"\1\1\xff", True, True), ("plain", b"", False, True), ("false", b"\1\1\0", False, True), ("loosely-critical", b"\1\1\1", True, False)):
+            ("critical", b"\1\1\xff", True, True), ("plain", b"", False, True), ("false", b"\1\1\0", False, True),
+            ("loosely-critical", b"\1\1\1", True, False)):
         octets = seq(SUBJECT_KEY, parts, octet_string(b"ab"))
         fields = SUBJECT_KEY[2:], critical, b"ab"
         yield case(f"extension-{name}", "both" if strict else "ber", octets + NULL, step("extension", *fields), )
@@ -499,8 +532,10 @@ def extension_cases():
     segmented = seq(SUBJECT_KEY, value(0x24, octet_string(b"a") + octet_string(b"b")))
     yield case("extension-in-segments", "ber", segmented, step("extension", SUBJECT_KEY[2:], False, b"ab"))
     for name, octets in {
-            "in-segments-in-der": segmented, "without-identifier": seq(octet_string(b"")), "without-value": seq(SUBJECT_KEY, b"\1\1\xff"),
-            "behind": seq(SUBJECT_KEY, octet_string(b""), NULL), "set": value(0x31, SUBJECT_KEY + octet_string(b"")), "two-booleans":
+            "in-segments-in-der": segmented, "without-identifier": seq(octet_string(b"")),
+            "without-value": seq(SUBJECT_KEY, b"\1\1\xff"),
+            "behind": seq(SUBJECT_KEY, octet_string(b""), NULL), "set": value(0x31, SUBJECT_KEY + octet_string(b"")),
+            "two-booleans":
             seq(SUBJECT_KEY, b"\1\1\xff\1\1\xff", octet_string(b""))}.items():
         yield case(f"no-extension-{name}", "der" if name.endswith("der") else "both", octets, step("extension", MALFORMED))
 
@@ -538,7 +573,8 @@ def key_cases():
             ("empty", rsa_key(b""), "rsa", b"")):
         assert octets.endswith(key_bits)
         fields = key_fields(form, key_bits, octets)
-        yield case(f"key-{name}", "both", octets + NULL, step("whole_key", MALFORMED), step("decoded_key", *fields, made_name(key_bits)), step("key", *fields), end(NULL))
+        yield case(f"key-{name}", "both", octets + NULL, step("whole_key", MALFORMED),
+            step("decoded_key", *fields, made_name(key_bits)), step("key", *fields), end(NULL))
         yield case(f"whole-key-{name}", "both", octets, step("whole_key", *fields))
         yield case(f"written-key-{name}", "der", key_bits, step(f"write_{form}_key", octets))
     fields = key_fields("rsa", toy, rsa_key(toy))
@@ -551,17 +587,21 @@ def key_cases():
             yield from refused(f"strict-key-{name}", "der", octets, "whole_key", "decoded_key")
     for name, octets in {
             "of-a-signature": seq(seq(RSA_SHA256, NULL), bits(toy)), "of-ec-with-null": seq(seq(EC, NULL), bits(toy)),
-            "of-ec-alone": seq(seq(EC), bits(toy)), "of-another-curve": EC_KEY[:22] + b"\x08" + EC_KEY[23:], "of-rsa-with-a-curve": seq(seq(RSA, P256), bits(toy)),
-            "with-8-unused-bits": seq(seq(RSA, NULL), value(3, b"\x08" + toy)), "of-octets": seq(seq(RSA, NULL), octet_string(toy)),
+            "of-ec-alone": seq(seq(EC), bits(toy)), "of-another-curve": EC_KEY[:22] + b"\x08" + EC_KEY[23:],
+            "of-rsa-with-a-curve": seq(seq(RSA, P256), bits(toy)),
+            "with-8-unused-bits": seq(seq(RSA, NULL), value(3, b"\x08" + toy)),
+            "of-octets": seq(seq(RSA, NULL), octet_string(toy)),
             "behind": seq(seq(RSA, NULL), bits(toy), NULL), "behind-the-algorithm": seq(seq(RSA, NULL, NULL), bits(toy)),
             "without-bits": seq(seq(RSA, NULL)), "too-long": b"\x30\x23" + rsa_key(toy)[2:]}.items():
-        yield case(f"no-key-{name}", "both", octets, step("whole_key", MALFORMED), step("decoded_key", MALFORMED), step("key", MALFORMED))
+        yield case(f"no-key-{name}", "both", octets, step("whole_key", MALFORMED), step("decoded_key", MALFORMED),
+            step("key", MALFORMED))
 
 
 def algorithm_cases():
     plain, alone, cms, cms_alone = seq(RSA_SHA256, NULL), seq(RSA_SHA256), seq(RSA, NULL), seq(RSA)
     loose = {
-        "indefinite": (indefinite(0x30, RSA_SHA256 + NULL), plain, cms), "overlong": (value(0x30, RSA_SHA256, overlong), alone, cms_alone)}
+        "indefinite": (indefinite(0x30, RSA_SHA256 + NULL), plain, cms),
+        "overlong": (value(0x30, RSA_SHA256, overlong), alone, cms_alone)}
     yield case("algorithm", "both", plain, step("x509", plain, cms), step("cms", plain, plain))
     yield case("algorithm-alone", "both", alone, step("x509", alone, cms_alone), step("cms", alone, alone))
     yield case("algorithm-of-signers", "both", cms, step("x509", MALFORMED), step("cms", plain, cms), step("router", MALFORMED))
@@ -576,9 +616,11 @@ def algorithm_cases():
     yield case("router-algorithm-with-null", "both", seq(ECDSA, NULL), step("router", MALFORMED))
     yield case("router-algorithm-overlong", "ber", value(0x30, ECDSA, overlong), step("router", ROUTER))
     for name, octets in {
-            "empty": seq(), "behind": plain + NULL, "of-three": seq(RSA_SHA256, NULL, NULL), "with-an-integer": seq(RSA_SHA256, integer(0)),
+            "empty": seq(), "behind": plain + NULL, "of-three": seq(RSA_SHA256, NULL, NULL),
+            "with-an-integer": seq(RSA_SHA256, integer(0)),
             "of-a-null": seq(NULL), "no-octets": b"", "set": value(0x31, RSA_SHA256 + NULL)}.items():
-        yield case(f"no-algorithm-{name}", "both", octets, step("x509", MALFORMED), step("cms", MALFORMED), step("router", MALFORMED))
+        yield case(f"no-algorithm-{name}", "both", octets, step("x509", MALFORMED), step("cms", MALFORMED),
+            step("router", MALFORMED))
 
 
 def data_cases():
@@ -588,20 +630,26 @@ def data_cases():
     yield case("data", "both", good + NULL, step("whole_data", MALFORMED), step("data", inner, b"\7", good), end(NULL))
     yield case("whole-data", "both", good, step("whole_data", inner, b"\7", good), step("router_data", MALFORMED))
     alone = data(integer(5), seq(RSA_SHA256), bits(b"\7"))
-    yield case("data-without-null", "both", alone, step("whole_data", integer(5), b"\7", alone), step("data", integer(5), b"\7", alone))
+    yield case("data-without-null", "both", alone, step("whole_data", integer(5), b"\7", alone),
+        step("data", integer(5), b"\7", alone))
     loose = data(loose_inner, ALGORITHM, bits(b"\7"))
     yield case("data-of-an-indefinite-value", "ber", loose, step("whole_data", loose_inner, b"\7", loose))
     yield from refused("strict-data-of-an-indefinite-value", "der", loose, "whole_data")
     outer = indefinite(0x30, loose_inner + value(0x30, RSA_SHA256, overlong) + value(3, b"\0\7", overlong))
-    yield case("data-indefinite", "ber", outer, step("whole_data", loose_inner, b"\7", data(loose_inner, seq(RSA_SHA256), bits(b"\7"))))
+    yield case("data-indefinite", "ber", outer,
+        step("whole_data", loose_inner, b"\7", data(loose_inner, seq(RSA_SHA256), bits(b"\7"))))
     unused = data(inner, ALGORITHM, value(3, b"\3\x08"))
     yield case("data-with-unused-bits", "both", unused, step("whole_data", inner, b"\x08", data(inner, ALGORITHM, bits(b"\x08"))))
     router = data(inner, ROUTER, bits(b"\7"))
-    yield case("data-of-routers", "both", router, step("router_data", inner, b"\7", router), step("whole_data", MALFORMED), step("data", MALFORMED))
-    yield case("written-data", "der", inner, step("write_rsa_data", good, argument=b"\7"), step("write_ec_data", router, argument=b"\7"))
+    yield case("data-of-routers", "both", router, step("router_data", inner, b"\7", router), step("whole_data", MALFORMED),
+        step("data", MALFORMED))
+    yield case("written-data", "der", inner, step("write_rsa_data", good, argument=b"\7"),
+        step("write_ec_data", router, argument=b"\7"))
     for name, octets in {
-            "of-signers": data(inner, seq(RSA, NULL), bits(b"")), "without-signature": data(inner, ALGORITHM), "behind": data(inner, ALGORITHM, bits(b""), NULL),
-            "of-octets": data(inner, ALGORITHM, octet_string(b"")), "without-value": data(ALGORITHM, bits(b"")), "of-no-value": data(b"\0\0", ALGORITHM, bits(b"")),
+            "of-signers": data(inner, seq(RSA, NULL), bits(b"")), "without-signature": data(inner, ALGORITHM),
+            "behind": data(inner, ALGORITHM, bits(b""), NULL),
+            "of-octets": data(inner, ALGORITHM, octet_string(b"")), "without-value": data(ALGORITHM, bits(b"")),
+            "of-no-value": data(b"\0\0", ALGORITHM, bits(b"")),
             "set": value(0x31, good[2:])}.items():
         yield case(f"no-data-{name}", "both", octets, step("whole_data", MALFORMED), step("data", MALFORMED))
 
@@ -634,13 +682,17 @@ def string_sizes(n, part):
     yield case(
         f"string-of-{n}", "both", root.octets, step("octet_string", part, n, part), step("whole_primitive", part, argument=b"\4"),
         step("tree", len(root.octets), *root.item()), step("octets", part, argument=b"\4"), end())
-    yield case(f"item-of-{n}", "both", root.octets * 2, step("next", *root.item()), step("item", *root.item(), argument=b"\4"), end())
+    yield case(f"item-of-{n}", "both", root.octets * 2, step("next", *root.item()), step("item", *root.item(), argument=b"\4"),
+        end())
     yield case(
-        f"primitive-of-{n}", "both", root.octets * 2, step("primitive", part, argument=b"\4"), step("optional", *root.item(), argument=b"\4"), end())
+        f"primitive-of-{n}", "both", root.octets * 2, step("primitive", part, argument=b"\4"),
+        step("optional", *root.item(), argument=b"\4"), end())
     segments = indefinite(0x24, octet_string(b"a") * n)
-    yield case(f"string-in-{n}-segments", "ber", segments, step("octet_string", part, n, part), step("octets", part, argument=b"\4"), end())
+    yield case(f"string-in-{n}-segments", "ber", segments, step("octet_string", part, n, part),
+        step("octets", part, argument=b"\4"), end())
     segments = value(0x24, octet_string(b"a") * n)
-    yield case(f"string-in-{n}-segments-of-known-length", "ber", segments, step("octet_string", part, n, part), step("octets", part, argument=b"\4"))
+    yield case(f"string-in-{n}-segments-of-known-length", "ber", segments, step("octet_string", part, n, part),
+        step("octets", part, argument=b"\4"))
     segments = indefinite(0x24, octet_string(b"") * n + octet_string(TWENTY))
     yield case(f"identifier-in-{n}-segments", "ber", segments, step("identifier", TWENTY, TWENTY.hex().upper()))
 
@@ -664,14 +716,16 @@ def level_sizes(n):
     yield case(f"{n}-levels-of-segments", "ber", octets + NULL, step("octets", b"", argument=b"\4"), end(NULL))
     if n < 1000 or n == 65536:
         octets = nested(n)
-        yield case(f"{n}-definite-levels", "both", octets, step("tree_size", len(octets), n), step("descend", n, argument=b"\x10"), step("ascend", n), end())
+        yield case(f"{n}-definite-levels", "both", octets, step("tree_size", len(octets), n),
+            step("descend", n, argument=b"\x10"), step("ascend", n), end())
 
 
 def leaf_sizes(n, part):
     for name, contents in (("octets", b"\x81" * (n - 1) + b"\1"), ("arcs", b"\x2a" + b"\1" * (n - 1))):
         octets = value(6, contents)
         yield case(
-            f"oid-of-{n}-{name}", "both", octets * 2, step("oid_if", DONE, argument=contents), step("whole_oid", contents, arc_text(contents)),
+            f"oid-of-{n}-{name}", "both", octets * 2, step("oid_if", DONE, argument=contents),
+            step("whole_oid", contents, arc_text(contents)),
             step("oid", contents), end())
         yield case(f"oid-of-{n}-{name}-another", "both", octets, step("oid_if", MALFORMED, argument=contents[:-1]))
     yield case(f"bits-of-{n}", "both", bits(part), step("bit_string", b"\0", part), step("bits", b"\0", part), end())
@@ -680,7 +734,8 @@ def leaf_sizes(n, part):
     octets = seq(value(0x80, part), value(0x81, part))
     yield case(f"pair-of-{n}", "both", octets, step("whole_pair", b"\x80", part, b"\x81", part))
     characters = "2023-11-14T22:13:20." + "9" * n + "Z"
-    yield case(f"fraction-of-{n}", "der", characters.encode(), step("time_text", 1700000000, time(1700000000), "2023-11-14T22:13:20Z"))
+    yield case(f"fraction-of-{n}", "der", characters.encode(),
+        step("time_text", 1700000000, time(1700000000), "2023-11-14T22:13:20Z"))
 
 
 def part_sizes(n, part):
@@ -691,40 +746,48 @@ def part_sizes(n, part):
         yield case(f"name-of-{n}-{name}", "both", octets, step("whole_name", octets), step("name", octets), end())
     octets = rsa_key(part)
     fields = key_fields("rsa", part, octets)
-    yield case(f"key-of-{n}", "both", octets, step("whole_key", *fields), step("decoded_key", *fields, made_name(part)), step("key", *fields), end())
+    yield case(f"key-of-{n}", "both", octets, step("whole_key", *fields), step("decoded_key", *fields, made_name(part)),
+        step("key", *fields), end())
     ec = seq(seq(EC, P256), bits(part))
     yield case(f"ec-key-of-{n}", "both", ec, step("key", *key_fields("ec", part, ec)), end())
     kind = value(6, b"\x81" * (n - 1) + b"\1")
     for name, octets, fields in (
-            ("octets", seq(SUBJECT_KEY, octet_string(part)), (SUBJECT_KEY[2:], False, part)), ("identifier", seq(kind, octet_string(b"")), (kind[-n:], False, b""))):
+            ("octets", seq(SUBJECT_KEY, octet_string(part)), (SUBJECT_KEY[2:], False, part)),
+            ("identifier", seq(kind, octet_string(b"")), (kind[-n:], False, b""))):
         yield case(f"extension-of-{n}-{name}", "both", octets, step("extension", *fields))
     for name, octets, fields in (
             ("octets", seq(octet_string(part), ALGORITHM, bits(b"x")), (octet_string(part), b"x")),
             ("signature", seq(NULL, ALGORITHM, bits(part)), (NULL, part))):
-        yield case(f"data-of-{n}-{name}", "both", octets, step("whole_data", *fields, octets), step("data", *fields, octets), end())
+        yield case(f"data-of-{n}-{name}", "both", octets, step("whole_data", *fields, octets), step("data", *fields, octets),
+            end())
 
 
 def written_sizes(n, part):
     yield case(
         f"written-{n}", "der", part, step("write_primitive", octet_string(part), argument=b"\4"),
         step("write_constructed", *[value(0x30, part)] * 2, argument=b"\x10"), step("write_rsa_key", rsa_key(part)),
-        step("write_ec_key", seq(seq(EC, P256), bits(part))), step("write_rsa_data", seq(part, ALGORITHM, bits(part)), argument=part),
+        step("write_ec_key", seq(seq(EC, P256), bits(part))),
+        step("write_rsa_data", seq(part, ALGORITHM, bits(part)), argument=part),
         step("write_ec_data", seq(part, ROUTER, bits(part)), argument=part))
 
 
 def written_cases():
     inner = b"\1\1\xff" + integer(128) + NULL
     yield case("written-constructed", "der", inner, step("write_constructed", *[value(0xA0, inner)] * 2, argument=b"\x80"))
-    yield case("written-under-a-long-tag", "der", b"x", step("write_primitive", b"\x9f\x81\x82\3\1x", argument=bytes.fromhex("9f818203")))
-    yield case("written-constructed-under-a-long-tag", "der", NULL, step("write_constructed", *[bytes.fromhex("bf818203020500")] * 2, argument=bytes.fromhex("9f818203")))
+    yield case("written-under-a-long-tag", "der", b"x",
+        step("write_primitive", b"\x9f\x81\x82\3\1x", argument=bytes.fromhex("9f818203")))
+    yield case("written-constructed-under-a-long-tag", "der", NULL,
+        step("write_constructed", *[bytes.fromhex("bf818203020500")] * 2, argument=bytes.fromhex("9f818203")))
     for n in (0, 1, (1 << 24) - 1, 1 << 24):
         yield case(f"written-length-{n}", "der", b"a" * n, step("write_primitive", octet_string(b"a" * n), argument=b"\4"))
 
 
 def lines():
     for cases in (
-            shape_cases, no_value_cases, level_cases, tag_cases, string_cases, oid_cases, leaf_cases, integer_cases, whole_cases, time_cases,
-            no_time_cases, text_cases, validity_cases, serial_cases, identifier_cases, name_cases, extension_cases, key_cases, algorithm_cases,
+            shape_cases, no_value_cases, level_cases, tag_cases, string_cases, oid_cases, leaf_cases, integer_cases,
+            whole_cases, time_cases,
+            no_time_cases, text_cases, validity_cases, serial_cases, identifier_cases, name_cases, extension_cases, key_cases,
+            algorithm_cases,
             data_cases, size_cases, written_cases):
         yield from cases()
 

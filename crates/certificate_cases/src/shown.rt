@@ -55,11 +55,7 @@ fn append_extensions(fields: &mut Fields, tbs: &TbsIdCert) -> Result<(), DecodeE
 }
 
 // Appends the seconds of the validity's ends.
-fn append_validity(
-    alloc: Global,
-    fields: &mut Fields,
-    tbs: &TbsIdCert,
-) -> Result<(), DecodeError> {
+fn append_validity(alloc: Global, fields: &mut Fields, tbs: &TbsIdCert) -> Result<(), DecodeError> {
     fields.print(alloc, tbs.validity().not_before().seconds())?;
     fields.print(alloc, tbs.validity().not_after().seconds())?;
     Ok(())

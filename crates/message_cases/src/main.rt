@@ -22,7 +22,7 @@ use std::io;
 use std::io::ErrorKind;
 use std::marker::Brand;
 use std::sync::ledger::{Blank, Ledger};
-use stored_cases::{Cases, is_walked, is_walked_counted, run};
+use stored_cases::{Cases, is_walked, is_walked_counted, run, text_of};
 
 #[derive(Drop)]
 struct Case<'a> {
@@ -175,18 +175,21 @@ fn holds(alloc: Global, case: &Case<'_>) -> io::Result<bool> {
 }
 
 // Whether a line's case is answered as expected by the counted calls.
-fn holds_counted<L: Ledger>(alloc: Global, line: &str, blank: Blank) -> io::Result<bool>
+fn holds_counted<L: Ledger>(alloc: Global, line: &[u8], blank: Blank) -> io::Result<bool>
     requires name { blank.name ≡ L.name }
     requires parts { blank.parts ≡ L.parts }
     requires some { 0 < blank.parts }
 {
     let mut steps = Steps::<L>::new(blank);
-    is_walked_counted(alloc, &Reading, line, &mut steps)
+    is_walked_counted(alloc, &Reading, text_of(line)?, &mut steps)
 }
 
 // Whether a line's case is answered as expected, first by the calls that aren't counted.
 fn holds_walk(alloc: Global, line: &str) -> io::Result<bool> {
-    Ok(is_walked(alloc, &Reading, line)? && holds_counted::<Brand>(alloc, line, Blank::new(1))?)
+    Ok(
+        is_walked(alloc, &Reading, line)?
+            && holds_counted::<Brand>(alloc, line.as_bytes(), Blank::new(1))?,
+    )
 }
 
 fn holds_line(alloc: Global, line: &str) -> io::Result<bool> {

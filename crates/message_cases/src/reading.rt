@@ -1,9 +1,7 @@
 //! Calls that read messages, CRLs and their parts.
 
 use crate::checking::checked;
-use crate::shown::{
-    crl_shown, entries_shown, entry_shown, message_shown, tbs_shown, view_shown,
-};
+use crate::shown::{crl_shown, entries_shown, entry_shown, message_shown, tbs_shown, view_shown};
 use rpki_base::Serial;
 use rpki_der::{Cursor, DecodeError, Mode, Steps};
 use rpki_sigmsg::{
@@ -64,7 +62,10 @@ fn message_counted<L: Ledger>(
     cursor: &mut Cursor<'_>,
     steps: &mut Steps<L>,
 ) -> Result<Fields, DecodeError> {
-    message_shown(alloc, &SignedMessage::take_from_counted(alloc, cursor, steps)?)
+    message_shown(
+        alloc,
+        &SignedMessage::take_from_counted(alloc, cursor, steps)?,
+    )
 }
 
 fn decoded_counted<L: Ledger>(
@@ -82,7 +83,10 @@ fn view_counted<L: Ledger>(
     cursor: &mut Cursor<'_>,
     steps: &mut Steps<L>,
 ) -> Result<Fields, DecodeError> {
-    view_shown(alloc, SignedMessageRef::take_from_counted(alloc, cursor, steps)?)
+    view_shown(
+        alloc,
+        SignedMessageRef::take_from_counted(alloc, cursor, steps)?,
+    )
 }
 
 fn crl_counted<L: Ledger>(
@@ -90,7 +94,10 @@ fn crl_counted<L: Ledger>(
     cursor: &mut Cursor<'_>,
     steps: &mut Steps<L>,
 ) -> Result<Fields, DecodeError> {
-    crl_shown(alloc, &SignedMessageCrl::take_from_counted(alloc, cursor, steps)?)
+    crl_shown(
+        alloc,
+        &SignedMessageCrl::take_from_counted(alloc, cursor, steps)?,
+    )
 }
 
 fn tbs_counted<L: Ledger>(
@@ -98,7 +105,10 @@ fn tbs_counted<L: Ledger>(
     cursor: &mut Cursor<'_>,
     steps: &mut Steps<L>,
 ) -> Result<Fields, DecodeError> {
-    tbs_shown(alloc, &SignedMessageTbsCrl::take_from_counted(alloc, cursor, steps)?)
+    tbs_shown(
+        alloc,
+        &SignedMessageTbsCrl::take_from_counted(alloc, cursor, steps)?,
+    )
 }
 
 fn entries_counted<L: Ledger>(
@@ -106,7 +116,10 @@ fn entries_counted<L: Ledger>(
     cursor: &mut Cursor<'_>,
     steps: &mut Steps<L>,
 ) -> Result<Fields, DecodeError> {
-    entries_shown(alloc, &RevokedCertificates::take_from_counted(alloc, cursor, steps)?)
+    entries_shown(
+        alloc,
+        &RevokedCertificates::take_from_counted(alloc, cursor, steps)?,
+    )
 }
 
 fn entry_counted<L: Ledger>(
@@ -122,7 +135,10 @@ fn whole_message(alloc: Global, mode: Mode, octets: &[u8]) -> Result<Fields, Dec
 }
 
 fn decoded(alloc: Global, mode: Mode, octets: &[u8]) -> Result<Fields, DecodeError> {
-    message_shown(alloc, &SignedMessage::decode(alloc, octets, mode == Mode::Der)?)
+    message_shown(
+        alloc,
+        &SignedMessage::decode(alloc, octets, mode == Mode::Der)?,
+    )
 }
 
 fn whole_crl(alloc: Global, mode: Mode, octets: &[u8]) -> Result<Fields, DecodeError> {
@@ -142,12 +158,7 @@ fn whole_entry(alloc: Global, mode: Mode, octets: &[u8]) -> Result<Fields, Decod
 }
 
 // Whether the entries have the serial number whose octets the argument is in DER; the list of none has it never.
-fn lists(
-    alloc: Global,
-    mode: Mode,
-    octets: &[u8],
-    serial: &[u8],
-) -> Result<Fields, DecodeError> {
+fn lists(alloc: Global, mode: Mode, octets: &[u8], serial: &[u8]) -> Result<Fields, DecodeError> {
     let Some(serial) = Serial::take(Mode::Der, serial) else {
         return Err(DecodeError::Malformed);
     };

@@ -93,10 +93,7 @@ pub fn entry_shown(alloc: Global, entry: &CrlEntry) -> Result<Fields, DecodeErro
 }
 
 /// The octets of the entries, and the serial number and the time of each.
-pub fn entries_shown(
-    alloc: Global,
-    list: &RevokedCertificates,
-) -> Result<Fields, DecodeError> {
+pub fn entries_shown(alloc: Global, list: &RevokedCertificates) -> Result<Fields, DecodeError> {
     let copy = list.clone(alloc)?;
     let mut fields = Fields::one(alloc, copy.as_slice())?;
     for entry in copy.entries() {

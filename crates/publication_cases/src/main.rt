@@ -15,7 +15,7 @@ use std::alloc::Global;
 use std::io;
 use std::marker::Brand;
 use std::sync::ledger::{Blank, Ledger};
-use stored_cases::{Calls, Cases, Fields, Step, is_walked, is_walked_counted, run};
+use stored_cases::{Calls, Cases, Fields, Step, is_walked, is_walked_counted, run, text_of};
 
 struct Publications;
 
@@ -54,18 +54,21 @@ impl Calls for Publications {
 }
 
 // Whether a line's case is answered as expected by the counted call.
-fn holds_counted<L: Ledger>(alloc: Global, line: &str, blank: Blank) -> io::Result<bool>
+fn holds_counted<L: Ledger>(alloc: Global, line: &[u8], blank: Blank) -> io::Result<bool>
     requires name { blank.name ≡ L.name }
     requires parts { blank.parts ≡ L.parts }
     requires some { 0 < blank.parts }
 {
     let mut steps = Steps::<L>::new(blank);
-    is_walked_counted(alloc, &Publications, line, &mut steps)
+    is_walked_counted(alloc, &Publications, text_of(line)?, &mut steps)
 }
 
 // Whether a line's case is answered as expected, first by the calls that aren't counted.
 fn holds(alloc: Global, line: &str) -> io::Result<bool> {
-    Ok(is_walked(alloc, &Publications, line)? && holds_counted::<Brand>(alloc, line, Blank::new(1))?)
+    Ok(
+        is_walked(alloc, &Publications, line)?
+            && holds_counted::<Brand>(alloc, line.as_bytes(), Blank::new(1))?,
+    )
 }
 
 impl Cases for Publications {

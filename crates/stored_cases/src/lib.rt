@@ -12,7 +12,7 @@ mod step;
 mod walk;
 
 pub use fields::{Fields, is_answered};
-pub use octets::{invalid, octets_of};
+pub use octets::{invalid, octets_of, text_of};
 pub use running::{Cases, run};
 pub use step::{Step, step_of};
 pub use walk::{Calls, is_walked, is_walked_counted};

@@ -9,6 +9,14 @@ pub fn invalid() -> io::Error {
     io::Error::from(ErrorKind::InvalidData)
 }
 
+/// The text that octets are.
+pub fn text_of(octets: &[u8]) -> io::Result<&str> {
+    match std::str::from_utf8(octets) {
+        Ok(text) => Ok(text),
+        Err(_) => Err(invalid()),
+    }
+}
+
 // A term without its count, and how often it stands there.
 fn repeated(term: &str) -> Option<(&str, u32)> {
     match term.split_once('*') {

@@ -109,8 +109,10 @@ pub fn is_walked<C: Calls>(alloc: Global, calls: &C, line: &str) -> io::Result<b
     match mode {
         "der" => holds(alloc, calls, Mode::Der, &octets, line),
         "ber" => holds(alloc, calls, Mode::Ber, &octets, line),
-        "both" => Ok(holds(alloc, calls, Mode::Der, &octets, line)?
-            && holds(alloc, calls, Mode::Ber, &octets, line)?),
+        "both" => Ok(
+            holds(alloc, calls, Mode::Der, &octets, line)?
+                && holds(alloc, calls, Mode::Ber, &octets, line)?,
+        ),
         _ => Err(invalid()),
     }
 }

@@ -297,3 +297,57 @@ pub fn leaf_answer<L: Ledger>(
         _ => None,
     }
 }
+
+/// The calls that have a counted form alone.
+#[derive(Clone, Copy)]
+pub enum CountedCall {
+    LeaveSince,
+    Rest,
+    Pass,
+    OidIf,
+    Boolean,
+    OptionalBoolean,
+    Integer,
+    IntegerIf,
+    Number,
+    Null,
+}
+
+/// The call of this name, if it has a counted form alone.
+pub fn counted_call(name: &str) -> Option<CountedCall> {
+    match name {
+        "leave_since" => Some(CountedCall::LeaveSince),
+        "rest" => Some(CountedCall::Rest),
+        "pass" => Some(CountedCall::Pass),
+        "oid_if" => Some(CountedCall::OidIf),
+        "boolean" => Some(CountedCall::Boolean),
+        "optional_boolean" => Some(CountedCall::OptionalBoolean),
+        "integer" => Some(CountedCall::Integer),
+        "integer_if" => Some(CountedCall::IntegerIf),
+        "u64" => Some(CountedCall::Number),
+        "null" => Some(CountedCall::Null),
+        _ => None,
+    }
+}
+
+/// What such a call answers.
+pub fn answer_alone<L: Ledger>(
+    alloc: Global,
+    cursor: &mut Cursor<'_>,
+    call: CountedCall,
+    argument: &[u8],
+    steps: &mut Steps<L>,
+) -> Result<Fields, DecodeError> {
+    match call {
+        CountedCall::LeaveSince => leave_since(alloc, cursor, argument, steps),
+        CountedCall::Rest => rest(alloc, cursor, steps),
+        CountedCall::Pass => pass(alloc, cursor, steps),
+        CountedCall::OidIf => oid_if(alloc, cursor, argument, steps),
+        CountedCall::Boolean => boolean(alloc, cursor, steps),
+        CountedCall::OptionalBoolean => optional_boolean(alloc, cursor, steps),
+        CountedCall::Integer => integer(alloc, cursor, steps),
+        CountedCall::IntegerIf => integer_if(alloc, cursor, argument, steps),
+        CountedCall::Number => number(alloc, cursor, steps),
+        CountedCall::Null => null(alloc, cursor, steps),
+    }
+}

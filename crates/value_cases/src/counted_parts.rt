@@ -42,7 +42,10 @@ fn identifier<L: Ledger>(
     cursor: &mut Cursor<'_>,
     steps: &mut Steps<L>,
 ) -> Result<Fields, DecodeError> {
-    identifier_shown(alloc, KeyIdentifier::take_from_counted(alloc, cursor, steps)?)
+    identifier_shown(
+        alloc,
+        KeyIdentifier::take_from_counted(alloc, cursor, steps)?,
+    )
 }
 
 fn identifier_under<L: Ledger>(
@@ -52,7 +55,10 @@ fn identifier_under<L: Ledger>(
     steps: &mut Steps<L>,
 ) -> Result<Fields, DecodeError> {
     let tag = tag_of(tag)?;
-    identifier_shown(alloc, KeyIdentifier::take_under_counted(alloc, cursor, tag, steps)?)
+    identifier_shown(
+        alloc,
+        KeyIdentifier::take_under_counted(alloc, cursor, tag, steps)?,
+    )
 }
 
 fn name<L: Ledger>(
@@ -76,8 +82,7 @@ fn data<L: Ledger>(
     cursor: &mut Cursor<'_>,
     steps: &mut Steps<L>,
 ) -> Result<Fields, DecodeError> {
-    let data =
-        SignedData::<RpkiSignatureAlgorithm>::take_from_counted(alloc, cursor, steps)?;
+    let data = SignedData::<RpkiSignatureAlgorithm>::take_from_counted(alloc, cursor, steps)?;
     data_shown(alloc, &data)
 }
 

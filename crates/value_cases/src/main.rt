@@ -19,12 +19,13 @@ mod whole;
 mod whole_parts;
 mod writing;
 
+use counted::{CountedCall, counted_call};
 use rpki_der::{Cursor, DecodeError, Mode, Steps};
 use std::alloc::Global;
 use std::io;
 use std::marker::Brand;
 use std::sync::ledger::{Blank, Ledger};
-use stored_cases::{Calls, Cases, Fields, Step, is_walked, is_walked_counted, run};
+use stored_cases::{Calls, Cases, Fields, Step, is_walked, is_walked_counted, run, text_of};
 
 // What a call without a cursor answers.
 fn answer_of_octets(
@@ -49,18 +50,16 @@ fn answer_of_octets(
 fn answer_of_counted<L: Ledger>(
     alloc: Global,
     cursor: &mut Cursor<'_>,
-    step: &Step<'_>,
+    call: CountedCall,
+    argument: &[u8],
     blank: Blank,
-) -> Option<Result<Fields, DecodeError>>
+) -> Result<Fields, DecodeError>
     requires name { blank.name ≡ L.name }
     requires parts { blank.parts ≡ L.parts }
     requires some { 0 < blank.parts }
 {
     let mut steps = Steps::<L>::new(blank);
-    if let Some(answer) = counted::level_answer(alloc, cursor, step, &mut steps) {
-        return Some(answer);
-    }
-    counted::leaf_answer(alloc, cursor, step, &mut steps)
+    counted::answer_alone(alloc, cursor, call, argument, &mut steps)
 }
 
 // What a call with a cursor answers.
@@ -75,10 +74,16 @@ fn answer_at(
     if let Some(answer) = leaves::answer(alloc, cursor, step) {
         return Some(answer);
     }
-    if let Some(answer) = answer_of_counted::<Brand>(alloc, cursor, step, Blank::new(1)) {
-        return Some(answer);
+    match counted_call(step.call) {
+        Some(call) => Some(answer_of_counted::<Brand>(
+            alloc,
+            cursor,
+            call,
+            &step.argument,
+            Blank::new(1),
+        )),
+        None => parts::answer(alloc, cursor, step),
     }
-    parts::answer(alloc, cursor, step)
 }
 
 struct Values;
@@ -117,18 +122,21 @@ impl Calls for Values {
 }
 
 // Whether a line's case is answered as expected by the counted calls.
-fn holds_counted<L: Ledger>(alloc: Global, line: &str, blank: Blank) -> io::Result<bool>
+fn holds_counted<L: Ledger>(alloc: Global, line: &[u8], blank: Blank) -> io::Result<bool>
     requires name { blank.name ≡ L.name }
     requires parts { blank.parts ≡ L.parts }
     requires some { 0 < blank.parts }
 {
     let mut steps = Steps::<L>::new(blank);
-    is_walked_counted(alloc, &Values, line, &mut steps)
+    is_walked_counted(alloc, &Values, text_of(line)?, &mut steps)
 }
 
 // Whether a line's case is answered as expected, first by the calls that aren't counted.
 fn holds(alloc: Global, line: &str) -> io::Result<bool> {
-    Ok(is_walked(alloc, &Values, line)? && holds_counted::<Brand>(alloc, line, Blank::new(1))?)
+    Ok(
+        is_walked(alloc, &Values, line)?
+            && holds_counted::<Brand>(alloc, line.as_bytes(), Blank::new(1))?,
+    )
 }
 
 impl Cases for Values {

@@ -32,7 +32,10 @@ fn identifier_under(
     cursor: &mut Cursor<'_>,
     tag: &[u8],
 ) -> Result<Fields, DecodeError> {
-    identifier_shown(alloc, KeyIdentifier::take_under(alloc, cursor, tag_of(tag)?)?)
+    identifier_shown(
+        alloc,
+        KeyIdentifier::take_under(alloc, cursor, tag_of(tag)?)?,
+    )
 }
 
 fn name(alloc: Global, cursor: &mut Cursor<'_>) -> Result<Fields, DecodeError> {

@@ -135,10 +135,7 @@ pub fn key_shown(alloc: Global, key: &PublicKey) -> Result<Fields, DecodeError> 
 }
 
 /// The object identifier, whether it is critical, and what it holds.
-pub fn extension_shown(
-    alloc: Global,
-    extension: &Extension<'_>,
-) -> Result<Fields, DecodeError> {
+pub fn extension_shown(alloc: Global, extension: &Extension<'_>) -> Result<Fields, DecodeError> {
     let mut fields = Fields::one(alloc, extension.identifier)?;
     fields.octets(&[u8::from(extension.critical)])?;
     fields.octets(&extension.value)?;
