@@ -10,6 +10,8 @@ each SEQUENCE and each constructed OCTET STRING. Printed are, for each shape and
 - MB/s: millions of octets of input a second;
 - peak MB: the most memory that the program held, in millions of octets, the input among it. It shows no less than the
   measuring process holds when it starts the program, some 14;
+- each: the memory that was held besides the input and besides what the program holds on a short input, in octets for each
+  octet of input;
 - etree s: the best of three times that xml.etree.ElementTree.fromstring takes on the same octets, without the start of
   Python and the reading of the file; `refused` where it doesn't give an element;
 - ratio: the program's seconds over those of xml.etree, so below 1 where the program is the faster one;
@@ -55,6 +57,66 @@ def many(piece, size):
 def small_elements(size):
     count = size // 4 - 2
     return b"<a>" + b"<b/>" * count + b"</a>", count + 1
+
+
+def list_elements(size):
+    count = size // 7 - 1
+    return b"<a>" + b"<list/>" * count + b"</a>", count + 1
+
+
+def empty_elements(size):
+    count = size // 7 - 1
+    return b"<b>" + b"<a></a>" * count + b"</b>", count + 1
+
+
+def elements_with_attributes(size):
+    count = size // 9 - 1
+    return b"<a>" + b"<a b=''/>" * count + b"</a>", count + 1
+
+
+def elements_with_texts(size):
+    count = size // 8 - 1
+    return b"<a>" + b"<a>x</a>" * count + b"</a>", count + 1
+
+
+def comments(size):
+    return b"<a>" + b"<!---->" * (size // 7 - 1) + b"</a>", 1
+
+
+def one_name(size):
+    return b"<" + b"a" * (size - 3) + b"/>", 1
+
+
+def message(kind, pieces):
+    """A message of the publication protocol, of as many pieces as fit into the size"""
+    def made(size):
+        front = b'<msg xmlns="http://www.hactrn.net/uris/rpki/publication-spec/" version="4" type="%s">' % kind
+        inside = many(pieces, size - len(front))
+        return front + b"".join(inside) + b"</msg>", len(inside) + 1
+    return made
+
+
+def uri(number):
+    return b"rsync://rpki.example.net/repository/some-handle/0/%040x.roa" % (number * 2654435761)
+
+
+def digest(number):
+    return b"%064x" % (number * 0x9e3779b97f4a7c15)
+
+
+def publish(number):
+    """An object of 1500 octets that takes another one's place"""
+    return b'<publish tag="%d" uri="%s" hash="%s">%s</publish>\n' % (number, uri(number), digest(number), b"MIIF" * 500)
+
+
+def listed(number):
+    return b'<list uri="%s" hash="%s"/>\n' % (uri(number), digest(number))
+
+
+delta_of_objects = message(b"query", publish)
+delta_of_objects.__name__ = "delta_of_objects"
+list_reply = message(b"reply", listed)
+list_reply.__name__ = "list_reply"
 
 
 def deep_elements(size):
@@ -107,6 +169,9 @@ def indefinite_levels(size):
 
 
 DOCUMENTS = [(shape, [1, 4, 16]) for shape in (small_elements, deep_elements, long_text, text_of_entities, text_in_parts)]
+DOCUMENTS += [(shape, [1, 24]) for shape in (list_elements, empty_elements, elements_with_attributes, elements_with_texts, comments, one_name)]
+# some 10000 objects each
+DOCUMENTS += [(delta_of_objects, [22]), (list_reply, [2])]
 DOCUMENTS += [(attributes, [1, 4, 16, 32]), (declarations, [1, 4, 16]), (long_name, [1, 4, 16])]
 VALUES = [(large_content, [1, 4, 16]), (many_segments, [1, 4, 16]), (nested, [1, 4, 16]), (indefinite_levels, [4e6 / 2**20]),
           (small_values, [16])]
@@ -155,7 +220,15 @@ def answer(path, layer):
         return subprocess.run([PROGRAM, layer], stdin=source, capture_output=True, text=True, check=True).stdout.strip()
 
 
-def row(folder, layer, shape, size):
+def least_peak(folder, layer):
+    """The most memory that the program holds on a short input"""
+    path = os.path.join(folder, "short")
+    with open(path, "wb") as target:
+        target.write(b"<a/>" if layer == "document" else value(0x04, b""))
+    return program_seconds(path, layer)[1]
+
+
+def row(folder, layer, shape, size, least):
     made = shape(int(size * 2**20))
     octets = made[0] if layer == "document" else made
     path = os.path.join(folder, "input")
@@ -163,7 +236,7 @@ def row(folder, layer, shape, size):
         target.write(octets)
     said = answer(path, layer)
     seconds, peak = program_seconds(path, layer)
-    line = f"{layer:<9} {shape.__name__:<18} {size:>5.1f} {said:<16} {seconds:>8.3f} {len(octets) / seconds / 1e6:>8.1f} {peak / 1e6:>8.1f}"
+    line = f"{layer:<9} {shape.__name__:<18} {size:>5.1f} {said:<16} {seconds:>8.3f} {len(octets) / seconds / 1e6:>8.1f} {peak / 1e6:>8.1f} {max(0, peak - least - len(octets)) / len(octets):>6.1f}"
     if layer == "document":
         taken, ratio = etree_columns(path, seconds)
         line += f" {taken:>8} {ratio:>6}"
@@ -176,12 +249,13 @@ def main():
     layers = sys.argv[1:] or ["document", "tree", "walk"]
     if not os.path.exists(PROGRAM):
         subprocess.run(["rt", "run"], cwd=os.path.join(TOP, "crates", "layers"), stdout=subprocess.DEVNULL, check=False)
-    print(f"{'layer':<9} {'shape':<18} {'MB':>5} {'answer':<16} {'seconds':>8} {'MB/s':>8} {'peak MB':>8} {'etree s':>8} {'ratio':>6} {'allocs':>16}")
+    print(f"{'layer':<9} {'shape':<18} {'MB':>5} {'answer':<16} {'seconds':>8} {'MB/s':>8} {'peak MB':>8} {'each':>6} {'etree s':>8} {'ratio':>6} {'allocs':>16}")
     with tempfile.TemporaryDirectory() as folder:
         for layer in layers:
+            least = least_peak(folder, layer)
             for shape, sizes in DOCUMENTS if layer == "document" else VALUES:
                 for size in sizes:
-                    row(folder, layer, shape, size)
+                    row(folder, layer, shape, size, least)
 
 
 if __name__ == "__main__":

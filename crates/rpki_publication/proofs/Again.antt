@@ -8,7 +8,7 @@ use Rattle.rpki_xml.specs.Content.{is_declaration, trimmed}
 use Rattle.rpki_xml.specs.Element.{alone, none}
 use Rattle.rpki_xml.specs.PlainElement.{IsPlainName, IsPlainHead, ArePlain}
 use Rattle.rpki_xml.specs.Lexing.{is_octet}
-use Rattle.rpki_xml.specs.Tables.{only, optional, required}
+use Rattle.rpki_xml.specs.Tables.{only, optional, required, given_or_absent}
 use Rattle.rpki_xml.proofs.Octets.{written_is_read}
 use Rattle.rpki_publication.specs.declared.message.Message.{Message}
 use Rattle.rpki_publication.specs.declared.message.Message.TheVariants as message
@@ -17,7 +17,7 @@ use Rattle.rpki_publication.specs.declared.message.Reply.TheVariants as reply
 use Rattle.rpki_publication.specs.Message.{bare_element, root_element, element_of, text_of, bare_in, query_in, reply_in, body_in, type_in, message_of, Reads}
 
 message_again : (m : Message) → message_of (element_of m) ≡ Some m
-unfolding message_of element_of type_in only optional required items.only items.at_most_one items.the_one bare_in query_in reply_in body_in ◌>>=◌
+unfolding message_of element_of type_in only optional required given_or_absent items.only items.at_most_one items.the_one bare_in query_in reply_in body_in ◌>>=◌
 message_again (message.Query query.List) = refl
 message_again (message.Reply reply.Success) = refl
 

@@ -10,7 +10,6 @@ use Rattle.rpki_xml.specs.declared.error.XmlError.TheVariants as xml
 use Rattle.rpki_xml.specs.Element.{Element}
 use Rattle.rpki_xml.specs.Answers.{IsRefused}
 use Rattle.rpki_xml.specs.Lexing.{IsDocument}
-use Rattle.rpki_xml.specs.Answers.{Fails}
 use Rattle.rpki_xml.proofs.Documents.{one_document}
 use Rattle.rpki_publication.specs.declared.error.Error.{Error}
 use Rattle.rpki_publication.specs.declared.error.Error.TheVariants as errors
@@ -28,9 +27,8 @@ pub no_document : (e : XmlError) (b : List ℕ) → IsRefused e b → RefusesMes
 no_document xml.OutOfMemory b refused = tt
 no_document xml.Malformed b refused = (refl, λ m r. refused r.element r.document)
 
-pub no_message : (e : XmlError) (b : List ℕ) (x : Element) → IsDocument b x → Fails e (message_of x) → RefusesMessage b (of_xml e)
-no_message xml.OutOfMemory b x document fails = tt
-no_message xml.Malformed b x document fails = (refl, λ m r. none_some m (sym fails ∙ ap message_of (one_document b x r.element document r.document) ∙ r.message))
+pub no_message : (b : List ℕ) (x : Element) → IsDocument b x → message_of x ≡ None → RefusesMessage b (of_xml xml.Malformed)
+no_message b x document none = (refl, λ m r. none_some m (sym none ∙ ap message_of (one_document b x r.element document r.document) ∙ r.message))
 
 abbrev some : Message → Option Message
 some m = Some m

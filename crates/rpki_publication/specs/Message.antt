@@ -1,13 +1,12 @@
--- The messages of the publication protocol, as elements (RFC 8181, 2.1 to 2.3). Names are compared by their local parts, and the
--- root's namespace is not looked at.
+-- The messages of the publication protocol, as elements (RFC 8181, 2.1 to 2.3). Names are compared by their local parts, and
+-- the root's namespace is not looked at.
 use Rattle.std.specs.Prelude.{◌≡◌, ℕ, List, [], ◌∷◌, Option, None, Some, if◌then◌else◌, codes}
 use Rattle.std.specs.Str.{bytes_eq}
 use Rattle.rpki_common.specs.Chaining.{◌>>=◌}
 use Rattle.rpki_xml.specs.declared.element.Attribute.{Attribute}
 use Rattle.rpki_xml.specs.Element.{Elements, none, Element, alone, is_nil}
 use Rattle.rpki_xml.specs.Lexing.{IsDocument}
-use Rattle.rpki_xml.specs.Tables.{require, is_named, only, optional, required, is_or_absent, is_empty}
-use Rattle.rpki_xml.specs.Tables.{the_child}
+use Rattle.rpki_xml.specs.Tables.{require, is_named, only, required, given_or_absent, is_empty, the_child}
 use Rattle.rpki_xml.specs.Spelling.{spelled}
 use Rattle.rpki_publication.specs.declared.message.Message.{Message}
 use Rattle.rpki_publication.specs.declared.message.Message.TheVariants as message
@@ -26,7 +25,10 @@ attribute name value = record { name = name; value = value }
 
 -- an element with nothing but its name
 abbrev pub bare_element : List ℕ → Element
-bare_element name = record { head = record { name = name; namespace = None; attributes = []; text = [] }; children = none }
+bare_element name = record {
+  head = record { name = name; namespace = None; attributes = []; text = [] };
+  children = none;
+}
 
 -- `<list/>` (2.3)
 abbrev pub query_elements : Query → Elements
@@ -101,15 +103,14 @@ body_in type elements =
       Some (message.Reply r))
     else None
 
--- the type that a root gives: an element `msg` without text, with a type, with version 4 where it has a version, and without other
--- attributes (2.1)
+-- the type that a root gives: an element `msg` without text, with a type, with version 4 where it has a version, and without
+-- other attributes (2.1)
 unfoldable pub type_in : Element → Option (List ℕ)
 type_in e = do
   _ ← require (is_named (codes "msg") e.head)
   _ ← require (is_nil e.head.text)
   _ ← only (codes "version" ∷ codes "type" ∷ []) e.head
-  version ← optional (codes "version") e.head
-  _ ← require (is_or_absent version (codes "4"))
+  _ ← given_or_absent (codes "version") (codes "4") e.head
   required (codes "type") e.head
 
 -- the message that an element is read as

@@ -2,12 +2,13 @@
 
 ghost use Rattle.std.specs.Prelude.{◌≡◌};
 ghost use Rattle.rpki_publication.specs.Answers.{of_der, of_xml};
+ghost use Rattle.rpki_xml.specs.declared.error.XmlError.TheVariants as xml;
 ghost use Rattle.rpki_publication.specs.declared.error.Error.TheVariants as variant;
 
 use rpki_common::OutOfMemory;
 use rpki_idcert::ValidationError;
 use rpki_sigmsg::DecodeError;
-use rpki_xml::XmlError;
+use rpki_xml::{Mismatch, XmlError};
 use thiserror::Error as Thiserror;
 
 /// Why a message was not read or not believed.
@@ -35,6 +36,14 @@ impl From<XmlError> for Error {
             XmlError::Malformed => Error::XmlError(XmlError::Malformed),
             XmlError::OutOfMemory => Error::OutOfMemory,
         }
+    }
+}
+
+impl From<Mismatch> for Error {
+    ghost from_gives = { λ _ e. e ≡ of_xml xml.Malformed };
+
+    fn from(_: Mismatch) -> Error {
+        Error::XmlError(XmlError::Malformed)
     }
 }
 

@@ -5,6 +5,7 @@
 //! - [`PublicationCms`] is a signed message with the message that it holds: it is decoded in BER, and validated under an
 //!   issuer's key at a moment.
 //! - [`written_is_read`], [`at_most_one`]: what is written is read again, and octets are at most one message.
+//! - [`content_type_is`]: the media type is the protocol's.
 //!
 //! What a message is stands in specs/Message.antt, as a table of elements: the element that each message is written as, and
 //! the message that each element is read as. Queries and replies of other kinds are not read yet.
@@ -19,7 +20,7 @@ mod writing;
 
 pub use cms::PublicationCms;
 pub use error::Error;
-pub use law::{at_most_one, written_is_read};
+pub use law::{at_most_one, content_type_is, written_is_read};
 pub use message::{CONTENT_TYPE, Message, Query, Reply};
 pub use rpki_common::OutOfMemory;
 

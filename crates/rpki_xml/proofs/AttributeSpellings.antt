@@ -59,8 +59,10 @@ entity_read quote c s tail q e =
   where
     first_two : Bool
     first_two = (eqb c 38 && bytes_eq s (codes "&amp;")) || (eqb c 60 && bytes_eq s (codes "&lt;"))
+
     first_three : Bool
     first_three = first_two || (eqb c 62 && bytes_eq s (codes "&gt;"))
+
     first_four : Bool
     first_four = first_three || (eqb c 34 && bytes_eq s (codes "&quot;"))
 

@@ -43,19 +43,19 @@ end_twice t = ap (λ (x : List ℕ). reverse (without_white x)) (reverse-reverse
 end_begins : (c : ℕ) (more : List ℕ) → is_white c ≡ false → without_white (without_end_white (c ∷ more)) ≡ without_end_white (c ∷ more)
 end_begins c more e =
     let is : without_end_white (c ∷ more) ≡ c ∷ reverse (without_white (reverse more)) =
-        ap (λ (x : List ℕ). reverse (without_white x)) (reverse-append (c ∷ []) more) ∙ ap reverse (without_end (reverse more) c e) ∙ reverse-append (without_white (reverse more)) (c ∷ []) in
+    ap (λ (x : List ℕ). reverse (without_white x)) (reverse-append (c ∷ []) more) ∙ ap reverse (without_end (reverse more) c e) ∙ reverse-append (without_white (reverse more)) (c ∷ []) in
     ap without_white is ∙ rw e (sym is)
 
 pub trimmed_twice : (t : List ℕ) → trimmed (trimmed t) ≡ trimmed t
 unfolding trimmed
 trimmed_twice t =
     elim (begins t) [
-      inl e ↦ ap (λ (x : List ℕ). without_end_white (without_white (without_end_white x))) e ∙ sym (ap without_end_white e)
-    | inr h ↦
-        ap (λ (x : List ℕ). without_end_white (without_white (without_end_white x))) h.2
-        ∙ ap without_end_white (end_begins h.0 h.1 h.3)
-        ∙ end_twice (h.0 ∷ h.1)
-        ∙ sym (ap without_end_white h.2)
+      | inl e ↦ ap (λ (x : List ℕ). without_end_white (without_white (without_end_white x))) e ∙ sym (ap without_end_white e)
+      | inr h ↦
+          ap (λ (x : List ℕ). without_end_white (without_white (without_end_white x))) h.2
+          ∙ ap without_end_white (end_begins h.0 h.1 h.3)
+          ∙ end_twice (h.0 ∷ h.1)
+          ∙ sym (ap without_end_white h.2)
     ]
 
 text_trimmed : (children : Elements) (text : List ℕ) → trimmed (text_of children text) ≡ text_of children text

@@ -38,7 +38,9 @@ pub record IsAttributeSpelling (octets : List ℕ) (a : Attribute) : Type 0 wher
   pub before_value : List ℕ
   pub quote : ℕ
   pub characters : List (List ℕ)
-  pub is : octets ≡ before ++ (a.name ++ (behind_name ++ 61 ∷ (before_value ++ quote ∷ (concatenated characters ++ quote ∷ []))))
+  pub is : octets
+      ≡ before ++ (a.name ++ (behind_name ++ 61 ∷
+      (before_value ++ quote ∷ (concatenated characters ++ quote ∷ []))))
   pub some_white : is_nil before ≡ false
   pub white : list_all is_white (before ++ (behind_name ++ before_value)) ≡ true
   pub name : is_name a.name ≡ true

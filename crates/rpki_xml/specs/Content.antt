@@ -78,7 +78,8 @@ namespace_of tag = not_empty (declared (prefix_of tag.name) tag.attributes)
 
 -- whether an attribute is `xmlns` or has that prefix
 unfoldable pub is_declaration : Attribute → Bool
-is_declaration a = bytes_eq a.name (codes "xmlns") || not (is_none_of (behind (codes "xmlns:") a.name))
+is_declaration a =
+    bytes_eq a.name (codes "xmlns") || not (is_none_of (behind (codes "xmlns:") a.name))
 
 -- the attributes of an element: all but declarations
 abbrev pub handed_on : List Attribute → List Attribute
@@ -119,7 +120,12 @@ text_of (first head children rest) text = []
 
 -- the head that a start gives, and this text
 abbrev pub head_of : Tag → List ℕ → Head
-head_of tag text = record { name = tag.name; namespace = namespace_of tag; attributes = handed_on tag.attributes; text = text }
+head_of tag text = record {
+  name = tag.name;
+  namespace = namespace_of tag;
+  attributes = handed_on tag.attributes;
+  text = text;
+}
 
 -- the elements of a content, each with its own content's elements as its children
 abbrev pub elements_in : Content → Elements
@@ -127,7 +133,9 @@ elements_in nothing = none
 elements_in (and_run text more) = elements_in more
 elements_in (and_passed_over more) = elements_in more
 elements_in (and_leaf tag more) = first (head_of tag []) none (elements_in more)
-elements_in (and_element tag inside more) = first (head_of tag (text_of (elements_in inside) (characters inside))) (elements_in inside) (elements_in more)
+elements_in (and_element tag inside more) =
+    first (head_of tag (text_of (elements_in inside) (characters inside))) (elements_in inside)
+    (elements_in more)
 
 -- beside a child element all runs are white space
 abbrev pub fits : Elements → List ℕ → Bool
@@ -141,7 +149,9 @@ IsLawful (and_run text more) = IsLawful more
 IsLawful (and_passed_over more) = IsLawful more
 IsLawful (and_leaf tag more) = (is_distinct tag.attributes ≡ true) × IsLawful more
 IsLawful (and_element tag inside more) =
-    (is_distinct tag.attributes ≡ true) × (IsLawful inside × ((fits (elements_in inside) (characters inside) ≡ true) × IsLawful more))
+    (is_distinct tag.attributes ≡ true)
+    × (IsLawful inside
+    × ((fits (elements_in inside) (characters inside) ≡ true) × IsLawful more))
 
 -- a content of exactly one element, with nothing but white space and passed-over pieces round it
 pub record IsElement (list : List Piece) (x : Element) : Type 0 where

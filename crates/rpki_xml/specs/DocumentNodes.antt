@@ -7,11 +7,11 @@ use Rattle.rpki_xml.specs.Content.{is_white}
 use Rattle.rpki_xml.specs.Tables.{the_child}
 use Rattle.rpki_xml.specs.Nodes.{flat, tree_of}
 use Rattle.rpki_xml.specs.Views.{slots}
-use Rattle.rpki_xml.specs.Stack.{Open}
+use Rattle.rpki_xml.specs.Stack.{Open, bare_head}
 
 -- the first of elements, and a bare one where there is none
 abbrev pub first_of : Elements → Element
-first_of none = record { head = record { name = []; namespace = None; attributes = []; text = [] }; children = none }
+first_of none = record { head = bare_head []; children = none }
 first_of (first head children rest) = record { head = head; children = children }
 
 -- the element behind the document's own node

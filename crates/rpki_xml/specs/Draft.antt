@@ -19,13 +19,25 @@ settled in_start octets = if in_start then octets ++ 62 ∷ [] else octets
 
 -- the draft with more inside its innermost element
 unfoldable pub with_inside : List ℕ → Draft → Draft
-with_inside inside d = record { octets = settled d.in_start d.octets ++ inside; open_names = d.open_names; in_start = false }
+with_inside inside d = record {
+  octets = settled d.in_start d.octets ++ inside;
+  open_names = d.open_names;
+  in_start = false;
+}
 
 unfoldable pub opened : List ℕ → Draft → Draft
-opened name d = record { octets = settled d.in_start d.octets ++ 60 ∷ name; open_names = name ∷ d.open_names; in_start = true }
+opened name d = record {
+  octets = settled d.in_start d.octets ++ 60 ∷ name;
+  open_names = name ∷ d.open_names;
+  in_start = true;
+}
 
 unfoldable pub with_attribute : List ℕ → List ℕ → Draft → Draft
-with_attribute name value d = record { octets = d.octets ++ spelled_attribute name value; open_names = d.open_names; in_start = d.in_start }
+with_attribute name value d = record {
+  octets = d.octets ++ spelled_attribute name value;
+  open_names = d.open_names;
+  in_start = d.in_start;
+}
 
 -- an empty text leaves the start open
 abbrev pub with_text : List ℕ → Draft → Draft
@@ -39,7 +51,11 @@ ending false (name ∷ names) = spelled_end name
 
 -- the innermost element is closed
 unfoldable pub closed : Draft → Draft
-closed d = record { octets = d.octets ++ ending d.in_start d.open_names; open_names = drop 1 d.open_names; in_start = false }
+closed d = record {
+  octets = d.octets ++ ending d.in_start d.open_names;
+  open_names = drop 1 d.open_names;
+  in_start = false;
+}
 
 abbrev pub with_attributes : List Attribute → Draft → Draft
 with_attributes [] d = d

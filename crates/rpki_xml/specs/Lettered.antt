@@ -21,4 +21,5 @@ pub record IsLetteredHead (h : Head) : Type 0 where
 -- names, namespaces, values and texts of the elements and of all below them have such octets alone
 abbrev pub AreLettered : Elements → Type 0
 AreLettered none = Unit {0}
-AreLettered (first head children rest) = IsLetteredHead head × (AreLettered children × AreLettered rest)
+AreLettered (first head children rest) =
+    IsLetteredHead head × (AreLettered children × AreLettered rest)

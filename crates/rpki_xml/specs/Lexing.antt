@@ -31,18 +31,26 @@ entity_at name c b = do
 -- behind a `&`: one of the five entities
 unfoldable pub any_entity_at : List ℕ → Option (ℕ × List ℕ)
 any_entity_at b =
-    or_else (entity_at (codes "amp;") 38 b) (or_else (entity_at (codes "lt;") 60 b) (or_else (entity_at (codes "gt;") 62 b) (or_else (entity_at (codes "quot;") 34 b) (entity_at (codes "apos;") 39 b))))
+    or_else (entity_at (codes "amp;") 38 b)
+    (or_else (entity_at (codes "lt;") 60 b)
+    (or_else (entity_at (codes "gt;") 62 b)
+    (or_else (entity_at (codes "quot;") 34 b)
+    (entity_at (codes "apos;") 39 b))))
 
 -- a character of a text or a value: no `<`, and a `&` only as the beginning of an entity
 unfoldable pub character_at : List ℕ → Option (ℕ × List ℕ)
 character_at [] = None
-character_at (c ∷ b) = if nat_eq c 38 then any_entity_at b else if nat_eq c 60 then None else Some (c, b)
+character_at (c ∷ b) =
+    if nat_eq c 38 then any_entity_at b else if nat_eq c 60 then None else Some (c, b)
 
 -- ---- names
 
 -- the longest run of name octets, where it is a name
 unfoldable pub name_at : List ℕ → Option (List ℕ × List ℕ)
-name_at b = if is_name (front_of is_name_octet b) then Some (front_of is_name_octet b, back_of is_name_octet b) else None
+name_at b =
+    if is_name (front_of is_name_octet b)
+    then Some (front_of is_name_octet b, back_of is_name_octet b)
+    else None
 
 -- ---- pieces
 
@@ -58,7 +66,8 @@ end_at b = do
   Some (end name.0, rest)
 
 -- reading these one after the other, at most n times, up to where it stops
-abbrev pub repeated : {X : Type 0} → (List ℕ → Bool) → (List ℕ → Option (X × List ℕ)) → ℕ → List ℕ → Option (List X × List ℕ)
+abbrev pub repeated : {X : Type 0} → (List ℕ → Bool) → (List ℕ → Option (X × List ℕ)) → ℕ
+    → List ℕ → Option (List X × List ℕ)
 repeated stops at zero b = None
 repeated stops at (suc n) b =
     if stops b
@@ -68,8 +77,10 @@ repeated stops at (suc n) b =
       more ← repeated stops at n x.1
       Some (x.0 ∷ more.0, more.1))
 
--- each takes an octet at least, so that many are enough
-unfoldable pub until : {X : Type 0} → (List ℕ → Bool) → (List ℕ → Option (X × List ℕ)) → List ℕ → Option (List X × List ℕ)
+-- reading these one after the other, up to where it stops: each takes an octet at least, so that many are enough. What this
+-- gives is told by the relation RunsTo of Runs
+unfoldable pub until : {X : Type 0} → (List ℕ → Bool) → (List ℕ → Option (X × List ℕ)) → List ℕ
+    → Option (List X × List ℕ)
 until stops at b = repeated stops at (suc (length b)) b
 
 -- whether characters end here: at this octet, or where nothing is left if they may end there
@@ -111,7 +122,9 @@ no_attribute b = not (begins_white b) || begins_close (past_white b)
 
 -- the end of a start, and which piece it makes
 abbrev pub closed_at : Tag → List ℕ → Option (Piece × List ℕ)
-closed_at tag b = or_else (behind (codes "/>") b >>= λ rest. Some (leaf tag, rest)) (behind (codes ">") b >>= λ rest. Some (start tag, rest))
+closed_at tag b =
+    or_else (behind (codes "/>") b >>= λ rest. Some (leaf tag, rest))
+    (behind (codes ">") b >>= λ rest. Some (start tag, rest))
 
 -- behind `<`: a name, attributes, and the end of the start
 unfoldable pub tag_at : List ℕ → Option (Piece × List ℕ)
@@ -155,7 +168,8 @@ piece_at [] = None
 piece_at (c ∷ b) = if nat_eq c 60 then markup_at b else run_at (c ∷ b)
 
 -- reading these one after the other leads from b to rest
-abbrev pub Repeats : {X : Type 0} → (List ℕ → Option (X × List ℕ)) → List ℕ → List X → List ℕ → Type 0
+abbrev pub Repeats : {X : Type 0} → (List ℕ → Option (X × List ℕ)) → List ℕ → List X → List ℕ
+    → Type 0
 Repeats at b [] rest = b ≡ rest
 Repeats at b (x ∷ xs) rest = (next : List ℕ) × (at b ≡ Some (x, next)) × Repeats at next xs rest
 

@@ -7,12 +7,16 @@ is_letter c = (nat_le 65 c && nat_le c 90) || (nat_le 97 c && nat_le c 122)
 
 -- a letter, a digit, `:`, `-`, `_` or `.`
 abbrev pub is_name_octet : ℕ → Bool
-is_name_octet c = is_letter c || (nat_le 48 c && nat_le c 58) || nat_eq c 45 || nat_eq c 95 || nat_eq c 46
+is_name_octet c =
+    is_letter c || (nat_le 48 c && nat_le c 58) || nat_eq c 45 || nat_eq c 95 || nat_eq c 46
 
 -- what stands behind the first octet has at most one `:`, which is not the last octet; none where one came before
 abbrev pub ends_name : Bool → List ℕ → Bool
 ends_name colon [] = true
-ends_name colon (c ∷ name) = if nat_eq c 58 then not colon && not (is_nil name) && ends_name true name else ends_name colon name
+ends_name colon (c ∷ name) =
+    if nat_eq c 58
+    then not colon && not (is_nil name) && ends_name true name
+    else ends_name colon name
 
 -- name octets are a name: they begin with a letter or `_`, and have at most one `:`, which is neither first nor last
 abbrev pub is_name : List ℕ → Bool

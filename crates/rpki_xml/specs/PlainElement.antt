@@ -30,4 +30,6 @@ pub record IsPlainHead (h : Head) : Type 0 where
 -- each head is plain, and where there are children there is no text
 abbrev pub ArePlain : Elements → Type 0
 ArePlain none = Unit {0}
-ArePlain (first head children rest) = IsPlainHead head × ((is_none children ≡ false → head.text ≡ []) × (ArePlain children × ArePlain rest))
+ArePlain (first head children rest) =
+    IsPlainHead head
+    × ((is_none children ≡ false → head.text ≡ []) × (ArePlain children × ArePlain rest))

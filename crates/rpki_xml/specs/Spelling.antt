@@ -5,11 +5,18 @@ use Rattle.rpki_xml.specs.Element.{Attribute, Head, Elements, none, first, Eleme
 
 -- a character of a text: `&`, `<` and `>` as entities, every other one as itself
 abbrev pub text_character : ℕ → List ℕ
-text_character c = if nat_eq c 38 then codes "&amp;" else if nat_eq c 60 then codes "&lt;" else if nat_eq c 62 then codes "&gt;" else c ∷ []
+text_character c =
+    if nat_eq c 38 then codes "&amp;"
+    else if nat_eq c 60 then codes "&lt;"
+    else if nat_eq c 62 then codes "&gt;"
+    else c ∷ []
 
 -- a character of a value: the two quotes as entities too
 abbrev pub value_character : ℕ → List ℕ
-value_character c = if nat_eq c 34 then codes "&quot;" else if nat_eq c 39 then codes "&apos;" else text_character c
+value_character c =
+    if nat_eq c 34 then codes "&quot;"
+    else if nat_eq c 39 then codes "&apos;"
+    else text_character c
 
 unfoldable pub spelled_text : List ℕ → List ℕ
 spelled_text text = flat_map text_character text
@@ -31,7 +38,8 @@ spelled_namespace (Some uri) = spelled_attribute (codes "xmlns") uri
 
 -- `<name` and the attributes
 abbrev pub spelled_start : Head → List ℕ
-spelled_start h = 60 ∷ (h.name ++ (spelled_namespace h.namespace ++ spelled_attributes h.attributes))
+spelled_start h =
+    60 ∷ (h.name ++ (spelled_namespace h.namespace ++ spelled_attributes h.attributes))
 
 -- `</name>`
 abbrev pub spelled_end : List ℕ → List ℕ
@@ -45,7 +53,10 @@ spelled_inside false name inside = 62 ∷ (inside ++ spelled_end name)
 abbrev pub spelled_all : Elements → List ℕ
 spelled_all none = []
 spelled_all (first head children rest) =
-    (spelled_start head ++ spelled_inside (is_nil head.text && is_none children) head.name (spelled_text head.text ++ spelled_all children)) ++ spelled_all rest
+    (spelled_start head
+    ++ spelled_inside (is_nil head.text && is_none children) head.name
+    (spelled_text head.text ++ spelled_all children))
+    ++ spelled_all rest
 
 abbrev pub spelled : Element → List ℕ
 spelled e = spelled_all (alone e)

@@ -20,7 +20,12 @@ abbrev pub bare_head : List ℕ → Head
 bare_head name = record { name = name; namespace = None; attributes = []; text = [] }
 
 abbrev pub with_text : List ℕ → Head → Head
-with_text text h = record { name = h.name; namespace = h.namespace; attributes = h.attributes; text = text }
+with_text text h = record {
+  name = h.name;
+  namespace = h.namespace;
+  attributes = h.attributes;
+  text = text;
+}
 
 abbrev pub opened : Head → Open
 opened h = record { head = h; done = none }
@@ -31,7 +36,10 @@ whole = opened (bare_head [])
 
 -- an open element after more text and more children
 abbrev pub and_more : List ℕ → Elements → Open → Open
-and_more text children o = record { head = with_text (o.head.text ++ text) o.head; done = joined o.done children }
+and_more text children o = record {
+  head = with_text (o.head.text ++ text) o.head;
+  done = joined o.done children;
+}
 
 abbrev pub closed : Open → Element
 closed o = record { head = with_text (text_of o.done o.head.text) o.head; children = o.done }
@@ -43,7 +51,8 @@ add_run text (o ∷ outer) = Some (and_more text none o ∷ outer)
 
 unfoldable pub add_element : Head → List Open → Option (List Open)
 add_element head [] = None
-add_element head (o ∷ outer) = Some (and_more [] (alone (record { head = head; children = none })) o ∷ outer)
+add_element head (o ∷ outer) =
+    Some (and_more [] (alone (record { head = head; children = none })) o ∷ outer)
 
 unfoldable pub begin_element : Head → List Open → Option (List Open)
 begin_element head [] = None
@@ -52,13 +61,18 @@ begin_element head (o ∷ outer) = Some (opened head ∷ o ∷ outer)
 unfoldable pub end_element : List ℕ → List Open → Option (List Open)
 end_element name [] = None
 end_element name (o ∷ []) = None
-end_element name (o ∷ p ∷ outer) = if bytes_eq o.head.name name && fits o.done o.head.text then Some (and_more [] (alone (closed o)) p ∷ outer) else None
+end_element name (o ∷ p ∷ outer) =
+    if bytes_eq o.head.name name && fits o.done o.head.text
+    then Some (and_more [] (alone (closed o)) p ∷ outer)
+    else None
 
 abbrev pub step : Piece → List Open → Option (List Open)
 step (run text) opens = add_run text opens
 step passed_over opens = Some opens
-step (leaf tag) opens = if is_distinct tag.attributes then add_element (head_of tag []) opens else None
-step (start tag) opens = if is_distinct tag.attributes then begin_element (head_of tag []) opens else None
+step (leaf tag) opens =
+    if is_distinct tag.attributes then add_element (head_of tag []) opens else None
+step (start tag) opens =
+    if is_distinct tag.attributes then begin_element (head_of tag []) opens else None
 step (end name) opens = end_element name opens
 
 abbrev pub steps : List Piece → List Open → Option (List Open)
@@ -101,4 +115,7 @@ pub record IsHeld (nodes : List Node) (places : List ℕ) : Type 0 where
 
 -- the text of an element with so many elements below it, if it may have one
 abbrev pub settled : ℕ → List ℕ → Option (List ℕ)
-settled below text = if nat_eq below 0 then Some (trimmed text) else if list_all is_white text then Some [] else None
+settled below text =
+    if nat_eq below 0 then Some (trimmed text)
+    else if list_all is_white text then Some []
+    else None

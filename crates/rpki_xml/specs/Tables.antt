@@ -82,7 +82,8 @@ the_child (first head children (first h cs rest)) = None
 -- no element, or exactly one
 abbrev pub at_most_one_child : Elements → Option (Option Element)
 at_most_one_child none = Some None
-at_most_one_child (first head children none) = Some (Some (record { head = head; children = children }))
+at_most_one_child (first head children none) =
+    Some (Some (record { head = head; children = children }))
 at_most_one_child (first head children (first h cs rest)) = None
 
 -- no element

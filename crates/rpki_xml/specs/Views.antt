@@ -6,7 +6,12 @@ use Rattle.rpki_xml.specs.Element.{Head}
 use Rattle.rpki_xml.specs.Nodes.{Slot}
 
 abbrev pub head_of : declared_node.Node → Head
-head_of n = record { name = n.name; namespace = n.namespace; attributes = n.attributes.items; text = n.text }
+head_of n = record {
+  name = n.name;
+  namespace = n.namespace;
+  attributes = n.attributes.items;
+  text = n.text;
+}
 
 abbrev pub slots : List declared_node.Node → List Slot
 slots nodes = map (λ n. record { head = head_of n; below = n.below }) nodes

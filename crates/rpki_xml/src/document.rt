@@ -67,7 +67,8 @@ pub fn read_document(alloc: Global, octets: &[u8]) -> Result<Element, XmlError>
 // The nodes of a document.
 fn nodes_of(alloc: Global, octets: &[u8]) -> Result<Vec<Node>, XmlError>
     requires { list_all is_octet octets.now ≡ true }
-    ensures value { MatchResult result (λ v. IsDocument octets.now (root_of v.items)) (λ e. IsRefused e octets.now) }
+    ensures value { MatchResult result (λ v. IsDocument octets.now (root_of v.items))
+        (λ e. IsRefused e octets.now) }
     ensures whole { IfOk result (λ v. IsWhole v.items) }
 {
     let source = Bytes::copy_from_slice(alloc, octets)?;
@@ -106,7 +107,8 @@ fn take(
     piece: Piece<'_>,
 ) -> Result<(), XmlError>
     requires { IsHeld nodes.old.items places.old.items }
-    ensures given { Gives (step (piece_of piece.entry) (held nodes.old.items places.old.items)) (λ _. held nodes.new.items places.new.items) result }
+    ensures given { Gives (step (piece_of piece.entry) (held nodes.old.items places.old.items))
+        (λ _. held nodes.new.items places.new.items) result }
     ensures kept { OnOk result (IsHeld nodes.new.items places.new.items) }
 {
     match piece {

@@ -57,9 +57,7 @@ impl<'a> Model for Children<'a> {
 
     ghost view = { λ c. tree_of (slots c.nodes.now) };
 
-    ghost invariant = {
-        λ c. IsFlat (slots c.nodes.now) × AreLettered (tree_of (slots c.nodes.now))
-    };
+    ghost invariant = { λ c. IsFlat (slots c.nodes.now) × AreLettered (tree_of (slots c.nodes.now)) };
 }
 
 /// An element of a document. In a clause it is a record of its head, which has name, namespace, attributes and text, and of
@@ -80,14 +78,10 @@ impl<'a> Model for ElementRef<'a> {
 
     ghost coded = { element_code };
 
-    ghost view = {
-        λ e. record { head = head_of e.head.now; children = tree_of (slots e.below.now) }
-    };
+    ghost view = { λ e. record { head = head_of e.head.now; children = tree_of (slots e.below.now) } };
 
-    ghost invariant = {
-        λ e. IsLetteredHead (head_of e.head.now)
-            × (IsFlat (slots e.below.now) × AreLettered (tree_of (slots e.below.now)))
-    };
+    ghost invariant = { λ e. IsLetteredHead (head_of e.head.now)
+        × (IsFlat (slots e.below.now) × AreLettered (tree_of (slots e.below.now))) };
 }
 
 impl<'a> Iterator for Children<'a> {
@@ -292,12 +286,10 @@ impl<'a> ElementRef<'a> {
     where
         F: FnOnce(&'a str) -> Option<T> + Drop,
         requires { F.IsAlwaysCallable rule }
-        ensures {
-            (reading : List ℕ → Option T)
-                → ((text : List ℕ) → (read : Option T)
-                    → FnOnceReturnsAt F.FnOnce rule text read → read ≡ reading text)
-                → Matches (optional_by reading local.now self.now.head) (λ found. found) result
-        }
+        ensures { (reading : List ℕ → Option T)
+            → ((text : List ℕ) → (read : Option T)
+            → FnOnceReturnsAt F.FnOnce rule text read → read ≡ reading text)
+            → Matches (optional_by reading local.now self.now.head) (λ found. found) result }
     {
         let Some(value) = self.optional(local)? else {
             return Ok(None);

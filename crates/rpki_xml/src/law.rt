@@ -37,7 +37,8 @@ pub fn calls_spell()
 
 /// The calls for elements one after the other leave what the elements are spelled as together.
 pub fn calls_follow()
-    ensures { (front back : Elements) (d : Draft) → with_elements back (with_elements front d) ≡ with_elements (joined front back) d }
+    ensures { (front back : Elements) (d : Draft)
+        → with_elements back (with_elements front d) ≡ with_elements (joined front back) d }
 {}
 
 /// What was written once the calls for one element are over is its spelling.
@@ -53,38 +54,28 @@ pub fn texts_are_trimmed()
 /// A value that may be absent, written, is an attribute of the element where it is there, and nothing where it is not: the call
 /// `attr_opt` and the list of attributes say the same.
 pub fn optional_attributes_follow()
-    ensures {
-        (front back : List Attribute) (d : Draft)
-            → with_attributes back (with_attributes front d) ≡ with_attributes (front ++ back) d
-    }
+    ensures { (front back : List Attribute) (d : Draft)
+        → with_attributes back (with_attributes front d) ≡ with_attributes (front ++ back) d }
 {}
 
 /// Reading until it stops is reading again and again, each time where it has not stopped yet, to the place where it stops:
 /// characters of a text or a value, and attributes of a start.
 pub fn runs_are_repetitions()
-    ensures characters {
-        (at_end : Bool) (stop : ℕ) (b : List ℕ) (text rest : List ℕ)
-            → (until (ends_at at_end stop) character_at b ≡ Some (text, rest))
-                ↔ RunsTo (ends_at at_end stop) character_at b text rest
-    }
-    ensures attributes {
-        (b : List ℕ) (attributes : List Attribute) (rest : List ℕ)
-            → (until no_attribute attribute_at b ≡ Some (attributes, rest))
-                ↔ RunsTo no_attribute attribute_at b attributes rest
-    }
+    ensures characters { (at_end : Bool) (stop : ℕ) (b : List ℕ) (text rest : List ℕ)
+        → (until (ends_at at_end stop) character_at b ≡ Some (text, rest))
+        ↔ RunsTo (ends_at at_end stop) character_at b text rest }
+    ensures attributes { (b : List ℕ) (attributes : List Attribute) (rest : List ℕ)
+        → (until no_attribute attribute_at b ≡ Some (attributes, rest))
+        ↔ RunsTo no_attribute attribute_at b attributes rest }
 {}
 
 /// Every lawful spelling of an attribute is read as that attribute, whatever follows it: in either quote, with white space round
 /// the `=`, and each character as itself or as an entity.
 pub fn spelled_attributes_are_read()
-    ensures stands {
-        (s : List ℕ) (a : Attribute) (rest : List ℕ)
-            → IsAttributeSpelling s a → no_attribute (s ++ rest) ≡ false
-    }
-    ensures read {
-        (s : List ℕ) (a : Attribute) (rest : List ℕ)
-            → IsAttributeSpelling s a → attribute_at (s ++ rest) ≡ Some (a, rest)
-    }
+    ensures stands { (s : List ℕ) (a : Attribute) (rest : List ℕ)
+        → IsAttributeSpelling s a → no_attribute (s ++ rest) ≡ false }
+    ensures read { (s : List ℕ) (a : Attribute) (rest : List ℕ)
+        → IsAttributeSpelling s a → attribute_at (s ++ rest) ≡ Some (a, rest) }
 {}
 
 /// `==` holds exactly between errors that are the same.

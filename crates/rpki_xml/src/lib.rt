@@ -1,11 +1,15 @@
 //! XML in the narrow profile of the messages: documents are read, elements are written.
 //!
 //! - [`read_document`]: the one element of a document, or [`XmlError::Malformed`] exactly where octets are no document.
-//! - [`Element`], and [`ElementRef`] for an element inside it: name, namespace, attributes, children and text; and what the
-//!   tables of messages ask, each by the word that their definitions use (specs/Lookup.antt).
+//! - [`Element`], and [`ElementRef`] for an element inside it: name, namespace, attributes, children and text.
+//! - What the tables of messages ask of an element, each by the word that their definitions use (specs/Tables.antt): attributes
+//!   by [`ElementRef::required`], `optional`, `optional_by`, `given_or_absent` and `only`; children by [`Children::the_one`],
+//!   `at_most_one` and `no_more`, or one after the other; and any other test by [`require`]. None takes memory: each answers what
+//!   is there, or [`Mismatch`], which `?` makes an [`XmlError`].
 //! - [`ElementWriter`]: writes an element call by call, in the one spelling.
-//! - [`at_most_one`], [`documents_are_lettered`], [`spelled_is_read`], [`calls_spell`], [`calls_follow`], [`done_is_spelled`]:
-//!   the laws that tie these together.
+//! - [`at_most_one`], [`documents_are_lettered`], [`texts_are_trimmed`]: laws about documents; [`runs_are_repetitions`],
+//!   [`spelled_attributes_are_read`]: about what is read; [`spelled_is_read`], [`calls_spell`], [`calls_follow`],
+//!   [`optional_attributes_follow`], [`done_is_spelled`]: about what is written; [`equal_errors_are_the_same`].
 //!
 //! A document is defined as a grammar: specs/Lexing.antt says which octets a piece is, specs/Content.antt which pieces are
 //! an element. No call recurses on the depth of a document, and none takes more steps than a document is long, but for a

@@ -46,10 +46,8 @@ pub(crate) fn optional_among<'a>(
     attributes: &'a [Attribute],
     local: &[u8],
 ) -> Result<Option<&'a [u8]>, Mismatch>
-    ensures {
-        let called = filter (is_called local.now) attributes.now in
-        Matches (items.at_most_one value_of called) option_copied result
-    }
+    ensures { let called = filter (is_called local.now) attributes.now in
+        Matches (items.at_most_one value_of called) option_copied result }
 {
     let mut found: Option<&[u8]> = None;
     for attribute in attributes {
@@ -68,10 +66,8 @@ pub(crate) fn required_among<'a>(
     attributes: &'a [Attribute],
     local: &[u8],
 ) -> Result<&'a [u8], Mismatch>
-    ensures {
-        let called = filter (is_called local.now) attributes.now in
-        Matches (items.the_one value_of called) (λ v. v.now) result
-    }
+    ensures { let called = filter (is_called local.now) attributes.now in
+        Matches (items.the_one value_of called) (λ v. v.now) result }
 {
     match optional_among(attributes, local)? {
         None => Err(Mismatch),

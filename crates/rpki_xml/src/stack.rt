@@ -22,7 +22,8 @@ pub(crate) fn add_run(
     run: Bytes,
 ) -> Result<(), XmlError>
     requires { IsHeld nodes.old.items places.now }
-    ensures given { Gives (add_run run (held nodes.old.items places.now)) (λ _. held nodes.new.items places.now) result }
+    ensures given { Gives (add_run run (held nodes.old.items places.now))
+        (λ _. held nodes.new.items places.now) result }
     ensures kept { OnOk result (IsHeld nodes.new.items places.now) }
 {
     let Some((place, _)) = places.split_last() else {
@@ -43,7 +44,8 @@ pub(crate) fn add_element(
 ) -> Result<(), XmlError>
     requires held { IsHeld nodes.old.items places.now }
     requires below { node.below ≡ 0 }
-    ensures given { Gives (add_element (head_of node) (held nodes.old.items places.now)) (λ _. held nodes.new.items places.now) result }
+    ensures given { Gives (add_element (head_of node) (held nodes.old.items places.now))
+        (λ _. held nodes.new.items places.now) result }
     ensures kept { OnOk result (IsHeld nodes.new.items places.now) }
 {
     if places.is_empty() {
@@ -61,7 +63,8 @@ pub(crate) fn begin_element(
 ) -> Result<(), XmlError>
     requires held { IsHeld nodes.old.items places.old.items }
     requires below { node.below ≡ 0 }
-    ensures given { Gives (begin_element (head_of node) (held nodes.old.items places.old.items)) (λ _. held nodes.new.items places.new.items) result }
+    ensures given { Gives (begin_element (head_of node) (held nodes.old.items places.old.items))
+        (λ _. held nodes.new.items places.new.items) result }
     ensures kept { OnOk result (IsHeld nodes.new.items places.new.items) }
 {
     if places.is_empty() {
@@ -80,7 +83,8 @@ pub(crate) fn end_element(
     name: &[u8],
 ) -> Result<(), XmlError>
     requires { IsHeld nodes.old.items places.old.items }
-    ensures given { Gives (end_element name.now (held nodes.old.items places.old.items)) (λ _. held nodes.new.items places.new.items) result }
+    ensures given { Gives (end_element name.now (held nodes.old.items places.old.items))
+        (λ _. held nodes.new.items places.new.items) result }
     ensures kept { OnOk result (IsHeld nodes.new.items places.new.items) }
 {
     let Some(place) = places.pop() else {

@@ -63,7 +63,8 @@ fn declared<'a>(name: &[u8], attributes: &'a [Attribute]) -> Option<&'a Bytes>
 
 #[tactic(auto, unfolding(crate::specs::Content::namespace_of))]
 fn namespace_of(name: &[u8], attributes: &[Attribute]) -> Result<Option<Bytes>, XmlError>
-    ensures { Gives (Some (namespace_of (record { name = name.now; attributes = attributes.now }))) (λ n. n) result }
+    ensures { Gives (Some (namespace_of (record { name = name.now; attributes = attributes.now })))
+        (λ n. n) result }
 {
     match declared(name, attributes) {
         None => Ok(None),

@@ -81,10 +81,8 @@ impl ElementWriter {
 
     /// The same, where there is a value.
     pub fn attr_opt(&mut self, name: &str, value: Option<&str>) -> Result<(), OutOfMemory>
-        ensures ok {
-            let attributes = optional_attribute name.now (option_copied value.entry) in
-            OnOk result (self.new ≡ with_attributes attributes self.old)
-        }
+        ensures ok { let attributes = optional_attribute name.now (option_copied value.entry) in
+            OnOk result (self.new ≡ with_attributes attributes self.old) }
         ensures err { OnErr result (self.new ≡ self.old) }
     {
         match value {

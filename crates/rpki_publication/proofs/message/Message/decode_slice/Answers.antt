@@ -10,4 +10,4 @@ returns-in_err-document c =
 pub returns-in_err-message_of : goal.returns-in_err-message_of
 returns-in_err-message_of c =
     let p = err_from_is_err_and c.from_residual-in_err-message_of.result c.from_residual-in_err-message_of.ensures.1 in
-    rw (p.1, p.2) (no_message c.in_err-message_of.field-0.0 c.args.octets.now c.in_ok-document.document c.in_ok-document.ensures (rw c.as_ref.ensures at c.in_err-message_of.ensures))
+    rw (p.1, p.2) (no_message c.args.octets.now c.in_ok-document.document c.in_ok-document.ensures (rw c.as_ref.ensures at c.in_err-message_of.ensures))

@@ -1,0 +1,345 @@
+#!/usr/bin/env python3
+"""Writes the documents that crates/document_cases reads: its data/cases.txt, and the stdout beside it.
+
+    tools/document_cases.py
+
+A line is `NAME DOCUMENT ELEMENT`: the octets, and the one spelling of the element that they are a document of (no declaration, no
+added white space, its own namespace as `xmlns`, `"` round values, entities for `&` `<` `>` and in values both quotes), or `-` where
+they are no document. Octets are given in parts, joined by commas: `HEX`; `COUNT*HEX`, these octets so often in a row;
+`COUNT#HEX/HEX`, each number below COUNT in decimal between these octets.
+
+What a document is stands here a second time, as a tokenizer over regular expressions; no expected spelling comes from the program
+under test. Whether a row of the tables is a document is said by the table that it stands in, and compared.
+"""
+
+import pathlib
+import re
+
+CRATE = pathlib.Path(__file__).resolve().parent.parent / "crates" / "document_cases"
+SIZES = [127, 128, 255, 256, 65535, 65536]
+
+# ---- what a document is
+
+SPACE = rb"[\t\n\r ]*"
+NAME = rb"[A-Za-z_][A-Za-z0-9_.-]*(?::[A-Za-z0-9_.-]+)?(?![A-Za-z0-9_.:-])"
+START = re.compile(rb"<(%s)((?:[\t\n\r ]+%s%s=%s(?:\"[^\"<]*\"|'[^'<]*'))*)%s(/?)>" % (NAME, NAME, SPACE, SPACE, SPACE))
+ATTRIBUTE = re.compile(rb"[\t\n\r ]+(%s)%s=%s(?:\"([^\"<]*)\"|'([^'<]*)')" % (NAME, SPACE, SPACE))
+END = re.compile(rb"</(%s)%s>" % (NAME, SPACE))
+PASSED = re.compile(rb"<!--.*?-->|<\?.*?\?>", re.DOTALL)
+RUN = re.compile(rb"[^<]+")
+OCTETS = re.compile(rb"[\t\n\r\x20-\x7e]*")
+ENTITIES = {b"amp": b"&", b"lt": b"<", b"gt": b">", b"quot": b'"', b"apos": b"'"}
+WHITE = b"\t\n\r "
+
+
+class NoDocument(Exception):
+    """The octets are no document"""
+
+
+def resolved(text):
+    """A text, with its entities as characters"""
+    if re.search(rb"&(?!(?:amp|lt|gt|quot|apos);)", text):
+        raise NoDocument
+    return re.sub(rb"&(\w+);", lambda found: ENTITIES[found.group(1)], text)
+
+
+def escaped(text, entities):
+    for character, name in entities:
+        text = text.replace(character, b"&%s;" % name)
+    return text
+
+
+def spelled_text(text):
+    return escaped(text, [(b"&", b"amp"), (b"<", b"lt"), (b">", b"gt")])
+
+
+def spelled_attribute(name, value):
+    return b' %s="%s"' % (name, escaped(spelled_text(value), [(b'"', b"quot"), (b"'", b"apos")]))
+
+
+def spelled_start(name, attributes):
+    """A start without its end, and its attributes by the element's own declarations"""
+    names = [attribute for attribute, _ in attributes]
+    if len(set(names)) < len(names):
+        raise NoDocument
+    declared = dict(attributes)
+    prefix, colon, _ = name.partition(b":")
+    namespace = declared.get(b"xmlns:" + prefix if colon else b"xmlns", b"")
+    handed_on = [(n, v) for n, v in attributes if n != b"xmlns" and not n.startswith(b"xmlns:")]
+    own = [(b"xmlns", namespace)] if namespace else []
+    return b"<" + name + b"".join(spelled_attribute(n, v) for n, v in own + handed_on)
+
+
+class Open:
+    """An open element, or the document itself"""
+
+    def __init__(self, name, start):
+        self.name, self.start, self.texts, self.children = name, start, [], []
+
+    def closed(self):
+        text = b"".join(self.texts)
+        if self.children and text.strip(WHITE):
+            raise NoDocument
+        inside = b"".join(self.children) or spelled_text(text.strip(WHITE))
+        return self.start + (b">" + inside + b"</" + self.name + b">" if inside else b"/>")
+
+
+def piece(octets, at, opens):
+    """One piece, and where it ends"""
+    if found := RUN.match(octets, at):
+        opens[-1].texts.append(resolved(found.group()))
+    elif found := PASSED.match(octets, at):
+        pass
+    elif found := END.match(octets, at):
+        if len(opens) < 2 or opens[-1].name != found.group(1):
+            raise NoDocument
+        done = opens.pop().closed()
+        opens[-1].children.append(done)
+    elif found := START.match(octets, at):
+        attributes = [(n, resolved(v + w)) for n, v, w in ATTRIBUTE.findall(found.group(2))]
+        opens.append(Open(found.group(1), spelled_start(found.group(1), attributes)))
+        if found.group(3):
+            done = opens.pop().closed()
+            opens[-1].children.append(done)
+    else:
+        raise NoDocument
+    return found.end()
+
+
+def element_of(octets):
+    """The spelling of the element that the octets are a document of, or None"""
+    opens, at = [Open(b"", b"")], 0
+    try:
+        if not OCTETS.fullmatch(octets):
+            return None
+        while at < len(octets):
+            at = piece(octets, at, opens)
+        if len(opens) > 1 or len(opens[0].children) != 1 or b"".join(opens[0].texts).strip(WHITE):
+            return None
+        return opens[0].children[0]
+    except NoDocument:
+        return None
+
+
+# ---- tables
+
+LAWFUL = [
+    # One element, with pieces round it that are passed over.
+    b"<a/>",
+    b"<a></a>",
+    b" \t\r\n<a/> \t\r\n",
+    b"<?xml version='1.0' encoding='utf-8'?><a/>",
+    b"<!-- before --><a/><!-- behind -->",
+    b"<?i <a> -->?><a/><?j?>",
+    b"<a/><!-- <b/> -- -> > -->",
+    b"<!----><a/>",
+    b"<!--->--><a/>",
+    b"<??><a/>",
+    b"<a/><?xml version='1.0'?>",
+    # Names.
+    b"<_/>",
+    b"<Z9-_./>",
+    b"<p:a/>",
+    b"<p:-/>",
+    b"<a></a >",
+    # Attributes, in both quotes, with white space round the `=`.
+    b"<a b=\"1\"/>",
+    b"<a b='1'/>",
+    b"<a b \t= \r\n'1' />",
+    b"<a\nb='1'\tc='2'></a>",
+    b"<a b='\"' c=\"'\"/>",
+    b"<a b='>'/>",
+    b"<a b=''/>",
+    b"<a b='1' p:b='2' q:b='3'/>",
+    # Namespaces.
+    b"<a xmlns='urn:x'/>",
+    b"<a xmlns=''/>",
+    b"<p:a xmlns:p='urn:x'/>",
+    b"<p:a xmlns:p=''/>",
+    b"<p:a xmlns='urn:x'/>",
+    b"<a xmlns='urn:x' xmlns:p='urn:y' xmlns:q='urn:z'/>",
+    # Content.
+    b"<a>x</a>",
+    b"<a>></a>",
+    b"<a>]]></a>",
+    b"<a>\"'</a>",
+    b"<a>&amp;&lt;&gt;&quot;&apos;</a>",
+    b"<a b='&amp;&lt;&gt;&quot;&apos;'/>",
+    b"<a>x<!-- c -->y<?i?>z</a>",
+    b"<a> <b/> <!-- c --> <?i?> <b></b> </a>",
+    b"<a><b><c>x</c></b><b>y</b></a>",
+    b"<a><!----></a>",
+    b"<a><??></a>",
+    b"<a> \t\r\n</a>",
+    b"<a>~</a>",
+]
+
+UNLAWFUL = [
+    # Not exactly one element.
+    b"",
+    b" ",
+    b"<!-- c -->",
+    b"<a/><a/>",
+    b"<a/>x",
+    b"x<a/>",
+    b"<a/>&amp;",
+    b"<a></a></a>",
+    b"<a>",
+    b"<a><b></a>",
+    b"<a></b>",
+    b"<a></A>",
+    b"<p:a></a>",
+    b"</a>",
+    b"<a",
+    b"<a/",
+    b"<a></a",
+    b"<",
+    b"< a/>",
+    b"<a></ a>",
+    b"<a / >",
+    # `<!` begins a comment and nothing else, and comments and instructions end.
+    b"<!DOCTYPE a><a/>",
+    b"<a><![CDATA[x]]></a>",
+    b"<! ><a/>",
+    b"<!-><a/>",
+    b"<!--><a/>",
+    b"<!-- <a/>",
+    b"<a/><!-- --",
+    b"<a><!-- </a>",
+    b"<a>x<!-</a>",
+    b"<?><a/>",
+    b"<? <a/>",
+    b"<a/><?i",
+    b"<a><?i </a>",
+    b"<a <!-- c --> b='1'/>",
+    b"<a <?i?>/>",
+    # An octet that no document has.
+    b"<a>\x7f</a>",
+    b"<a>\xc3\xa9</a>",
+    b"<a b='\x00'/>",
+    b"<!-- \x0b --><a/>",
+    # Names.
+    b"<1/>",
+    b"<-/>",
+    b"<:a/>",
+    b"<a:/>",
+    b"<a:b:c/>",
+    b"<a+/>",
+    b"<a 1='x'/>",
+    # Attributes.
+    b"<a b/>",
+    b"<a b=/>",
+    b"<a b=1/>",
+    b"<a b='1/>",
+    b"<a b='1\"/>",
+    b"<a b='<'/>",
+    b"<a b='1'c='2'/>",
+    b"<ab='1'/>",
+    b"<a b='1' b='2'/>",
+    b"<a b='1' c='2' b='1'></a>",
+    b"<a xmlns='urn:x' xmlns='urn:x'/>",
+    b"<a></a b='1'>",
+    # Entities.
+    b"<a>&</a>",
+    b"<a>& amp;</a>",
+    b"<a>&amp</a>",
+    b"<a>&AMP;</a>",
+    b"<a>&nbsp;</a>",
+    b"<a>&#65;</a>",
+    b"<a>&#x41;</a>",
+    b"<a b='&'/>",
+    b"<a b='&#65;'/>",
+    # A text beside a child.
+    b"<a>x<b/></a>",
+    b"<a><b/>x</a>",
+    b"<a><b/>&amp;</a>",
+    b"<a>x<!-- c --><b/></a>",
+]
+
+
+
+def each_octet():
+    """Each octet in a text, a value, a comment and an instruction"""
+    for octet in range(256):
+        for front, back in [(b"<a>", b"</a>"), (b"<a b='", b"'/>"), (b"<!-- ", b" --><a/>"), (b"<? ", b" ?><a/>")]:
+            yield front + bytes([octet]) + back
+
+
+# ---- sizes: the parts of a document, and those of its spelling
+
+
+def sizes(n):
+    yield "name", ["<", (n, "a"), "/>"], ["<", (n, "a"), "/>"]
+    yield "prefix", ["<", (n, "a"), ":b/>"], ["<", (n, "a"), ":b/>"]
+    yield "end", ["<", (n, "a"), "><b/></", (n, "a"), " >"], ["<", (n, "a"), "><b/></", (n, "a"), ">"]
+    yield "value", ["<a b='", (n, "x"), "'/>"], ['<a b="', (n, "x"), '"/>']
+    yield "namespace", ["<a xmlns='", (n, "x"), "'/>"], ['<a xmlns="', (n, "x"), '"/>']
+    yield "value-of-entities", ["<a b='", (n, "&lt;"), "'/>"], ['<a b="', (n, "&lt;"), '"/>']
+    yield "text", ["<a> ", (n, "x"), "\n</a>"], ["<a>", (n, "x"), "</a>"]
+    yield "text-of-entities", ["<a>", (n, "&amp;"), "</a>"], ["<a>", (n, "&amp;"), "</a>"]
+    yield "text-in-parts", ["<a>", (n, "x<?i?>"), "</a>"], ["<a>", (n, "x"), "</a>"]
+    yield "white-space", ["<a", (n, " "), "b=", (n, "\t"), "''", (n, "\n"), ">", (n, " "), "</a", (n, "\r"), ">"], ['<a b=""/>']
+    yield "comment", ["<!--", (n, "-x"), "--><a/>"], ["<a/>"]
+    yield "attributes", ["<a", (n, " b", "=''"), "/>"], ["<a", (n, " b", '=""'), "/>"]
+    yield "declarations", ["<a", (n, " xmlns:b", "=''"), " xmlns='x'/>"], ['<a xmlns="x"/>']
+    yield "twice", ["<a", (n, " b", "=''"), " b0=''/>"], None
+    yield "children", ["<a>", (n, "<b/> "), "</a>"], ["<a>", (n, "<b/>"), "</a>"]
+    yield "texts", ["<a>", (n, "<b>x</b>"), "</a>"], ["<a>", (n, "<b>x</b>"), "</a>"]
+    yield "levels", [(n, "<a>"), (n, "</a>")], [(n - 1, "<a>"), "<a/>", (n - 1, "</a>")]
+    yield "levels-not-closed", [(n, "<a>"), (n - 1, "</a>")], None
+
+
+def expanded(parts):
+    out = []
+    for part in parts:
+        if isinstance(part, str):
+            out.append(part)
+        elif len(part) == 2:
+            out.append(part[0] * part[1])
+        else:
+            out += [f"{part[1]}{number}{part[2]}" for number in range(part[0])]
+    return "".join(out).encode()
+
+
+def given(part):
+    """A part, as the cases give it"""
+    if isinstance(part, str):
+        return part.encode().hex()
+    if len(part) == 2:
+        return f"{part[0]}*{part[1].encode().hex()}"
+    return f"{part[0]}#{part[1].encode().hex()}/{part[2].encode().hex()}"
+
+
+def compared(name, octets, expected):
+    """Ends where this script's own reading is another one"""
+    if element_of(octets) != expected:
+        raise SystemExit(f"{name}: {octets[:80]} reads as {element_of(octets)}")
+
+
+def cases():
+    for kind, table in [("document", LAWFUL), ("no-document", UNLAWFUL)]:
+        for number, octets in enumerate(table, 1):
+            element = element_of(octets)
+            if (element is not None) != (table is LAWFUL):
+                raise SystemExit(f"{kind}-{number}: {octets} reads as {element}")
+            yield f"{kind}-{number}", octets.hex(), element.hex() if element is not None else "-"
+    for number, octets in enumerate(each_octet()):
+        element = element_of(octets)
+        yield f"octet-{number // 4}-{number % 4}", octets.hex(), element.hex() if element is not None else "-"
+    for n in SIZES:
+        for name, document, element in sizes(n):
+            if n <= 256 or name in ("name", "value", "text", "attributes"):
+                compared(name, expanded(document), expanded(element) if element is not None else None)
+            yield f"{name}-{n}", ",".join(map(given, document)), ",".join(map(given, element)) if element is not None else "-"
+
+
+def main():
+    lines = [" ".join(case) for case in cases()]
+    (CRATE / "data").mkdir(parents=True, exist_ok=True)
+    (CRATE / "data" / "cases.txt").write_text("\n".join(lines) + "\n")
+    (CRATE / "stdout").write_text(f"{len(lines)} cases, 0 differ\n")
+    print(f"{len(lines)} cases")
+
+
+if __name__ == "__main__":
+    main()
