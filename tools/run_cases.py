@@ -6,7 +6,7 @@
 
 A case of a folder is case-N.words (one word a line), case-N.in (the input) and case-N.expected (the status in decimal, a line
 feed, then what is written); they come from a model that was written apart. The rows of this script are made of
-examples/query-list.hex and of what stands here. No expected answer comes from the program under test.
+examples/query-list.hex, of examples/content.hex and of what stands here. No expected answer comes from the program under test.
 
 A line is `NAME STATUS LINE INPUT WORD..`: the status in decimal, what is written and the input in hexadecimal, and the words as
 they are. A `-` stands for an empty field.
@@ -20,12 +20,13 @@ from messages import QUERY, indefinite, overlong, segmented, seq, value
 ROOT = pathlib.Path(__file__).resolve().parent.parent
 CRATE = ROOT / "crates" / "run_cases"
 INPUT = (ROOT / "examples" / "query-list.hex").read_bytes()
+CONTENT_INPUT = (ROOT / "examples" / "content.hex").read_bytes()
 
 MOMENT = "1700000000"
 KEY = "3022300d06092a864886f70d010101050003110000000000000000010000000000000000"
 OTHER_KEY = KEY[:-2] + "09"
 RECEIVED = 0, QUERY
-USAGE, HEX, CMS_DECODE = (2, b"Usage"), (3, b"Hex"), (4, b"CmsDecode")
+USAGE, HEX, CMS_DECODE, XML_ERROR = (2, b"Usage"), (3, b"Hex"), (4, b"CmsDecode"), (5, b"XmlError")
 
 
 def validation(check):
@@ -117,6 +118,7 @@ def word_rows():
     yield "receive-without-key", receive()[:3], INPUT, USAGE
     yield "receive-of-five-words", receive() + (KEY,), INPUT, USAGE
     yield "receive-provisioning", ("receive", "provisioning", MOMENT, KEY), INPUT, USAGE
+    yield "content-of-two-words", ("content", "content"), INPUT, USAGE
 
 
 def input_rows():
@@ -130,6 +132,7 @@ def input_rows():
     yield "without-line-feed", receive(), INPUT.rstrip(b"\n"), RECEIVED
     yield "with-two-line-feeds", receive(), INPUT + b"\n", HEX
     yield "with-loose-lengths", receive(), line(with_loose_lengths(octets)), RECEIVED
+    yield "with-another-content", receive(), CONTENT_INPUT, XML_ERROR
     yield "with-an-overlong-length-in-the-crl", receive(), line(with_overlong_crl(octets)), CMS_DECODE
 
 

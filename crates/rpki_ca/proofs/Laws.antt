@@ -1,7 +1,9 @@
 -- One answer to octets, and what it asks of a scheme.
-use Rattle.std.proofs.Common.{◌≡◌, ℕ, ℤ, ◌⊎◌, inl, inr, Bool, true, false, Option, Some, None, Result, Ok, Err, List, refl, sym, ap, subst, ◌∙◌}
-use Rattle.std.specs.Prelude.{◌↔◌, Decides, MatchResult}
-use Rattle.std.proofs.lemmas.Bool.Decides.{eqb_tells}
+use Rattle.std.proofs.Common.{◌≡◌, ◌≢◌, ◌^◌, ◌==◌, if◌then◌else◌, length, ℕ, ℤ, ◌⊎◌, inl, inr, Bool, true, false, Option, Some, None, Result, Ok, Err, List, refl, sym, ap, subst, ◌∙◌}
+use Rattle.std.specs.Prelude.{◌↔◌, Decides, MatchResult, bytes_eq}
+use Rattle.std.proofs.lemmas.Bool.Decides.{eqb_tells, leb_tells}
+use Rattle.std.proofs.lemmas.Slice.Eq.{bytes_eq-Decides}
+use Rattle.sha2.specs.Sha256.{sha256}
 use Rattle.rpki_base.specs.PublicKey.{KeyFields}
 use Rattle.rpki_der.specs.declared.mode.Mode.TheVariants.{Ber}
 use Rattle.rpki_der.proofs.Decoding.{decoded_ok}
@@ -23,8 +25,11 @@ use Rattle.rpki_ca.specs.declared.receiving.ReceiveError.{ReceiveError}
 use Rattle.rpki_ca.specs.declared.receiving.ReceiveError.TheVariants as errors
 use Rattle.rpki_ca.specs.declared.refusals.Refusal.{Refusal}
 use Rattle.rpki_ca.specs.declared.refusals.Refusal.TheVariants as refusals
-use Rattle.rpki_ca.specs.Answer.{FailsAt, IsTextAccepted, IsReceipt, AnswersSpelled}
-use Rattle.rpki_ca.specs.Receipt.{Relation, ReadsAs, Accepted, HoldsNoSigned, HoldsNoMessage, RefusesReceipt, text_of}
+use Rattle.rpki_ca.specs.Refusal.{status_of}
+use Rattle.rpki_ca.specs.Answer.{IsContent, FailsDigest, IsContentAnswer, FailsAt, IsTextAccepted, IsReceiveAnswer, AnswersSpelled, IsAnswer}
+use Rattle.rpki_ca.specs.Command.{IsCommand, IsNoCommand}
+use Rattle.rpki_ca.specs.Hexadecimal.{hexadecimal}
+use Rattle.rpki_ca.specs.Acceptance.{Relation, ReadsAs, Accepted, HoldsNoSigned, HoldsNoMessage, RefusesReceipt, text_of}
 
 -- ---- what octets begin with, and what content reads as, is one
 
@@ -88,7 +93,7 @@ View scheme kind octets key when a =
     ⊎ (((a ≡ Err refusals.XmlError) × HoldsNoMessage kind octets)
     ⊎ ((n : ℕ) × (a ≡ Err (refusals.Validation n)) × FailsAt scheme kind octets key when n)))
 
-view : (scheme : Relation) (kind : Kind) (octets : List ℕ) (key : KeyFields) (when : ℤ) (a : Result (List ℕ) Refusal) → IsReceipt scheme kind octets key when a → View scheme kind octets key when a
+view : (scheme : Relation) (kind : Kind) (octets : List ℕ) (key : KeyFields) (when : ℤ) (a : Result (List ℕ) Refusal) → IsReceiveAnswer scheme kind octets key when a → View scheme kind octets key when a
 view scheme kind octets key when (Ok text) r = inl (text, refl, r)
 view scheme kind octets key when (Err refusals.CmsDecode) r = inr (inl (refl, r))
 view scheme kind octets key when (Err refusals.XmlError) r = inr (inr (inl (refl, r)))
@@ -136,10 +141,140 @@ one_view scheme kind octets key when a b (inr (inr (inr p))) (inr (inl q)) = abs
 one_view scheme kind octets key when a b (inr (inr (inr p))) (inr (inr (inl q))) = absurd (no_reading kind octets p.2.fails.signed p.2.fails.message p.2.fails.begins p.2.fails.reads q.1)
 one_view scheme kind octets key when a b (inr (inr (inr p))) (inr (inr (inr q))) = p.1 ∙ ap (λ (n : ℕ). Err (refusals.Validation n)) (one_number scheme kind octets key when p.0 q.0 p.2 q.2) ∙ sym q.1
 
+-- what an answer of `content` is
+abbrev ContentView : List ℕ → Result (List ℕ) Refusal → Type 0
+ContentView octets a =
+    ((text : List ℕ) × (a ≡ Ok text) × IsContent octets text)
+    ⊎ (((a ≡ Err refusals.CmsDecode) × HoldsNoSigned octets)
+    ⊎ ((a ≡ Err (refusals.Validation 2)) × FailsDigest octets))
+
+content_view : (octets : List ℕ) (a : Result (List ℕ) Refusal) → IsContentAnswer octets a → ContentView octets a
+content_view octets (Ok text) r = inl (text, refl, r)
+content_view octets (Err refusals.CmsDecode) r = inr (inl (refl, r))
+content_view octets (Err (refusals.Validation n)) r = inr (inr (ap (λ (m : ℕ). Err (refusals.Validation m)) r.0, r.1))
+content_view octets (Err refusals.XmlError) r = absurd r
+content_view octets (Err refusals.Usage) r = absurd r
+content_view octets (Err refusals.Hex) r = absurd r
+content_view octets (Err refusals.TooLong) r = absurd r
+content_view octets (Err refusals.ReadFault) r = absurd r
+content_view octets (Err refusals.OutOfMemory) r = absurd r
+
+one_digest : (octets text : List ℕ) → IsContent octets text → FailsDigest octets → ⊥
+one_digest octets text c f = f.digest (subst (λ (m : MessageFields). sha256 m.content ≡ m.digest) (one_signed octets c.signed f.signed c.begins f.begins) c.digest)
+
+one_content : (octets : List ℕ) (a b : Result (List ℕ) Refusal) → ContentView octets a → ContentView octets b → a ≡ b
+one_content octets a b (inl p) (inl q) =
+    p.1 ∙ ap Ok (p.2.content ∙ ap (λ (m : MessageFields). m.content) (one_signed octets p.2.signed q.2.signed p.2.begins q.2.begins) ∙ sym q.2.content) ∙ sym q.1
+one_content octets a b (inl p) (inr (inl q)) = absurd (q.1 p.2.signed p.2.begins)
+one_content octets a b (inl p) (inr (inr q)) = absurd (one_digest octets p.0 p.2 q.1)
+one_content octets a b (inr (inl p)) (inl q) = absurd (p.1 q.2.signed q.2.begins)
+one_content octets a b (inr (inl p)) (inr (inl q)) = p.0 ∙ sym q.0
+one_content octets a b (inr (inl p)) (inr (inr q)) = absurd (p.1 q.1.signed q.1.begins)
+one_content octets a b (inr (inr p)) (inl q) = absurd (one_digest octets q.0 q.2 p.1)
+one_content octets a b (inr (inr p)) (inr (inl q)) = absurd (q.1 p.1.signed p.1.begins)
+one_content octets a b (inr (inr p)) (inr (inr q)) = p.0 ∙ sym q.0
+
 pub one_answer : (scheme : Relation) (command : Command) (octets : Option (List ℕ)) (a b : Result (List ℕ) Refusal) → AnswersSpelled scheme command octets a → AnswersSpelled scheme command octets b → a ≡ b
 one_answer scheme command None a b p q = p ∙ sym q
-one_answer scheme Content (Some octets) a b p q = p ∙ sym q
+one_answer scheme Content (Some octets) a b p q = one_content octets a b (content_view octets a p) (content_view octets b q)
 one_answer scheme (Receive kind when key) (Some octets) a b p q = one_view scheme kind octets key when a b (view scheme kind octets key when a p) (view scheme kind octets key when b q)
+
+-- ---- two answers are the same or not
+
+number_of : Refusal → ℕ
+number_of (refusals.Validation n) = n
+number_of other = 0
+
+refusal_with : ℕ → ℕ → Refusal
+refusal_with status number =
+    if status == 2 then refusals.Usage
+    else if status == 3 then refusals.Hex
+    else if status == 4 then refusals.CmsDecode
+    else if status == 5 then refusals.XmlError
+    else if status == 6 then refusals.Validation number
+    else if status == 9 then refusals.TooLong
+    else if status == 10 then refusals.ReadFault
+    else refusals.OutOfMemory
+
+again : (r : Refusal) → refusal_with (status_of r) (number_of r) ≡ r
+unfolding refusal_with number_of
+again refusals.Usage = refl
+again refusals.Hex = refl
+again refusals.CmsDecode = refl
+again refusals.XmlError = refl
+again (refusals.Validation n) = refl
+again refusals.TooLong = refl
+again refusals.ReadFault = refl
+again refusals.OutOfMemory = refl
+
+told_refusal : (r s : Refusal) → (r ≡ s) ⊎ (r ≢ s)
+told_refusal r s =
+    elim (eqb_tells (status_of r) (status_of s)) [
+      | inl a ↦
+          elim (eqb_tells (number_of r) (number_of s)) [
+            | inl b ↦ inl (sym (again r) ∙ ap (λ (n : ℕ). refusal_with n (number_of r)) a.1 ∙ ap (λ (n : ℕ). refusal_with (status_of s) n) b.1 ∙ again s)
+            | inr b ↦ inr (λ k. b.1 (ap number_of k))
+          ]
+      | inr a ↦ inr (λ k. a.1 (ap status_of k))
+    ]
+
+told_text : (s t : List ℕ) (b : Bool) → Decides b (s ≡ t) → (s ≡ t) ⊎ (s ≢ t)
+told_text s t true d = inl (d.0 refl)
+told_text s t false d = inr (λ k. unlike (d.1 k))
+  where
+    unlike : false ≡ true → ⊥
+    unlike e = cc
+
+abbrev ok_of : List ℕ → Result (List ℕ) Refusal
+ok_of text = Ok text
+
+abbrev refused_of : Refusal → Result (List ℕ) Refusal
+refused_of r = Err r
+
+same_text : (s t : List ℕ) → ok_of s ≡ ok_of t → s ≡ t
+same_text s t k = cc
+
+same_refusal : (r s : Refusal) → refused_of r ≡ refused_of s → r ≡ s
+same_refusal r s k = cc
+
+told_answer : (a b : Result (List ℕ) Refusal) → (a ≡ b) ⊎ (a ≢ b)
+told_answer (Ok s) (Ok t) =
+    elim (told_text s t (bytes_eq s t) (bytes_eq-Decides s t)) [
+      | inl e ↦ inl (ap Ok e)
+      | inr n ↦ inr (λ k. n (same_text s t k))
+    ]
+told_answer (Ok s) (Err r) = inr (λ k. unlike k)
+  where
+    unlike : ok_of s ≡ refused_of r → ⊥
+    unlike k = cc
+told_answer (Err r) (Ok s) = inr (λ k. unlike k)
+  where
+    unlike : refused_of r ≡ ok_of s → ⊥
+    unlike k = cc
+told_answer (Err r) (Err s) =
+    elim (told_refusal r s) [
+      | inl e ↦ inl (ap Err e)
+      | inr n ↦ inr (λ k. n (same_refusal r s k))
+    ]
+
+-- ---- one answer to words and input
+
+one_where_command : (scheme : Relation) (words : List (List ℕ)) (input : List ℕ) (a b : Result (List ℕ) Refusal) → IsAnswer scheme words input a → IsAnswer scheme words input b
+    → (c : Command) → IsCommand words c → a ≡ b
+one_where_command scheme words input a b p q c is =
+    elim (leb_tells (length input) (2 ^ 26)) [
+      | inl within ↦ one_answer scheme c (hexadecimal input) a b (p.answers c is within.1) (q.answers c is within.1)
+      | inr longer ↦ p.long c is longer.1 ∙ sym (q.long c is longer.1)
+    ]
+
+pub one_answer_to_words : (scheme : Relation) (words : List (List ℕ)) (input : List ℕ) (a b : Result (List ℕ) Refusal) → IsAnswer scheme words input a → IsAnswer scheme words input b → a ≡ b
+one_answer_to_words scheme words input a b p q =
+    elim (told_answer a b) [
+      | inl e ↦ e
+      | inr n ↦
+          let none : IsNoCommand words = λ c is. n (one_where_command scheme words input a b p q c is) in
+          p.usage none ∙ sym (q.usage none)
+    ]
 
 -- ---- the three questions
 

@@ -1,8 +1,7 @@
-pub mod Contents
 pub mod Ending
 pub mod Spelled
 pub mod Commands
-pub mod Receipts
+pub mod Accepting
 pub mod Answering
 pub mod Laws
 pub mod Runs

@@ -3,5 +3,6 @@ pub mod Refusal
 pub mod Hexadecimal
 pub mod Words
 pub mod Command
-pub mod Receipt
+pub mod Acceptance
+pub mod Seen
 pub mod Answer

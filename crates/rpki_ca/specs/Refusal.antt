@@ -14,12 +14,17 @@ status_of TooLong = 9
 status_of ReadFault = 10
 status_of OutOfMemory = 12
 
+-- the first word of the name, which is the whole name of all but one
+abbrev pub word_of : Refusal → List ℕ
+word_of Usage = codes "Usage"
+word_of Hex = codes "Hex"
+word_of CmsDecode = codes "CmsDecode"
+word_of XmlError = codes "XmlError"
+word_of (Validation n) = codes "Validation"
+word_of TooLong = codes "TooLong"
+word_of ReadFault = codes "ReadFault"
+word_of OutOfMemory = codes "OutOfMemory"
+
 abbrev pub name_of : Refusal → List ℕ
-name_of Usage = codes "Usage"
-name_of Hex = codes "Hex"
-name_of CmsDecode = codes "CmsDecode"
-name_of XmlError = codes "XmlError"
-name_of (Validation n) = codes "Validation " ++ decimal n
-name_of TooLong = codes "TooLong"
-name_of ReadFault = codes "ReadFault"
-name_of OutOfMemory = codes "OutOfMemory"
+name_of (Validation n) = codes "Validation" ++ codes " " ++ decimal n
+name_of refusal = word_of refusal

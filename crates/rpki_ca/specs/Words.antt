@@ -8,7 +8,8 @@ use Rattle.rpki_der.specs.declared.mode.Mode.TheVariants.{Der}
 use Rattle.rpki_der.specs.Whole.{whole_of}
 use Rattle.rpki_base.specs.PublicKey.{KeyFields, public_key}
 
--- the word is the moment's seconds since 1970 in decimal digits without a leading zero, up to the end of the year 9999
+-- the word is the moment's seconds since 1970 in decimal digits without a leading zero, up to the
+-- end of the year 9999
 abbrev pub IsMoment : List ℕ → ℤ → Type 0
 IsMoment word (pos seconds) = (word ≡ decimal seconds) × (seconds ≤ 253402300799)
 IsMoment word (negsuc n) = ⊥

@@ -7,6 +7,7 @@ use crate::receiving::Kind;
 use crate::words::Words;
 use rpki_base::{PublicKey, Time};
 use rpki_common::OutOfMemory;
+use std::alloc::Global;
 
 /// What the words of a command line ask for.
 #[derive(Debug, Drop)]
@@ -35,7 +36,7 @@ fn kind_of(word: &str) -> Option<Kind>
 
 impl Words {
     /// The command that the words are; None exactly where they are none.
-    pub fn command(&self) -> Result<Option<Command>, OutOfMemory>
+    pub fn command(&self, alloc: Global) -> Result<Option<Command>, OutOfMemory>
         ensures command { IfOk result (λ c. IfSome c (IsCommand self.now)) }
         ensures none { IfOk result (λ c. IsNone c → IsNoCommand self.now) }
     {
@@ -45,12 +46,13 @@ impl Words {
         if !self.begins_with("receive", 4) {
             return Ok(None);
         }
-        self.receive()
+        self.receive(alloc)
     }
 
     // Whether there are so many words, and this is the first.
     fn begins_with(&self, name: &str, count: usize) -> bool
-        ensures { Decides result ((slice_get self.now 0 ≡ Some name.now) × (length self.now ≡ count)) }
+        ensures { Decides result
+            ((slice_get self.now 0 ≡ Some name.now) × (length self.now ≡ count)) }
     {
         match self.get(0) {
             Some(word) => word == name && self.len() == count,
@@ -69,7 +71,7 @@ impl Words {
     }
 
     // The command `receive`, if the words behind the first are of its form.
-    fn receive(&self) -> Result<Option<Command>, OutOfMemory>
+    fn receive(&self, alloc: Global) -> Result<Option<Command>, OutOfMemory>
         requires first { slice_get self.now 0 ≡ Some (codes "receive") }
         requires count { length self.now ≡ 4 }
         ensures command { IfOk result (λ c. IfSome c (IsCommand self.now)) }
@@ -81,7 +83,7 @@ impl Words {
         let Some(when) = self.moment(2) else {
             return Ok(None);
         };
-        match self.key(3)? {
+        match self.key(alloc, 3)? {
             Some(key) => Ok(Some(Command::Receive { kind, when, key })),
             None => Ok(None),
         }

@@ -19,9 +19,11 @@ fn is_memory(error: FromHexError) -> bool
     }
 }
 
-/// The octets that the digits spell, two digits of either case an octet; None where they are no even number of digits.
+/// The octets that the digits spell, two digits of either case an octet; None where they are no
+/// even number of digits.
 pub(crate) fn octets_of(alloc: Global, digits: &[u8]) -> Result<Option<Vec<u8>>, OutOfMemory>
-    ensures some { IfOk result (λ o. IfSome o (λ v. result_ok (decode_of digits.now) ≡ Some v.items)) }
+    ensures some { IfOk result (λ o.
+        IfSome o (λ v. result_ok (decode_of digits.now) ≡ Some v.items)) }
     ensures none { IfOk result (λ o. IsNone o → result_ok (decode_of digits.now) ≡ None) }
 {
     match hex::decode(alloc, digits) {
@@ -48,7 +50,8 @@ fn digits(input: &[u8]) -> &[u8]
 /// The octets that the input spells.
 pub(crate) fn input_octets(alloc: Global, input: &[u8]) -> Result<Vec<u8>, Refusal>
     ensures ok { IfOk result (λ v. hexadecimal input.now ≡ Some v.items) }
-    ensures err { IfErr result (λ e. e ≢ Refusal.OutOfMemory → (e ≡ Refusal.Hex) × (hexadecimal input.now ≡ None)) }
+    ensures err { IfErr result (λ e. e ≢ Refusal.OutOfMemory
+        → (e ≡ Refusal.Hex) × (hexadecimal input.now ≡ None)) }
 {
     match octets_of(alloc, digits(input))? {
         Some(octets) => Ok(octets),

@@ -1,26 +1,29 @@
-//! What the program `rpkica` does: [`run`] reads words and input, does what the words ask for, and writes one line.
+//! What the program `rpkica` does: [`run`] reads words and input, does what the words ask for, and
+//! writes one line.
 //!
-//! - `content` reads a signed message in hexadecimal and writes its content, if the content has the digest that was signed. It
-//!   says nothing of who signed.
-//! - `receive publication MOMENT KEY` writes the message of the publication protocol that a signed message is, if the key issued
-//!   its certificate for the moment; [`receive`] is the same for octets.
+//! - `content` reads a signed message in hexadecimal and writes its content, if the content has the
+//!   digest that was signed. It says nothing of who signed.
+//! - `receive publication MOMENT KEY` writes the message of the publication protocol that a signed
+//!   message is, if the key issued its certificate for the moment; [`receive`] is the same for
+//!   octets.
 //!
-//! What is accepted stands in specs/Receipt.antt, and what is answered to words and input in specs/Answer.antt.
+//! What is accepted stands in specs/Acceptance.antt, and what is answered to words and input in
+//! specs/Answer.antt.
 #![tactic(auto)]
 
 mod command;
-mod content;
+mod content_line;
 mod hexadecimal;
 mod law;
 mod line;
-mod receipt;
+mod receive_line;
 mod receiving;
 mod refusals;
 mod running;
 mod words;
 
 pub use command::Command;
-pub use law::{one_answer, receipts_ask_three_questions};
+pub use law::{one_answer, one_answer_to_words, receipts_ask_three_questions};
 pub use receiving::{Kind, ReceiveError, Received, receive, receive_counted};
 pub use refusals::Refusal;
 pub use running::{Status, refuse, run};

@@ -191,7 +191,7 @@ fn moments_are_read_of_words(rt: HostRuntime) -> Result<(), Fail> {
 // Whether the word is the key with this number, of seed 1.
 fn is_key(alloc: Global, word: &str, number: Option<u64>) -> Result<bool, Fail> {
     let words = words_of(alloc, &[word])?;
-    let key = words.key(0)?;
+    let key = words.key(alloc, 0)?;
     match number {
         None => Ok(key.is_none()),
         Some(number) => Ok(key == Some(ToyScheme::key(alloc, 1, number)?)),
@@ -229,13 +229,13 @@ fn keys_are_read_of_words(rt: HostRuntime) -> Result<(), Fail> {
     for (word, number) in rows {
         assert!(rt; is_key(alloc, word, number)?, "{word}");
     }
-    assert!(rt; words_of(alloc, &[])?.key(0)?.is_none());
+    assert!(rt; words_of(alloc, &[])?.key(alloc, 0)?.is_none());
     Ok(())
 }
 
 // Whether the words are those of `receive` at the moment 1, under the key with number 0 of seed 1.
 fn is_receive(alloc: Global, words: &Words) -> Result<bool, Fail> {
-    let Some(command) = words.command()? else {
+    let Some(command) = words.command(alloc)? else {
         return Ok(false);
     };
     let wanted = ToyScheme::key(alloc, 1, 0)?;
@@ -248,7 +248,7 @@ fn is_receive(alloc: Global, words: &Words) -> Result<bool, Fail> {
 }
 
 fn is_content(words: &Words) -> Result<bool, Fail> {
-    let Some(command) = words.command()? else {
+    let Some(command) = words.command(alloc)? else {
         return Ok(false);
     };
     match &command {

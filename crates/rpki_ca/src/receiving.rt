@@ -1,10 +1,10 @@
 //! What a receiver accepts.
 
-ghost use Rattle.std.specs.Prelude.{◌≡◌, ◌+◌, ◌*◌, ◌≤◌, ◌<◌, ℕ, List, length, MatchResult};
+ghost use Rattle.std.specs.Prelude.{◌≡◌, ◌+◌, ◌*◌, ◌≤◌, ◌<◌, ℕ, List, length};
 ghost use Rattle.rpki_der.specs.declared.mode.Mode.TheVariants.{Ber};
 ghost use Rattle.rpki_der.specs.Ticks.{nodes};
 ghost use Rattle.rpki_der.specs.Value.{Value, Begins};
-ghost use Rattle.rpki_ca.specs.Receipt.{Accepted, RefusesReceipt, FindsSigned, of_publication};
+ghost use Rattle.rpki_ca.specs.Acceptance.{IsReceived, FindsSigned, of_publication};
 ghost use Rattle.rpki_ca.specs.declared.receiving.ReceiveError.TheVariants as variant;
 
 use rpki_base::{PublicKey, Scheme, Time, Verifier};
@@ -69,12 +69,12 @@ impl From<ValidationError> for ReceiveError {
     }
 }
 
-/// The message of this kind that is signed at the beginning of the octets, in BER, where the key issued its certificate for the
-/// moment; what stands behind isn't read.
+/// The message of this kind that is signed at the beginning of the octets, in BER, where the key
+/// issued its certificate for the moment; what stands behind isn't read.
 ///
-/// The first of these decides: CmsDecode where no beginning of the octets is a signed message, XmlError where its content is no
-/// message of the kind, Validation where one of the fourteen checks fails, the first one, as
-/// [`rpki_sigmsg::SignedMessage::validate_at`] numbers them.
+/// The first of these decides: CmsDecode where no beginning of the octets is a signed message,
+/// XmlError where its content is no message of the kind, Validation where one of the fourteen
+/// checks fails, the first one, as [`rpki_sigmsg::SignedMessage::validate_at`] numbers them.
 pub fn receive<P: Scheme, V: Verifier<P>>(
     alloc: Global,
     kind: Kind,
@@ -83,7 +83,7 @@ pub fn receive<P: Scheme, V: Verifier<P>>(
     when: Time,
     verifier: &V,
 ) -> Result<Received, ReceiveError>
-    ensures { MatchResult result (Accepted P.checks kind octets.now key.now when) (RefusesReceipt P.checks kind octets.now key.now when) }
+    ensures { IsReceived P.checks kind octets.now key.now when result }
 {
     receive_within::<P, V, Brand>(alloc, kind, octets, key, when, verifier, Blank::new(1))
 }
@@ -100,13 +100,14 @@ fn receive_within<P: Scheme, V: Verifier<P>, L: Ledger>(
     requires name { blank.name ≡ L.name }
     requires parts { blank.parts ≡ L.parts }
     requires some { 0 < blank.parts }
-    ensures { MatchResult result (Accepted P.checks kind octets.now key.now when) (RefusesReceipt P.checks kind octets.now key.now when) }
+    ensures { IsReceived P.checks kind octets.now key.now when result }
 {
     let mut steps = Steps::<L>::new(blank);
     receive_counted(alloc, kind, octets, key, when, verifier, &mut steps)
 }
 
-/// As [`receive`]. It ticks once for each header and each end mark that it reads, in the signed message alone.
+/// As [`receive`]. It ticks once for each header and each end mark that it reads, in the signed
+/// message alone.
 pub fn receive_counted<P: Scheme, V: Verifier<P>, L: Ledger>(
     alloc: Global,
     kind: Kind,
@@ -116,11 +117,12 @@ pub fn receive_counted<P: Scheme, V: Verifier<P>, L: Ledger>(
     verifier: &V,
     steps: &mut Steps<L>,
 ) -> Result<Received, ReceiveError>
-    ensures answer { MatchResult result (Accepted P.checks kind octets.now key.now when) (RefusesReceipt P.checks kind octets.now key.now when) }
+    ensures answer { IsReceived P.checks kind octets.now key.now when result }
     ensures most { steps.new ≤ steps.old + 3 * length octets.now + 8 }
 
     // Where a signed message was found, each value in it ticked.
-    ensures least { FindsSigned result → (v : Value) (rest : List ℕ) → Begins Ber octets.now v rest → steps.old + nodes v ≤ steps.new }
+    ensures least { FindsSigned result → (v : Value) (rest : List ℕ)
+        → Begins Ber octets.now v rest → steps.old + nodes v ≤ steps.new }
 {
     match kind {
         Kind::Publication => receive_publication(alloc, octets, key, when, verifier, steps),
@@ -135,9 +137,10 @@ fn receive_publication<P: Scheme, V: Verifier<P>, L: Ledger>(
     verifier: &V,
     steps: &mut Steps<L>,
 ) -> Result<Received, ReceiveError>
-    ensures answer { MatchResult result (Accepted P.checks Kind.Publication octets.now key.now when) (RefusesReceipt P.checks Kind.Publication octets.now key.now when) }
+    ensures answer { IsReceived P.checks Kind.Publication octets.now key.now when result }
     ensures most { steps.new ≤ steps.old + 3 * length octets.now + 8 }
-    ensures least { FindsSigned result → (v : Value) (rest : List ℕ) → Begins Ber octets.now v rest → steps.old + nodes v ≤ steps.new }
+    ensures least { FindsSigned result → (v : Value) (rest : List ℕ)
+        → Begins Ber octets.now v rest → steps.old + nodes v ≤ steps.new }
 {
     let cms = PublicationCms::decode_counted(alloc, octets, steps)?;
     cms.signed_message().validate_at(verifier, key, when)?;

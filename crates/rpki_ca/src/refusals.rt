@@ -1,15 +1,16 @@
 //! What is answered where something is refused.
 
-ghost use Rattle.std.specs.Prelude.{◌≡◌, ◌++◌, ◌∷◌, [], IfOk, Some, string_bytes};
+ghost use Rattle.std.specs.Prelude.{◌≡◌, ◌≤◌, ◌++◌, ◌∷◌, [], Some, length};
 ghost use Rattle.rpki_ca.specs.declared.refusals.Refusal.TheVariants as variant;
-ghost use Rattle.rpki_ca.specs.Refusal.{status_of, name_of};
+ghost use Rattle.rpki_ca.specs.Refusal.{status_of, word_of, name_of};
 
+use arrayvec::ArrayString;
+use itoa::Buffer;
 use rpki_common::OutOfMemory;
-use std::alloc::Global;
 use std::fmt;
 
-/// Why the program doesn't do what it was asked for. Each has an exit status, and prints as its name, which is the line that is
-/// written.
+/// Why the program doesn't do what it was asked for. Each has an exit status, and prints as its
+/// name, which is the line that is written.
 #[derive(Clone, Copy, Debug, PartialEq, Eq)]
 pub enum Refusal {
     /// The words are no command.
@@ -47,13 +48,35 @@ impl Refusal {
         }
     }
 
-    /// The line that is written, with its line feed.
-    pub fn line(self, alloc: Global) -> Result<String, OutOfMemory>
-        ensures { IfOk result (λ line. string_bytes line ≡ name_of self ++ 10 ∷ []) }
+    /// The line that is written, with its line feed. It takes no memory.
+    pub fn line(self) -> ArrayString<64>
+        ensures { result.bytes ≡ name_of self ++ 10 ∷ [] }
     {
-        let mut line = self.to_string(alloc)?;
-        line.push('\n')?;
-        Ok(line)
+        let mut line = ArrayString::new();
+        line.push_str(self.word());
+        if let Refusal::Validation(check) = self {
+            line.push_str(" ");
+            line.push_str(Buffer::new().format(check));
+        }
+        line.push_str("\n");
+        line
+    }
+
+    // The first word of the name.
+    fn word(self) -> &'static str
+        ensures word { result.now ≡ word_of self }
+        ensures short { length result.now ≤ 11 }
+    {
+        match self {
+            Refusal::Usage => "Usage",
+            Refusal::Hex => "Hex",
+            Refusal::CmsDecode => "CmsDecode",
+            Refusal::XmlError => "XmlError",
+            Refusal::Validation(_) => "Validation",
+            Refusal::TooLong => "TooLong",
+            Refusal::ReadFault => "ReadFault",
+            Refusal::OutOfMemory => "OutOfMemory",
+        }
     }
 }
 
@@ -62,14 +85,8 @@ impl fmt::Display for Refusal {
 
     fn fmt<W: fmt::Write>(&self, f: &mut fmt::Formatter<W>) -> fmt::Result {
         match self {
-            Refusal::Usage => write!(f, "Usage"),
-            Refusal::Hex => write!(f, "Hex"),
-            Refusal::CmsDecode => write!(f, "CmsDecode"),
-            Refusal::XmlError => write!(f, "XmlError"),
             Refusal::Validation(check) => write!(f, "Validation {check}"),
-            Refusal::TooLong => write!(f, "TooLong"),
-            Refusal::ReadFault => write!(f, "ReadFault"),
-            Refusal::OutOfMemory => write!(f, "OutOfMemory"),
+            refusal => f.write_str(refusal.word()),
         }
     }
 }

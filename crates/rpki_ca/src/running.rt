@@ -1,20 +1,24 @@
 //! All that the program does.
 
-ghost use Rattle.std.specs.Prelude.{◌≡◌, ◌≢◌, ◌++◌, ◌∷◌, [], ◌↔◌, ◌⊎◌, List, ℕ, ℤ, Result, Ok, Err, IfOk, IfErr, IfSome, OnOk, IsErrOf, MatchResult, length, ◌^◌, ◌≤◌};
+ghost use Rattle.std.specs.Prelude.{◌≡◌, ◌≢◌, ◌+◌, ◌++◌, ◌∷◌, [], ◌⊎◌, ◌^◌, ◌≤◌, ℕ, ℤ, List, Result, Ok, Err};
+ghost use Rattle.std.specs.Prelude.{IfOk, IfErr, IfSome, OnOk, IsErrOf, MatchResult, length};
 ghost use Rattle.std.specs.Io.KnownBytes.{Appends, IsAtEnd};
 ghost use Rattle.rpki_base.specs.PublicKey.{KeyFields};
-ghost use Rattle.rpki_common.specs.Causes.{Rose};
 ghost use Rattle.rpki_text.specs.Sink.{AppendsPart};
+ghost use Rattle.rpki_text.specs.Source.{TakesAtMost};
 ghost use Rattle.rpki_ca.specs.declared.receiving.Kind.{Kind};
+ghost use Rattle.rpki_ca.specs.declared.refusals.Refusal.{Refusal};
 ghost use Rattle.rpki_ca.specs.Refusal.{status_of};
-ghost use Rattle.rpki_ca.specs.Command.{IsCommand, IsNoCommand, IsReceive};
-ghost use Rattle.rpki_ca.specs.Answer.{Answers, AnswersSpelled, IsAnswer, IsAdmitted, IsUnread, Ends, ReadsAll, Delivers, Holds, Succeeds};
+ghost use Rattle.rpki_ca.specs.Command.{IsNoCommand, IsReceive};
+ghost use Rattle.rpki_ca.specs.Seen.{seen, HasFailed, IsSteady};
+ghost use Rattle.rpki_ca.specs.Answer.{Answers, AnswersSpelled, IsAnswer, IsShown, IsAdmitted, IsUnread};
+ghost use Rattle.rpki_ca.specs.Answer.{IsLineOf, Ends, EndsAs, ReadsAll, Delivers, Holds, Succeeds};
 ghost use Rattle.rpki_ca.specs.Hexadecimal.{hexadecimal};
 
 use crate::command::Command;
-use crate::content::content;
+use crate::content_line::content_line;
 use crate::hexadecimal::input_octets;
-use crate::receipt::receipt;
+use crate::receive_line::receive_line;
 use crate::refusals::Refusal;
 use crate::words::Words;
 use rpki_base::{Scheme, Verifier};
@@ -35,13 +39,15 @@ fn perform<P: Scheme, V: Verifier<P>>(
     octets: &[u8],
     verifier: &V,
 ) -> Result<Vec<u8>, Refusal>
-    ensures ok { IfOk result (λ line. (text : List ℕ) × Answers P.checks command.now octets.now (Ok text) × (line.items ≡ text ++ 10 ∷ [])) }
-    ensures err { IfErr result (λ e. e ≢ Refusal.OutOfMemory → Answers P.checks command.now octets.now (Err e)) }
+    ensures ok { IfOk result (λ line.
+        IsLineOf (Answers P.checks command.now octets.now) line.items) }
+    ensures err { IfErr result (λ e.
+        e ≢ Refusal.OutOfMemory → Answers P.checks command.now octets.now (Err e)) }
 {
     match command {
-        Command::Content => content(alloc, octets),
+        Command::Content => content_line(alloc, octets),
         Command::Receive { kind, when, key } => {
-            receipt(alloc, *kind, octets, key, *when, verifier)
+            receive_line(alloc, *kind, octets, key, *when, verifier)
         }
     }
 }
@@ -53,8 +59,10 @@ fn perform_spelled<P: Scheme, V: Verifier<P>>(
     input: &[u8],
     verifier: &V,
 ) -> Result<Vec<u8>, Refusal>
-    ensures ok { IfOk result (λ line. (text : List ℕ) × AnswersSpelled P.checks command.now (hexadecimal input.now) (Ok text) × (line.items ≡ text ++ 10 ∷ [])) }
-    ensures err { IfErr result (λ e. e ≢ Refusal.OutOfMemory → AnswersSpelled P.checks command.now (hexadecimal input.now) (Err e)) }
+    ensures ok { IfOk result (λ line.
+        IsLineOf (AnswersSpelled P.checks command.now (hexadecimal input.now)) line.items) }
+    ensures err { IfErr result (λ e. e ≢ Refusal.OutOfMemory
+        → AnswersSpelled P.checks command.now (hexadecimal input.now) (Err e)) }
 {
     let octets = input_octets(alloc, input)?;
     perform(alloc, command, &octets, verifier)
@@ -62,9 +70,12 @@ fn perform_spelled<P: Scheme, V: Verifier<P>>(
 
 // The whole input.
 fn read_input<I: Source>(alloc: Global, input: &mut I) -> Result<Vec<u8>, Refusal>
-    ensures ok { IfOk result (λ octets. IfSome (I.rest input.old) (λ rest. (octets.items ≡ rest) × (length rest ≤ 2 ^ 26))) }
+    ensures ok { IfOk result (λ octets. IfSome (I.rest input.old) (λ rest.
+        (octets.items ≡ rest) × (length rest ≤ 2 ^ 26))) }
+    ensures steady { OnOk result (IsSteady (seen I.rest I.faults input.old input.new)) }
     ensures end { OnOk result (IsAtEnd (I.rest input.new)) }
-    ensures err { IfErr result (λ e. IsUnread (I.rest input.old) (I.faults input.old) (I.faults input.new) e) }
+    ensures err { IfErr result (λ e. IsUnread (seen I.rest I.faults input.old input.new) e) }
+    ensures most { TakesAtMost (I.rest input.old) (I.rest input.new) (2 ^ 26 + 1) }
 {
     match read_all(alloc, input, LIMIT) {
         Ok(octets) => Ok(octets),
@@ -81,14 +92,19 @@ fn answer<P: Scheme, I: Source, V: Verifier<P>>(
     input: &mut I,
     verifier: &V,
 ) -> Result<Vec<u8>, Refusal>
-    ensures ok { IfOk result (λ line. (text : List ℕ) × (line.items ≡ text ++ 10 ∷ []) × IsAdmitted P.checks words.now (I.rest input.old) (I.faults input.old) (I.faults input.new) (Ok text)) }
-    ensures err { IfErr result (λ e. IsAdmitted P.checks words.now (I.rest input.old) (I.faults input.old) (I.faults input.new) (Err e)) }
+    ensures ok { IfOk result (λ line. IsLineOf
+        (IsShown P.checks words.now (seen I.rest I.faults input.old input.new)) line.items) }
+    ensures err { IfErr result (λ e.
+        IsAdmitted P.checks words.now (seen I.rest I.faults input.old input.new) (Err e)) }
     ensures usage { IsErrOf result Refusal.Usage → IsNoCommand words.now }
-    ensures usage_always { IsNoCommand words.now → IsErrOf result Refusal.Usage ⊎ IsErrOf result Refusal.OutOfMemory }
+    ensures usage_always { IsNoCommand words.now
+        → IsErrOf result Refusal.Usage ⊎ IsErrOf result Refusal.OutOfMemory }
     ensures unread { IsNoCommand words.now → input.new ≡ input.old }
-    ensures whole { MatchResult result (λ _. IsAtEnd (I.rest input.new)) (λ e. ReadsAll (status_of e) → IsAtEnd (I.rest input.new)) }
+    ensures whole { MatchResult result (λ _. IsAtEnd (I.rest input.new))
+        (λ e. ReadsAll (status_of e) → IsAtEnd (I.rest input.new)) }
+    ensures most { TakesAtMost (I.rest input.old) (I.rest input.new) (2 ^ 26 + 1) }
 {
-    let Some(command) = words.command()? else {
+    let Some(command) = words.command(alloc)? else {
         return Err(Refusal::Usage);
     };
     let octets = read_input(alloc, input)?;
@@ -98,9 +114,12 @@ fn answer<P: Scheme, I: Source, V: Verifier<P>>(
 // Writes the line, and answers the status; or 11, where a write fails.
 fn write_line<O: Sink>(output: &mut O, line: &[u8], status: u8) -> Status
     requires { status ≢ 11 }
-    ensures whole { result.0 ≢ 11 → (result.0 ≡ status) × Appends (O.written output.old) (O.written output.new) line.now }
-    ensures part { result.0 ≡ 11 → AppendsPart (O.written output.old) (O.written output.new) line.now }
-    ensures cause { result.0 ≡ 11 → Rose (O.faults output.old) (O.faults output.new) }
+    ensures whole { result.0 ≢ 11 → (result.0 ≡ status)
+        × Appends (O.written output.old) (O.written output.new) line.now }
+    ensures part { result.0 ≡ 11
+        → AppendsPart (O.written output.old) (O.written output.new) line.now }
+    ensures fault { result.0 ≡ 11 → HasFailed (seen O.written O.faults output.old output.new) }
+    ensures steady { result.0 ≢ 11 → IsSteady (seen O.written O.faults output.old output.new) }
 {
     match write_all(output, line) {
         Ok(()) => Status(status),
@@ -108,26 +127,43 @@ fn write_line<O: Sink>(output: &mut O, line: &[u8], status: u8) -> Status
     }
 }
 
-/// Writes the line of the refusal and answers its status, or 11 where a write failed. Where there is no memory for the line, it is
-/// that of want of memory, with status 12.
-pub fn refuse<O: Sink>(alloc: Global, output: &mut O, refusal: Refusal) -> Status
-    ensures ends { Ends (Err refusal) result.0 (O.written output.old) (O.written output.new) (O.faults output.old) (O.faults output.new) ⊎ Ends (Err Refusal.OutOfMemory) result.0 (O.written output.old) (O.written output.new) (O.faults output.old) (O.faults output.new) }
-    ensures status { (result.0 ≡ status_of refusal) ⊎ ((result.0 ≡ 11) ⊎ (result.0 ≡ 12)) }
+/// Writes the line of the refusal and answers its status, or 11 where a write failed. It takes no
+/// memory.
+pub fn refuse<O: Sink>(output: &mut O, refusal: Refusal) -> Status
+    ensures ends { Ends (Err refusal) result.0 (seen O.written O.faults output.old output.new) }
+    ensures status { (result.0 ≡ status_of refusal) ⊎ (result.0 ≡ 11) }
+    ensures fault { result.0 ≡ 11 → HasFailed (seen O.written O.faults output.old output.new) }
+    ensures steady { result.0 ≢ 11 → IsSteady (seen O.written O.faults output.old output.new) }
 {
-    match refusal.line(alloc) {
-        Ok(line) => write_line(output, line.as_bytes(), refusal.status()),
-        Err(_) => write_line(output, b"OutOfMemory\n", Refusal::OutOfMemory.status()),
+    write_line(output, refusal.line().as_str().as_bytes(), refusal.status())
+}
+
+// Writes the line with status 0, or that of the refusal.
+fn finish<O: Sink>(output: &mut O, answer: Result<Vec<u8>, Refusal>) -> Status
+    ensures text { IfOk answer (λ line. (text : List ℕ) → line.items ≡ text ++ 10 ∷ []
+        → Ends (Ok text) result.0 (seen O.written O.faults output.old output.new)) }
+    ensures refusal { IfErr answer (λ e.
+        Ends (Err e) result.0 (seen O.written O.faults output.old output.new)) }
+    ensures status { MatchResult answer (λ _. (result.0 ≡ 0) ⊎ (result.0 ≡ 11))
+        (λ e. (result.0 ≡ status_of e) ⊎ (result.0 ≡ 11)) }
+    ensures fault { result.0 ≡ 11 → HasFailed (seen O.written O.faults output.old output.new) }
+    ensures steady { result.0 ≢ 11 → IsSteady (seen O.written O.faults output.old output.new) }
+{
+    match answer {
+        Ok(line) => write_line(output, &line, 0),
+        Err(refusal) => refuse(output, refusal),
     }
 }
 
-/// Does what the words ask for with the input, writes one line, and answers the exit status: 0, that of a refusal, or 11
-/// where a write failed.
+/// Does what the words ask for with the input, writes one line, and answers the exit status: 0,
+/// that of a refusal, or 11 where a write failed.
 ///
-/// Both commands read a signed message in hexadecimal, an even number of digits of either case and at most one line feed
-/// behind them; octets behind the message are allowed, and reading stops behind 2^26 octets.
-/// `content` writes its content. `receive publication MOMENT KEY` writes the message that it is, where the key issued its
-/// certificate for the moment and all fourteen checks hold: MOMENT in seconds since 1970, KEY in DER and hexadecimal.
-/// The whole line is made before the first write.
+/// Both commands read a signed message in hexadecimal, an even number of digits of either case and
+/// at most one line feed behind them; octets behind the message are allowed, and reading stops
+/// behind 2^26 octets and one more. `content` writes its content. `receive publication MOMENT KEY`
+/// writes the message that it is, where the key issued its certificate for the moment and all
+/// fourteen checks hold: MOMENT in seconds since 1970, KEY in DER and hexadecimal. The whole line
+/// is made before the first write.
 pub fn run<P: Scheme, I: Source, O: Sink, V: Verifier<P>>(
     alloc: Global,
     words: &Words,
@@ -135,28 +171,60 @@ pub fn run<P: Scheme, I: Source, O: Sink, V: Verifier<P>>(
     output: &mut O,
     verifier: &V,
 ) -> Status
-    // `receive` ends with 0 only where a message was accepted, whose text is the line that was written.
-    ensures received { (kind : Kind) (when : ℤ) (key : KeyFields) → IsReceive words.now kind when key → result.0 ≡ 0 → IfSome (I.rest input.old) (λ rest. Delivers P.checks kind key when rest (O.written output.old) (O.written output.new)) }
+    // `receive` ends with 0 only where a message was accepted, whose text is the line that was
+    // written.
+    ensures received { (kind : Kind) (when : ℤ) (key : KeyFields)
+        → IsReceive words.now kind when key → result.0 ≡ 0
+        → IfSome (I.rest input.old) (λ rest.
+            Delivers P.checks kind key when rest (seen O.written O.faults output.old output.new)) }
 
-    // And where a message is accepted it ends with 0, but for want of memory and for faults of source and sink.
-    ensures accepted { (kind : Kind) (when : ℤ) (key : KeyFields) → IsReceive words.now kind when key → IfSome (I.rest input.old) (λ rest. Holds P.checks kind key when rest → Succeeds result.0 (I.faults input.old) (I.faults input.new) (O.faults output.old) (O.faults output.new)) }
+    // And where a message is accepted it ends with 0, but for want of memory and for faults of
+    // source and sink.
+    ensures accepted { (kind : Kind) (when : ℤ) (key : KeyFields)
+        → IsReceive words.now kind when key
+        → IfSome (I.rest input.old) (λ rest. Holds P.checks kind key when rest → Succeeds result.0
+            (seen I.rest I.faults input.old input.new)
+            (seen O.written O.faults output.old output.new)) }
 
-    // Status 0 comes only with the text that the words ask for of this input, as the line that was written.
-    ensures done { result.0 ≡ 0 → IfSome (I.rest input.old) (λ rest. (text : List ℕ) × IsAnswer P.checks words.now rest (Ok text) × Appends (O.written output.old) (O.written output.new) (text ++ 10 ∷ [])) }
+    // Where words and input show an answer, the call ends with it, but for want of memory and for
+    // faults of source and sink.
+    ensures shown { (answer : Result (List ℕ) Refusal) → IfSome (I.rest input.old) (λ rest.
+        IsAnswer P.checks words.now rest answer → EndsAs answer result.0
+            (seen I.rest I.faults input.old input.new)
+            (seen O.written O.faults output.old output.new)) }
 
-    // Every status comes with an admitted answer: one that words and input show, that the source failed, or want of memory.
-    ensures answered { (answer : Result (List ℕ) Refusal) × IsAdmitted P.checks words.now (I.rest input.old) (I.faults input.old) (I.faults input.new) answer × Ends answer result.0 (O.written output.old) (O.written output.new) (O.faults output.old) (O.faults output.new) }
+    // Every status comes with an admitted answer: one that words and input show, that the source
+    // failed, or want of memory.
+    ensures answered { (answer : Result (List ℕ) Refusal)
+        × IsAdmitted P.checks words.now (seen I.rest I.faults input.old input.new) answer
+        × Ends answer result.0 (seen O.written O.faults output.old output.new) }
 
-    // Other words leave the source unread, and are answered so unless the write fails or memory runs out.
+    // Status 0 comes only with the text that the words ask for of this input, as the line that was
+    // written.
+    ensures done { result.0 ≡ 0 → IfSome (I.rest input.old) (λ rest. (text : List ℕ)
+        × IsAnswer P.checks words.now rest (Ok text)
+        × Appends (O.written output.old) (O.written output.new) (text ++ 10 ∷ [])) }
+
+    // A fault of the source or of the sink is told, and nothing else is told as one.
+    ensures read_fault { result.0 ≡ 10 → HasFailed (seen I.rest I.faults input.old input.new) }
+    ensures no_read_fault { result.0 ≢ 10 → result.0 ≢ 11
+        → IsSteady (seen I.rest I.faults input.old input.new) }
+    ensures write_fault { result.0 ≡ 11
+        → HasFailed (seen O.written O.faults output.old output.new) }
+    ensures no_write_fault { result.0 ≢ 11
+        → IsSteady (seen O.written O.faults output.old output.new) }
+
+    // Other words leave the source unread, and are answered so unless the write fails or memory
+    // runs out.
     ensures usage { result.0 ≡ 2 → IsNoCommand words.now }
-    ensures usage_always { IsNoCommand words.now → (result.0 ≡ 2) ⊎ ((result.0 ≡ 11) ⊎ (result.0 ≡ 12)) }
+    ensures usage_always { IsNoCommand words.now
+        → (result.0 ≡ 2) ⊎ ((result.0 ≡ 11) ⊎ (result.0 ≡ 12)) }
     ensures unread { IsNoCommand words.now → input.new ≡ input.old }
 
-    // Where the input decided, nothing of it is left.
+    // Where the input decided, nothing of it is left; and no more is read than the limit and one.
     ensures whole { ReadsAll result.0 → IsAtEnd (I.rest input.new) }
+    ensures most { TakesAtMost (I.rest input.old) (I.rest input.new) (2 ^ 26 + 1) }
 {
-    match answer(alloc, words, input, verifier) {
-        Ok(line) => write_line(output, &line, 0),
-        Err(refusal) => refuse(alloc, output, refusal),
-    }
+    let answer = answer(alloc, words, input, verifier);
+    finish(output, answer)
 }

@@ -12,7 +12,8 @@ use rpki_der::{DecodeError, Mode};
 use std::alloc::Global;
 use std::marker::Model;
 
-/// The words of a command line, behind the program's name. In a clause it is the list of their octets.
+/// The words of a command line, behind the program's name. In a clause it is the list of their
+/// octets.
 #[derive(Drop)]
 pub struct Words {
     alloc: Global,
@@ -77,8 +78,9 @@ impl Words {
 
 /// # Words of a form
 impl Words {
-    /// The moment that the word at `index` names by its seconds since 1970, in decimal digits without a leading zero, up to
-    /// 253402300799, where the year 9999 ends. None exactly where no such word is there.
+    /// The moment that the word at `index` names by its seconds since 1970, in decimal digits
+    /// without a leading zero, up to 253402300799, where the year 9999 ends. None exactly where no
+    /// such word is there.
     pub fn moment(&self, index: usize) -> Option<Time>
         ensures some { IfSome result (λ when. IsMomentAt self.now index when) }
         ensures none { IsNone result → (when : ℤ) → IsMomentAt self.now index when → ⊥ }
@@ -86,13 +88,14 @@ impl Words {
         moment_of(self.get(index)?)
     }
 
-    /// The public key whose DER the word at `index` spells, two hexadecimal digits of either case an octet. None exactly where no
-    /// such word is there: an even number of digits, whose octets are one key with nothing behind it.
-    pub fn key(&self, index: usize) -> Result<Option<PublicKey>, OutOfMemory>
+    /// The public key whose DER the word at `index` spells, two hexadecimal digits of either case
+    /// an octet. None exactly where no such word is there: an even number of digits, whose octets
+    /// are one key with nothing behind it.
+    pub fn key(&self, alloc: Global, index: usize) -> Result<Option<PublicKey>, OutOfMemory>
         ensures { IfOk result (λ key. key ≡ key_at self.now index) }
     {
         match self.get(index) {
-            Some(word) => key_of(self.alloc, word),
+            Some(word) => key_of(alloc, word),
             None => Ok(None),
         }
     }

@@ -109,7 +109,7 @@ fn main(rt: HostRuntime) -> ExitCode {
     let mut input = StdSource::new(rt.stdin());
     let mut output = StdSink::new(rt.stdout());
     let Status(status) = match words_of(&rt) {
-        Err(refusal) => refuse(rt.alloc(), &mut output, refusal),
+        Err(refusal) => refuse(&mut output, refusal),
         Ok(words) => match own_text(&words) {
             Some(text) => written(&mut output, text, 0),
             None => run(

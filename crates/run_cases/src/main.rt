@@ -1,8 +1,10 @@
-//! Runs `rpki_ca::run` on stored cases, in memory, and says how many answers differ from the expected.
+//! Runs `rpki_ca::run` on stored cases, in memory, and says how many answers differ from the
+//! expected.
 //!
-//! A line of data/cases.txt is `NAME STATUS LINE INPUT WORD..`: LINE is what has to be written, and it and INPUT are in
-//! hexadecimal; `-` is an empty field. tools/run_cases.py writes the file; its expected answers come from a model that was written
-//! apart from this tree, or are stated in the script.
+//! A line of data/cases.txt is `NAME STATUS LINE INPUT WORD..`: LINE is what has to be written, and
+//! it and INPUT are in hexadecimal; `-` is an empty field. tools/run_cases.py writes the file; its
+//! expected answers come from a model that was written apart from this tree, or are stated in the
+//! script.
 #![tactic(auto)]
 
 use rpki_ca::{Status, Words, run};
@@ -74,7 +76,8 @@ fn case_of(alloc: Global, line: &str) -> io::Result<Case> {
     })
 }
 
-// Whether the case is answered as expected where the source gives `piece` octets a call, and the sink takes as many.
+// Whether the case is answered as expected where the source gives `piece` octets a call, and the
+// sink takes as many.
 fn is_answered(alloc: Global, case: &Case, piece: usize) -> io::Result<bool> {
     let piece = piece.max(1);
     let (Ok(mut source), Ok(mut sink)) = (

@@ -1,6 +1,6 @@
 use Rattle.std.proofs.Common.{refl}
 use Rattle.std.proofs.lemmas.Result.{err_from_is_err_and}
-use Rattle.rpki_ca.proofs.Receipts.{refused, none_found, failed, accepted}
+use Rattle.rpki_ca.proofs.Accepting.{refused, none_found, failed, accepted}
 use Rattle.rpki_publication.specs.Cms.{CmsFields}
 use Rattle.rpki_ca.specs.declared.receiving.Received.{Received}
 use Rattle.rpki_ca.proofs.receiving.receive_publication.Goals as goal

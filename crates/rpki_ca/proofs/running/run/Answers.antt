@@ -1,44 +1,68 @@
-use Rattle.std.proofs.Common.{refl, Ok, Err, ◌∙◌, inl, inr, arith, subst, ap}
-use Rattle.std.specs.Io.KnownBytes.{Appends}
-use Rattle.rpki_ca.specs.declared.refusals.Refusal.TheVariants.{OutOfMemory}
-use Rattle.rpki_ca.proofs.Answering.{if_some}
-use Rattle.rpki_ca.proofs.Ending.{ends_answer}
-use Rattle.rpki_ca.proofs.Runs.{always_some, text_succeeds, refusal_succeeds, delivers, not_zero, is_usage, read_to_end}
+use Rattle.rpki_ca.specs.Seen.{Seen, seen}
+use Rattle.rpki_ca.proofs.Runs as runs
 use Rattle.rpki_ca.proofs.running.run.Goals as goal
 
-pub returns-in-Ok-clause-answered : goal.returns-in-Ok-clause-answered
-returns-in-Ok-clause-answered g c =
-    let told = c.in-Ok.ensures.ok in
-    (Ok told.0, told.2, ends_answer (Ok told.0) _ 0 _ _ _ _ _ (c.deref.ensures.value ∙ told.1) refl c.write_line.ensures.whole c.write_line.ensures.part c.write_line.ensures.cause)
+pub returns-clause-received : goal.returns-clause-received
+returns-clause-received g c =
+    let source : Seen = seen g.I.Source.rest g.I.Source.faults c.args.input.now c.answer-answer.new.input in
+    let sink : Seen = seen g.O.Sink.written g.O.Sink.faults c.args.output.now c.finish.new.output in
+    let how = runs.answered _ g.P.Scheme.checks c.args.words.now source sink c.finish.result.0 c.answer-answer.result
+      c.answer-answer.ensures.ok c.answer-answer.ensures.err c.finish.ensures.text c.finish.ensures.refusal in
+    runs.received g.P.Scheme.checks c.args.words.now source sink c.finish.result.0 how
 
-pub returns-in-Ok-clause-received : goal.returns-in-Ok-clause-received
-returns-in-Ok-clause-received g c = λ kind when key is zero.
-    let told = c.in-Ok.ensures.ok in
-    let both = c.write_line.ensures.whole (λ n. omega (arith, zero, n)) in
-    let written = subst (Appends (g.O.Sink.written c.args.output.now) _) (c.deref.ensures.value ∙ told.1) both.1 in
-    if_some (g.I.Source.rest c.args.input.now) _ _ (λ input a. delivers g.P.Scheme.checks c.args.words.now kind key when input told.0 _ _ is written a) told.2
+pub returns-clause-accepted : goal.returns-clause-accepted
+returns-clause-accepted g c =
+    let source : Seen = seen g.I.Source.rest g.I.Source.faults c.args.input.now c.answer-answer.new.input in
+    let sink : Seen = seen g.O.Sink.written g.O.Sink.faults c.args.output.now c.finish.new.output in
+    let how = runs.answered _ g.P.Scheme.checks c.args.words.now source sink c.finish.result.0 c.answer-answer.result
+      c.answer-answer.ensures.ok c.answer-answer.ensures.err c.finish.ensures.text c.finish.ensures.refusal in
+    runs.succeeds g.P.Scheme.checks c.args.words.now source sink c.finish.result.0 how
 
-pub returns-in-Err-clause-received : goal.returns-in-Err-clause-received
-returns-in-Err-clause-received g c = λ kind when key is zero. absurd (not_zero c.in-Err.refusal _ c.refuse.ensures.status zero)
+pub returns-clause-shown : goal.returns-clause-shown
+returns-clause-shown g c =
+    let source : Seen = seen g.I.Source.rest g.I.Source.faults c.args.input.now c.answer-answer.new.input in
+    let sink : Seen = seen g.O.Sink.written g.O.Sink.faults c.args.output.now c.finish.new.output in
+    let how = runs.answered _ g.P.Scheme.checks c.args.words.now source sink c.finish.result.0 c.answer-answer.result
+      c.answer-answer.ensures.ok c.answer-answer.ensures.err c.finish.ensures.text c.finish.ensures.refusal in
+    runs.ends_as g.P.Scheme.checks c.args.words.now source sink c.finish.result.0 how
 
-pub returns-in-Err-clause-done : goal.returns-in-Err-clause-done
-returns-in-Err-clause-done g c = λ zero. absurd (not_zero c.in-Err.refusal _ c.refuse.ensures.status zero)
+pub returns-clause-done : goal.returns-clause-done
+returns-clause-done g c =
+    let source : Seen = seen g.I.Source.rest g.I.Source.faults c.args.input.now c.answer-answer.new.input in
+    let sink : Seen = seen g.O.Sink.written g.O.Sink.faults c.args.output.now c.finish.new.output in
+    let how = runs.answered _ g.P.Scheme.checks c.args.words.now source sink c.finish.result.0 c.answer-answer.result
+      c.answer-answer.ensures.ok c.answer-answer.ensures.err c.finish.ensures.text c.finish.ensures.refusal in
+    runs.done g.P.Scheme.checks c.args.words.now source sink c.finish.result.0 how
 
-pub returns-in-Err-clause-answered : goal.returns-in-Err-clause-answered
-returns-in-Err-clause-answered g c =
-    elim c.refuse.ensures.ends [
-      | inl ends ↦ (Err c.in-Err.refusal, c.in-Err.ensures.err, ends)
-      | inr ends ↦ (Err OutOfMemory, tt, ends)
-    ]
+pub returns-clause-read_fault : goal.returns-clause-read_fault
+returns-clause-read_fault g c =
+    let source : Seen = seen g.I.Source.rest g.I.Source.faults c.args.input.now c.answer-answer.new.input in
+    let sink : Seen = seen g.O.Sink.written g.O.Sink.faults c.args.output.now c.finish.new.output in
+    let how = runs.answered _ g.P.Scheme.checks c.args.words.now source sink c.finish.result.0 c.answer-answer.result
+      c.answer-answer.ensures.ok c.answer-answer.ensures.err c.finish.ensures.text c.finish.ensures.refusal in
+    runs.read_fault g.P.Scheme.checks c.args.words.now source sink c.finish.result.0 how
 
-pub returns-in-Err-clause-usage : goal.returns-in-Err-clause-usage
-returns-in-Err-clause-usage g c = λ two. c.in-Err.ensures.usage (ap Err (is_usage c.in-Err.refusal _ c.refuse.ensures.status two))
+pub returns-clause-no_read_fault : goal.returns-clause-no_read_fault
+returns-clause-no_read_fault g c =
+    let source : Seen = seen g.I.Source.rest g.I.Source.faults c.args.input.now c.answer-answer.new.input in
+    let sink : Seen = seen g.O.Sink.written g.O.Sink.faults c.args.output.now c.finish.new.output in
+    let how = runs.answered _ g.P.Scheme.checks c.args.words.now source sink c.finish.result.0 c.answer-answer.result
+      c.answer-answer.ensures.ok c.answer-answer.ensures.err c.finish.ensures.text c.finish.ensures.refusal in
+    runs.no_read_fault g.P.Scheme.checks c.args.words.now source sink c.finish.result.0 how
 
-pub returns-in-Err-clause-whole : goal.returns-in-Err-clause-whole
-returns-in-Err-clause-whole g c = read_to_end c.in-Err.refusal _ _ c.refuse.ensures.status c.in-Err.ensures.whole
+pub returns-clause-answered : goal.returns-clause-answered
+returns-clause-answered g c =
+    let source : Seen = seen g.I.Source.rest g.I.Source.faults c.args.input.now c.answer-answer.new.input in
+    let sink : Seen = seen g.O.Sink.written g.O.Sink.faults c.args.output.now c.finish.new.output in
+    let how = runs.answered _ g.P.Scheme.checks c.args.words.now source sink c.finish.result.0 c.answer-answer.result
+      c.answer-answer.ensures.ok c.answer-answer.ensures.err c.finish.ensures.text c.finish.ensures.refusal in
+    (how.answer, how.admitted, how.ends)
 
-pub returns-in-Ok-clause-accepted : goal.returns-in-Ok-clause-accepted
-returns-in-Ok-clause-accepted g c = λ kind when key is. always_some (g.I.Source.rest c.args.input.now) _ (λ input h. text_succeeds _ _ _ _ _ (λ other. (c.write_line.ensures.whole other).0) c.write_line.ensures.cause)
+pub returns-clause-usage : goal.returns-clause-usage
+returns-clause-usage g c = runs.usage c.args.words.now c.answer-answer.result c.finish.result.0 c.answer-answer.ensures.usage c.finish.ensures.status
 
-pub returns-in-Err-clause-accepted : goal.returns-in-Err-clause-accepted
-returns-in-Err-clause-accepted g c = λ kind when key is. refusal_succeeds g.P.Scheme.checks c.args.words.now kind key when (g.I.Source.rest c.args.input.now) _ _ _ _ c.in-Err.refusal _ _ _ is c.in-Err.ensures.err c.refuse.ensures.ends
+pub returns-clause-usage_always : goal.returns-clause-usage_always
+returns-clause-usage_always g c = λ none. runs.usage_status c.answer-answer.result c.finish.result.0 (c.answer-answer.ensures.usage_always none) c.finish.ensures.status
+
+pub returns-clause-whole : goal.returns-clause-whole
+returns-clause-whole g c = runs.read_to_end c.answer-answer.result c.finish.result.0 _ c.answer-answer.ensures.whole c.finish.ensures.status

@@ -1,8 +1,8 @@
 //! The command `receive`.
 
 ghost use Rattle.std.specs.Prelude.{◌≡◌, ◌≢◌, ◌++◌, ◌∷◌, [], List, ℕ, Ok, Err, IfOk, IfErr};
-ghost use Rattle.rpki_ca.specs.Answer.{IsReceipt};
-ghost use Rattle.rpki_ca.specs.Receipt.{text_of, refusal_of};
+ghost use Rattle.rpki_ca.specs.Answer.{IsReceiveAnswer, IsLineOf};
+ghost use Rattle.rpki_ca.specs.Acceptance.{text_of, refusal_of};
 
 use crate::line::line_of;
 use crate::receiving::{Kind, ReceiveError, Received, receive};
@@ -45,7 +45,7 @@ impl From<ReceiveError> for Refusal {
 }
 
 /// The text of the message that is received of the octets, and a line feed.
-pub(crate) fn receipt<P: Scheme, V: Verifier<P>>(
+pub(crate) fn receive_line<P: Scheme, V: Verifier<P>>(
     alloc: Global,
     kind: Kind,
     octets: &[u8],
@@ -53,8 +53,10 @@ pub(crate) fn receipt<P: Scheme, V: Verifier<P>>(
     when: Time,
     verifier: &V,
 ) -> Result<Vec<u8>, Refusal>
-    ensures ok { IfOk result (λ line. (text : List ℕ) × IsReceipt P.checks kind octets.now key.now when (Ok text) × (line.items ≡ text ++ 10 ∷ [])) }
-    ensures err { IfErr result (λ e. e ≢ Refusal.OutOfMemory → IsReceipt P.checks kind octets.now key.now when (Err e)) }
+    ensures ok { IfOk result (λ line.
+        IsLineOf (IsReceiveAnswer P.checks kind octets.now key.now when) line.items) }
+    ensures err { IfErr result (λ e. e ≢ Refusal.OutOfMemory
+        → IsReceiveAnswer P.checks kind octets.now key.now when (Err e)) }
 {
     let message = receive(alloc, kind, octets, key, when, verifier)?;
     Ok(text_line(alloc, &message)?)

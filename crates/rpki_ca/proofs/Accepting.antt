@@ -15,8 +15,8 @@ use Rattle.rpki_ca.specs.declared.receiving.Received.TheVariants as received
 use Rattle.rpki_ca.specs.declared.receiving.ReceiveError.{ReceiveError}
 use Rattle.rpki_ca.specs.declared.receiving.ReceiveError.TheVariants as errors
 use Rattle.rpki_ca.specs.declared.refusals.Refusal.TheVariants as refusals
-use Rattle.rpki_ca.specs.Answer.{IsReceipt}
-use Rattle.rpki_ca.specs.Receipt.{Relation, ReadsAs, Accepted, HoldsNoMessage, FailsCheck, RefusesReceipt, FindsSigned, of_publication, refusal_of}
+use Rattle.rpki_ca.specs.Answer.{IsReceiveAnswer}
+use Rattle.rpki_ca.specs.Acceptance.{Relation, ReadsAs, Accepted, HoldsNoMessage, FailsCheck, RefusesReceipt, FindsSigned, of_publication, refusal_of}
 
 -- ---- a message of the publication protocol
 
@@ -51,7 +51,7 @@ accepted scheme octets key when c m b same believed =
 
 -- ---- the answer of the command
 
-pub refusal : (scheme : Relation) (kind : Kind) (octets : List ℕ) (key : KeyFields) (when : ℤ) (e : ReceiveError) → RefusesReceipt scheme kind octets key when e → refusal_of e ≢ refusals.OutOfMemory → IsReceipt scheme kind octets key when (Err (refusal_of e))
+pub refusal : (scheme : Relation) (kind : Kind) (octets : List ℕ) (key : KeyFields) (when : ℤ) (e : ReceiveError) → RefusesReceipt scheme kind octets key when e → refusal_of e ≢ refusals.OutOfMemory → IsReceiveAnswer scheme kind octets key when (Err (refusal_of e))
 refusal scheme kind octets key when errors.CmsDecode r other = r
 refusal scheme kind octets key when errors.XmlError r other = r
 refusal scheme kind octets key when (errors.Validation e) r other = record { error = e; fails = r; number = refl }

@@ -1,5 +1,5 @@
 -- What a receiver accepts, and what is answered where it doesn't (RFC 6492, 3.1; RFC 8181, 2).
-use Rattle.std.specs.Prelude.{◌≡◌, ℕ, ℤ, List, Result, Ok, Err, ⊤}
+use Rattle.std.specs.Prelude.{◌≡◌, ℕ, ℤ, List, Result, Ok, Err, MatchResult, ⊤}
 use Rattle.rpki_base.specs.PublicKey.{KeyFields}
 use Rattle.rpki_base.specs.declared.algorithm.SigningAlgorithm.{SigningAlgorithm}
 use Rattle.rpki_base.specs.Checks.{first_failure, failing}
@@ -31,9 +31,11 @@ ReadsAs kinds.Publication octets (received.Publication m) = publication.Reads oc
 abbrev pub text_of : Received → List ℕ
 text_of (received.Publication m) = publication.text_of m
 
--- The octets begin with a signed message, in BER. The key issued its certificate and its CRL, the certificate's key signed it, and all
--- fourteen checks hold at the moment. Its content reads as the message.
-pub record Accepted (scheme : Relation) (kind : Kind) (octets : List ℕ) (key : KeyFields) (when : ℤ) (m : Received) : Type 0 where
+-- The octets begin with a signed message, in BER. The key issued its certificate and its CRL, the
+-- certificate's key signed it, and all fourteen checks hold at the moment. Its content reads as the
+-- message.
+pub record Accepted (scheme : Relation) (kind : Kind) (octets : List ℕ) (key : KeyFields) (when : ℤ)
+    (m : Received) : Type 0 where
   pub signed : MessageFields
   pub begins : BeginsSigned octets signed
   pub believed : IsBelieved scheme signed key when
@@ -49,21 +51,31 @@ pub record HoldsNoMessage (kind : Kind) (octets : List ℕ) : Type 0 where
   pub begins : BeginsSigned octets signed
   pub none : (m : Received) → ReadsAs kind signed.content m → ⊥
 
--- The octets begin with a signed message whose content is a message of the kind. The first check that fails is that of the error,
--- whatever the scheme answers to its three questions.
-pub record FailsCheck (scheme : Relation) (kind : Kind) (octets : List ℕ) (key : KeyFields) (when : ℤ) (error : ValidationError) : Type 0 where
+-- The octets begin with a signed message whose content is a message of the kind. The first check
+-- that fails is that of the error, whatever the scheme answers to its three questions.
+pub record FailsCheck (scheme : Relation) (kind : Kind) (octets : List ℕ) (key : KeyFields)
+    (when : ℤ) (error : ValidationError) : Type 0 where
   pub signed : MessageFields
   pub begins : BeginsSigned octets signed
   pub message : Received
   pub reads : ReadsAs kind signed.content message
-  pub first : (q : Asked scheme signed key) → failing kind_of (first_failure 1 (checks signed key when q.q3 q.q8 q.q10)) ≡ Err error
+  pub first : (q : Asked scheme signed key)
+    → failing kind_of (first_failure 1 (checks signed key when q.q3 q.q8 q.q10)) ≡ Err error
 
 -- when each error comes; OutOfMemory says nothing
 abbrev pub RefusesReceipt : Relation → Kind → List ℕ → KeyFields → ℤ → ReceiveError → Type 0
 RefusesReceipt scheme kind octets key when errors.CmsDecode = HoldsNoSigned octets
 RefusesReceipt scheme kind octets key when errors.XmlError = HoldsNoMessage kind octets
-RefusesReceipt scheme kind octets key when (errors.Validation e) = FailsCheck scheme kind octets key when e
+RefusesReceipt scheme kind octets key when (errors.Validation e) =
+    FailsCheck scheme kind octets key when e
 RefusesReceipt scheme kind octets key when errors.OutOfMemory = ⊤
+
+-- what is received of octets: an accepted message, or why there is none
+abbrev pub IsReceived : Relation → Kind → List ℕ → KeyFields → ℤ → Result Received ReceiveError
+    → Type 0
+IsReceived scheme kind octets key when result =
+    MatchResult result (Accepted scheme kind octets key when)
+        (RefusesReceipt scheme kind octets key when)
 
 -- the answer says that a signed message was found
 abbrev pub FindsSigned : {X : Type 0} → Result X ReceiveError → Type 0

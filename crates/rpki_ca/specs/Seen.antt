@@ -1,0 +1,27 @@
+-- What a call was seen to do to its source or its sink.
+use Rattle.std.specs.Prelude.{◌≡◌, ℕ, Option, List}
+use Rattle.rpki_common.specs.Causes.{Rose}
+
+-- The octets still to come or those written, where it tells them, and its count of faults, as the
+-- call began and as it ended.
+pub record Seen : Type 0 where
+  pub before : Option (List ℕ)
+  pub after : Option (List ℕ)
+  pub faults_before : ℕ
+  pub faults_after : ℕ
+
+abbrev pub seen : {X : Type 0} → (X → Option (List ℕ)) → (X → ℕ) → X → X → Seen
+seen octets faults old new = record {
+  before = octets old;
+  after = octets new;
+  faults_before = faults old;
+  faults_after = faults new
+}
+
+-- its count rose
+abbrev pub HasFailed : Seen → Type 0
+HasFailed s = Rose s.faults_before s.faults_after
+
+-- its count stood still
+abbrev pub IsSteady : Seen → Type 0
+IsSteady s = s.faults_after ≡ s.faults_before
