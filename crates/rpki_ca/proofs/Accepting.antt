@@ -16,7 +16,8 @@ use Rattle.rpki_ca.specs.declared.receiving.ReceiveError.{ReceiveError}
 use Rattle.rpki_ca.specs.declared.receiving.ReceiveError.TheVariants as errors
 use Rattle.rpki_ca.specs.declared.refusals.Refusal.TheVariants as refusals
 use Rattle.rpki_ca.specs.Answer.{IsReceiveAnswer}
-use Rattle.rpki_ca.specs.Acceptance.{Relation, ReadsAs, Accepted, HoldsNoMessage, FailsCheck, RefusesReceipt, FindsSigned, of_publication, refusal_of}
+use Rattle.rpki_base.specs.Scheme.{Relation}
+use Rattle.rpki_ca.specs.Acceptance.{ReadsAs, Accepted, HoldsNoMessage, FailsCheck, RefusesReceipt, FindsSigned, of_publication, refusal_of}
 
 -- ---- a message of the publication protocol
 

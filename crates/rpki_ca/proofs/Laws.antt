@@ -29,7 +29,8 @@ use Rattle.rpki_ca.specs.Refusal.{status_of}
 use Rattle.rpki_ca.specs.Answer.{IsContent, FailsDigest, IsContentAnswer, FailsAt, IsTextAccepted, IsReceiveAnswer, AnswersSpelled, IsAnswer}
 use Rattle.rpki_ca.specs.Command.{IsCommand, IsNoCommand}
 use Rattle.rpki_ca.specs.Hexadecimal.{hexadecimal}
-use Rattle.rpki_ca.specs.Acceptance.{Relation, ReadsAs, Accepted, HoldsNoSigned, HoldsNoMessage, RefusesReceipt, text_of}
+use Rattle.rpki_base.specs.Scheme.{Relation}
+use Rattle.rpki_ca.specs.Acceptance.{ReadsAs, Accepted, HoldsNoSigned, HoldsNoMessage, RefusesReceipt, text_of}
 
 -- ---- what octets begin with, and what content reads as, is one
 

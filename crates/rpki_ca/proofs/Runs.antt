@@ -11,7 +11,8 @@ use Rattle.rpki_ca.specs.declared.refusals.Refusal.TheVariants as refusals
 use Rattle.rpki_ca.specs.Command.{IsReceive, IsNoCommand}
 use Rattle.rpki_ca.specs.Hexadecimal.{hexadecimal}
 use Rattle.rpki_ca.specs.Refusal.{status_of}
-use Rattle.rpki_ca.specs.Acceptance.{Relation, text_of}
+use Rattle.rpki_base.specs.Scheme.{Relation}
+use Rattle.rpki_ca.specs.Acceptance.{text_of}
 use Rattle.rpki_ca.specs.Seen.{Seen, HasFailed, IsSteady}
 use Rattle.rpki_ca.specs.Answer.{AnswersSpelled, IsAnswer, IsShown, IsAdmitted, Ends, EndsAs, ReadsAll, Delivers, Holds, Succeeds}
 use Rattle.rpki_ca.proofs.Answering.{if_some, always_some, answers, sort_of, to_shown}

@@ -1,7 +1,7 @@
 -- What a receiver accepts, and what is answered where it doesn't (RFC 6492, 3.1; RFC 8181, 2).
 use Rattle.std.specs.Prelude.{◌≡◌, ℕ, ℤ, List, Result, Ok, Err, MatchResult, ⊤}
 use Rattle.rpki_base.specs.PublicKey.{KeyFields}
-use Rattle.rpki_base.specs.declared.algorithm.SigningAlgorithm.{SigningAlgorithm}
+use Rattle.rpki_base.specs.Scheme.{Relation}
 use Rattle.rpki_base.specs.Checks.{first_failure, failing}
 use Rattle.rpki_base.specs.declared.validation.ValidationError.{ValidationError}
 use Rattle.rpki_sigmsg.specs.Checks.{checks, kind_of, Asked, IsBelieved}
@@ -18,10 +18,6 @@ use Rattle.rpki_ca.specs.declared.receiving.ReceiveError.{ReceiveError}
 use Rattle.rpki_ca.specs.declared.receiving.ReceiveError.TheVariants as errors
 use Rattle.rpki_ca.specs.declared.refusals.Refusal.{Refusal}
 use Rattle.rpki_ca.specs.declared.refusals.Refusal.TheVariants as refusals
-
--- which signatures hold: a relation between kind, key, message and signature
-abbrev pub Relation : Type 1
-Relation = SigningAlgorithm → KeyFields → List ℕ → List ℕ → Type 0
 
 -- the octets read as this message of the kind
 abbrev pub ReadsAs : Kind → List ℕ → Received → Type 0

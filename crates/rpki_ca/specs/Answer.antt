@@ -16,7 +16,8 @@ use Rattle.rpki_ca.specs.declared.refusals.Refusal.{Refusal}
 use Rattle.rpki_ca.specs.declared.refusals.Refusal.TheVariants as refusals
 use Rattle.rpki_ca.specs.Command.{IsCommand, IsNoCommand}
 use Rattle.rpki_ca.specs.Hexadecimal.{hexadecimal}
-use Rattle.rpki_ca.specs.Acceptance.{Relation, Accepted, HoldsNoSigned, HoldsNoMessage, FailsCheck, text_of}
+use Rattle.rpki_base.specs.Scheme.{Relation}
+use Rattle.rpki_ca.specs.Acceptance.{Accepted, HoldsNoSigned, HoldsNoMessage, FailsCheck, text_of}
 use Rattle.rpki_ca.specs.Refusal.{status_of, name_of}
 use Rattle.rpki_ca.specs.Seen.{Seen, HasFailed, IsSteady}
 
