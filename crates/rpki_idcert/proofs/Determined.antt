@@ -45,15 +45,15 @@ record FirstHeld {X : Type 0} (grammar : Value → Option X) (vs : Values) (octe
 
 held_pair : {X : Type 0} (grammar : Value → Option X) (v : Value) (p : List ℕ × X) → with_octets grammar v ≡ Some p → (p.0 ≡ spelling v) × (grammar v ≡ Some p.1)
 unfolding with_octets
-held_pair grammar v p e =
+held_pair {X = X} grammar v p e =
     let b = bound (grammar v) _ p e in
     let is : (spelling v, b.x) ≡ p = same_some _ _ b.then' in
     (sym (ap (λ (q : List ℕ × X). q.0) is), b.found ∙ ap Some (ap (λ (q : List ℕ × X). q.1) is))
 
 first_held : {X : Type 0} (grammar : Value → Option X) (vs : Values) (p : (List ℕ × X) × Values) → first (with_octets grammar) vs ≡ Some p → FirstHeld grammar vs p.0.0 p.0.1
 unfolding first
-first_held grammar End p e = absurd (none_some p e)
-first_held grammar (v ▸ vs) p e =
+first_held {X = X} grammar End p e = absurd (none_some p e)
+first_held {X = X} grammar (v ▸ vs) p e =
     let b = bound (with_octets grammar v) _ p e in
     let is : (b.x, vs) ≡ p = same_some _ _ b.then' in
     let h = held_pair grammar v p.0 (b.found ∙ ap Some (ap (λ (q : (List ℕ × X) × Values). q.0) is)) in

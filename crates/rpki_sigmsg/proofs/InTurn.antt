@@ -69,7 +69,7 @@ record FirstIs {X : Type 0} (grammar : Value → Option X) (vs : Values) (p : X 
 first_is : {X : Type 0} (grammar : Value → Option X) (vs : Values) (p : X × Values) → first grammar vs ≡ Some p → FirstIs grammar vs p
 unfolding first
 first_is grammar End p e = absurd (none_some p e)
-first_is {X} grammar (v ▸ vs) p e =
+first_is {X = X} grammar (v ▸ vs) p e =
     let b = bound (grammar v) _ p e in
     let is : (b.x, vs) ≡ p = same_some _ _ b.then' in
     record {
@@ -79,10 +79,10 @@ first_is {X} grammar (v ▸ vs) p e =
     }
 
 abbrev Shows : {X : Type 0} → (Value → Option X) → (X → List (List ℕ)) → Type 0
-Shows {X} grammar pick = (v : Value) (x : X) → grammar v ≡ Some x → StandInTurn (pick x) (spelling v)
+Shows {X = X} grammar pick = (v : Value) (x : X) → grammar v ≡ Some x → StandInTurn (pick x) (spelling v)
 
 abbrev ShowsFields : {X : Type 0} → (Values → Option X) → (X → List (List ℕ)) → Type 0
-ShowsFields {X} fields pick = (vs : Values) (x : X) → fields vs ≡ Some x → StandInTurn (pick x) (spellings vs)
+ShowsFields {X = X} fields pick = (vs : Values) (x : X) → fields vs ≡ Some x → StandInTurn (pick x) (spellings vs)
 
 -- the first value has nothing to show
 pass : {X : Type 0} (grammar : Value → Option X) (later : List (List ℕ)) (vs : Values) (p : X × Values) → FirstIs grammar vs p → StandInTurn later (spellings p.1) → StandInTurn later (spellings vs)
@@ -115,14 +115,14 @@ front_of p = p.0 ∷ []
 
 shows_octets : {X : Type 0} (grammar : Value → Option X) → Shows (with_octets grammar) front_of
 unfolding with_octets
-shows_octets {X} grammar v p e =
+shows_octets {X = X} grammar v p e =
     let b = bound (grammar v) _ p e in
     let is : (spelling v, b.x) ≡ p = same_some _ _ b.then' in
     subst (λ (o : List ℕ). StandInTurn (o ∷ []) (spelling v)) (ap (λ (q : List ℕ × X). q.0) is) (whole (spelling v))
 
 shows_held : {X : Type 0} (fields : Values → Option X) → ShowsFields (held fields) front_of
 unfolding held
-shows_held {X} fields vs p e =
+shows_held {X = X} fields vs p e =
     let b = bound (fields vs) _ p e in
     let is : (spellings vs, b.x) ≡ p = same_some _ _ b.then' in
     subst (λ (o : List ℕ). StandInTurn (o ∷ []) (spellings vs)) (ap (λ (q : List ℕ × X). q.0) is) (whole (spellings vs))

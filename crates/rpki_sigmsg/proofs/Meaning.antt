@@ -77,6 +77,7 @@ same_back : (s t : Relation) (m : MessageFields) (issuer : KeyFields) → SameAn
 same_back s t m issuer w = record { attributes = turned w.attributes; certificate = turned w.certificate; crl = turned w.crl }
 
 pub same_validation : (s t : Relation) (m : MessageFields) (issuer : KeyFields) (when : ℤ) (answer : Result (Unit {0}) ValidationError) → SameAnswers s t m issuer → IsValidation s m issuer when answer → IsValidation t m issuer when answer
+unfolding asked_too
 same_validation s t m issuer when answer w v = record {
   believed = (
     (λ e. believed_too s t m issuer when w (v.believed.0 e)),
