@@ -56,7 +56,7 @@ pub record FailsCheck (scheme : Relation) (kind : Kind) (octets : List ℕ) (key
   pub message : Received
   pub reads : ReadsAs kind signed.content message
   pub first : (q : Asked scheme signed key)
-    → failing kind_of (first_failure 1 (checks signed key when q.q3 q.q8 q.q10)) ≡ Err error
+      → failing kind_of (first_failure 1 (checks signed key when q.q3 q.q8 q.q10)) ≡ Err error
 
 -- when each error comes; OutOfMemory says nothing
 abbrev pub RefusesReceipt : Relation → Kind → List ℕ → KeyFields → ℤ → ReceiveError → Type 0
@@ -71,7 +71,7 @@ abbrev pub IsReceived : Relation → Kind → List ℕ → KeyFields → ℤ →
     → Type 0
 IsReceived scheme kind octets key when result =
     MatchResult result (Accepted scheme kind octets key when)
-        (RefusesReceipt scheme kind octets key when)
+    (RefusesReceipt scheme kind octets key when)
 
 -- the answer says that a signed message was found
 abbrev pub FindsSigned : {X : Type 0} → Result X ReceiveError → Type 0

@@ -88,9 +88,9 @@ pub record IsAnswer (scheme : Relation) (words : List (List ℕ)) (input : List 
     (answer : Result (List ℕ) Refusal) : Type 0 where
   pub usage : IsNoCommand words → answer ≡ Err refusals.Usage
   pub long : (command : Command) → IsCommand words command → 2 ^ 26 < length input
-    → answer ≡ Err refusals.TooLong
+      → answer ≡ Err refusals.TooLong
   pub answers : (command : Command) → IsCommand words command → length input ≤ 2 ^ 26
-    → AnswersSpelled scheme command (hexadecimal input) answer
+      → AnswersSpelled scheme command (hexadecimal input) answer
 
 -- Words and input show the answer, and the source didn't fail.
 pub record IsShown (scheme : Relation) (words : List (List ℕ)) (source : Seen)
@@ -135,7 +135,7 @@ IsLineOf is_answer line = (text : List ℕ) × is_answer (Ok text) × (line ≡ 
 abbrev pub Ends : Result (List ℕ) Refusal → ℕ → Seen → Type 0
 Ends answer status sink =
     ((status ≡ exit_status answer) × Appends sink.before sink.after (line_of answer)
-        × IsSteady sink)
+    × IsSteady sink)
     ⊎ ((status ≡ 11) × AppendsPart sink.before sink.after (line_of answer) × HasFailed sink)
 
 -- The call ends with the answer; or with want of memory; or with a fault of the source, whose count

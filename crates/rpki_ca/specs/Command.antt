@@ -20,7 +20,8 @@ abbrev pub kind_at : List (List ℕ) → ℕ → Option Kind
 kind_at words index = slice_get words index >>= kind_of
 
 -- `receive`, the kind, a moment and a key
-pub record IsReceive (words : List (List ℕ)) (kind : Kind) (when : ℤ) (key : KeyFields) : Type 0 where
+pub record IsReceive (words : List (List ℕ)) (kind : Kind) (when : ℤ) (key : KeyFields)
+    : Type 0 where
   pub moment_word : List ℕ
   pub key_word : List ℕ
   pub are : words ≡ codes "receive" ∷ kind_word kind ∷ moment_word ∷ key_word ∷ []

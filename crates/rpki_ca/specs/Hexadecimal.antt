@@ -6,7 +6,9 @@ use Rattle.hex.specs.Hex.{decode_of}
 
 -- the input without its last octet, if that is a line feed
 abbrev pub digits_of : List ℕ → List ℕ
-digits_of input = if slice_index_or input (length input - 1) 0 == 10 then take (length input - 1) input else input
+digits_of input =
+    if slice_index_or input (length input - 1) 0 == 10 then take (length input - 1) input
+    else input
 
 -- the octets that the digits spell, two digits an octet; none where they are no even number of
 -- digits

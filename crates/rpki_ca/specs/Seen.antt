@@ -15,7 +15,7 @@ seen octets faults old new = record {
   before = octets old;
   after = octets new;
   faults_before = faults old;
-  faults_after = faults new
+  faults_after = faults new;
 }
 
 -- its count rose

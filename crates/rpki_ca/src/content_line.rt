@@ -10,7 +10,11 @@ use rpki_sigmsg::{DecodeError, SignedMessage};
 use std::alloc::Global;
 
 // The line with the message's content, if it has the signed digest.
-fn content_line_of(alloc: Global, octets: &[u8], message: &SignedMessage) -> Result<Vec<u8>, Refusal>
+fn content_line_of(
+    alloc: Global,
+    octets: &[u8],
+    message: &SignedMessage,
+) -> Result<Vec<u8>, Refusal>
     requires { BeginsSigned octets.now message.now }
     ensures ok { IfOk result (λ line. IsLineOf (IsContentAnswer octets.now) line.items) }
     ensures err { IfErr result (λ e.

@@ -247,7 +247,7 @@ fn is_receive(alloc: Global, words: &Words) -> Result<bool, Fail> {
     }
 }
 
-fn is_content(words: &Words) -> Result<bool, Fail> {
+fn is_content(alloc: Global, words: &Words) -> Result<bool, Fail> {
     let Some(command) = words.command(alloc)? else {
         return Ok(false);
     };
@@ -262,9 +262,9 @@ fn commands_are_read_of_words(rt: HostRuntime) -> Result<(), Fail> {
     let alloc = rt.alloc();
     let words = words_of(alloc, &["receive", "publication", "1", KEY])?;
     assert!(rt; is_receive(alloc, &words)?);
-    assert!(rt; !is_content(&words)?);
-    assert!(rt; is_content(&words_of(alloc, &["content"])?)?);
-    assert!(rt; words_of(alloc, &["contents"])?.command()?.is_none());
+    assert!(rt; !is_content(alloc, &words)?);
+    assert!(rt; is_content(alloc, &words_of(alloc, &["content"])?)?);
+    assert!(rt; words_of(alloc, &["contents"])?.command(alloc)?.is_none());
     Ok(())
 }
 
@@ -274,7 +274,9 @@ fn a_message_is_written(rt: HostRuntime) -> Result<(), Fail> {
     let text = Received::Publication(Message::success()).to_xml_bytes(alloc)?;
     assert!(rt;
         text.as_slice()
-            == b"<msg xmlns=\"http://www.hactrn.net/uris/rpki/publication-spec/\" version=\"4\" type=\"reply\"><success/></msg>".as_slice()
+            == b"<msg xmlns=\"http://www.hactrn.net/uris/rpki/publication-spec/\" \
+                version=\"4\" type=\"reply\"><success/></msg>"
+                .as_slice()
     );
     Ok(())
 }

@@ -176,22 +176,22 @@ pub fn run<P: Scheme, I: Source, O: Sink, V: Verifier<P>>(
     ensures received { (kind : Kind) (when : ℤ) (key : KeyFields)
         → IsReceive words.now kind when key → result.0 ≡ 0
         → IfSome (I.rest input.old) (λ rest.
-            Delivers P.checks kind key when rest (seen O.written O.faults output.old output.new)) }
+        Delivers P.checks kind key when rest (seen O.written O.faults output.old output.new)) }
 
     // And where a message is accepted it ends with 0, but for want of memory and for faults of
     // source and sink.
     ensures accepted { (kind : Kind) (when : ℤ) (key : KeyFields)
         → IsReceive words.now kind when key
         → IfSome (I.rest input.old) (λ rest. Holds P.checks kind key when rest → Succeeds result.0
-            (seen I.rest I.faults input.old input.new)
-            (seen O.written O.faults output.old output.new)) }
+        (seen I.rest I.faults input.old input.new)
+        (seen O.written O.faults output.old output.new)) }
 
     // Where words and input show an answer, the call ends with it, but for want of memory and for
     // faults of source and sink.
     ensures shown { (answer : Result (List ℕ) Refusal) → IfSome (I.rest input.old) (λ rest.
         IsAnswer P.checks words.now rest answer → EndsAs answer result.0
-            (seen I.rest I.faults input.old input.new)
-            (seen O.written O.faults output.old output.new)) }
+        (seen I.rest I.faults input.old input.new)
+        (seen O.written O.faults output.old output.new)) }
 
     // Every status comes with an admitted answer: one that words and input show, that the source
     // failed, or want of memory.

@@ -7,7 +7,7 @@ returns-clause-received g c =
     let source : Seen = seen g.I.Source.rest g.I.Source.faults c.args.input.now c.answer-answer.new.input in
     let sink : Seen = seen g.O.Sink.written g.O.Sink.faults c.args.output.now c.finish.new.output in
     let how = runs.answered _ g.P.Scheme.checks c.args.words.now source sink c.finish.result.0 c.answer-answer.result
-      c.answer-answer.ensures.ok c.answer-answer.ensures.err c.finish.ensures.text c.finish.ensures.refusal in
+    c.answer-answer.ensures.ok c.answer-answer.ensures.err c.finish.ensures.text c.finish.ensures.refusal in
     runs.received g.P.Scheme.checks c.args.words.now source sink c.finish.result.0 how
 
 pub returns-clause-accepted : goal.returns-clause-accepted
@@ -15,7 +15,7 @@ returns-clause-accepted g c =
     let source : Seen = seen g.I.Source.rest g.I.Source.faults c.args.input.now c.answer-answer.new.input in
     let sink : Seen = seen g.O.Sink.written g.O.Sink.faults c.args.output.now c.finish.new.output in
     let how = runs.answered _ g.P.Scheme.checks c.args.words.now source sink c.finish.result.0 c.answer-answer.result
-      c.answer-answer.ensures.ok c.answer-answer.ensures.err c.finish.ensures.text c.finish.ensures.refusal in
+    c.answer-answer.ensures.ok c.answer-answer.ensures.err c.finish.ensures.text c.finish.ensures.refusal in
     runs.succeeds g.P.Scheme.checks c.args.words.now source sink c.finish.result.0 how
 
 pub returns-clause-shown : goal.returns-clause-shown
@@ -23,7 +23,7 @@ returns-clause-shown g c =
     let source : Seen = seen g.I.Source.rest g.I.Source.faults c.args.input.now c.answer-answer.new.input in
     let sink : Seen = seen g.O.Sink.written g.O.Sink.faults c.args.output.now c.finish.new.output in
     let how = runs.answered _ g.P.Scheme.checks c.args.words.now source sink c.finish.result.0 c.answer-answer.result
-      c.answer-answer.ensures.ok c.answer-answer.ensures.err c.finish.ensures.text c.finish.ensures.refusal in
+    c.answer-answer.ensures.ok c.answer-answer.ensures.err c.finish.ensures.text c.finish.ensures.refusal in
     runs.ends_as g.P.Scheme.checks c.args.words.now source sink c.finish.result.0 how
 
 pub returns-clause-done : goal.returns-clause-done
@@ -31,7 +31,7 @@ returns-clause-done g c =
     let source : Seen = seen g.I.Source.rest g.I.Source.faults c.args.input.now c.answer-answer.new.input in
     let sink : Seen = seen g.O.Sink.written g.O.Sink.faults c.args.output.now c.finish.new.output in
     let how = runs.answered _ g.P.Scheme.checks c.args.words.now source sink c.finish.result.0 c.answer-answer.result
-      c.answer-answer.ensures.ok c.answer-answer.ensures.err c.finish.ensures.text c.finish.ensures.refusal in
+    c.answer-answer.ensures.ok c.answer-answer.ensures.err c.finish.ensures.text c.finish.ensures.refusal in
     runs.done g.P.Scheme.checks c.args.words.now source sink c.finish.result.0 how
 
 pub returns-clause-read_fault : goal.returns-clause-read_fault
@@ -39,7 +39,7 @@ returns-clause-read_fault g c =
     let source : Seen = seen g.I.Source.rest g.I.Source.faults c.args.input.now c.answer-answer.new.input in
     let sink : Seen = seen g.O.Sink.written g.O.Sink.faults c.args.output.now c.finish.new.output in
     let how = runs.answered _ g.P.Scheme.checks c.args.words.now source sink c.finish.result.0 c.answer-answer.result
-      c.answer-answer.ensures.ok c.answer-answer.ensures.err c.finish.ensures.text c.finish.ensures.refusal in
+    c.answer-answer.ensures.ok c.answer-answer.ensures.err c.finish.ensures.text c.finish.ensures.refusal in
     runs.read_fault g.P.Scheme.checks c.args.words.now source sink c.finish.result.0 how
 
 pub returns-clause-no_read_fault : goal.returns-clause-no_read_fault
@@ -47,7 +47,7 @@ returns-clause-no_read_fault g c =
     let source : Seen = seen g.I.Source.rest g.I.Source.faults c.args.input.now c.answer-answer.new.input in
     let sink : Seen = seen g.O.Sink.written g.O.Sink.faults c.args.output.now c.finish.new.output in
     let how = runs.answered _ g.P.Scheme.checks c.args.words.now source sink c.finish.result.0 c.answer-answer.result
-      c.answer-answer.ensures.ok c.answer-answer.ensures.err c.finish.ensures.text c.finish.ensures.refusal in
+    c.answer-answer.ensures.ok c.answer-answer.ensures.err c.finish.ensures.text c.finish.ensures.refusal in
     runs.no_read_fault g.P.Scheme.checks c.args.words.now source sink c.finish.result.0 how
 
 pub returns-clause-answered : goal.returns-clause-answered
@@ -55,7 +55,7 @@ returns-clause-answered g c =
     let source : Seen = seen g.I.Source.rest g.I.Source.faults c.args.input.now c.answer-answer.new.input in
     let sink : Seen = seen g.O.Sink.written g.O.Sink.faults c.args.output.now c.finish.new.output in
     let how = runs.answered _ g.P.Scheme.checks c.args.words.now source sink c.finish.result.0 c.answer-answer.result
-      c.answer-answer.ensures.ok c.answer-answer.ensures.err c.finish.ensures.text c.finish.ensures.refusal in
+    c.answer-answer.ensures.ok c.answer-answer.ensures.err c.finish.ensures.text c.finish.ensures.refusal in
     (how.answer, how.admitted, how.ends)
 
 pub returns-clause-usage : goal.returns-clause-usage
