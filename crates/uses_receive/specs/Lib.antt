@@ -1,0 +1,2 @@
+-- Said in contracts, and to be believed: LongKeys.
+pub mod LongKeys
