@@ -14,7 +14,7 @@ use Rattle.rpki_ca.specs.Command.{IsReceive, IsCommand, IsNoCommand}
 use Rattle.rpki_ca.specs.Hexadecimal.{hexadecimal}
 use Rattle.rpki_base.specs.Scheme.{Relation}
 use Rattle.rpki_ca.specs.Refusal.{status_of}
-use Rattle.rpki_ca.specs.Seen.{Seen, HasFailed, IsSteady}
+use Rattle.rpki_ca.specs.Seen.{Seen, IsSteady}
 use Rattle.rpki_ca.specs.Answer.{AnswersSpelled, IsAnswer, IsShown, IsAdmitted, IsUnread}
 
 -- ---- one command

@@ -1,7 +1,7 @@
-use Rattle.std.proofs.Common.{Ok, refl, ◌∙◌}
-use Rattle.std.proofs.lemmas.Result.{IfOk-weaker, err_from_is_err_and}
+use Rattle.std.proofs.Common.{Ok, ◌∙◌}
+use Rattle.std.proofs.lemmas.Result.{IfOk-weaker}
 use Rattle.rpki_ca.specs.Hexadecimal.{hexadecimal}
-use Rattle.rpki_ca.proofs.Answering.{if_some, if_err, shown, usage_shown, admitted, unread, usage_of_none}
+use Rattle.rpki_ca.proofs.Answering.{if_some, if_err, shown, admitted, usage_of_none}
 use Rattle.rpki_ca.proofs.running.answer.Goals as goal
 
 pub returns-clause-ok : goal.returns-clause-ok
