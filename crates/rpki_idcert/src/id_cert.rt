@@ -49,11 +49,9 @@ impl Model for IdCert {
 /// The fields of a certificate that was read are what the octets that are signed are read as, by the same rules: equal signed data
 /// have equal fields.
 pub fn signed_octets_determine_the_fields()
-    ensures {
-        (mode : Mode) (v : Value) (c : CertificateFields) →
+    ensures { (mode : Mode) (v : Value) (c : CertificateFields) →
         IsValue mode v → identity_certificate mode v ≡ Some c →
-        whole_of (tbs_certificate mode) mode c.signed.slice ≡ Some c.tbs
-    }
+        whole_of (tbs_certificate mode) mode c.signed.slice ≡ Some c.tbs }
 {}
 
 /// # Data access

@@ -24,8 +24,6 @@ pub fn views_are_of_messages()
 /// The five parts of a view stand in the octets of its message, in the order in which they are read: each is a piece of these octets,
 /// between what stands before it and what stands behind it.
 pub fn parts_stand_in_turn()
-    ensures {
-        (mode : Mode) (v : Value) (w : ViewFields) →
-        viewed_message mode v ≡ Some w → StandInTurn (parts_of w) (spelling v)
-    }
+    ensures { (mode : Mode) (v : Value) (w : ViewFields) →
+        viewed_message mode v ≡ Some w → StandInTurn (parts_of w) (spelling v) }
 {}
