@@ -15,7 +15,7 @@ use Rattle.rpki_ca.specs.Hexadecimal.{hexadecimal}
 use Rattle.rpki_base.specs.Scheme.{Relation}
 use Rattle.rpki_ca.specs.Refusal.{status_of}
 use Rattle.rpki_ca.specs.Seen.{Seen, IsSteady}
-use Rattle.rpki_ca.specs.Answer.{AnswersSpelled, IsAnswer, IsShown, IsAdmitted, IsUnread}
+use Rattle.rpki_ca.specs.Answer.{AnswersSpelled, IsAnswer, IsShown, IsAdmitted}
 
 -- ---- one command
 
@@ -66,15 +66,6 @@ one_command words (Receive a s k) (Receive b t l) p q = one_receive words a b s 
 
 -- ---- the answer
 
-pub usage : (scheme : Relation) (words : List (List ℕ)) (input : List ℕ) → IsNoCommand words → IsAnswer scheme words input (Err refusals.Usage)
-usage scheme words input none = record { usage = λ n. refl; long = λ c is l. absurd (none c is); answers = λ c is l. absurd (none c is) }
-
-pub long : (scheme : Relation) (words : List (List ℕ)) (input : List ℕ) (c : Command) → IsCommand words c → 2 ^ 26 < length input → IsAnswer scheme words input (Err refusals.TooLong)
-long scheme words input c is l = record { usage = λ n. absurd (n c is); long = λ d also m. refl; answers = λ d also m. absurd (never (length input) l m) }
-  where
-    never : (n : ℕ) → 2 ^ 26 < n → n ≤ 2 ^ 26 → ⊥
-    never n a b = omega (arith, a, b)
-
 pub answers : (scheme : Relation) (words : List (List ℕ)) (input : List ℕ) (c : Command) (a : Result (List ℕ) Refusal) → IsCommand words c → length input ≤ 2 ^ 26 → AnswersSpelled scheme c (hexadecimal input) a → IsAnswer scheme words input a
 answers scheme words input c a is l said =
     record {
@@ -110,9 +101,6 @@ shown scheme words source octets c a is within steady said =
       shown = if_some source.before _ _ (λ input p. answers scheme words input c a is p.1 (subst (λ (o : List ℕ). AnswersSpelled scheme c (hexadecimal o) a) p.0 said)) within;
       steady = steady;
     }
-
-pub usage_shown : (scheme : Relation) (words : List (List ℕ)) (source : Seen) → IsNoCommand words → IsSteady source → IsShown scheme words source (Err refusals.Usage)
-usage_shown scheme words source none steady = record { shown = always_some source.before _ (λ input. usage scheme words input none); steady = steady }
 
 -- ---- what no command answers
 
@@ -227,16 +215,6 @@ admitted scheme words source octets c e is within steady said =
   where
     unlike : refusals.ReadFault ≡ refusals.OutOfMemory → ⊥
     unlike k = cc
-
-pub unread : (scheme : Relation) (words : List (List ℕ)) (source : Seen) (c : Command) (e : Refusal) → IsCommand words c → IsUnread source e → IsAdmitted scheme words source (Err e)
-unread scheme words source c refusals.TooLong is u = record { shown = if_some source.before _ _ (λ input l. long scheme words input c is l) u.0; steady = u.1 }
-unread scheme words source c refusals.ReadFault is u = u
-unread scheme words source c refusals.OutOfMemory is u = u
-unread scheme words source c refusals.Usage is u = absurd u
-unread scheme words source c refusals.Hex is u = absurd u
-unread scheme words source c refusals.CmsDecode is u = absurd u
-unread scheme words source c refusals.XmlError is u = absurd u
-unread scheme words source c (refusals.Validation n) is u = absurd u
 
 pub usage_of_none : {X : Type 0} (scheme : Relation) (words : List (List ℕ)) (c : Command) (o : Option (List ℕ)) (r : Result X Refusal) → IfErr r (λ e. e ≢ refusals.OutOfMemory → AnswersSpelled scheme c o (Err e)) → IsErrOf r refusals.Usage → IsNoCommand words
 usage_of_none {X = X} scheme words c o r said is = absurd (no_usage scheme c o (subst (λ (x : Result X Refusal). IfErr x (λ e. e ≢ refusals.OutOfMemory → AnswersSpelled scheme c o (Err e))) is said other))
