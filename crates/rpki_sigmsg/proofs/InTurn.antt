@@ -137,7 +137,7 @@ shows_content mode = shows_within sequence _ front_of (λ vs y e.
     let c = bound _ _ y b.then' in
     let g = first_is _ b.x.1 c.x c.found in
     let is = done_is c.x.0 y c.x.1 c.then' in
-    pass _ _ vs b.x f (subst (λ (z : List ℕ × List ℕ). StandInTurn (front_of z) (spellings b.x.1)) is (last _ front_of b.x.1 c.x (shows_wrapped (context 0) (with_octets (octet_string mode)) front_of (shows_octets (octet_string mode))) g)))
+    pass _ (front_of y) vs b.x f (subst (λ (z : List ℕ × List ℕ). StandInTurn (front_of z) (spellings b.x.1)) is (last _ front_of b.x.1 c.x (shows_wrapped (context 0) (with_octets (octet_string mode)) front_of (shows_octets (octet_string mode))) g)))
 
 shows_attributes : (mode : Mode) → Shows (signed_attributes mode) front_of
 unfolding signed_attributes
@@ -163,7 +163,9 @@ shows_signer mode = shows_within sequence _ signed_parts_of (λ vs y e.
     let fm = first_is _ k.x.1 m.x m.found in
     let is = done_is _ y m.x.1 m.then' in
     let signature = last _ front_of k.x.1 m.x (shows_octets (octet_string mode)) fm in
-    let parts = pass _ _ vs a.x fa (pass _ _ a.x.1 b.x fb (pass _ _ b.x.1 c.x fc (step _ front_of _ c.x.1 d.x (shows_attributes mode) fd (pass _ _ d.x.1 k.x fk signature)))) in
+    let one = front_of m.x.0 in
+    let two = front_of d.x.0 ++ one in
+    let parts = pass _ two vs a.x fa (pass _ two a.x.1 b.x fb (pass _ two b.x.1 c.x fc (step _ front_of one c.x.1 d.x (shows_attributes mode) fd (pass _ one d.x.1 k.x fk signature)))) in
     subst (λ (z : SignerFields). StandInTurn (signed_parts_of z) (spellings vs)) is parts)
 
 shows_parts : (mode : Mode) → Shows (signed_parts mode) parts_of
@@ -183,9 +185,13 @@ shows_parts mode = shows_within sequence _ parts_of (λ vs y e.
     let fm = first_is _ k.x.1 m.x m.found in
     let is = done_is _ y m.x.1 m.then' in
     let signer = last _ signed_parts_of k.x.1 m.x (shows_wrapped set (signer_info mode) signed_parts_of (shows_signer mode)) fm in
-    let crl = step _ front_of _ d.x.1 k.x (shows_wrapped (context 1) (with_octets crl_in_der) front_of (shows_octets crl_in_der)) fk signer in
-    let certificate = step _ front_of _ c.x.1 d.x (shows_wrapped (context 0) (with_octets (identity_certificate mode)) front_of (shows_octets (identity_certificate mode))) fd crl in
-    let parts = pass _ _ vs a.x fa (pass _ _ a.x.1 b.x fb (step _ front_of _ b.x.1 c.x (shows_content mode) fc certificate)) in
+    let two = signed_parts_of m.x.0 in
+    let three = front_of k.x.0 ++ two in
+    let four = front_of d.x.0 ++ three in
+    let five = front_of c.x.0 ++ four in
+    let crl = step _ front_of two d.x.1 k.x (shows_wrapped (context 1) (with_octets crl_in_der) front_of (shows_octets crl_in_der)) fk signer in
+    let certificate = step _ front_of three c.x.1 d.x (shows_wrapped (context 0) (with_octets (identity_certificate mode)) front_of (shows_octets (identity_certificate mode))) fd crl in
+    let parts = pass _ five vs a.x fa (pass _ five a.x.1 b.x fb (step _ front_of four b.x.1 c.x (shows_content mode) fc certificate)) in
     subst (λ (z : ViewFields). StandInTurn (parts_of z) (spellings vs)) is parts)
 
 shows_view : (mode : Mode) → Shows (viewed_message mode) parts_of
@@ -196,7 +202,7 @@ shows_view mode = shows_within sequence _ parts_of (λ vs y e.
     let c = bound _ _ y b.then' in
     let g = first_is _ b.x.1 c.x c.found in
     let is = done_is c.x.0 y c.x.1 c.then' in
-    pass _ _ vs b.x f (subst (λ (z : ViewFields). StandInTurn (parts_of z) (spellings b.x.1)) is (last _ parts_of b.x.1 c.x (shows_wrapped (context 0) (signed_parts mode) parts_of (shows_parts mode)) g)))
+    pass _ (parts_of y) vs b.x f (subst (λ (z : ViewFields). StandInTurn (parts_of z) (spellings b.x.1)) is (last _ parts_of b.x.1 c.x (shows_wrapped (context 0) (signed_parts mode) parts_of (shows_parts mode)) g)))
 
 pub in_turn : (mode : Mode) (v : Value) (w : ViewFields) → viewed_message mode v ≡ Some w → StandInTurn (parts_of w) (spelling v)
 in_turn mode v w e = shows_view mode v w e
