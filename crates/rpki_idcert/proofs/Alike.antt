@@ -1,5 +1,5 @@
 -- Fields that are equal, part by part, are the same.
-use Rattle.std.proofs.Common.{◌≡◌, ℕ, ℤ, Bool, true, false, Option, None, Some, List, refl, sym, ap, ◌∙◌}
+use Rattle.std.proofs.Common.{◌≡◌, ℕ, ℤ, Bool, true, false, Option, None, Some, List, refl, ap, ◌∙◌}
 use Rattle.std.specs.Prelude.{◌&&◌, ◌↔◌, bytes_eq, Decides}
 use Rattle.std.specs.Bool.{beq}
 use Rattle.std.specs.Option.{option_eq}

@@ -1,5 +1,5 @@
 -- The fields of a certificate that was read are what its signed octets are read as.
-use Rattle.std.proofs.Common.{◌≡◌, ℕ, Bool, true, false, Option, None, Some, List, [], ◌++◌, refl, sym, ap, subst, ◌∙◌}
+use Rattle.std.proofs.Common.{◌≡◌, ℕ, Bool, true, false, Option, None, Some, List, refl, sym, ap, subst, ◌∙◌}
 use Rattle.std.specs.Prelude.{if◌then◌else◌}
 use Rattle.std.proofs.lemmas.List.{append-nil}
 use Rattle.rpki_common.specs.Chaining.{◌>>=◌}
@@ -7,12 +7,12 @@ use Rattle.rpki_common.proofs.Truths.{none_some, same_some}
 use Rattle.rpki_der.specs.declared.mode.Mode.{Mode}
 use Rattle.rpki_der.specs.Identifier.{has_tag}
 use Rattle.rpki_der.specs.Tags.{sequence}
-use Rattle.rpki_der.specs.Value.{Value, Primitive, Constructed, Values, End, ◌▸◌, spelling, IsValue, AreValues, Begins}
+use Rattle.rpki_der.specs.Value.{Value, Primitive, Constructed, Values, End, ◌▸◌, spelling, IsValue, AreValues}
 use Rattle.rpki_der.specs.Grammar.{within, first, done}
 use Rattle.rpki_der.specs.Held.{with_octets}
-use Rattle.rpki_der.specs.Whole.{alone, whole_of}
+use Rattle.rpki_der.specs.Whole.{whole_of}
 use Rattle.rpki_der.proofs.Flats.{alone_begins}
-use Rattle.rpki_idcert.specs.TbsIdCert.{TbsFields, tbs_certificate}
+use Rattle.rpki_idcert.specs.TbsIdCert.{tbs_certificate}
 use Rattle.rpki_idcert.specs.IdCert.{CertificateFields, identity_certificate}
 
 -- what stands in front of a `>>=` that gives something

@@ -1,19 +1,19 @@
 -- Optional fields: a key identifier read of what a value shows, and the length of a path behind which nothing stands.
-use Rattle.std.proofs.Common.{◌≡◌, ℕ, ◌+◌, Bool, true, false, Option, None, Some, Result, Ok, Err, List, refl, sym, ◌∙◌}
+use Rattle.std.proofs.Common.{◌≡◌, ℕ, ◌+◌, Bool, true, false, Option, None, Some, Result, Ok, Err, List, refl, ◌∙◌}
 use Rattle.std.specs.Prelude.{OnOk, OnErr}
 use Rattle.rpki_common.specs.Chaining.{◌>>=◌}
 use Rattle.rpki_der.specs.declared.error.DecodeError.{DecodeError}
 use Rattle.rpki_der.specs.declared.error.DecodeError.TheVariants.{Malformed, OutOfMemory}
 use Rattle.rpki_der.specs.declared.mode.Mode.TheVariants.{Der}
 use Rattle.rpki_der.specs.Identifier.{has_tag}
-use Rattle.rpki_der.specs.Grammar.{identifier_of, so, primitive, first, optional, done}
+use Rattle.rpki_der.specs.Grammar.{identifier_of, so, first, optional, done}
 use Rattle.rpki_der.specs.Item.{item}
 use Rattle.rpki_der.specs.Number.{integer, u64}
 use Rattle.rpki_der.specs.OctetString.{octets_under}
 use Rattle.rpki_der.specs.Tags.{context, integer_tag}
 use Rattle.rpki_der.specs.Value.{Value, Primitive, Constructed, Values, End, ◌▸◌}
 use Rattle.rpki_der.specs.Level.{Holds}
-use Rattle.rpki_der.specs.Position.{Position, top, AtEnd, Leaves}
+use Rattle.rpki_der.specs.Position.{Position, top, AtEnd}
 use Rattle.rpki_der.specs.Takes.{GoesOut, Stops}
 use Rattle.rpki_der.specs.Ticks.{marks, CountedOne, CountedRefuses, CountedReads, CountedStops, TakesRestCounted}
 use Rattle.rpki_der.proofs.Walks.{end_holds}

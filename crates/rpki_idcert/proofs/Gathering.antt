@@ -1,5 +1,5 @@
 -- What an extension adds to those found so far, and what all add up to.
-use Rattle.std.proofs.Common.{◌≡◌, ℕ, true, false, Option, None, Some, List, refl, sym, ap, ◌∙◌}
+use Rattle.std.proofs.Common.{◌≡◌, ℕ, true, false, Option, None, Some, List, refl, ap, ◌∙◌}
 use Rattle.std.specs.Prelude.{bytes_eq, Bool}
 use Rattle.std.proofs.lemmas.Slice.Eq.{bytes_eq-Decides}
 use Rattle.rpki_common.specs.Chaining.{◌>>=◌}

@@ -1,7 +1,7 @@
 -- How long times are at most, as they are written.
-use Rattle.std.proofs.Common.{◌≡◌, ℕ, ◌+◌, ◌≤◌, ◌<◌, Bool, true, false, Option, None, Some, Result, Ok, Err, ℤ, List, [], ◌∷◌, ◌++◌, length, refl, ap, arith, length-append}
+use Rattle.std.proofs.Common.{◌≡◌, ℕ, ◌+◌, ◌≤◌, Bool, true, false, ℤ, List, [], ◌∷◌, ◌++◌, length, refl, arith, length-append}
 use Rattle.std.specs.Prelude.{if◌then◌else◌}
-use Rattle.rpki_der.specs.Tags.{sequence, context, oid_tag, boolean_tag, integer_tag, octet_string_tag, bit_string_tag, utc_time_tag, generalized_time_tag}
+use Rattle.rpki_der.specs.Tags.{utc_time_tag, generalized_time_tag}
 use Rattle.rpki_der.specs.Value.{spelling}
 use Rattle.rpki_der.specs.Writing.{der_length, with_bit_6, primitive_value, der_primitive, der_constructed}
 use Rattle.rpki_base.specs.Civil.{civil_at}
