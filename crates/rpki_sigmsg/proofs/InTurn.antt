@@ -12,7 +12,7 @@ use Rattle.rpki_der.specs.Grammar.{within, first, done, wrapped}
 use Rattle.rpki_der.specs.Held.{held, with_octets}
 use Rattle.rpki_der.specs.OctetString.{octet_string}
 use Rattle.rpki_idcert.specs.IdCert.{identity_certificate}
-use Rattle.rpki_sigmsg.specs.Attributes.{AttributeFields, signed_attributes}
+use Rattle.rpki_sigmsg.specs.Attributes.{signed_attributes}
 use Rattle.rpki_sigmsg.specs.Message.{ViewFields, encapsulated_content, crl_in_der, signed_parts, viewed_message}
 use Rattle.rpki_sigmsg.specs.Places.{StandInTurn, parts_of}
 use Rattle.rpki_sigmsg.specs.Signer.{SignerFields, signer_info}

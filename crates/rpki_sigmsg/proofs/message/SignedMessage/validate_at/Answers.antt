@@ -1,4 +1,4 @@
-use Rattle.std.proofs.Common.{ap, Ok, Err}
+use Rattle.std.proofs.Common.{ap}
 use Rattle.rpki_base.specs.Checks.{failing}
 use Rattle.rpki_sigmsg.specs.Checks.{kind_of}
 use Rattle.rpki_sigmsg.proofs.Meaning.{believed}
