@@ -73,13 +73,11 @@ pub fn tbs_shown(alloc: Global, tbs: &SignedMessageTbsCrl) -> Result<Fields, Dec
     Ok(fields)
 }
 
-/// The fields of what is signed, then the signed octets and the signature.
+/// The fields of what is signed, then the signed octets and the signature; all of copies.
 pub fn crl_shown(alloc: Global, crl: &SignedMessageCrl) -> Result<Fields, DecodeError> {
     let copy = crl.clone(alloc)?;
-    if copy != *crl || copy.tbs().clone(alloc)? != *crl.tbs() {
-        return Err(DecodeError::Malformed);
-    }
-    let mut fields = tbs_shown(alloc, copy.tbs())?;
+    let tbs = copy.tbs().clone(alloc)?;
+    let mut fields = tbs_shown(alloc, &tbs)?;
     fields.octets(copy.signed_data().slice().as_slice())?;
     fields.octets(copy.signed_data().signature().value().as_slice())?;
     Ok(fields)
