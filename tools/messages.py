@@ -10,7 +10,7 @@ the crates: no octet and no expected answer comes from the program under test.
 
 A line is `NAME MODE FORMAT SEED MOMENT EXPECTED HEX`: MODE `strict` or `loose`; FORMAT `rsa` or `ec`, the format of the issuer's
 key, whose bits are SEED and number 0; MOMENT in seconds since 1970; EXPECTED `ok`, `malformed`, or `inspection-N` or
-`verification-N` for the first check that fails. tools/message_parts.py has the other lines.
+`verification-N` for the first check that fails.
 
 The toy scheme: a key's bits are its seed and its number, eight octets each, the most significant first. A signature is the SHA-256
 of the key's bits and what is signed behind them. A key identifier is the SHA-1 of the bits.
@@ -460,11 +460,9 @@ def main():
     if len(sys.argv) > 1:
         compare(bytes.fromhex(pathlib.Path(sys.argv[1]).read_text()))
         return
-    from message_parts import lines as parts
-
-    written = [*lines(), *parts()]
+    written = list(lines())
     names = [line.split(" ")[0] for line in written]
-    assert len(names) == len(set(names)), sorted(name for name in set(names) if names.count(name) > 1)
+    assert len(names) == len(set(names))
     (CRATE / "data" / "cases.txt").write_text("".join(line + "\n" for line in written))
     (CRATE / "stdout").write_text(f"{len(written)} cases, 0 differ\n")
 

@@ -1,31 +1,21 @@
 //! Decodes and validates stored signed messages, and says how many answers differ from the expected.
 //!
 //! A line of data/cases.txt is `NAME MODE FORMAT SEED MOMENT EXPECTED HEX`; tools/messages.py, which writes the file by the formats
-//! and by the toy rules alone, says what the words are. Of a message that is read, the view is compared too. A line `NAME MODE OCTETS
-//! STEP..` of tools/message_parts.py has the fields that calls for messages, CRLs and their parts have to give.
+//! and by the toy rules alone, says what the words are. Of a message that is read, the view is compared too.
 #![tactic(auto)]
 
-ghost use Rattle.std.specs.Prelude.{◌≡◌, ◌<◌};
-
-mod checking;
-mod reading;
-mod shown;
-
-use crate::reading::Reading;
 use rpki_base::{PublicKey, PublicKeyFormat, Time};
-use rpki_der::Steps;
 use rpki_idcert::{ValidationError, ValidationKind};
 use rpki_sigmsg::{DecodeError, OutOfMemory, SignedMessage, SignedMessageRef};
 use rpki_signer::{ToyScheme, ToyVerifier};
 use std::alloc::Global;
-use std::io;
 use std::io::ErrorKind;
-use std::marker::Brand;
-use std::sync::ledger::{Blank, Ledger};
-use stored_cases::{Cases, is_walked, is_walked_counted, run, text_of};
+use std::rt::Files;
+use std::{fs, io};
 
 #[derive(Drop)]
 struct Case<'a> {
+    name: &'a str,
     strict: bool,
     format: PublicKeyFormat,
     seed: u64,
@@ -56,7 +46,7 @@ fn strictness_of(word: &str) -> Option<bool> {
 
 fn case_of<'a>(line: &'a str) -> Option<Case<'a>> {
     let mut words = line.split_whitespace();
-    words.next()?;
+    let name = words.next()?;
     let strict = strictness_of(words.next()?)?;
     let format = format_of(words.next()?)?;
     let seed = words.next()?.parse::<u64>().ok()?;
@@ -64,6 +54,7 @@ fn case_of<'a>(line: &'a str) -> Option<Case<'a>> {
     let expected = words.next()?;
     let message = words.next()?;
     Some(Case {
+        name,
         strict,
         format,
         seed,
@@ -174,39 +165,25 @@ fn holds(alloc: Global, case: &Case<'_>) -> io::Result<bool> {
     }
 }
 
-// Whether a line's case is answered as expected by the counted calls.
-fn holds_counted<L: Ledger>(alloc: Global, line: &[u8], blank: Blank) -> io::Result<bool>
-    requires name { blank.name ≡ L.name }
-    requires parts { blank.parts ≡ L.parts }
-    requires some { 0 < blank.parts }
-{
-    let mut steps = Steps::<L>::new(blank);
-    is_walked_counted(alloc, &Reading, text_of(line)?, &mut steps)
-}
-
-// Whether a line's case is answered as expected, first by the calls that aren't counted.
-fn holds_walk(alloc: Global, line: &str) -> io::Result<bool> {
-    Ok(
-        is_walked(alloc, &Reading, line)?
-            && holds_counted::<Brand>(alloc, line.as_bytes(), Blank::new(1))?,
-    )
-}
-
-fn holds_line(alloc: Global, line: &str) -> io::Result<bool> {
-    match case_of(line) {
-        Some(case) => holds(alloc, &case),
-        None => holds_walk(alloc, line),
-    }
-}
-
-struct Messages;
-
-impl Cases for Messages {
-    fn holds(&self, alloc: Global, line: &str) -> io::Result<bool> {
-        holds_line(alloc, line)
-    }
-}
-
 fn main(rt: HostRuntime) -> io::Result<()> {
-    run(&rt, &Messages)
+    let cases = fs::read(&rt, "cases.txt")?;
+    let Ok(cases) = std::str::from_utf8(&cases) else {
+        return Err(io::Error::from(ErrorKind::InvalidData));
+    };
+    let mut count = 0usize;
+    let mut differ = 0usize;
+    for line in cases.lines() {
+        let Some(case) = case_of(line) else {
+            return Err(io::Error::from(ErrorKind::InvalidData));
+        };
+        count = count.saturating_add(1);
+        if !holds(rt.alloc(), &case)? {
+            println!(rt; "case {} differs", case.name)?;
+            differ = differ.saturating_add(1);
+        }
+    }
+    println!(rt; "{count} cases, {differ} differ")
 }
+
+#[cfg(test)]
+mod crl_tests;
