@@ -45,12 +45,12 @@ unfolding time so ◌>>=◌
 utc_none v text e h = let n = not_generalized v text e in rw (e, h) n
 
 pub utc_takes : (p q : Position) (b a : ℕ) (text : List ℕ) (t : ℤ) → CountedOne 1 (primitive utc_time_tag) p q b a text → utc_time text ≡ Some t → CountedOne 1 time p q b a t
-utc_takes p q b a text t c e = record { value = c.value; begins = c.begins; reads = utc_reads c.value text t c.reads e; levels = c.levels; mode = c.mode; least = c.least; most = c.most }
+utc_takes p q b a text t c e = record { takes = record { value = c.takes.value; begins = c.takes.begins; reads = utc_reads c.takes.value text t c.takes.reads e; levels = c.takes.levels; mode = c.takes.mode }; least = c.least; most = c.most }
 
 pub utc_refuses : (p q : Position) (b a : ℕ) (text : List ℕ) → CountedOne 1 (primitive utc_time_tag) p q b a text → utc_time text ≡ None → CountedRefuses 1 time p b a Malformed
 unfolding Refuses
 utc_refuses p q b a text c e = record {
-  refuses = λ v rest h. let s = at_most_one p.mode p.here c.value v q.here rest c.begins h in subst (λ (w : Value). time w ≡ None) s.value (utc_none c.value text c.reads e);
+  refuses = λ v rest h. let s = at_most_one p.mode p.here c.takes.value v q.here rest c.takes.begins h in subst (λ (w : Value). time w ≡ None) s.value (utc_none c.takes.value text c.takes.reads e);
   most = omega (arith, c.most);
 }
 
@@ -65,13 +65,15 @@ unfolding Refuses
 generalized_takes p q b m a text t none i j c e =
     let k = takes_so 1 (primitive generalized_time_tag) generalized_time p q m a text t c e in
     record {
-      value = k.value;
-      begins = k.begins;
-      reads = generalized_reads k.value (none k.value q.here k.begins) ∙ k.reads;
-      levels = k.levels;
-      mode = k.mode;
+      takes = record {
+        value = k.takes.value;
+        begins = k.takes.begins;
+        reads = generalized_reads k.takes.value (none k.takes.value q.here k.takes.begins) ∙ k.takes.reads;
+        levels = k.takes.levels;
+        mode = k.takes.mode;
+      };
       least = omega (arith, k.least, i);
-      most = omega (arith, i, j, value_left p q k.value k.begins k.levels);
+      most = omega (arith, i, j, value_left p q k.takes.value k.takes.begins k.takes.levels);
     }
 
 neither : (p : Position) (error : DecodeError) → Refuses (primitive utc_time_tag) p Malformed → Refuses (so (primitive generalized_time_tag) generalized_time) p error → Refuses time p error

@@ -12,7 +12,8 @@ use Rattle.jiff_core.proofs.DateLemmas.{epoch_day_injective}
 use Rattle.jiff_core.proofs.SignedLemmas.{signed_arith, back_small, one_part, unsigned_abs-parts}
 use Rattle.rpki_base.specs.declared.civil.Civil.{Civil}
 use Rattle.rpki_base.specs.Civil.{is_date, is_clock, seconds_of, moment, IsMoment, year_and_days, month_and_days, civil_on, civil_at}
-use Rattle.rpki_base.proofs.Years.{day_count-zero, both}
+use Rattle.rpki_base.proofs.Years.{day_count-zero}
+use Rattle.rpki_common.proofs.Truths.{both}
 
 -- ---- a date that exists, and a clock
 

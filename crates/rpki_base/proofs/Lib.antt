@@ -15,3 +15,4 @@ pub mod MadeNames
 pub mod Extensions
 pub mod Checking
 pub mod Believing
+pub mod Determined

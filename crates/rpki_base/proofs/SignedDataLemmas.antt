@@ -10,7 +10,7 @@ use Rattle.rpki_der.specs.Bits.{bit_string}
 use Rattle.rpki_der.specs.Writing.{constructed_value, Spells}
 use Rattle.rpki_der.proofs.Written.{spells_followed, spells_one, begins_constructed}
 use Rattle.rpki_base.specs.Bits.{spelled_bits}
-use Rattle.rpki_base.specs.SignedData.{SignedParts, signed_data, spelled_data, CanBeSpelled}
+use Rattle.rpki_base.specs.SignedData.{SignedParts, signature_in, signed_as, signed_data, spelled_data, CanBeSpelled}
 use Rattle.rpki_base.specs.WritingLaws.{is_sequence}
 use Rattle.rpki_base.proofs.Keys.{bits_value, bits_spell, bits_within}
 
@@ -25,7 +25,7 @@ begins_alone : (mode : Mode) (octets : List ℕ) (v : Value) → Begins mode (oc
 begins_alone mode octets v b = subst (λ o. Begins mode o v []) (append-nil octets) b
 
 data_reads : {A : Type 0} (reads : Mode → List ℕ → Option A) (mode : Mode) (slice algorithm value : List ℕ) (a : A) (v w : Value) → slice ≡ spelling v → algorithm ≡ spelling w → reads mode algorithm ≡ Some a → signed_data reads mode (constructed_value sequence (v ▸ w ▸ bits_value value ▸ End)) ≡ Some (record { slice = slice; signature = record { algorithm = a; value = value } })
-unfolding signed_data within first done so bit_string ◌>>=◌
+unfolding signed_data signed_as signature_in within first done so bit_string ◌>>=◌
 data_reads reads mode slice algorithm [] a v w p q e = rw (p, (ap (reads mode) (sym q) ∙ e)) refl
 data_reads reads mode slice algorithm (b ∷ value) a v w p q e = rw (p, (ap (reads mode) (sym q) ∙ e)) refl
 

@@ -17,7 +17,7 @@ use Rattle.rpki_base.specs.Civil.{moment, IsMoment, civil_at}
 use Rattle.rpki_base.specs.Time.{in_year, full_year, utc_time, generalized_time, time}
 use Rattle.rpki_base.specs.TimeText.{two, four, FitsDigits, month_to_second, utc_text, generalized_text, is_utc_year, time_value, der_time}
 use Rattle.jiff_core.proofs.CalendarLemmas.{days_in_month_bounds}
-use Rattle.rpki_base.proofs.Years.{both}
+use Rattle.rpki_common.proofs.Truths.{both}
 use Rattle.rpki_base.proofs.Civils.{IsMomentOf, moment_some, civil_at_is, tells}
 use Rattle.rpki_base.proofs.Choosing.{utc_reads, generalized_reads}
 

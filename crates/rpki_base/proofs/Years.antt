@@ -12,6 +12,7 @@ use Rattle.jiff_core.proofs.MarchLemmas.{day_count-early}
 use Rattle.jiff_core.proofs.DateLemmas.{civil, epoch_day_range}
 use Rattle.jiff_core.proofs.SignedLemmas.{signed_arith}
 use Rattle.rpki_base.specs.Civil.{IsMoment}
+use Rattle.rpki_common.proofs.Truths.{both}
 
 pub day_count-zero : day_count (pos 0) 1 1 ≡ 3652425
 day_count-zero = day_count-early (pos 0) 9999 1 1 refl (omega arith) (omega arith) (omega arith)
@@ -40,9 +41,6 @@ day_from d h =
 
 pub moment_range : (d : Date) (n : ℕ) → pos 0 ≤ℤ d.year → n < 86400 → IsMoment (epoch_day d *ℤ pos 86400 +ℤ pos n)
 moment_range d n h lt = let low = day_from d h in let range = epoch_day_range d in omega (arith, signed_arith, low, range.1, lt)
-
-pub both : (x y : Bool) → x && y ≡ true → (x ≡ true) × (y ≡ true)
-both x y h = (Decides-and x y (λ e. e, λ e. e) (λ e. e, λ e. e)).0 h
 
 -- a clock's second of the day
 pub clock_below : (hour minute second : ℕ) → nat_le hour 23 && nat_le minute 59 && nat_le second 59 ≡ true → hour * 3600 + minute * 60 + second < 86400

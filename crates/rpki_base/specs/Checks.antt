@@ -1,7 +1,12 @@
 -- Lists of checks, and the first that fails.
 use Rattle.std.specs.Prelude.{◌≡◌, ℕ, ◌+◌, All, length, Bool, true, false, Result, Ok, Err, List, [], ◌∷◌, ◌++◌}
+use Rattle.rpki_base.specs.declared.algorithm.SigningAlgorithm.TheVariants.{RsaSha256}
 use Rattle.rpki_base.specs.declared.validation.ValidationKind.{ValidationKind}
 use Rattle.rpki_base.specs.declared.validation.ValidationError.{ValidationError}
+use Rattle.rpki_base.specs.PublicKey.{KeyFields}
+use Rattle.rpki_base.specs.RpkiSignatureAlgorithm.{RpkiAlgorithm}
+use Rattle.rpki_base.specs.Scheme.{Relation}
+use Rattle.rpki_base.specs.SignedData.{Signed}
 
 -- the first false value, if any is, by its number; the first of the list has number n
 abbrev pub first_failure : ℕ → List Bool → Result (Unit {0}) ℕ
@@ -21,3 +26,7 @@ pub record FirstFalse (n k : ℕ) (list : List Bool) : Type 0 where
 abbrev pub failing : (ℕ → ValidationKind) → Result (Unit {0}) ℕ → Result (Unit {0}) ValidationError
 failing kind (Ok u) = Ok u
 failing kind (Err n) = Err (record { kind = kind n; check = n })
+
+-- the question to a scheme: whether the signature of a certificate or a CRL holds under a key
+abbrev pub IsSigned : {T : Type 0} → Relation → Signed RpkiAlgorithm T → KeyFields → Type 0
+IsSigned scheme c key = scheme RsaSha256 key c.signed.slice c.signed.signature.value

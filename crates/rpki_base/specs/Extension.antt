@@ -4,7 +4,7 @@ use Rattle.rpki_common.specs.Chaining.{◌>>=◌}
 use Rattle.rpki_der.specs.declared.mode.Mode.{Mode}
 use Rattle.rpki_der.specs.Tags.{sequence, boolean_tag}
 use Rattle.rpki_der.specs.Value.{Value}
-use Rattle.rpki_der.specs.Grammar.{within, first, optional, done}
+use Rattle.rpki_der.specs.Grammar.{within, first, optional, done, gather, so}
 use Rattle.rpki_der.specs.Oid.{oid}
 use Rattle.rpki_der.specs.Boolean.{boolean}
 use Rattle.rpki_der.specs.OctetString.{octet_string}
@@ -31,3 +31,7 @@ extension mode = within sequence (λ vs. do
 -- the extension has this identifier
 abbrev pub is : List ℕ → ExtensionFields → Bool
 is identifier e = bytes_eq e.identifier identifier
+
+-- A SEQUENCE of extensions, each of which adds what it says to what was found before it.
+unfoldable pub gathered : {F : Type 0} → (F → ExtensionFields → Option F) → Mode → F → Value → Option F
+gathered add mode found = within sequence (gather (λ so_far. so (extension mode) (add so_far)) found)

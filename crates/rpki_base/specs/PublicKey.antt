@@ -1,5 +1,6 @@
 -- Public keys: SubjectPublicKeyInfo (RFC 5280, 4.1.2.7; RFC 3279, 2.3.1; RFC 7935, 3; RFC 8208, 3.1).
-use Rattle.std.specs.Prelude.{ℕ, ◌^◌, ◌<◌, bytes_eq, if◌then◌else◌, Option, None, Some, List, [], ◌++◌, length}
+use Rattle.std.specs.Prelude.{ℕ, ◌^◌, ◌<◌, Bool, true, bytes_eq, if◌then◌else◌, Option, None, Some, List, [], ◌++◌, length}
+use Rattle.sha1.specs.Sha1.{sha1}
 use Rattle.rpki_common.specs.Chaining.{◌>>=◌}
 use Rattle.rpki_der.specs.Tags.{sequence, null_tag, oid_tag}
 use Rattle.rpki_der.specs.Value.{Value, Values}
@@ -51,6 +52,11 @@ public_key = within sequence (λ vs. do
   format ← first key_algorithm vs
   bits ← first bit_string format.1
   done (record { format = format.0; bits = bits.0.octets }) bits.1)
+
+-- an authority key identifier, if it is there, is the SHA-1 of the bits of the issuer's key (4.2.1.1 and 4.2.1.2)
+abbrev pub names_issuer : Option (List ℕ) → KeyFields → Bool
+names_issuer None issuer = true
+names_issuer (Some id) issuer = bytes_eq id (sha1 issuer.bits)
 
 -- ---- as keys are written
 

@@ -1,10 +1,13 @@
 -- The signature algorithm of the RPKI: RSA over SHA-256 (RFC 7935, 2; RFC 4055, 5; RFC 5754, 3.2).
 use Rattle.std.specs.Prelude.{ℕ, Bool, bytes_eq, if◌then◌else◌, Option, None, Some, List}
+use Rattle.rpki_der.specs.declared.mode.Mode.{Mode}
 use Rattle.rpki_der.specs.Value.{Value}
 use Rattle.rpki_der.specs.Grammar.{so}
+use Rattle.rpki_der.specs.Whole.{whole_of}
 use Rattle.rpki_base.specs.declared.rpki_algorithm.RsaIdentifier.{RsaIdentifier}
 use Rattle.rpki_base.specs.declared.rpki_algorithm.RsaIdentifier.TheVariants.{RsaEncryption, Sha256WithRsaEncryption}
 use Rattle.rpki_base.specs.Names.{rsa_encryption, sha256_with_rsa}
+use Rattle.rpki_base.specs.SignedData.{algorithm_in}
 use Rattle.rpki_base.specs.AlgorithmIdentifier.{algorithm_identifier, spelled_identifier}
 
 -- the object identifier that stands in a signer's information, and whether NULL stands behind the object identifier
@@ -19,6 +22,10 @@ x509_meaning a =
 
 unfoldable pub x509_algorithm : Value → Option RpkiAlgorithm
 x509_algorithm = so algorithm_identifier x509_meaning
+
+-- the algorithm that a certificate or a CRL names
+abbrev pub algorithm : Mode → Value → Option RpkiAlgorithm
+algorithm mode = algorithm_in (whole_of x509_algorithm) mode
 
 -- in a signer's information: rsaEncryption or sha256WithRSAEncryption (RFC 7935, 2)
 abbrev pub cms_meaning : List ℕ × Bool → Option RpkiAlgorithm

@@ -2,7 +2,8 @@
 
 ghost use Rattle.std.specs.Prelude.{◌≡◌, ◌+◌, ◌≤◌, length, IfOk};
 ghost use Rattle.rpki_der.specs.Ticks.{TakesCounted, left};
-ghost use Rattle.rpki_base.specs.Extension.{extension};
+ghost use Rattle.rpki_der.specs.Grammar.{so, wrapped};
+ghost use Rattle.rpki_base.specs.Extension.{extension, gathered};
 
 use rpki_der::{
     Cursor, DecodeError, Steps, Tag, take_octets_counted, take_oid_counted,
@@ -55,4 +56,72 @@ pub fn take_extension_counted<'a, L: Ledger>(
         critical: critical.unwrap_or(false),
         value,
     })
+}
+
+/// What is found in extensions that are read one after the other.
+pub trait FindsExtensions: Drop {
+    ghost use Rattle.std.specs.Prelude.{Option};
+    ghost use Rattle.rpki_der.specs.InDer.{GivesCounted};
+    ghost use Rattle.rpki_base.specs.Extension.{ExtensionFields};
+
+    /// What was found before, and what one more extension says; nothing where that isn't lawful.
+    ghost with: { Self → ExtensionFields → Option Self };
+
+    /// What was found before, and what this extension says. What it holds is read in DER; Malformed exactly where it isn't lawful. It
+    /// ticks once for each header and each end mark that it reads.
+    fn found_with<L: Ledger>(
+        self,
+        alloc: Global,
+        extension: &Extension<'_>,
+        steps: &mut Steps<L>,
+    ) -> Result<Self, DecodeError>
+        ensures { GivesCounted 1 (with self extension.now) (λ found. found) extension.now.value steps.old steps.new result };
+}
+
+// What was found with the extension that stands next.
+fn take_extension<F: FindsExtensions, L: Ledger>(
+    alloc: Global,
+    cursor: &mut Cursor<'_>,
+    found: F,
+    steps: &mut Steps<L>,
+) -> Result<F, DecodeError>
+    ensures { TakesCounted 2 (so (extension cursor.old.mode) (F.with found)) (λ found. found) cursor.old cursor.new steps.old steps.new result }
+{
+    let extension = take_extension_counted(alloc, cursor, steps)?;
+    found.found_with(alloc, &extension, steps)
+}
+
+/// What was found before, and what the extensions say that stand next in a SEQUENCE. It ticks once for each header and each end
+/// mark that it reads.
+pub fn take_extensions_counted<F: FindsExtensions, L: Ledger>(
+    alloc: Global,
+    cursor: &mut Cursor<'_>,
+    found: F,
+    steps: &mut Steps<L>,
+) -> Result<F, DecodeError>
+    ensures { TakesCounted 2 (gathered F.with cursor.old.mode found) (λ found. found) cursor.old cursor.new steps.old steps.new result }
+{
+    cursor.enter_counted(Tag::SEQUENCE, steps)?;
+    let mut found = found;
+    'extensions: while !cursor.end() {
+        found = take_extension(alloc, cursor, found, steps)?;
+    }
+    cursor.leave_counted(steps)?;
+    Ok(found)
+}
+
+/// The same under a tag of its own, as [3] in certificates and [0] in CRLs.
+pub fn take_tagged_extensions_counted<F: FindsExtensions, L: Ledger>(
+    alloc: Global,
+    cursor: &mut Cursor<'_>,
+    tag: Tag,
+    found: F,
+    steps: &mut Steps<L>,
+) -> Result<F, DecodeError>
+    ensures { TakesCounted 2 (wrapped tag (gathered F.with cursor.old.mode found)) (λ found. found) cursor.old cursor.new steps.old steps.new result }
+{
+    cursor.enter_counted(tag, steps)?;
+    let found = take_extensions_counted(alloc, cursor, found, steps)?;
+    cursor.leave_counted(steps)?;
+    Ok(found)
 }

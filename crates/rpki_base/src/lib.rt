@@ -3,7 +3,8 @@
 //! - [`Time`], [`Validity`], [`Serial`], [`KeyIdentifier`] and [`Name`] are the leaves of certificates and CRLs.
 //! - [`PublicKey`], [`Signature`] and [`SignedData`] are generic over the algorithms of [`SignatureAlgorithm`].
 //! - [`Scheme`] says which signatures hold; a [`Verifier`] answers exactly that.
-//! - [`require`] and [`ValidationError`] are what lists of checks are made of.
+//! - [`FindsExtensions`] gathers what extensions say.
+//! - [`require`], [`names_issuer`] and [`ValidationError`] are what lists of checks are made of.
 #![tactic(auto)]
 
 mod algorithm;
@@ -34,7 +35,10 @@ pub use algorithm::{PublicKeyFormat, SigningAlgorithm};
 pub use bgpsec_algorithm::BgpsecSignatureAlgorithm;
 pub use bits::write_constructed;
 pub use errors::{SignatureVerificationError, ToyFault, VerificationError};
-pub use extension::{Extension, take_extension_counted};
+pub use extension::{
+    Extension, FindsExtensions, take_extension_counted, take_extensions_counted,
+    take_tagged_extensions_counted,
+};
 pub use key_identifier::KeyIdentifier;
 pub use law::{
     equal_values_are_the_same, printed_time_is_read_again, serial_is_read_again, time_is_read_again,
@@ -44,13 +48,13 @@ pub use names::{
     AUTHORITY_KEY_IDENTIFIER, BASIC_CONSTRAINTS, CRL_NUMBER, SUBJECT_KEY_IDENTIFIER,
     extensions_are_named,
 };
-pub use public_key::{PublicKey, written_key_is_taken};
+pub use public_key::{PublicKey, names_issuer, written_key_is_taken};
 pub use rpki_algorithm::{RpkiSignatureAlgorithm, RsaIdentifier, written_algorithm_is_taken};
 pub use scheme::{Scheme, Verifier};
 pub use serial::Serial;
 pub use signature::{Signature, SignatureAlgorithm};
 pub use signed_data::{
-    SignedData, equal_data_are_the_same, take_algorithm, written_data_are_taken,
+    SignedData, equal_data_are_the_same, leave_signature, take_algorithm, written_data_are_taken,
 };
 pub use time::Time;
 pub use validation::{ValidationError, ValidationKind, first_false_decides, require};

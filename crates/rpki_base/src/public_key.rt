@@ -266,3 +266,13 @@ fn leave_curve<L: Ledger>(
     cursor.leave_counted(steps)?;
     Ok(PublicKeyFormat::EcdsaP256)
 }
+
+/// Whether an authority key identifier, if it is there, is that of the issuer's key, the SHA-1 of the key's bits (RFC 5280, 4.2.1.1).
+pub fn names_issuer(identifier: Option<KeyIdentifier>, issuer_key: &PublicKey) -> bool
+    ensures { result ≡ spec.names_issuer identifier issuer_key.now }
+{
+    match identifier {
+        Some(identifier) => identifier.as_slice() == issuer_key.key_identifier().as_slice(),
+        None => true,
+    }
+}

@@ -1,12 +1,12 @@
 //! Signed data.
 
-ghost use Rattle.std.specs.Prelude.{◌≡◌, ◌↔◌, ◌<◌, ◌++◌, [], ℕ, List, Some, true, IsOk, IfOk, OnOk, OnErr};
+ghost use Rattle.std.specs.Prelude.{◌≡◌, ◌≢◌, ◌↔◌, ◌<◌, ◌++◌, [], ℕ, List, Some, true, IsOk, IfOk, OnOk, OnErr};
 ghost use Rattle.rpki_der.specs.declared.mode.Mode.{Mode};
 ghost use Rattle.rpki_der.specs.Value.{Value, Begins};
 ghost use Rattle.rpki_der.specs.Takes.{Takes};
-ghost use Rattle.rpki_der.specs.Ticks.{TakesCounted};
+ghost use Rattle.rpki_der.specs.Ticks.{TakesCounted, TakesRestCounted};
 ghost use Rattle.rpki_der.specs.Whole.{HoldsOne};
-ghost use Rattle.rpki_base.specs.SignedData.{SignedParts, algorithm_in, signed_data, spelled_data, CanBeSpelled};
+ghost use Rattle.rpki_base.specs.SignedData.{SignedParts, algorithm_in, signature_in, signed_data, spelled_data, CanBeSpelled};
 
 use crate::bits::{write_bits, write_constructed};
 use crate::errors::SignatureVerificationError;
@@ -105,12 +105,8 @@ impl<Alg: SignatureAlgorithm> SignedData<Alg> {
     {
         cursor.enter_counted(Tag::SEQUENCE, steps)?;
         let octets = cursor.capture_counted(steps)?;
-        let algorithm = take_algorithm::<Alg, L>(cursor, steps)?;
-        let (_, bits) = take_bits_counted(cursor, steps)?;
         let slice = Bytes::copy_from_slice(alloc, octets)?;
-        let value = Bytes::copy_from_slice(alloc, bits)?;
-        cursor.leave_counted(steps)?;
-        let signature = Signature::new(algorithm, value);
+        let signature = leave_signature::<Alg, L>(alloc, cursor, steps)?;
         Ok(SignedData { slice, signature })
     }
 }
@@ -185,6 +181,23 @@ fn take_from_within<Alg: SignatureAlgorithm, L: Ledger>(
 {
     let mut steps = Steps::<L>::new(blank);
     SignedData::<Alg>::take_from_counted(alloc, cursor, &mut steps)
+}
+
+/// The signature of the signed value that stands in front: an algorithm identifier and a BIT STRING, behind which the SEQUENCE round
+/// them ends; the cursor goes out of that. It ticks once for each header and each end mark that it reads.
+pub fn leave_signature<Alg: SignatureAlgorithm, L: Ledger>(
+    alloc: Global,
+    cursor: &mut Cursor<'_>,
+    steps: &mut Steps<L>,
+) -> Result<Signature<Alg>, DecodeError>
+    requires { cursor.old.levels ≢ [] }
+    ensures { TakesRestCounted 1 0 (signature_in Alg.reads cursor.old.mode) (λ s. s) cursor.old cursor.new steps.old steps.new result }
+{
+    let algorithm = take_algorithm::<Alg, L>(cursor, steps)?;
+    let (_, bits) = take_bits_counted(cursor, steps)?;
+    let value = Bytes::copy_from_slice(alloc, bits)?;
+    cursor.leave_counted(steps)?;
+    Ok(Signature::new(algorithm, value))
 }
 
 /// The algorithm identifier that stands next, as `x509_take_from` reads it. It ticks once for each header and each end mark in

@@ -9,11 +9,11 @@ use Rattle.rpki_der.specs.declared.mode.Mode.{Mode}
 use Rattle.rpki_der.specs.Identifier.{IsIdentifier}
 use Rattle.rpki_der.specs.Lengths.{IsLength}
 use Rattle.rpki_der.specs.Value.{Definite, Indefinite, Value, Primitive, Constructed, Values, End, ◌▸◌, spelling, Begins}
-use Rattle.rpki_der.specs.Level.{Level, Sized, Marked, behind_level, Ends, Opens}
+use Rattle.rpki_der.specs.Level.{Level, Sized, Marked, behind_level, Ends, Opens, Holds}
 use Rattle.rpki_der.specs.Position.{Position, top, AtEnd, Leaves}
 use Rattle.rpki_common.specs.Chaining.{◌>>=◌}
 use Rattle.rpki_der.specs.Grammar.{any, so, within, first, done, every, optional, gather}
-use Rattle.rpki_der.specs.Takes.{TakesOne, TakesFields, Refuses, Takes, Goes, RefusesToEnter, RefusesToLeave, BeginsAs, RefusesOctets, Stops}
+use Rattle.rpki_der.specs.Takes.{TakesOne, TakesFields, Refuses, Takes, Goes, RefusesToEnter, RefusesToLeave, BeginsAs, RefusesOctets, Reads, Stops}
 use Rattle.rpki_der.specs.Ticks.{nodes, behind, left, marks, CountedOne, CountedRefuses, TakesCounted, CountedFields, CountedRefusesFields, TakesPartCounted, DecodesCounted, CountedReads, CountedStops}
 use Rattle.rpki_der.specs.Reader.{decoded}
 use Rattle.rpki_der.proofs.Walks.{opens_back, holds_cons, holds_end, smaller_over}
@@ -36,14 +36,14 @@ most_into c x y b m k e l t =
     omega (arith, e, mono, less)
 
 -- at most d for each octet is at most c for each
-most_wider : (c d x y b m k : ℕ) → nat_lt c d ≡ false → y ≤ x → m + d * y ≤ b + d * x + k → m + c * y ≤ b + c * x + k
+pub most_wider : (c d x y b m k : ℕ) → nat_lt c d ≡ false → y ≤ x → m + d * y ≤ b + d * x + k → m + c * y ≤ b + c * x + k
 most_wider c d x y b m k t l p =
     let e = c - d in
     let is : c ≡ d + e = omega (arith, ltb-false c d t) in
     let mono : e * y ≤ e * x = mul-le-mul_left e l in
     rw is (omega (arith, p, mono))
 
-most_refused : (c d x b a k : ℕ) → nat_lt c d ≡ false → a ≤ b + d * x + k + 8 → a ≤ b + c * x + k + 8
+pub most_refused : (c d x b a k : ℕ) → nat_lt c d ≡ false → a ≤ b + d * x + k + 8 → a ≤ b + c * x + k + 8
 most_refused c d x b a k t p = let mono : d * x ≤ c * x = mul-le-mul_right x (ltb-false c d t) in omega (arith, p, mono)
 
 -- ---- octets that are left
@@ -79,16 +79,26 @@ ends_left (Marked ∷ levels) here next e = let a = ap length e in omega (arith,
 pub leaves_left : (p q : Position) → Leaves p q → left q + 2 * marks (top p.levels) ≤ left p
 leaves_left p q l = rw l.levels (ends_left p.levels p.here q.here l.ends)
 
+holds_left : (mode : Mode) (levels : List Level) (here : List ℕ) (vs : Values) (rest : List ℕ) → Holds mode (top levels) here vs rest → length rest + behind (drop 1 levels) ≤ length here + behind levels
+holds_left mode [] here vs rest h = let a = ap length h.2 in omega (arith, a)
+holds_left mode (Sized after ∷ levels) here vs rest h = let a = ap length h.2 in omega (arith, a)
+holds_left mode (Marked ∷ levels) here vs rest h = let a = simp length-append at (ap length h.1) in omega (arith, a)
+
+pub reads_left : {Y : Type 0} (fields : Values → Option Y) (p q : Position) (y : Y) → Reads fields p q y → left q ≤ left p
+reads_left fields p q y r = rw r.levels (holds_left p.mode p.levels p.here r.values q.here r.holds)
+
 -- ---- one value
 
 -- a primitive value, or any that is read by one header
 pub counted_one : {X : Type 0} (grammar : Value → Option X) (old new : Position) (before after : ℕ) (x : X) (i l k : List ℕ) → Begins old.mode old.here (Primitive i l k) new.here → grammar (Primitive i l k) ≡ Some x → new.levels ≡ old.levels → new.mode ≡ old.mode → after ≡ before + 1 → CountedOne 1 grammar old new before after x
 counted_one grammar old new before after x i l k b r e m t = record {
-  value = Primitive i l k;
-  begins = b;
-  reads = r;
-  levels = e;
-  mode = m;
+  takes = record {
+    value = Primitive i l k;
+    begins = b;
+    reads = r;
+    levels = e;
+    mode = m;
+  };
   least = omega (arith, t);
   most = omega (arith, t, value_left old new (Primitive i l k) b e);
 }
@@ -98,7 +108,7 @@ refuses_at_once c grammar old before after error r t = record { refuses = r; mos
 
 -- the value that was read, without its ticks
 pub uncounted_one : {X : Type 0} (c : ℕ) (grammar : Value → Option X) (old new : Position) (before after : ℕ) (x : X) → CountedOne c grammar old new before after x → TakesOne grammar old new x
-uncounted_one c grammar old new before after x t = record { value = t.value; begins = t.begins; reads = t.reads; levels = t.levels; mode = t.mode }
+uncounted_one c grammar old new before after x t = t.takes
 
 -- the clause of a call that counts nothing
 pub uncounted : {X Y : Type 0} (c : ℕ) (grammar : Value → Option X) (view : Y → X) (old new : Position) (before after : ℕ) (r : Result Y DecodeError) → TakesCounted c grammar view old new before after r → Takes grammar view old new r
@@ -120,14 +130,16 @@ takes_part_err c k f view old new before after error (Err e) h n = subst (Counte
 pub takes_within : {Y : Type 0} (c k : ℕ) (tag : List ℕ) (fields : Values → Option Y) (s p q : Position) (b m a : ℕ) (y : Y) → nat_lt k (2 * c) ≡ true → Goes tag s p → m ≡ b + 1 → CountedReads c k fields p q m a y → CountedOne c (within tag fields) s q b a y
 unfolding within
 takes_within c k tag fields s p q b m a y fits g t r =
-    let w = opens_back s.mode s.here g.identifier g.level p.here r.values q.here g.opens (rw (g.mode, g.levels) at r.holds) in
+    let w = opens_back s.mode s.here g.identifier g.level p.here r.reads.values q.here g.opens (rw (g.mode, g.levels) at r.reads.holds) in
     let into = most_into c (left s) (left p) b m k t (goes_left tag s p g) fits in
     record {
-      value = Constructed g.identifier w.form r.values;
-      begins = w.begins;
-      reads = rw g.tagged r.reads;
-      levels = r.levels ∙ ap (drop 1) g.levels;
-      mode = r.mode ∙ g.mode;
+      takes = record {
+        value = Constructed g.identifier w.form r.reads.values;
+        begins = w.begins;
+        reads = rw g.tagged r.reads.reads;
+        levels = r.reads.levels ∙ ap (drop 1) g.levels;
+        mode = r.reads.mode ∙ g.mode;
+      };
       least = omega (arith, t, r.least);
       most = omega (arith, into, r.most);
     }
@@ -144,24 +156,26 @@ refuses_within c tag fields s b a e n t = record { refuses = reading.refuses_wit
 
 field_most : {X : Type 0} (c d : ℕ) (field : Value → Option X) (p p' : Position) (b m : ℕ) (x : X) → nat_lt c d ≡ false → CountedOne d field p p' b m x → m + c * left p' ≤ b + c * left p
 field_most c d field p p' b m x fits t =
-    let on = value_left p p' t.value t.begins t.levels in
+    let on = value_left p p' t.takes.value t.takes.begins t.takes.levels in
     let w = most_wider c d (left p) (left p') b m 0 fits (omega (arith, on)) (omega (arith, t.most)) in omega (arith, w)
 
 pub reads_first : {X Y : Type 0} (c d k : ℕ) (field : Value → Option X) (next : X × Values → Option Y) (p p' q : Position) (b m a : ℕ) (x : X) (y : Y) → nat_lt c d ≡ false → CountedOne d field p p' b m x → CountedReads c k (λ vs. next (x, vs)) p' q m a y → CountedReads c k (λ vs. first field vs >>= next) p q b a y
 unfolding first ◌>>=◌
 reads_first c d k field next p p' q b m a x y fits t r = record {
-  values = t.value ▸ r.values;
-  holds = holds_cons p.mode (top p.levels) p.here p'.here t.value r.values q.here t.begins (rw (t.mode, t.levels) at r.holds);
-  reads = rw t.reads r.reads;
-  levels = r.levels ∙ ap (drop 1) t.levels;
-  mode = r.mode ∙ t.mode;
+  reads = record {
+    values = t.takes.value ▸ r.reads.values;
+    holds = holds_cons p.mode (top p.levels) p.here p'.here t.takes.value r.reads.values q.here t.takes.begins (rw (t.takes.mode, t.takes.levels) at r.reads.holds);
+    reads = rw t.takes.reads r.reads.reads;
+    levels = r.reads.levels ∙ ap (drop 1) t.takes.levels;
+    mode = r.reads.mode ∙ t.takes.mode;
+  };
   least = omega (arith, t.least, r.least);
   most = omega (arith, field_most c d field p p' b m x fits t, r.most);
 }
 
 pub stops_later : {X Y : Type 0} (c d k : ℕ) (field : Value → Option X) (next : X × Values → Option Y) (p p' : Position) (b m a : ℕ) (x : X) (e : DecodeError) → nat_lt c d ≡ false → CountedOne d field p p' b m x → CountedStops c k (λ vs. next (x, vs)) p' m a e → CountedStops c k (λ vs. first field vs >>= next) p b a e
 stops_later c d k field next p p' b m a x e fits t n = record {
-  stops = reading.stops_later field next p p' x e (uncounted_one d field p p' b m x t) n.stops;
+  stops = reading.stops_later field next p p' x e t.takes n.stops;
   most = omega (arith, field_most c d field p p' b m x fits t, n.most);
 }
 
@@ -173,34 +187,28 @@ stops_first c d field next p b a e fits n = record {
 
 -- ---- fields of another kind than one value
 
-uncounted_fields : {X : Type 0} (c k : ℕ) (fields : Values → Option (X × Values)) (p p' : Position) (b m : ℕ) (x : X) → CountedFields c k fields p p' b m x → TakesFields fields p p' x
-uncounted_fields c k fields p p' b m x t = record {
-  reads = λ vs rest h. let w = t.reads vs rest h in (w.0, w.1, w.2);
-  only = t.only;
-  levels = t.levels;
-  mode = t.mode;
-}
-
 part_most : {X : Type 0} (c d j : ℕ) (fields : Values → Option (X × Values)) (p p' : Position) (b m : ℕ) (x : X) → nat_lt c d ≡ false → CountedFields d j fields p p' b m x → m + c * left p' ≤ b + c * left p + j
 part_most c d j fields p p' b m x fits t = most_wider c d (left p) (left p') b m j fits t.on t.most
 
 pub reads_part : {X Y : Type 0} (c d j k : ℕ) (fields : Values → Option (X × Values)) (next : X × Values → Option Y) (p p' q : Position) (b m a : ℕ) (x : X) (y : Y) → nat_lt c d ≡ false → CountedFields d j fields p p' b m x → CountedReads c k (λ vs. next (x, vs)) p' q m a y → CountedReads c (j + k) (λ vs. fields vs >>= next) p q b a y
 unfolding ◌>>=◌
 reads_part c d j k fields next p p' q b m a x y fits t r =
-    let w = t.reads r.values q.here r.holds in
+    let w = t.takes.reads r.reads.values q.here r.reads.holds in
     record {
-      values = w.0;
-      holds = w.1;
-      reads = rw w.2 r.reads;
-      levels = r.levels ∙ ap (drop 1) t.levels;
-      mode = r.mode ∙ t.mode;
-      least = omega (arith, w.3, r.least);
+      reads = record {
+        values = w.0;
+        holds = w.1;
+        reads = rw w.2 r.reads.reads;
+        levels = r.reads.levels ∙ ap (drop 1) t.takes.levels;
+        mode = r.reads.mode ∙ t.takes.mode;
+      };
+      least = omega (arith, t.least r.reads.values q.here r.reads.holds, r.least);
       most = omega (arith, part_most c d j fields p p' b m x fits t, r.most);
     }
 
 pub stops_behind : {X Y : Type 0} (c d j k : ℕ) (fields : Values → Option (X × Values)) (next : X × Values → Option Y) (p p' : Position) (b m a : ℕ) (x : X) (e : DecodeError) → nat_lt c d ≡ false → CountedFields d j fields p p' b m x → CountedStops c k (λ vs. next (x, vs)) p' m a e → CountedStops c (j + k) (λ vs. fields vs >>= next) p b a e
 stops_behind c d j k fields next p p' b m a x e fits t n = record {
-  stops = reading.stops_behind fields next p p' x e (uncounted_fields d j fields p p' b m x t) n.stops;
+  stops = reading.stops_behind fields next p p' x e t.takes n.stops;
   most = omega (arith, part_most c d j fields p p' b m x fits t, n.most);
 }
 
@@ -214,24 +222,28 @@ stops_part c d j fields next p b a e fits n = record {
 
 pub takes_optional : {X : Type 0} (c : ℕ) (tag : List ℕ) (field : Value → Option X) (p q : Position) (b a : ℕ) (x : X) → Next tag p true → CountedOne c field p q b a x → CountedFields c 1 (optional tag field) p q b a (Some x)
 takes_optional c tag field p q b a x n t =
-    let u = reading.takes_optional tag field p q x n (uncounted_one c field p q b a x t) in
     record {
-      reads = λ vs rest h. (t.value ▸ vs, holds_cons p.mode (top p.levels) p.here q.here t.value vs rest t.begins (rw (t.mode, t.levels) at h), reading.optional_some_reads tag field t.value vs x (n t.value q.here t.begins) t.reads, omega (arith, t.least));
-      only = u.only;
-      levels = t.levels;
-      mode = t.mode;
-      on = omega (arith, value_left p q t.value t.begins t.levels);
+      takes = record {
+        reads = λ vs rest h. (t.takes.value ▸ vs, holds_cons p.mode (top p.levels) p.here q.here t.takes.value vs rest t.takes.begins (rw (t.takes.mode, t.takes.levels) at h), reading.optional_some_reads tag field t.takes.value vs x (n t.takes.value q.here t.takes.begins) t.takes.reads);
+        only = (reading.takes_optional tag field p q x n t.takes).only;
+        levels = t.takes.levels;
+        mode = t.takes.mode;
+      };
+      least = λ vs rest h. omega (arith, t.least);
+      on = omega (arith, value_left p q t.takes.value t.takes.begins t.takes.levels);
       most = omega (arith, t.most);
     }
 
 pub takes_optional_none : {X : Type 0} (c : ℕ) (tag : List ℕ) (field : Value → Option X) (p : Position) (b a : ℕ) → b ≤ a → a ≤ b + 1 → Next tag p false → CountedFields c 1 (optional tag field) p p b a None
 takes_optional_none c tag field p b a low high n =
-    let u = reading.takes_optional_none tag field p n in
     record {
-      reads = λ vs rest h. (vs, h, reading.optional_none_reads tag field p n vs rest h, omega (arith, low));
-      only = u.only;
-      levels = refl;
-      mode = refl;
+      takes = record {
+        reads = λ vs rest h. (vs, h, reading.optional_none_reads tag field p n vs rest h);
+        only = (reading.takes_optional_none tag field p n).only;
+        levels = refl;
+        mode = refl;
+      };
+      least = λ vs rest h. omega (arith, low);
       on = omega arith;
       most = omega (arith, high);
     }
@@ -252,11 +264,13 @@ pub reads_done : {Y : Type 0} (c : ℕ) (p q : Position) (b a : ℕ) (y : Y) →
 unfolding done
 reads_done c p q b a y fits l t =
     record {
-      values = End;
-      holds = holds_end p.mode (top p.levels) p.here q.here l.ends;
-      reads = refl;
-      levels = l.levels;
-      mode = l.mode;
+      reads = record {
+        values = End;
+        holds = holds_end p.mode (top p.levels) p.here q.here l.ends;
+        reads = refl;
+        levels = l.levels;
+        mode = l.mode;
+      };
       least = omega (arith, t);
       most = omega (arith, leaves_most c p q b a fits l t);
     }
@@ -268,14 +282,14 @@ stops_done c p b a y e n t = record { stops = reading.stops_done p y e n; most =
 
 pub takes_so : {X Y : Type 0} (c : ℕ) (grammar : Value → Option X) (convert : X → Option Y) (p q : Position) (b a : ℕ) (x : X) (y : Y) → CountedOne c grammar p q b a x → convert x ≡ Some y → CountedOne c (so grammar convert) p q b a y
 unfolding so ◌>>=◌
-takes_so c grammar convert p q b a x y t e = record { value = t.value; begins = t.begins; reads = rw t.reads e; levels = t.levels; mode = t.mode; least = t.least; most = t.most }
+takes_so c grammar convert p q b a x y t e = record { takes = record { value = t.takes.value; begins = t.takes.begins; reads = rw t.takes.reads e; levels = t.takes.levels; mode = t.takes.mode }; least = t.least; most = t.most }
 
 pub refuses_so : {X Y : Type 0} (c : ℕ) (grammar : Value → Option X) (convert : X → Option Y) (p : Position) (b a : ℕ) (e : DecodeError) → CountedRefuses c grammar p b a e → CountedRefuses c (so grammar convert) p b a e
 refuses_so c grammar convert p b a e n = record { refuses = reading.refuses_so grammar convert p e n.refuses; most = n.most }
 
 pub refuses_convert : {X Y : Type 0} (c : ℕ) (grammar : Value → Option X) (convert : X → Option Y) (p q : Position) (b a : ℕ) (x : X) → CountedOne c grammar p q b a x → convert x ≡ None → CountedRefuses c (so grammar convert) p b a Malformed
 refuses_convert c grammar convert p q b a x t e = record {
-  refuses = reading.refuses_convert grammar convert p q x (uncounted_one c grammar p q b a x t) e;
+  refuses = reading.refuses_convert grammar convert p q x t.takes e;
   most = let none : a + c * left q ≤ b + c * left p = t.most in omega (arith, none);
 }
 
@@ -303,18 +317,20 @@ continues_here c fields p b = record { reads = λ k q a y r. r; stops = λ k a e
 
 reads_item : {X Y : Type 0} (c d k : ℕ) (field : Value → Option X) (next : List X → Option Y) (p p' q : Position) (b m a : ℕ) (x : X) (y : Y) → nat_lt c d ≡ false → CountedOne d field p p' b m x → CountedReads c k (λ vs. every field vs >>= λ xs. next (x ∷ xs)) p' q m a y → CountedReads c k (λ vs. every field vs >>= next) p q b a y
 reads_item c d k field next p p' q b m a x y fits t r = record {
-  values = t.value ▸ r.values;
-  holds = holds_cons p.mode (top p.levels) p.here p'.here t.value r.values q.here t.begins (rw (t.mode, t.levels) at r.holds);
-  reads = reading.item_reads field next t.value r.values x y t.reads r.reads;
-  levels = r.levels ∙ ap (drop 1) t.levels;
-  mode = r.mode ∙ t.mode;
+  reads = record {
+    values = t.takes.value ▸ r.reads.values;
+    holds = holds_cons p.mode (top p.levels) p.here p'.here t.takes.value r.reads.values q.here t.takes.begins (rw (t.takes.mode, t.takes.levels) at r.reads.holds);
+    reads = reading.item_reads field next t.takes.value r.reads.values x y t.takes.reads r.reads.reads;
+    levels = r.reads.levels ∙ ap (drop 1) t.takes.levels;
+    mode = r.reads.mode ∙ t.takes.mode;
+  };
   least = omega (arith, t.least, r.least);
   most = omega (arith, field_most c d field p p' b m x fits t, r.most);
 }
 
 stops_after : {X Y : Type 0} (c d k : ℕ) (field : Value → Option X) (next : List X → Option Y) (p p' : Position) (b m a : ℕ) (x : X) (e : DecodeError) → nat_lt c d ≡ false → CountedOne d field p p' b m x → CountedStops c k (λ vs. every field vs >>= λ xs. next (x ∷ xs)) p' m a e → CountedStops c k (λ vs. every field vs >>= next) p b a e
 stops_after c d k field next p p' b m a x e fits t n = record {
-  stops = reading.stops_after field next p p' x e (uncounted_one d field p p' b m x t) n.stops;
+  stops = reading.stops_after field next p p' x e t.takes n.stops;
   most = omega (arith, field_most c d field p p' b m x fits t, n.most);
 }
 
@@ -322,18 +338,20 @@ pub continues_item : {X Y : Type 0} (c d : ℕ) (fields : Values → Option Y) (
 continues_item c d fields p b field next p' p'' m n x fits s t = record {
   reads = λ k q a y r. s.reads k q a y (reads_item c d k field next p' p'' q m n a x y fits t r);
   stops = λ k a e w. s.stops k a e (stops_after c d k field next p' p'' m n a x e fits t w);
-  levels = t.levels ∙ s.levels;
-  mode = t.mode ∙ s.mode;
+  levels = t.takes.levels ∙ s.levels;
+  mode = t.takes.mode ∙ s.mode;
 }
 
 pub reads_end : {X Y : Type 0} (c : ℕ) (field : Value → Option X) (next : List X → Option Y) (p q : Position) (b a : ℕ) (y : Y) → nat_lt 0 c ≡ true → Leaves p q → a ≡ b + marks (top p.levels) → next [] ≡ Some y → CountedReads c 0 (λ vs. every field vs >>= next) p q b a y
 unfolding every ◌>>=◌
 reads_end c field next p q b a y fits l t e = record {
-  values = End;
-  holds = holds_end p.mode (top p.levels) p.here q.here l.ends;
-  reads = e;
-  levels = l.levels;
-  mode = l.mode;
+  reads = record {
+    values = End;
+    holds = holds_end p.mode (top p.levels) p.here q.here l.ends;
+    reads = e;
+    levels = l.levels;
+    mode = l.mode;
+  };
   least = omega (arith, t);
   most = omega (arith, leaves_most c p q b a fits l t);
 }
@@ -349,18 +367,20 @@ stops_item c d field next p b a e fits more n = record {
 reads_step : {S Y : Type 0} (c d k : ℕ) (step : S → Value → Option S) (next : S → Option Y) (s t : S) (p p' q : Position) (b m a : ℕ) (y : Y) → nat_lt c d ≡ false → CountedOne d (step s) p p' b m t → CountedReads c k (λ vs. gather step t vs >>= next) p' q m a y → CountedReads c k (λ vs. gather step s vs >>= next) p q b a y
 unfolding gather ◌>>=◌
 reads_step c d k step next s t p p' q b m a y fits w r = record {
-  values = w.value ▸ r.values;
-  holds = holds_cons p.mode (top p.levels) p.here p'.here w.value r.values q.here w.begins (rw (w.mode, w.levels) at r.holds);
-  reads = rw w.reads r.reads;
-  levels = r.levels ∙ ap (drop 1) w.levels;
-  mode = r.mode ∙ w.mode;
+  reads = record {
+    values = w.takes.value ▸ r.reads.values;
+    holds = holds_cons p.mode (top p.levels) p.here p'.here w.takes.value r.reads.values q.here w.takes.begins (rw (w.takes.mode, w.takes.levels) at r.reads.holds);
+    reads = rw w.takes.reads r.reads.reads;
+    levels = r.reads.levels ∙ ap (drop 1) w.takes.levels;
+    mode = r.reads.mode ∙ w.takes.mode;
+  };
   least = omega (arith, w.least, r.least);
   most = omega (arith, field_most c d (step s) p p' b m t fits w, r.most);
 }
 
 stops_step_on : {S Y : Type 0} (c d k : ℕ) (step : S → Value → Option S) (next : S → Option Y) (s t : S) (p p' : Position) (b m a : ℕ) (e : DecodeError) → nat_lt c d ≡ false → CountedOne d (step s) p p' b m t → CountedStops c k (λ vs. gather step t vs >>= next) p' m a e → CountedStops c k (λ vs. gather step s vs >>= next) p b a e
 stops_step_on c d k step next s t p p' b m a e fits w n = record {
-  stops = reading.stops_step_on step next s t p p' e (uncounted_one d (step s) p p' b m t w) n.stops;
+  stops = reading.stops_step_on step next s t p p' e w.takes n.stops;
   most = omega (arith, field_most c d (step s) p p' b m t fits w, n.most);
 }
 
@@ -368,18 +388,20 @@ pub continues_step : {S Y : Type 0} (c d : ℕ) (fields : Values → Option Y) (
 continues_step c d fields p b step next s t p' p'' m n fits w h = record {
   reads = λ k q a y r. w.reads k q a y (reads_step c d k step next s t p' p'' q m n a y fits h r);
   stops = λ k a e u. w.stops k a e (stops_step_on c d k step next s t p' p'' m n a e fits h u);
-  levels = h.levels ∙ w.levels;
-  mode = h.mode ∙ w.mode;
+  levels = h.takes.levels ∙ w.levels;
+  mode = h.takes.mode ∙ w.mode;
 }
 
 pub reads_gathered : {S Y : Type 0} (c : ℕ) (step : S → Value → Option S) (next : S → Option Y) (s : S) (p q : Position) (b a : ℕ) (y : Y) → nat_lt 0 c ≡ true → Leaves p q → a ≡ b + marks (top p.levels) → next s ≡ Some y → CountedReads c 0 (λ vs. gather step s vs >>= next) p q b a y
 unfolding gather ◌>>=◌
 reads_gathered c step next s p q b a y fits l t e = record {
-  values = End;
-  holds = holds_end p.mode (top p.levels) p.here q.here l.ends;
-  reads = e;
-  levels = l.levels;
-  mode = l.mode;
+  reads = record {
+    values = End;
+    holds = holds_end p.mode (top p.levels) p.here q.here l.ends;
+    reads = e;
+    levels = l.levels;
+    mode = l.mode;
+  };
   least = omega (arith, t);
   most = omega (arith, leaves_most c p q b a fits l t);
 }
@@ -399,18 +421,20 @@ stops_gathered c step next s p q b a fits l t e = record {
 -- ---- what a call leaves
 
 pub takes_smaller : {X : Type 0} (c : ℕ) (field : Value → Option X) (p q : Position) (b a : ℕ) (x : X) → CountedOne c field p q b a x → length q.here < length p.here
-takes_smaller c field p q b a x t = smaller_over p.mode p.here t.value q.here t.begins
+takes_smaller c field p q b a x t = smaller_over p.mode p.here t.takes.value q.here t.takes.begins
 
 -- ---- any value
 
 -- the octets of the value are those up to what stands behind it
 pub counted_any : (old new : Position) (before after : ℕ) (slice : List ℕ) → (v : Value) × Begins old.mode old.here v new.here × (before + nodes v ≤ after) → slice ≡ take (length old.here - length new.here) old.here → after + length new.here ≤ before + length old.here → new.levels ≡ old.levels → new.mode ≡ old.mode → CountedOne 1 any old new before after slice
 counted_any old new before after slice w s t e m = record {
-  value = w.0;
-  begins = w.1;
-  reads = slice_of old.here w.0 new.here slice old.mode w.1 s;
-  levels = e;
-  mode = m;
+  takes = record {
+    value = w.0;
+    begins = w.1;
+    reads = slice_of old.here w.0 new.here slice old.mode w.1 s;
+    levels = e;
+    mode = m;
+  };
   least = w.2;
   most = rw e (omega (arith, t));
 }
@@ -430,12 +454,14 @@ refuses_whole grammar mode octets old OutOfMemory e n = tt
 
 pub decodes : {X Y : Type 0} (c : ℕ) (grammar : Value → Option X) (view : Y → X) (mode : Mode) (octets : List ℕ) (old new : Position) (b a : ℕ) (r : Result Y DecodeError) → old ≡ record { mode = mode; here = octets; levels = [] } → TakesCounted c grammar view old new b a r → DecodesCounted c grammar view mode octets b a r
 decodes c grammar view mode octets old new b a (Ok y) e t = record {
-  value = t.value;
-  rest = new.here;
-  begins = subst (λ (p : Position). Begins p.mode p.here t.value new.here) e t.begins;
-  reads = t.reads;
+  begins = record {
+    value = t.takes.value;
+    rest = new.here;
+    begins = subst (λ (p : Position). Begins p.mode p.here t.takes.value new.here) e t.takes.begins;
+    reads = t.takes.reads;
+  };
   least = t.least;
-  most = rw (left_whole mode octets old e, left_after new (t.levels ∙ ap (λ (p : Position). p.levels) e)) at t.most;
+  most = rw (left_whole mode octets old e, left_after new (t.takes.levels ∙ ap (λ (p : Position). p.levels) e)) at t.most;
 }
 decodes c grammar view mode octets old new b a (Err e') e t = record { refuses = refuses_whole grammar mode octets old e' e t.refuses; most = rw (left_whole mode octets old e) at t.most }
 
@@ -445,28 +471,27 @@ pub refuses_wider : {X : Type 0} (c d : ℕ) (grammar : Value → Option X) (p :
 refuses_wider c d grammar p b a e fits n = record { refuses = n.refuses; most = let w = most_refused c d (left p) b a 0 fits (omega (arith, n.most)) in omega (arith, w) }
 
 pub takes_wider : {X : Type 0} (c d : ℕ) (grammar : Value → Option X) (p q : Position) (b a : ℕ) (x : X) → nat_lt c d ≡ false → CountedOne d grammar p q b a x → CountedOne c grammar p q b a x
-takes_wider c d grammar p q b a x fits t = record { value = t.value; begins = t.begins; reads = t.reads; levels = t.levels; mode = t.mode; least = t.least; most = field_most c d grammar p q b a x fits t }
+takes_wider c d grammar p q b a x fits t = record { takes = t.takes; least = t.least; most = field_most c d grammar p q b a x fits t }
 
 -- ---- octets that were read, and are read again by a cursor of their own
 
 pub any_slice : (c : ℕ) (p q : Position) (b m : ℕ) (slice : List ℕ) → CountedOne c any p q b m slice → length slice + left q ≤ left p
 any_slice c p q b m slice t =
-    let is : Some (spelling t.value) ≡ Some slice = t.reads in
-    let same : spelling t.value ≡ slice = cc in
-    let long = simp length-append at (ap length t.begins.parts) in
-    let length' : length (spelling t.value) ≡ length slice = ap length same in
-    rw t.levels (omega (arith, long, length'))
+    let is : Some (spelling t.takes.value) ≡ Some slice = t.takes.reads in
+    let same : spelling t.takes.value ≡ slice = cc in
+    let long = simp length-append at (ap length t.takes.begins.parts) in
+    let length' : length (spelling t.takes.value) ≡ length slice = ap length same in
+    rw t.takes.levels (omega (arith, long, length'))
 
 pub takes_again : {X Y : Type 0} (c d : ℕ) (outer : Value → Option (List ℕ)) (grammar : Value → Option X) (view : Y → X) (mode : Mode) (p q : Position) (b m a : ℕ) (slice : List ℕ) (r : Result Y DecodeError) → CountedOne c outer p q b m slice → length slice + left q ≤ left p → DecodesCounted d grammar view mode slice m a r → TakesCounted (c + d) (so outer (decoded grammar mode)) view p q b a r
 unfolding Refuses RefusesOctets
 takes_again c d outer grammar view mode p q b m a slice (Ok y) t l w =
     let mono : d * (length slice + left q) ≤ d * left p = mul-le-mul_left d l in
-    let some : BeginsAs grammar mode slice (view y) = record { value = w.value; rest = w.rest; begins = w.begins; reads = w.reads } in
-    let k = takes_so c outer (decoded grammar mode) p q b m slice (view y) t (decoded_ok grammar mode slice (view y) some) in
-    record { value = k.value; begins = k.begins; reads = k.reads; levels = k.levels; mode = k.mode; least = omega (arith, k.least, w.least); most = omega (arith, mono, t.most, w.most) }
+    let k = takes_so c outer (decoded grammar mode) p q b m slice (view y) t (decoded_ok grammar mode slice (view y) w.begins) in
+    record { takes = k.takes; least = omega (arith, k.least, w.least); most = omega (arith, mono, t.most, w.most) }
 takes_again c d outer grammar view mode p q b m a slice (Err Malformed) t l w =
     let mono : d * (length slice + left q) ≤ d * left p = mul-le-mul_left d l in
-    record { refuses = reading.refuses_convert outer (decoded grammar mode) p q slice (uncounted_one c outer p q b m slice t) (decoded_none grammar mode slice w.refuses); most = omega (arith, mono, t.most, w.most) }
+    record { refuses = reading.refuses_convert outer (decoded grammar mode) p q slice t.takes (decoded_none grammar mode slice w.refuses); most = omega (arith, mono, t.most, w.most) }
 takes_again c d outer grammar view mode p q b m a slice (Err OutOfMemory) t l w =
     let mono : d * (length slice + left q) ≤ d * left p = mul-le-mul_left d l in
     record { refuses = tt; most = omega (arith, mono, t.most, w.most) }

@@ -16,9 +16,7 @@ use Rattle.rpki_der.specs.Reader.{Headed, head_at, primitive_of, sized_of, marke
 use Rattle.rpki_der.proofs.Uniqueness.{three_parts, four_parts, IsEnd, begins_no_end}
 use Rattle.rpki_der.proofs.Heads.{identifier_found, identifier_spelled, length_found, length_spelled}
 use Rattle.rpki_der.specs.declared.error.DecodeError.TheVariants.{Malformed}
-
-none_some : {X : Type 0} (x : X) → None ≡ Some x → ⊥
-none_some x e = cc
+use Rattle.rpki_common.proofs.Truths.{none_some}
 
 some_is : {X : Type 0} (x y : X) → Some x ≡ Some y → x ≡ y
 some_is x y e = cc

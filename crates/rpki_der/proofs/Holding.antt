@@ -15,6 +15,7 @@ use Rattle.rpki_der.specs.Ticks.{marks, CountedOne, CountedRefuses, CountedReads
 use Rattle.rpki_der.specs.Held.{held, as_octets, octets_of, with_octets, up_to}
 use Rattle.rpki_der.proofs.Counting.{CountedContinues, reads_end}
 use Rattle.rpki_der.proofs.Leftovers.{passed_over}
+use Rattle.rpki_common.proofs.Truths.{some_none}
 
 -- where the level is at its end, what stands before it are the octets of its values
 pub contents_are : (mode : Mode) (level : Level) (here : List ℕ) (vs : Values) (rest end' : List ℕ) → Holds mode level here vs rest → Ends level end' rest → up_to here end' ≡ spellings vs
@@ -30,11 +31,13 @@ contents_are mode Marked here vs rest end' h e =
 pub reads_held : {X : Type 0} (c k : ℕ) (f : Values → Option X) (p e q : Position) (b a : ℕ) (x : X) → top e.levels ≡ top p.levels → Leaves e q → CountedReads c k f p q b a x → CountedReads c k (held f) p q b a (up_to p.here e.here, x)
 unfolding held ◌>>=◌
 reads_held c k f p e q b a x l ends r = record {
-  values = r.values;
-  holds = r.holds;
-  reads = rw r.reads (ap (λ o. Some (o, x)) (sym (contents_are p.mode (top p.levels) p.here r.values q.here e.here r.holds (rw l at ends.ends))));
-  levels = r.levels;
-  mode = r.mode;
+  reads = record {
+    values = r.reads.values;
+    holds = r.reads.holds;
+    reads = rw r.reads.reads (ap (λ o. Some (o, x)) (sym (contents_are p.mode (top p.levels) p.here r.reads.values q.here e.here r.reads.holds (rw l at ends.ends))));
+    levels = r.reads.levels;
+    mode = r.reads.mode;
+  };
   least = r.least;
   most = r.most;
 }
@@ -51,21 +54,20 @@ stops_held c k f p b a e n = record { stops = none_held f p e n.stops; most = n.
 
 octets_read : (c k : ℕ) (p e q : Position) (b a : ℕ) (octets : List ℕ) → top e.levels ≡ top p.levels → Leaves e q → octets ≡ up_to p.here e.here → CountedReads c k anything p q b a tt → CountedReads c k as_octets p q b a octets
 octets_read c k p e q b a octets l ends is r = record {
-  values = r.values;
-  holds = r.holds;
-  reads = ap Some (sym (is ∙ contents_are p.mode (top p.levels) p.here r.values q.here e.here r.holds (rw l at ends.ends)));
-  levels = r.levels;
-  mode = r.mode;
+  reads = record {
+    values = r.reads.values;
+    holds = r.reads.holds;
+    reads = ap Some (sym (is ∙ contents_are p.mode (top p.levels) p.here r.reads.values q.here e.here r.reads.holds (rw l at ends.ends)));
+    levels = r.reads.levels;
+    mode = r.reads.mode;
+  };
   least = r.least;
   most = r.most;
 }
 
-some_not : {X : Type 0} (x : X) → Some x ≡ None → ⊥
-some_not x e = cc
-
 only_octets : (p : Position) (e : DecodeError) → Stops anything p e → Stops as_octets p e
 unfolding Stops
-only_octets p Malformed n = record { none = λ vs rest h. absurd (some_not tt (n.none vs rest h)) }
+only_octets p Malformed n = record { none = λ vs rest h. absurd (some_none tt (n.none vs rest h)) }
 only_octets p OutOfMemory n = tt
 
 pub stops_octets : (c k : ℕ) (p : Position) (b a : ℕ) (e : DecodeError) → CountedStops c k anything p b a e → CountedStops c k as_octets p b a e
@@ -90,11 +92,13 @@ value_octets here v rest e =
 pub takes_octets_of : {X : Type 0} (c : ℕ) (grammar : Value → Option X) (p q : Position) (b a : ℕ) (x : X) (octets : List ℕ) → octets ≡ up_to p.here q.here → CountedOne c grammar p q b a x → CountedOne c (octets_of grammar) p q b a octets
 unfolding octets_of ◌>>=◌
 takes_octets_of c grammar p q b a x octets e t = record {
-  value = t.value;
-  begins = t.begins;
-  reads = rw t.reads (ap Some (sym (e ∙ value_octets p.here t.value q.here t.begins.parts)));
-  levels = t.levels;
-  mode = t.mode;
+  takes = record {
+    value = t.takes.value;
+    begins = t.takes.begins;
+    reads = rw t.takes.reads (ap Some (sym (e ∙ value_octets p.here t.takes.value q.here t.takes.begins.parts)));
+    levels = t.takes.levels;
+    mode = t.takes.mode;
+  };
   least = t.least;
   most = t.most;
 }
@@ -102,11 +106,13 @@ takes_octets_of c grammar p q b a x octets e t = record {
 pub takes_with_octets : {X : Type 0} (c : ℕ) (grammar : Value → Option X) (p q : Position) (b a : ℕ) (x : X) (octets : List ℕ) → octets ≡ up_to p.here q.here → CountedOne c grammar p q b a x → CountedOne c (with_octets grammar) p q b a (octets, x)
 unfolding with_octets ◌>>=◌
 takes_with_octets c grammar p q b a x octets e t = record {
-  value = t.value;
-  begins = t.begins;
-  reads = rw t.reads (ap (λ o. Some (o, x)) (sym (e ∙ value_octets p.here t.value q.here t.begins.parts)));
-  levels = t.levels;
-  mode = t.mode;
+  takes = record {
+    value = t.takes.value;
+    begins = t.takes.begins;
+    reads = rw t.takes.reads (ap (λ o. Some (o, x)) (sym (e ∙ value_octets p.here t.takes.value q.here t.takes.begins.parts)));
+    levels = t.takes.levels;
+    mode = t.takes.mode;
+  };
   least = t.least;
   most = t.most;
 }

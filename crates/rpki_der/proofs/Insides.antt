@@ -3,6 +3,8 @@ use Rattle.std.proofs.Common.{◌≡◌, ℕ, ◌+◌, ◌*◌, ◌≤◌, Bool,
 use Rattle.std.specs.Prelude.{IsErrAnd, if◌then◌else◌}
 use Rattle.std.proofs.Math.Nat.{mul-le-mul_left}
 use Rattle.rpki_common.specs.Chaining.{◌>>=◌}
+use Rattle.rpki_common.proofs.Bounds.{bound, chosen}
+use Rattle.rpki_common.proofs.Truths.{none_some, same_some}
 use Rattle.rpki_der.specs.declared.error.DecodeError.{DecodeError}
 use Rattle.rpki_der.specs.declared.error.DecodeError.TheVariants.{Malformed, OutOfMemory}
 use Rattle.rpki_der.specs.declared.mode.Mode.{Mode}
@@ -61,9 +63,9 @@ decoded_lacks grammar octets OutOfMemory n = tt
 
 gives_decoded : {X Y : Type 0} (c : ℕ) (grammar : Value → Option X) (view : Y → X) (octets : List ℕ) (b a : ℕ) (r : Result Y DecodeError) → DecodesCounted c grammar view Der octets b a r → GivesCounted c (in_der grammar octets) view octets b a r
 gives_decoded c grammar view octets b a (Ok y) d = record {
-  is = decoded_ok grammar Der octets (view y) (record { value = d.value; rest = d.rest; begins = d.begins; reads = d.reads });
+  is = decoded_ok grammar Der octets (view y) d.begins;
   least = omega (arith, d.least);
-  most = let none : a + c * length d.rest ≤ b + c * length octets = d.most in omega (arith, none);
+  most = let none : a + c * length d.begins.rest ≤ b + c * length octets = d.most in omega (arith, none);
 }
 gives_decoded c grammar view octets b a (Err e) d = record { lacks = decoded_lacks grammar octets e d.refuses; most = d.most }
 
@@ -86,7 +88,7 @@ unfolding Lacks Refuses
 takes_so_given c d grammar convert view p q b m a x octets (Ok z) t l g =
     let mono : d * (length octets + left q) ≤ d * left p = mul-le-mul_left d l in
     let k = takes_so c grammar convert p q b m x (view z) t g.is in
-    record { value = k.value; begins = k.begins; reads = k.reads; levels = k.levels; mode = k.mode; least = omega (arith, k.least, g.least); most = omega (arith, mono, t.most, g.most) }
+    record { takes = k.takes; least = omega (arith, k.least, g.least); most = omega (arith, mono, t.most, g.most) }
 takes_so_given c d grammar convert view p q b m a x octets (Err Malformed) t l n =
     let mono : d * (length octets + left q) ≤ d * left p = mul-le-mul_left d l in
     let k = refuses_convert c grammar convert p q b m x t n.lacks in
@@ -96,21 +98,6 @@ takes_so_given c d grammar convert view p q b m a x octets (Err OutOfMemory) t l
     record { refuses = tt; most = omega (arith, mono, t.most, n.most) }
 
 -- ---- contents are among the octets that were passed
-
-is_some : {X : Type 0} (x y : X) → Some x ≡ Some y → x ≡ y
-is_some x y e = cc
-
-none_some : {X : Type 0} (x : X) → None ≡ Some x → ⊥
-none_some x e = cc
-
-chosen : {X : Type 0} (t : Bool) (o : Option X) (x : X) → (if t then o else None) ≡ Some x → o ≡ Some x
-chosen true o x e = e
-chosen false o x e = absurd (none_some x e)
-
-bound : {X Y : Type 0} (o : Option X) (g : X → Option Y) (y : Y) → (o >>= g) ≡ Some y → (x : X) × (o ≡ Some x) × (g x ≡ Some y)
-unfolding ◌>>=◌
-bound None g y e = absurd (none_some y e)
-bound (Some x) g y e = (x, refl, e)
 
 contents_within : (i l c : List ℕ) → length c ≤ length (i ++ (l ++ c))
 contents_within i l c = omega (arith, length-append i (l ++ c), length-append l c)
@@ -123,30 +110,30 @@ mutual
 
   joined_within : (tag : List ℕ) (v : Value) (octets : List ℕ) → joined tag v ≡ Some octets → length octets ≤ length (spelling v)
   joined_within tag (Primitive i l c) octets e =
-      let is = is_some c octets (chosen (has_tag tag i) (Some c) octets e) in subst (λ o. length o ≤ length (i ++ (l ++ c))) is (contents_within i l c)
+      let is = same_some c octets (chosen (has_tag tag i) (Some c) octets e) in subst (λ o. length o ≤ length (i ++ (l ++ c))) is (contents_within i l c)
   joined_within tag (Constructed i f vs) octets e =
       inner_within i (lengths_of f) (spellings vs) (end_mark f) (length octets) (all_within vs octets (chosen (has_tag tag i) (joined_all vs) octets e))
 
   all_within : (vs : Values) (octets : List ℕ) → joined_all vs ≡ Some octets → length octets ≤ length (spellings vs)
-  all_within End octets e = let is = is_some [] octets e in subst (λ (o : List ℕ). length o ≤ 0) is (omega arith)
+  all_within End octets e = let is = same_some [] octets e in subst (λ (o : List ℕ). length o ≤ 0) is (omega arith)
   all_within (v ▸ vs) octets e =
       let a = bound (joined octet_string_tag v) _ octets e in
-      let w = bound (joined_all vs) _ octets a.2 in
-      let is = is_some (a.0 ++ w.0) octets w.2 in
-      subst (λ o. length o ≤ length (spelling v ++ spellings vs)) is (omega (arith, length-append a.0 w.0, length-append (spelling v) (spellings vs), joined_within octet_string_tag v a.0 a.1, all_within vs w.0 w.1))
+      let w = bound (joined_all vs) _ octets a.then' in
+      let is = same_some (a.x ++ w.x) octets w.then' in
+      subst (λ o. length o ≤ length (spelling v ++ spellings vs)) is (omega (arith, length-append a.x w.x, length-append (spelling v) (spellings vs), joined_within octet_string_tag v a.x a.found, all_within vs w.x w.found))
 
 primitive_within : (tag : List ℕ) (v : Value) (octets : List ℕ) → primitive tag v ≡ Some octets → length octets ≤ length (spelling v)
 primitive_within tag (Primitive i l c) octets e =
-    let is = is_some c octets (chosen (has_tag tag i) (Some c) octets e) in subst (λ o. length o ≤ length (i ++ (l ++ c))) is (contents_within i l c)
+    let is = same_some c octets (chosen (has_tag tag i) (Some c) octets e) in subst (λ o. length o ≤ length (i ++ (l ++ c))) is (contents_within i l c)
 primitive_within tag (Constructed i f vs) octets e = absurd (none_some octets e)
 
-value_within : (c : ℕ) (grammar : Value → Option (List ℕ)) (p q : Position) (b m : ℕ) (octets : List ℕ) (t : CountedOne c grammar p q b m octets) → length octets ≤ length (spelling t.value) → length octets + left q ≤ left p
-value_within c grammar p q b m octets t l = let long = simp length-append at (ap length t.begins.parts) in rw t.levels (omega (arith, long, l))
+value_within : (c : ℕ) (grammar : Value → Option (List ℕ)) (p q : Position) (b m : ℕ) (octets : List ℕ) (t : CountedOne c grammar p q b m octets) → length octets ≤ length (spelling t.takes.value) → length octets + left q ≤ left p
+value_within c grammar p q b m octets t l = let long = simp length-append at (ap length t.takes.begins.parts) in rw t.takes.levels (omega (arith, long, l))
 
 pub primitive_octets : (c : ℕ) (tag : List ℕ) (p q : Position) (b m : ℕ) (octets : List ℕ) → CountedOne c (primitive tag) p q b m octets → length octets + left q ≤ left p
-primitive_octets c tag p q b m octets t = value_within c (primitive tag) p q b m octets t (primitive_within tag t.value octets t.reads)
+primitive_octets c tag p q b m octets t = value_within c (primitive tag) p q b m octets t (primitive_within tag t.takes.value octets t.takes.reads)
 
 pub string_octets : (c : ℕ) (tag : List ℕ) (mode : Mode) (p q : Position) (b m : ℕ) (octets : List ℕ) → CountedOne c (octets_under tag mode) p q b m octets → length octets + left q ≤ left p
 unfolding octets_under
-string_octets c tag Ber p q b m octets t = value_within c (joined tag) p q b m octets t (joined_within tag t.value octets t.reads)
-string_octets c tag Der p q b m octets t = value_within c (primitive tag) p q b m octets t (primitive_within tag t.value octets t.reads)
+string_octets c tag Ber p q b m octets t = value_within c (joined tag) p q b m octets t (joined_within tag t.takes.value octets t.takes.reads)
+string_octets c tag Der p q b m octets t = value_within c (primitive tag) p q b m octets t (primitive_within tag t.takes.value octets t.takes.reads)

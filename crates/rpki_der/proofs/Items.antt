@@ -98,11 +98,13 @@ next_tagged tag mode here i r v rest f b = let g = begins_identifier mode here v
 
 pub whole_any : (p q : Position) (b m a : ℕ) (x : ItemFields) → ShowsWhole p.mode p.here q.here m a x → (q.levels ≡ p.levels) × (q.mode ≡ p.mode) → m ≡ b + 1 → CountedOne 1 any_item p q b a x
 whole_any p q b m a x w e t = record {
-  value = w.0;
-  begins = w.1;
-  reads = ap Some (sym w.2);
-  levels = e.0;
-  mode = e.1;
+  takes = record {
+    value = w.0;
+    begins = w.1;
+    reads = ap Some (sym w.2);
+    levels = e.0;
+    mode = e.1;
+  };
   least = omega (arith, t, w.3, nodes_counts w.0);
   most = rw e.0 (omega (arith, t, w.3, counts_passed p.mode p.here w.0 q.here w.1));
 }
@@ -123,11 +125,13 @@ unfolding whole_any
 whole_with tag p q i r b m a x f tagged w e t =
     let k = whole_any p q b m a x w e t in
     record {
-      value = w.0;
-      begins = w.1;
-      reads = rw (next_tagged tag p.mode p.here i r w.0 q.here f w.1, tagged) (ap Some (sym w.2));
-      levels = e.0;
-      mode = e.1;
+      takes = record {
+        value = w.0;
+        begins = w.1;
+        reads = rw (next_tagged tag p.mode p.here i r w.0 q.here f w.1, tagged) (ap Some (sym w.2));
+        levels = e.0;
+        mode = e.1;
+      };
       least = k.least;
       most = k.most;
     }
@@ -216,21 +220,23 @@ has_item tag v x e = with_found tag v x (has_tag tag (identifier_of v)) refl e
 -- a value with this tag stands next, and its level isn't at its end
 pub item_next : (c : ℕ) (tag : List ℕ) (p q : Position) (b a : ℕ) (y : ItemFields) → CountedOne c (item_with tag) p q b a y → Next tag p true
 item_next c tag p q b a y t v rest h =
-    let s = at_most_one p.mode p.here v t.value rest q.here h t.begins in
-    ap (λ (w : Value). has_tag tag (identifier_of w)) s.value ∙ (has_item tag t.value y t.reads).tagged
+    let s = at_most_one p.mode p.here v t.takes.value rest q.here h t.takes.begins in
+    ap (λ (w : Value). has_tag tag (identifier_of w)) s.value ∙ (has_item tag t.takes.value y t.takes.reads).tagged
 
 pub item_more : (c : ℕ) (tag : List ℕ) (p q : Position) (b a : ℕ) (y : ItemFields) → CountedOne c (item_with tag) p q b a y → AtEnd p → ⊥
-item_more c tag p q b a y t s = ends_no_value p.mode (top p.levels) p.here s.0 s.1 t.value q.here t.begins
+item_more c tag p q b a y t s = ends_no_value p.mode (top p.levels) p.here s.0 s.1 t.takes.value q.here t.takes.begins
 
 pub takes_optional : {X : Type 0} (c : ℕ) (tag : List ℕ) (field : Value → Option X) (convert : ItemFields → Option X) (p q : Position) (b a : ℕ) (y : ItemFields) (x : X) → Converts tag field convert → CountedOne c (item_with tag) p q b a y → convert y ≡ Some x → CountedFields c 1 (optional tag field) p q b a (Some x)
 takes_optional c tag field convert p q b a y x is t e =
-    let h = has_item tag t.value y t.reads in
+    let h = has_item tag t.takes.value y t.takes.reads in
     counting.takes_optional c tag field p q b a x (item_next c tag p q b a y t) (record {
-      value = t.value;
-      begins = t.begins;
-      reads = is.is t.value h.tagged ∙ ap convert h.is ∙ e;
-      levels = t.levels;
-      mode = t.mode;
+      takes = record {
+        value = t.takes.value;
+        begins = t.takes.begins;
+        reads = is.is t.takes.value h.tagged ∙ ap convert h.is ∙ e;
+        levels = t.takes.levels;
+        mode = t.takes.mode;
+      };
       least = t.least;
       most = t.most;
     })
@@ -238,10 +244,10 @@ takes_optional c tag field convert p q b a y x is t e =
 pub refuses_converted : {X : Type 0} (c : ℕ) (tag : List ℕ) (field : Value → Option X) (convert : ItemFields → Option X) (p q : Position) (b a : ℕ) (y : ItemFields) → Converts tag field convert → CountedOne c (item_with tag) p q b a y → convert y ≡ None → CountedRefusesFields c 1 (optional tag field) p b a Malformed
 unfolding Refuses
 refuses_converted c tag field convert p q b a y is t e =
-    let h = has_item tag t.value y t.reads in
-    let reads : field t.value ≡ None = is.is t.value h.tagged ∙ ap convert h.is ∙ e in
+    let h = has_item tag t.takes.value y t.takes.reads in
+    let reads : field t.takes.value ≡ None = is.is t.takes.value h.tagged ∙ ap convert h.is ∙ e in
     counting.refuses_optional c tag field p b a Malformed (item_next c tag p q b a y t) (item_more c tag p q b a y t) (record {
-      refuses = λ v rest k. ap field (at_most_one p.mode p.here v t.value rest q.here k t.begins).value ∙ reads;
+      refuses = λ v rest k. ap field (at_most_one p.mode p.here v t.takes.value rest q.here k t.takes.begins).value ∙ reads;
       most = let w : a + c * left q ≤ b + c * left p = t.most in omega (arith, w);
     })
 
@@ -265,21 +271,21 @@ absent_as tag p q b a w = (absent_once tag p b a w.0, w.1)
 
 pub takes_as : {X : Type 0} (c : ℕ) (tag : List ℕ) (field : Value → Option X) (convert : ItemFields → Option X) (p q : Position) (b a : ℕ) (y : ItemFields) (x : X) → Converts tag field convert → CountedOne c (item_with tag) p q b a y → convert y ≡ Some x → TakesOne field p q x
 takes_as c tag field convert p q b a y x is t e =
-    let h = has_item tag t.value y t.reads in
-    record { value = t.value; begins = t.begins; reads = is.is t.value h.tagged ∙ ap convert h.is ∙ e; levels = t.levels; mode = t.mode }
+    let h = has_item tag t.takes.value y t.takes.reads in
+    record { value = t.takes.value; begins = t.takes.begins; reads = is.is t.takes.value h.tagged ∙ ap convert h.is ∙ e; levels = t.takes.levels; mode = t.takes.mode }
 
 item_present : (c : ℕ) (tag : List ℕ) (p q : Position) (b a : ℕ) (y : ItemFields) → CountedOne c (item_with tag) p q b a y → Absent tag p → ⊥
 item_present c tag p q b a y t (inl e) = item_more c tag p q b a y t e
 item_present c tag p q b a y t (inr o) =
-    let tagged = (has_item tag t.value y t.reads).tagged in
-    let e : true ≡ false = sym tagged ∙ next_tagged tag p.mode p.here o.0 o.1 t.value q.here o.2 t.begins ∙ o.3 in cc
+    let tagged = (has_item tag t.takes.value y t.takes.reads).tagged in
+    let e : true ≡ false = sym tagged ∙ next_tagged tag p.mode p.here o.0 o.1 t.takes.value q.here o.2 t.takes.begins ∙ o.3 in cc
 
 pub refuses_as : {X : Type 0} (c : ℕ) (tag : List ℕ) (field : Value → Option X) (convert : ItemFields → Option X) (p q : Position) (b a : ℕ) (y : ItemFields) → Converts tag field convert → CountedOne c (item_with tag) p q b a y → convert y ≡ None → RefusesOptionalAs tag field p Malformed
 unfolding RefusesOptionalAs
 refuses_as c tag field convert p q b a y is t e =
-    let h = has_item tag t.value y t.reads in
-    let reads : field t.value ≡ None = is.is t.value h.tagged ∙ ap convert h.is ∙ e in
-    (item_present c tag p q b a y t, λ v rest k. ap field (at_most_one p.mode p.here v t.value rest q.here k t.begins).value ∙ reads)
+    let h = has_item tag t.takes.value y t.takes.reads in
+    let reads : field t.takes.value ≡ None = is.is t.takes.value h.tagged ∙ ap convert h.is ∙ e in
+    (item_present c tag p q b a y t, λ v rest k. ap field (at_most_one p.mode p.here v t.takes.value rest q.here k t.takes.begins).value ∙ reads)
 
 pub refuses_field_as : {X : Type 0} (c : ℕ) (tag : List ℕ) (field : Value → Option X) (p : Position) (b a : ℕ) (e : DecodeError) → CountedRefusesOptional c tag p b a e → RefusesOptionalAs tag field p e
 unfolding RefusesOptional RefusesOptionalAs

@@ -1,5 +1,6 @@
 -- Reading what is left of a level, up to its end, with counted calls.
-use Rattle.std.proofs.Common.{◌≡◌, ℕ, ◌+◌, ◌*◌, Bool, true, false, Option, None, Some, Result, Ok, Err, List, [], ◌∷◌, refl, sym, subst, ◌∙◌, arith}
+use Rattle.std.proofs.Common.{◌≡◌, ℕ, ◌+◌, ◌*◌, Bool, true, false, Option, None, Some, Result, Ok, Err, List, [], ◌∷◌, refl, sym, ap, subst, ◌∙◌, arith}
+use Rattle.std.proofs.lemmas.Bool.{ltb-false}
 use Rattle.std.specs.Prelude.{IsErrAnd, is_some, nat_lt, if◌then◌else◌, OnOk}
 use Rattle.rpki_common.specs.Chaining.{◌>>=◌}
 use Rattle.rpki_common.specs.Collecting.{collect, once}
@@ -8,11 +9,11 @@ use Rattle.rpki_der.specs.Identifier.{has_tag}
 use Rattle.rpki_der.specs.Tags.{set}
 use Rattle.rpki_der.specs.Value.{Value, Primitive, Constructed, Values, End, ◌▸◌, spelling}
 use Rattle.rpki_der.specs.Position.{Position, top, AtEnd, Leaves}
-use Rattle.rpki_der.specs.Grammar.{any, within, first, every, gather, anything, wrapped}
+use Rattle.rpki_der.specs.Grammar.{any, so, within, first, every, gather, anything, done, wrapped}
 use Rattle.rpki_der.specs.Entry.{set_of}
-use Rattle.rpki_der.specs.Takes.{Goes, GoesOut, RefusesToEnter, RefusesToLeave, Stops}
-use Rattle.rpki_der.specs.Ticks.{marks, CountedOne, CountedRefuses, CountedReads, CountedStops, TakesRestCounted, TakesCounted}
-use Rattle.rpki_der.proofs.Counting.{CountedContinues, reads_end, reads_first, reads_done, takes_within, refuses_within, refuses_inside, stops_first, stops_later, stops_done}
+use Rattle.rpki_der.specs.Takes.{Goes, GoesOut, Refuses, RefusesToEnter, RefusesToLeave, Stops}
+use Rattle.rpki_der.specs.Ticks.{left, marks, CountedOne, CountedRefuses, CountedReads, CountedStops, TakesRestCounted, TakesCounted}
+use Rattle.rpki_der.proofs.Counting.{most_wider, most_refused, reads_left, CountedContinues, reads_end, reads_first, reads_done, takes_within, refuses_within, refuses_inside, stops_first, stops_later, stops_done}
 use Rattle.rpki_der.specs.declared.error.DecodeError.{DecodeError}
 use Rattle.rpki_der.specs.declared.error.DecodeError.TheVariants.{Malformed, OutOfMemory}
 
@@ -23,7 +24,7 @@ takes_rest_err c k f view old new b a error (Err e) h n = subst (CountedStops c 
 -- ---- another spelling of the same fields
 
 pub reads_as : {Y : Type 0} (c k : ℕ) (f g : Values → Option Y) (p q : Position) (b a : ℕ) (y : Y) → ((vs : Values) → f vs ≡ g vs) → CountedReads c k f p q b a y → CountedReads c k g p q b a y
-reads_as c k f g p q b a y h r = record { values = r.values; holds = r.holds; reads = sym (h r.values) ∙ r.reads; levels = r.levels; mode = r.mode; least = r.least; most = r.most }
+reads_as c k f g p q b a y h r = record { reads = record { values = r.reads.values; holds = r.reads.holds; reads = sym (h r.reads.values) ∙ r.reads.reads; levels = r.reads.levels; mode = r.reads.mode }; least = r.least; most = r.most }
 
 only_as : {Y : Type 0} (f g : Values → Option Y) (p : Position) (e : DecodeError) → ((vs : Values) → f vs ≡ g vs) → Stops f p e → Stops g p e
 unfolding Stops
@@ -36,11 +37,48 @@ stops_as c k f g p b a e h n = record { stops = only_as f g p e h n.stops; most 
 pub continues_as : {Y : Type 0} (c : ℕ) (f g : Values → Option Y) (p : Position) (b : ℕ) → ((vs : Values) → f vs ≡ g vs) → CountedContinues c g p b f p b
 continues_as c f g p b h = record { reads = λ k q a y r. reads_as c k f g p q b a y h r; stops = λ k a e n. stops_as c k f g p b a e h n; levels = refl; mode = refl }
 
+pub takes_alike : {X : Type 0} (c : ℕ) (f g : Value → Option X) (p q : Position) (b a : ℕ) (x : X) → ((v : Value) → f v ≡ g v) → CountedOne c f p q b a x → CountedOne c g p q b a x
+takes_alike c f g p q b a x h t = record {
+  takes = record {
+    value = t.takes.value;
+    begins = t.takes.begins;
+    reads = sym (h t.takes.value) ∙ t.takes.reads;
+    levels = t.takes.levels;
+    mode = t.takes.mode;
+  };
+  least = t.least;
+  most = t.most;
+}
+
+none_alike : {X : Type 0} (f g : Value → Option X) (p : Position) (e : DecodeError) → ((v : Value) → f v ≡ g v) → Refuses f p e → Refuses g p e
+unfolding Refuses
+none_alike f g p Malformed h n = λ v rest k. sym (h v) ∙ n v rest k
+none_alike f g p OutOfMemory h n = tt
+
+pub refuses_alike : {X : Type 0} (c : ℕ) (f g : Value → Option X) (p : Position) (b a : ℕ) (e : DecodeError) → ((v : Value) → f v ≡ g v) → CountedRefuses c f p b a e → CountedRefuses c g p b a e
+refuses_alike c f g p b a e h n = record { refuses = none_alike f g p e h n.refuses; most = n.most }
+
+pub all_alike : {X Y : Type 0} (c : ℕ) (f g : Value → Option X) (view : Y → X) (p q : Position) (b a : ℕ) (r : Result Y DecodeError) → ((v : Value) → f v ≡ g v) → TakesCounted c f view p q b a r → TakesCounted c g view p q b a r
+all_alike c f g view p q b a (Ok y) h t = takes_alike c f g p q b a (view y) h t
+all_alike c f g view p q b a (Err e) h n = refuses_alike c f g p b a e h n
+
+-- ---- with more ticks allowed
+
+pub rest_wider : {X Y : Type 0} (c j k : ℕ) (fields : Values → Option X) (view : Y → X) (p q : Position) (b a : ℕ) (r : Result Y DecodeError) → nat_lt k j ≡ false → TakesRestCounted c j fields view p q b a r → TakesRestCounted c k fields view p q b a r
+rest_wider c j k fields view p q b a (Ok y) fits t = record { reads = t.reads; least = t.least; most = omega (arith, ltb-false k j fits, t.most) }
+rest_wider c j k fields view p q b a (Err e) fits n = record { stops = n.stops; most = omega (arith, ltb-false k j fits, n.most) }
+
+pub reads_slower : {Y : Type 0} (c d k : ℕ) (fields : Values → Option Y) (p q : Position) (b a : ℕ) (y : Y) → nat_lt c d ≡ false → CountedReads d k fields p q b a y → CountedReads c k fields p q b a y
+reads_slower c d k fields p q b a y fits r = record { reads = r.reads; least = r.least; most = most_wider c d (left p) (left q) b a k fits (reads_left fields p q y r.reads) r.most }
+
+pub stops_slower : {Y : Type 0} (c d k : ℕ) (fields : Values → Option Y) (p : Position) (b a : ℕ) (e : DecodeError) → nat_lt c d ≡ false → CountedStops d k fields p b a e → CountedStops c k fields p b a e
+stops_slower c d k fields p b a e fits n = record { stops = n.stops; most = most_refused c d (left p) b a k fits n.most }
+
 -- ---- what is made of them
 
 pub reads_bind : {X Y : Type 0} (c k : ℕ) (f : Values → Option X) (g : X → Option Y) (p q : Position) (b a : ℕ) (x : X) (y : Y) → CountedReads c k f p q b a x → g x ≡ Some y → CountedReads c k (λ vs. f vs >>= g) p q b a y
 unfolding ◌>>=◌
-reads_bind c k f g p q b a x y r e = record { values = r.values; holds = r.holds; reads = rw r.reads e; levels = r.levels; mode = r.mode; least = r.least; most = r.most }
+reads_bind c k f g p q b a x y r e = record { reads = record { values = r.reads.values; holds = r.reads.holds; reads = rw r.reads.reads e; levels = r.reads.levels; mode = r.reads.mode }; least = r.least; most = r.most }
 
 none_bound : {X Y : Type 0} (f : Values → Option X) (g : X → Option Y) (p : Position) (e : DecodeError) → Stops f p e → Stops (λ vs. f vs >>= g) p e
 unfolding Stops ◌>>=◌
@@ -157,3 +195,53 @@ pub within_then : {X Y : Type 0} (tag : List ℕ) (f : Values → Option X) (g :
 unfolding within ◌>>=◌
 within_then tag f g (Primitive i l c) = refl
 within_then tag f g (Constructed i form vs) = under_test (has_tag tag i) (f vs) g
+
+pub within_same : {X : Type 0} (tag : List ℕ) (f g : Values → Option X) (v : Value) → ((vs : Values) → f vs ≡ g vs) → within tag f v ≡ within tag g v
+unfolding within
+within_same tag f g (Primitive i l c) h = refl
+within_same tag f g (Constructed i form vs) h = rw (h vs) refl
+
+-- ---- what is made of the one value inside another
+
+abbrev with_more : {X : Type 0} → Values → X → Option (X × Values)
+with_more vs x = Some (x, vs)
+
+abbrev and_no_more : {X : Type 0} → X × Values → Option X
+and_no_more x = done x.0 x.1
+
+no_more : {Y : Type 0} (o : Option Y) → o ≡ ((o >>= with_more End) >>= and_no_more)
+unfolding done ◌>>=◌
+no_more None = refl
+no_more (Some y) = refl
+
+some_more : {Y : Type 0} (o : Option Y) (v : Value) (vs : Values) → None ≡ ((o >>= with_more (v ▸ vs)) >>= and_no_more)
+unfolding done ◌>>=◌
+some_more None v vs = refl
+some_more (Some y) v vs = refl
+
+one_so : {X Y : Type 0} (o : Option X) (convert : X → Option Y) (vs : Values) → (((o >>= with_more vs) >>= and_no_more) >>= convert) ≡ (((o >>= convert) >>= with_more vs) >>= and_no_more)
+unfolding done ◌>>=◌
+one_so None convert vs = refl
+one_so (Some x) convert End = no_more (convert x)
+one_so (Some x) convert (v ▸ vs) = some_more (convert x) v vs
+
+alone_so : {X Y : Type 0} (field : Value → Option X) (convert : X → Option Y) (vs : Values) → ((first field vs >>= and_no_more) >>= convert) ≡ (first (so field convert) vs >>= and_no_more)
+unfolding first so ◌>>=◌
+alone_so field convert End = refl
+alone_so field convert (v ▸ vs) = one_so (field v) convert vs
+
+pub wrapped_so : {X Y : Type 0} (tag : List ℕ) (field : Value → Option X) (convert : X → Option Y) (v : Value) → so (wrapped tag field) convert v ≡ wrapped tag (so field convert) v
+unfolding wrapped so
+wrapped_so tag field convert v =
+    sym (within_then tag (λ vs. first field vs >>= and_no_more) convert v)
+    ∙ within_same tag (λ vs. (first field vs >>= and_no_more) >>= convert) (λ vs. first (so field convert) vs >>= and_no_more) v (alone_so field convert)
+
+first_same : {X : Type 0} (f g : Value → Option X) (vs : Values) → ((v : Value) → f v ≡ g v) → first f vs ≡ first g vs
+unfolding first
+first_same f g End h = refl
+first_same f g (v ▸ vs) h = rw (h v) refl
+
+pub wrapped_same : {X : Type 0} (tag : List ℕ) (f g : Value → Option X) (v : Value) → ((v : Value) → f v ≡ g v) → wrapped tag f v ≡ wrapped tag g v
+unfolding wrapped
+wrapped_same tag f g v h =
+    within_same tag (λ vs. first f vs >>= and_no_more) (λ vs. first g vs >>= and_no_more) v (λ vs. ap (λ o. o >>= and_no_more) (first_same f g vs h))

@@ -32,3 +32,4 @@ mod Row
 pub mod Tagging
 pub mod Stops
 pub mod Rooms
+pub mod Firsts

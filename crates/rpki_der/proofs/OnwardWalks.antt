@@ -15,7 +15,7 @@ pub onward_enter : (tag : List ℕ) (s p : Position) (b a : ℕ) → Goes tag s 
 onward_enter tag s p b a g t = (g.level ∷ [], g.levels, g.mode, λ levels. back_into s.mode s.here g.identifier g.level p.here levels b a g.opens t)
 
 pub onward_one : {X : Type 0} (c : ℕ) (grammar : Value → Option X) (s p : Position) (b m a : ℕ) (x : X) → CountedOne c grammar s p m a x → b ≤ m → Onward s b p a
-onward_one c grammar s p b m a x t le = ([], t.levels, t.mode, λ levels final n k. (nodes t.value + n, (t.value, p.here, n, t.begins, k, refl), omega (arith, t.least, le)))
+onward_one c grammar s p b m a x t le = ([], t.takes.levels, t.takes.mode, λ levels final n k. (nodes t.takes.value + n, (t.takes.value, p.here, n, t.takes.begins, k, refl), omega (arith, t.least, le)))
 
 -- where the loop stands
 pub record Below (old : Position) (before : ℕ) (p : Position) (m : ℕ) : Type 0 where
@@ -83,7 +83,7 @@ below_done_of grammar old before p m x w [] e le t =
     let v = back_finished old.mode old.here p.here before m back in
     let same : v.0 ≡ t.value = (at_most_one old.mode old.here v.0 t.value p.here p.here v.1 t.begins).value in
     let least : before + nodes t.value ≤ m = subst (λ (u : Value). before + nodes u ≤ m) same v.2 in
-    record { value = t.value; begins = t.begins; reads = t.reads; levels = t.levels; mode = t.mode; least = least; most = omega (arith, w.most) }
+    record { takes = t; least = least; most = omega (arith, w.most) }
 below_done_of grammar old before p m x w (level ∷ inner) e le t =
     let len : length p.levels ≡ length ((level ∷ inner) ++ old.levels) = ap length (rw e at w.levels) in absurd (omega (arith, le, simp length-append at len))
 

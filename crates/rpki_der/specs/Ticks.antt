@@ -4,7 +4,7 @@ use Rattle.rpki_der.specs.declared.error.DecodeError.{DecodeError}
 use Rattle.rpki_der.specs.Value.{Form, Definite, Indefinite, Value, Primitive, Constructed, Values, End, ◌▸◌, Begins}
 use Rattle.rpki_der.specs.Level.{Level, Sized, Marked, behind_level, Holds}
 use Rattle.rpki_der.specs.Position.{Position, top}
-use Rattle.rpki_der.specs.Takes.{Refuses, RefusesFields, RefusesOctets, Stops}
+use Rattle.rpki_der.specs.Takes.{TakesOne, Refuses, TakesFields, RefusesFields, BeginsAs, RefusesOctets, Reads, Stops}
 use Rattle.rpki_der.specs.declared.mode.Mode.{Mode}
 
 -- how many values a value is, itself and those inside it
@@ -47,12 +47,8 @@ marks Marked = 1
 -- A value that the grammar reads as x stands here, and behind it the cursor stands afterwards.
 -- Each value in it ticked, and there were at most c ticks for each octet that was passed.
 pub record CountedOne {X : Type 0} (c : ℕ) (grammar : Value → Option X) (old new : Position) (before after : ℕ) (x : X) : Type 0 where
-  pub value : Value
-  pub begins : Begins old.mode old.here value new.here
-  pub reads : grammar value ≡ Some x
-  pub levels : new.levels ≡ old.levels
-  pub mode : new.mode ≡ old.mode
-  pub least : before + nodes value ≤ after
+  pub takes : TakesOne grammar old new x
+  pub least : before + nodes takes.value ≤ after
   pub most : after + c * left new ≤ before + c * left old
 
 -- The grammar reads no value that stands here, or memory ran out, after at most c ticks for each octet that was left, and 8.
@@ -68,10 +64,8 @@ TakesCounted c grammar view old new before after result =
 -- Fields that stand next at this level are read as x, and the cursor stands behind them afterwards.
 -- Each value in them ticked, and there were at most c ticks for each octet that was passed, and k.
 pub record CountedFields {X : Type 0} (c k : ℕ) (fields : Values → Option (X × Values)) (old new : Position) (before after : ℕ) (x : X) : Type 0 where
-  pub reads : (vs : Values) (rest : List ℕ) → Holds new.mode (top new.levels) new.here vs rest → (all : Values) × Holds old.mode (top old.levels) old.here all rest × (fields all ≡ Some (x, vs)) × (before + all_nodes all ≤ after + all_nodes vs)
-  pub only : (all : Values) (rest : List ℕ) → Holds old.mode (top old.levels) old.here all rest → (vs : Values) × Holds new.mode (top new.levels) new.here vs rest × (fields all ≡ Some (x, vs))
-  pub levels : new.levels ≡ old.levels
-  pub mode : new.mode ≡ old.mode
+  pub takes : TakesFields fields old new x
+  pub least : (vs : Values) (rest : List ℕ) (h : Holds new.mode (top new.levels) new.here vs rest) → before + all_nodes (takes.reads vs rest h).0 ≤ after + all_nodes vs
   pub on : left new ≤ left old
   pub most : after + c * left new ≤ before + c * left old + k
 
@@ -85,12 +79,9 @@ TakesPartCounted c k fields view old new before after result =
 
 -- A value that the grammar reads as x begins the octets. Each value in it ticked, and there were at most c ticks for each octet that was passed.
 pub record CountedBegins {X : Type 0} (c : ℕ) (grammar : Value → Option X) (mode : Mode) (octets : List ℕ) (before after : ℕ) (x : X) : Type 0 where
-  pub value : Value
-  pub rest : List ℕ
-  pub begins : Begins mode octets value rest
-  pub reads : grammar value ≡ Some x
-  pub least : before + nodes value ≤ after
-  pub most : after + c * length rest ≤ before + c * length octets
+  pub begins : BeginsAs grammar mode octets x
+  pub least : before + nodes begins.value ≤ after
+  pub most : after + c * length begins.rest ≤ before + c * length octets
 
 pub record CountedRefusesOctets {X : Type 0} (c : ℕ) (grammar : Value → Option X) (mode : Mode) (octets : List ℕ) (before after : ℕ) (error : DecodeError) : Type 0 where
   pub refuses : RefusesOctets grammar mode octets error
@@ -105,12 +96,8 @@ DecodesCounted c grammar view mode octets before after result =
 
 -- What is left of the level at p, fields reads as y, and q is behind the level; k ticks are paid by the header in front.
 pub record CountedReads {Y : Type 0} (c k : ℕ) (fields : Values → Option Y) (p q : Position) (before after : ℕ) (y : Y) : Type 0 where
-  pub values : Values
-  pub holds : Holds p.mode (top p.levels) p.here values q.here
-  pub reads : fields values ≡ Some y
-  pub levels : q.levels ≡ drop 1 p.levels
-  pub mode : q.mode ≡ p.mode
-  pub least : before + all_nodes values ≤ after
+  pub reads : Reads fields p q y
+  pub least : before + all_nodes reads.values ≤ after
   pub most : after + c * left q ≤ before + c * left p + k
 
 pub record CountedStops {Y : Type 0} (c k : ℕ) (fields : Values → Option Y) (p : Position) (before after : ℕ) (error : DecodeError) : Type 0 where

@@ -1,13 +1,13 @@
 -- What the checks of identity certificates mean: Ok comes exactly where a certificate is believed.
 use Rattle.std.proofs.Common.{◌≡◌, ℤ, Bool, true, false, Result, Ok, refl, sym, ap, ◌∙◌}
 use Rattle.std.specs.Prelude.{◌↔◌, Decides, OnOk}
-use Rattle.rpki_base.specs.Checks.{first_failure, failing}
+use Rattle.rpki_base.specs.Checks.{first_failure, failing, IsSigned}
 use Rattle.rpki_base.specs.PublicKey.{KeyFields}
 use Rattle.rpki_base.specs.Scheme.{Relation}
 use Rattle.rpki_base.specs.declared.validation.ValidationError.{ValidationError}
 use Rattle.rpki_base.proofs.Believing.{none_failing, held_where_ok, passes_where_ok, ok_where_passes}
 use Rattle.rpki_idcert.specs.IdCert.{CertificateFields}
-use Rattle.rpki_idcert.specs.Checks.{IsSigned, names_itself, ee_checks, ee_kind, IsEeBelieved, ta_checks, ta_kind, IsTaBelieved}
+use Rattle.rpki_idcert.specs.Checks.{names_itself, ee_checks, ee_kind, IsEeBelieved, ta_checks, ta_kind, IsTaBelieved}
 
 pub ee_believed : (scheme : Relation) (c : CertificateFields) (issuer : KeyFields) (when : ℤ) (r : Result (Unit {0}) ValidationError) → OnOk r (IsSigned scheme c issuer)
     → ((q : Bool) → Decides q (IsSigned scheme c issuer) → r ≡ failing ee_kind (first_failure 1 (ee_checks c issuer when q))) → (r ≡ Ok tt) ↔ IsEeBelieved scheme c issuer when

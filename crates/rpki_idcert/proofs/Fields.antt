@@ -72,7 +72,7 @@ at_end End e = refl
 at_end (v ▸ vs) e = cc
 
 reads_with : (f : Values → Option (Unit {0})) (p q : Position) (b a : ℕ) → ((vs : Values) → f vs ≡ Some tt → path_length vs ≡ Some tt) → CountedReads 1 0 f p q b a tt → CountedReads 1 0 path_length p q b a tt
-reads_with f p q b a h r = record { values = r.values; holds = r.holds; reads = h r.values r.reads; levels = r.levels; mode = r.mode; least = r.least; most = r.most }
+reads_with f p q b a h r = record { reads = record { values = r.reads.values; holds = r.reads.holds; reads = h r.reads.values r.reads.reads; levels = r.reads.levels; mode = r.reads.mode }; least = r.least; most = r.most }
 
 none_left : (p : Position) (e : DecodeError) → (AtEnd p → ⊥) → Stops number_alone p e → Stops path_length p e
 unfolding Stops

@@ -1,29 +1,27 @@
 -- What an extension adds to those found so far, and what all add up to.
-use Rattle.std.proofs.Common.{◌≡◌, ℕ, true, false, Option, None, Some, List, refl, ap, ◌∙◌}
+use Rattle.std.proofs.Common.{◌≡◌, ℕ, true, false, Option, None, Some, List, refl, sym, ap, ◌∙◌}
 use Rattle.std.specs.Prelude.{bytes_eq, Bool}
-use Rattle.std.proofs.lemmas.Slice.Eq.{bytes_eq-Decides}
 use Rattle.rpki_common.specs.Chaining.{◌>>=◌}
 use Rattle.rpki_common.specs.Collecting.{collect, once, slot, last_slot, both}
 use Rattle.rpki_common.proofs.Collected.{bind_both, bind_under, bind_assoc, collect_required, collect_optional, collect_the_one, collect_slot, collect_last}
 use Rattle.rpki_der.specs.declared.mode.Mode.{Mode}
 use Rattle.rpki_der.specs.declared.mode.Mode.TheVariants.{Der}
+use Rattle.rpki_der.specs.Tags.{sequence, context}
 use Rattle.rpki_der.specs.Value.{Value, Values}
-use Rattle.rpki_der.specs.Grammar.{every, gather, so}
+use Rattle.rpki_der.specs.Grammar.{wrapped, every, gather, so}
 use Rattle.rpki_der.specs.InDer.{in_der}
-use Rattle.rpki_der.proofs.Leftovers.{gather_every, gather_same}
+use Rattle.rpki_der.proofs.Leftovers.{gather_every, gather_same, within_then, within_same, wrapped_so, wrapped_same}
 use Rattle.rpki_base.specs.KeyIdentifier.{key_identifier}
 use Rattle.rpki_base.specs.Names.{subject_key_identifier, basic_constraints as basic_name, authority_key_identifier}
-use Rattle.rpki_base.specs.Extension.{ExtensionFields, extension, is}
-use Rattle.rpki_idcert.specs.Extensions.{KnownExtensions, basic_constraints, authority_key, ca_in, subject_in, authority_in, known_extensions, FoundSoFar, add, add_value, complete}
-
-equal : (kind identifier : List ℕ) → bytes_eq kind identifier ≡ true → kind ≡ identifier
-equal kind identifier e = (bytes_eq-Decides kind identifier).0 e
+use Rattle.rpki_base.specs.Extension.{ExtensionFields, extension, gathered, is}
+use Rattle.rpki_idcert.specs.Extensions.{KnownExtensions, basic_constraints, authority_key, ca_in, subject_in, authority_in, known_extensions, extension_list, FoundSoFar, add, complete}
+use Rattle.rpki_common.proofs.Truths.{same_octets}
 
 -- ---- one extension
 
 pub add_subject : (f : FoundSoFar) (e : ExtensionFields) → bytes_eq e.identifier subject_key_identifier ≡ true → (once f.0 (in_der (key_identifier Der) e.value) >>= λ x. Some (x, f.1)) ≡ add f e
 unfolding add both slot last_slot subject_in ◌>>=◌
-add_subject f e h = rw (equal e.identifier subject_key_identifier h) refl
+add_subject f e h = rw (same_octets e.identifier subject_key_identifier h) refl
 
 abbrev ca_found : FoundSoFar → Option Bool → Option FoundSoFar
 ca_found f x = Some (f.0, (x, f.1.1))
@@ -55,11 +53,11 @@ beside_authority f (Some x) = refl
 
 pub add_ca : (f : FoundSoFar) (e : ExtensionFields) → bytes_eq e.identifier basic_name ≡ true → (once f.1.0 (in_der (basic_constraints Der) e.value) >>= ca_found f) ≡ add f e
 unfolding add both slot last_slot ca_in ◌>>=◌
-add_ca f e h = rw (equal e.identifier basic_name h) (beside_ca f (once f.1.0 (in_der (basic_constraints Der) e.value)))
+add_ca f e h = rw (same_octets e.identifier basic_name h) (beside_ca f (once f.1.0 (in_der (basic_constraints Der) e.value)))
 
 pub add_authority : (f : FoundSoFar) (e : ExtensionFields) → bytes_eq e.identifier authority_key_identifier ≡ true → (in_der authority_key e.value >>= authority_found f) ≡ add f e
 unfolding add both slot last_slot authority_in ◌>>=◌
-add_authority f e h = rw (equal e.identifier authority_key_identifier h) (beside_authority f (in_der authority_key e.value))
+add_authority f e h = rw (same_octets e.identifier authority_key_identifier h) (beside_authority f (in_der authority_key e.value))
 
 pub add_other : (f : FoundSoFar) (e : ExtensionFields) → bytes_eq e.identifier subject_key_identifier ≡ false → bytes_eq e.identifier basic_name ≡ false → bytes_eq e.identifier authority_key_identifier ≡ false → add f e ≡ Some f
 unfolding add both slot last_slot ◌>>=◌
@@ -79,12 +77,26 @@ added all =
     ∙ bind_both _ _ _ _ (collect_slot (is basic_name) ca_in all)
     (λ ca. bind_both _ _ _ _ (collect_last (is authority_key_identifier) authority_in None all) (λ authority. refl)))
 
-then : (mode : Mode) (f : FoundSoFar) (v : Value) → add_value mode f v ≡ (extension mode v >>= add f)
-unfolding add_value so
-then mode f v = refl
+abbrev none_found : FoundSoFar
+none_found = (None, (None, None))
 
-pub all_added : (mode : Mode) (vs : Values) → (gather (add_value mode) (None, (None, None)) vs >>= complete) ≡ (every (extension mode) vs >>= known_extensions)
+one_then : (mode : Mode) (f : FoundSoFar) (v : Value) → so (extension mode) (add f) v ≡ (extension mode v >>= add f)
+unfolding so
+one_then mode f v = refl
+
+all_added : (mode : Mode) (vs : Values) → (gather (λ f. so (extension mode) (add f)) none_found vs >>= complete) ≡ (every (extension mode) vs >>= known_extensions)
 all_added mode vs =
-    ap (λ o. o >>= complete) (gather_same (add_value mode) (λ t v. extension mode v >>= add t) (None, (None, None)) vs (then mode) ∙ gather_every (extension mode) add (None, (None, None)) vs)
-    ∙ bind_assoc (every (extension mode) vs) (collect add (None, (None, None))) complete
+    ap (λ o. o >>= complete) (gather_same (λ f. so (extension mode) (add f)) (λ t v. extension mode v >>= add t) none_found vs (one_then mode) ∙ gather_every (extension mode) add none_found vs)
+    ∙ bind_assoc (every (extension mode) vs) (collect add none_found) complete
     ∙ bind_under (every (extension mode) vs) _ _ added
+
+list_is : (mode : Mode) (v : Value) → so (gathered add mode none_found) complete v ≡ extension_list mode v
+unfolding gathered extension_list so
+list_is mode v =
+    sym (within_then sequence (gather (λ f. so (extension mode) (add f)) none_found) complete v)
+    ∙ within_same sequence (λ vs. gather (λ f. so (extension mode) (add f)) none_found vs >>= complete) (λ vs. every (extension mode) vs >>= known_extensions) v (all_added mode)
+
+pub tagged_is : (mode : Mode) (v : Value) → so (wrapped (context 3) (gathered add mode (None, (None, None)))) complete v ≡ wrapped (context 3) (extension_list mode) v
+tagged_is mode v =
+    wrapped_so (context 3) (gathered add mode none_found) complete v
+    ∙ wrapped_same (context 3) (so (gathered add mode none_found) complete) (extension_list mode) v (list_is mode)

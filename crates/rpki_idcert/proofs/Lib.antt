@@ -3,4 +3,3 @@ pub mod Gathering
 pub mod Sizes
 pub mod Beliefs
 pub mod Alike
-pub mod Determined

@@ -1,11 +1,10 @@
 -- The checks of identity certificates in their order (RFC 5280, 6.1.3; RFC 6492, 3.1.2; RFC 8183, 5).
 use Rattle.std.specs.Prelude.{◌≡◌, ℕ, ℤ, int_le, Bool, true, false, ◌&&◌, ◌||◌, ◌==◌, nat_le, if◌then◌else◌, not, is_some, bytes_eq, Option, None, Some, Ok, List, [], ◌∷◌}
 use Rattle.sha1.specs.Sha1.{sha1}
-use Rattle.rpki_base.specs.PublicKey.{KeyFields}
+use Rattle.rpki_base.specs.PublicKey.{KeyFields, names_issuer}
 use Rattle.rpki_base.specs.Scheme.{Relation}
-use Rattle.rpki_base.specs.declared.algorithm.SigningAlgorithm.TheVariants.{RsaSha256}
 use Rattle.rpki_base.specs.Validity.{ValidityFields}
-use Rattle.rpki_base.specs.Checks.{first_failure}
+use Rattle.rpki_base.specs.Checks.{first_failure, IsSigned}
 use Rattle.rpki_idcert.specs.TbsIdCert.{TbsFields}
 use Rattle.rpki_idcert.specs.IdCert.{CertificateFields}
 use Rattle.rpki_base.specs.declared.validation.ValidationKind.{ValidationKind}
@@ -21,11 +20,6 @@ has_own_identifier c = bytes_eq c.subject_key_id (sha1 c.key.bits)
 abbrev pub is_within : ValidityFields → ℤ → Bool
 is_within v when = int_le v.not_before when && int_le when v.not_after
 
--- an authority key identifier, if it is there, is that of the issuer's key
-abbrev pub names_issuer : Option (List ℕ) → KeyFields → Bool
-names_issuer None issuer = true
-names_issuer (Some id) issuer = bytes_eq id (sha1 issuer.bits)
-
 abbrev pub is_true : Option Bool → Bool
 is_true None = false
 is_true (Some b) = b
@@ -37,10 +31,6 @@ is_itself (Some id) subject = bytes_eq id subject
 
 abbrev pub names_itself : TbsFields → Bool
 names_itself c = is_itself c.authority_key_id c.subject_key_id
-
--- the question to the scheme: whether the certificate's signature holds under a key
-abbrev pub IsSigned : Relation → CertificateFields → KeyFields → Type 0
-IsSigned scheme c key = scheme RsaSha256 key c.signed.slice c.signed.signature.value
 
 -- ---- an end entity's certificate, under the issuer's key; q: it is signed under that
 

@@ -14,7 +14,6 @@ use Rattle.rpki_der.specs.InDer.{in_der}
 use Rattle.rpki_base.specs.KeyIdentifier.{key_identifier, key_identifier_under}
 use Rattle.rpki_base.specs.Names as names
 use Rattle.rpki_base.specs.Extension.{ExtensionFields, extension, is}
-use Rattle.rpki_idcert.specs.declared.extensions.Found.{Found}
 
 -- ---- what the known ones hold
 
@@ -87,11 +86,5 @@ FoundSoFar = Option (List ℕ) × (Option Bool × Option (List ℕ))
 unfoldable pub add : FoundSoFar → ExtensionFields → Option FoundSoFar
 add = both (slot (is names.subject_key_identifier) subject_in) (both (slot (is names.basic_constraints) ca_in) (last_slot (is names.authority_key_identifier) authority_in))
 
-unfoldable pub add_value : Mode → FoundSoFar → Value → Option FoundSoFar
-add_value mode found = so (extension mode) (add found)
-
 unfoldable pub complete : FoundSoFar → Option KnownExtensions
 complete found = found.0 >>= λ subject. Some (record { subject = subject; basic_ca = found.1.0; authority = found.1.1 })
-
-abbrev pub shown : Found → FoundSoFar
-shown f = (f.subject, (f.basic_ca, f.authority))

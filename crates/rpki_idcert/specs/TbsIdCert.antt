@@ -6,9 +6,7 @@ use Rattle.rpki_der.specs.Tags.{sequence, context}
 use Rattle.rpki_der.specs.Value.{Value}
 use Rattle.rpki_der.specs.Grammar.{within, first, done, wrapped}
 use Rattle.rpki_der.specs.Integer.{integer_is}
-use Rattle.rpki_der.specs.Whole.{whole_of}
-use Rattle.rpki_base.specs.SignedData.{algorithm_in}
-use Rattle.rpki_base.specs.RpkiSignatureAlgorithm.{RpkiAlgorithm, x509_algorithm}
+use Rattle.rpki_base.specs.RpkiSignatureAlgorithm.{algorithm}
 use Rattle.rpki_base.specs.Serial.{serial}
 use Rattle.rpki_base.specs.Name.{name}
 use Rattle.rpki_base.specs.Validity.{ValidityFields, validity}
@@ -30,10 +28,6 @@ pub record TbsFields : Type 0 where
 -- the version, which is 3 (4.1.2.1)
 abbrev pub version : Value → Option (Unit {0})
 version = wrapped (context 0) (integer_is 2)
-
--- the algorithm identifier of RSA over SHA-256
-abbrev pub algorithm : Mode → Value → Option RpkiAlgorithm
-algorithm mode = algorithm_in (whole_of x509_algorithm) mode
 
 --     TBSCertificate ::= SEQUENCE {
 --       version [0] EXPLICIT Version DEFAULT v1,

@@ -8,12 +8,12 @@ ghost use Rattle.rpki_der.specs.Tags.{context};
 ghost use Rattle.rpki_der.specs.Ticks.{TakesCounted, TakesPartCounted, TakesRestCounted};
 ghost use Rattle.rpki_der.specs.InDer.{in_der, GivesCounted};
 ghost use Rattle.rpki_base.specs.KeyIdentifier.{key_identifier, key_identifier_under};
-ghost use Rattle.rpki_idcert.specs.Extensions.{path_length, basic_constraints, authority_key, extension_list, add, add_value, complete, shown};
+ghost use Rattle.rpki_idcert.specs.Extensions.{path_length, basic_constraints, authority_key, extension_list, complete};
 ghost use Rattle.rpki_idcert.specs.Shown.{key_shown};
 
 use rpki_base::{
-    AUTHORITY_KEY_IDENTIFIER, BASIC_CONSTRAINTS, Extension, KeyIdentifier, SUBJECT_KEY_IDENTIFIER,
-    take_extension_counted,
+    AUTHORITY_KEY_IDENTIFIER, BASIC_CONSTRAINTS, Extension, FindsExtensions, KeyIdentifier,
+    SUBJECT_KEY_IDENTIFIER, take_tagged_extensions_counted,
 };
 use rpki_der::{
     Cursor, DecodeError, Item, Mode, Steps, Tag, pass_rest_counted, take_opt_boolean_counted,
@@ -61,6 +61,14 @@ struct Found {
     subject: Option<KeyIdentifier>,
     basic_ca: Option<bool>,
     authority: Option<KeyIdentifier>,
+}
+
+impl Model for Found {
+    ghost use Rattle.rpki_idcert.specs.Extensions.{FoundSoFar};
+
+    ghost Value = { FoundSoFar };
+
+    ghost view = { λ f. (f.subject, (f.basic_ca, f.authority)) };
 }
 
 // Passes the length of a path, if it stands next, and goes out of the value that it ends.
@@ -184,67 +192,57 @@ fn held<'a>(extension: &'a Extension<'_>) -> &'a [u8]
     &extension.value
 }
 
-// What was found with this extension.
-fn add_extension<L: Ledger>(
-    alloc: Global,
-    extension: &Extension<'_>,
-    found: Found,
-    steps: &mut Steps<L>,
-) -> Result<Found, DecodeError>
-    ensures { GivesCounted 1 (add (shown found) extension.now) shown extension.now.value steps.old steps.new result }
-{
-    let Found {
-        subject,
-        basic_ca,
-        authority,
-    } = found;
-    let value = held(extension);
-    if extension.identifier == SUBJECT_KEY_IDENTIFIER.as_slice() {
-        let subject = add_subject(alloc, value, subject, steps)?;
-        Ok(Found {
-            subject,
-            basic_ca,
-            authority,
-        })
-    } else if extension.identifier == BASIC_CONSTRAINTS.as_slice() {
-        let basic_ca = add_ca(alloc, value, basic_ca, steps)?;
-        Ok(Found {
-            subject,
-            basic_ca,
-            authority,
-        })
-    } else if extension.identifier == AUTHORITY_KEY_IDENTIFIER.as_slice() {
-        let authority = read_authority(alloc, value, steps)?;
-        Ok(Found {
-            subject,
-            basic_ca,
-            authority,
-        })
-    } else {
-        Ok(Found {
-            subject,
-            basic_ca,
-            authority,
-        })
-    }
-}
+impl FindsExtensions for Found {
+    ghost use Rattle.rpki_idcert.specs.Extensions.{add};
 
-// What was found with the extension that stands next.
-fn take_extension<L: Ledger>(
-    alloc: Global,
-    cursor: &mut Cursor<'_>,
-    found: Found,
-    steps: &mut Steps<L>,
-) -> Result<Found, DecodeError>
-    ensures { TakesCounted 2 (add_value cursor.old.mode (shown found)) shown cursor.old cursor.new steps.old steps.new result }
-{
-    let extension = take_extension_counted(alloc, cursor, steps)?;
-    add_extension(alloc, &extension, found, steps)
+    ghost with = { add };
+
+    fn found_with<L: Ledger>(
+        self,
+        alloc: Global,
+        extension: &Extension<'_>,
+        steps: &mut Steps<L>,
+    ) -> Result<Found, DecodeError> {
+        let Found {
+            subject,
+            basic_ca,
+            authority,
+        } = self;
+        let value = held(extension);
+        if extension.identifier == SUBJECT_KEY_IDENTIFIER.as_slice() {
+            let subject = add_subject(alloc, value, subject, steps)?;
+            Ok(Found {
+                subject,
+                basic_ca,
+                authority,
+            })
+        } else if extension.identifier == BASIC_CONSTRAINTS.as_slice() {
+            let basic_ca = add_ca(alloc, value, basic_ca, steps)?;
+            Ok(Found {
+                subject,
+                basic_ca,
+                authority,
+            })
+        } else if extension.identifier == AUTHORITY_KEY_IDENTIFIER.as_slice() {
+            let authority = read_authority(alloc, value, steps)?;
+            Ok(Found {
+                subject,
+                basic_ca,
+                authority,
+            })
+        } else {
+            Ok(Found {
+                subject,
+                basic_ca,
+                authority,
+            })
+        }
+    }
 }
 
 // What was found, if the subject's key identifier was.
 fn all_found(found: Found) -> Option<Known>
-    ensures { result ≡ complete (shown found) }
+    ensures { result ≡ complete found }
 {
     let subject = found.subject?;
     Some(Known {
@@ -254,31 +252,7 @@ fn all_found(found: Found) -> Option<Known>
     })
 }
 
-/// What the known ones of the extensions say that stand next.
-pub(crate) fn take_extension_list<L: Ledger>(
-    alloc: Global,
-    cursor: &mut Cursor<'_>,
-    steps: &mut Steps<L>,
-) -> Result<Known, DecodeError>
-    ensures { TakesCounted 2 (extension_list cursor.old.mode) (λ x. x) cursor.old cursor.new steps.old steps.new result }
-{
-    cursor.enter_counted(Tag::SEQUENCE, steps)?;
-    let mut found = Found {
-        subject: None,
-        basic_ca: None,
-        authority: None,
-    };
-    'extensions: while !cursor.end() {
-        found = take_extension(alloc, cursor, found, steps)?;
-    }
-    cursor.leave_counted(steps)?;
-    match all_found(found) {
-        Some(known) => Ok(known),
-        None => Err(DecodeError::Malformed),
-    }
-}
-
-/// The same under [3].
+/// What the known ones of the extensions say that stand next under [3].
 pub(crate) fn take_extensions<L: Ledger>(
     alloc: Global,
     cursor: &mut Cursor<'_>,
@@ -286,8 +260,14 @@ pub(crate) fn take_extensions<L: Ledger>(
 ) -> Result<Known, DecodeError>
     ensures { TakesCounted 2 (wrapped (context 3) (extension_list cursor.old.mode)) (λ x. x) cursor.old cursor.new steps.old steps.new result }
 {
-    cursor.enter_counted(Tag::CTX_3, steps)?;
-    let known = take_extension_list(alloc, cursor, steps)?;
-    cursor.leave_counted(steps)?;
-    Ok(known)
+    let none = Found {
+        subject: None,
+        basic_ca: None,
+        authority: None,
+    };
+    let found = take_tagged_extensions_counted(alloc, cursor, Tag::CTX_3, none, steps)?;
+    match all_found(found) {
+        Some(known) => Ok(known),
+        None => Err(DecodeError::Malformed),
+    }
 }

@@ -15,10 +15,10 @@ ghost use Rattle.rpki_idcert.specs.TbsIdCert.{tbs_certificate};
 use crate::tbs::{TbsIdCert, take_held};
 use bytes::Bytes;
 use rpki_base::{
-    RpkiSignatureAlgorithm, Signature, SignedData, Time, VerificationError, take_algorithm,
+    RpkiSignatureAlgorithm, SignedData, Time, VerificationError, leave_signature,
 };
 use rpki_der::{
-    Captured, Cursor, DecodeError, Mode, OutOfMemory, Steps, Tag, Writer, take_bits_counted,
+    Captured, Cursor, DecodeError, Mode, OutOfMemory, Steps, Tag, Writer,
 };
 use std::alloc::Global;
 use std::marker::{Brand, Model};
@@ -136,12 +136,8 @@ impl IdCert {
     {
         cursor.enter_counted(Tag::SEQUENCE, steps)?;
         let (octets, tbs) = take_held(alloc, cursor, steps)?;
-        let algorithm = take_algorithm::<RpkiSignatureAlgorithm, L>(cursor, steps)?;
-        let (_, bits) = take_bits_counted(cursor, steps)?;
         let slice = Bytes::copy_from_slice(alloc, octets)?;
-        let value = Bytes::copy_from_slice(alloc, bits)?;
-        cursor.leave_counted(steps)?;
-        let signature = Signature::new(algorithm, value);
+        let signature = leave_signature::<RpkiSignatureAlgorithm, L>(alloc, cursor, steps)?;
         let signed = SignedData::new(slice, signature);
         Ok(IdCert { signed, tbs })
     }

@@ -13,9 +13,10 @@ mod tbs;
 mod validation;
 
 pub use id_cert::{IdCert, signed_octets_determine_the_fields};
-pub use rpki_base::{ValidationError, ValidationKind, first_false_decides, require};
+pub use rpki_base::{
+    ValidationError, ValidationKind, first_false_decides, names_issuer, require,
+};
 pub use tbs::{TbsIdCert, equal_certificates_are_the_same};
-pub use validation::names_issuer;
 
 #[cfg(test)]
 mod tests;

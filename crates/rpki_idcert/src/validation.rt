@@ -1,24 +1,15 @@
 //! Whether an identity certificate may be believed.
 
 ghost use Rattle.std.specs.Prelude.{◌≡◌, ◌↔◌, ◌≤◌, Bool, true, false, not, ◌||◌, Decides, Ok, OnOk};
-ghost use Rattle.rpki_base.specs.Checks.{first_failure, failing};
+ghost use Rattle.rpki_base.specs.Checks.{first_failure, failing, IsSigned};
+ghost use Rattle.rpki_base.specs.PublicKey.{names_issuer};
 ghost use Rattle.rpki_idcert.specs.Checks as spec;
 
 use crate::id_cert::IdCert;
 use crate::tbs::TbsIdCert;
 use rpki_base::{
-    KeyIdentifier, PublicKey, Scheme, Time, ValidationError, ValidationKind, Verifier, require,
+    PublicKey, Scheme, Time, ValidationError, ValidationKind, Verifier, names_issuer, require,
 };
-
-/// Whether an authority key identifier, if it is there, is that of the issuer's key, the SHA-1 of the key's bits (RFC 5280, 4.2.1.1).
-pub fn names_issuer(identifier: Option<KeyIdentifier>, issuer_key: &PublicKey) -> bool
-    ensures { result ≡ spec.names_issuer identifier issuer_key.now }
-{
-    match identifier {
-        Some(identifier) => identifier.as_slice() == issuer_key.key_identifier().as_slice(),
-        None => true,
-    }
-}
 
 fn ee_kind(check: u8) -> ValidationKind
     ensures { result ≡ spec.ee_kind check }
@@ -54,7 +45,7 @@ impl TbsIdCert {
     }
 
     fn names_issuer(&self, issuer_key: &PublicKey) -> bool
-        ensures { result ≡ spec.names_issuer self.now.authority_key_id issuer_key.now }
+        ensures { result ≡ names_issuer self.now.authority_key_id issuer_key.now }
     {
         names_issuer(self.authority_key_id(), issuer_key)
     }
@@ -82,7 +73,7 @@ impl TbsIdCert {
 impl IdCert {
     // Whether the signature holds under a key.
     fn is_signed<P: Scheme, V: Verifier<P>>(&self, verifier: &V, key: &PublicKey) -> bool
-        ensures { Decides result (spec.IsSigned P.checks self.now key.now) }
+        ensures { Decides result (IsSigned P.checks self.now key.now) }
     {
         self.signed_data().verify_signature(verifier, key).is_ok()
     }
@@ -97,9 +88,9 @@ impl IdCert {
         first: u8,
     ) -> Result<(), u8>
         requires { first ≤ 200 }
-        ensures first_failing { (q : Bool) → Decides q (spec.IsSigned P.checks self.now issuer_key.now) →
+        ensures first_failing { (q : Bool) → Decides q (IsSigned P.checks self.now issuer_key.now) →
             result ≡ first_failure first (spec.ee_checks self.now issuer_key.now when q) }
-        ensures signed { OnOk result (spec.IsSigned P.checks self.now issuer_key.now) }
+        ensures signed { OnOk result (IsSigned P.checks self.now issuer_key.now) }
     {
         require(first, self.tbs().has_own_identifier())?;
         require(first + 1, self.tbs().is_within(when))?;
@@ -122,7 +113,7 @@ impl IdCert {
         ensures believed { (result ≡ Ok tt) ↔ spec.IsEeBelieved P.checks self.now issuer_key.now when }
 
         // The first check that fails decides, whatever the scheme answers.
-        ensures first_failing { (q : Bool) → Decides q (spec.IsSigned P.checks self.now issuer_key.now) →
+        ensures first_failing { (q : Bool) → Decides q (IsSigned P.checks self.now issuer_key.now) →
             result ≡ failing spec.ee_kind
             (first_failure 1 (spec.ee_checks self.now issuer_key.now when q)) }
     {
@@ -137,10 +128,10 @@ impl IdCert {
 
     // Whether the signature holds under its own key, where the certificate names itself as its issuer.
     fn is_own<P: Scheme, V: Verifier<P>>(&self, verifier: &V) -> bool
-        ensures answer { (q : Bool) → Decides q (spec.IsSigned P.checks self.now self.now.tbs.key) →
+        ensures answer { (q : Bool) → Decides q (IsSigned P.checks self.now self.now.tbs.key) →
             result ≡ (not (spec.names_itself self.now.tbs) || q) }
         ensures signed { result ≡ true → spec.names_itself self.now.tbs ≡ true →
-            spec.IsSigned P.checks self.now self.now.tbs.key }
+            IsSigned P.checks self.now self.now.tbs.key }
         ensures unasked { spec.names_itself self.now.tbs ≡ false → result ≡ true }
     {
         if self.tbs().names_itself() {
@@ -151,10 +142,10 @@ impl IdCert {
     }
 
     fn ta_failure<P: Scheme, V: Verifier<P>>(&self, verifier: &V, when: Time) -> Result<(), u8>
-        ensures first_failing { (q : Bool) → Decides q (spec.IsSigned P.checks self.now self.now.tbs.key) →
+        ensures first_failing { (q : Bool) → Decides q (IsSigned P.checks self.now self.now.tbs.key) →
             result ≡ first_failure 1 (spec.ta_checks self.now when q) }
         ensures signed { OnOk result
-            (spec.names_itself self.now.tbs ≡ true → spec.IsSigned P.checks self.now self.now.tbs.key) }
+            (spec.names_itself self.now.tbs ≡ true → IsSigned P.checks self.now self.now.tbs.key) }
         ensures unasked { spec.names_itself self.now.tbs ≡ false →
             result ≡ first_failure 1 (spec.ta_checks self.now when true) }
     {
@@ -178,7 +169,7 @@ impl IdCert {
         ensures believed { (result ≡ Ok tt) ↔ spec.IsTaBelieved P.checks self.now when }
 
         // The first check that fails decides, whatever the scheme answers.
-        ensures first_failing { (q : Bool) → Decides q (spec.IsSigned P.checks self.now self.now.tbs.key) →
+        ensures first_failing { (q : Bool) → Decides q (IsSigned P.checks self.now self.now.tbs.key) →
             result ≡ failing spec.ta_kind (first_failure 1 (spec.ta_checks self.now when q)) }
     {
         match self.ta_failure(verifier, when) {

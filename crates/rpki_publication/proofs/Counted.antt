@@ -12,7 +12,7 @@ use Rattle.rpki_publication.specs.Answers.{of_der}
 use Rattle.rpki_publication.specs.Cms.{BeginsSigned, FindsSigned}
 
 pub found : (octets : List ℕ) (b a : ℕ) (m : MessageFields) → CountedBegins 3 (signed_message Ber) Ber octets b a m → BeginsSigned octets m
-found octets b a m d = record { value = d.value; rest = d.rest; begins = d.begins; reads = d.reads }
+found octets b a m d = d.begins
 
 pub most : (octets : List ℕ) (b a : ℕ) (r : Result MessageFields DecodeError) → DecodesCounted 3 (signed_message Ber) (λ m. m) Ber octets b a r → a ≤ b + 3 * length octets + 8
 most octets b a (Ok m) d = omega (arith, d.most)
@@ -20,7 +20,7 @@ most octets b a (Err e) d = omega (arith, d.most)
 
 pub least : (octets : List ℕ) (b a : ℕ) (m : MessageFields) → CountedBegins 3 (signed_message Ber) Ber octets b a m → (v : Value) (rest : List ℕ) → Begins Ber octets v rest → b + nodes v ≤ a
 least octets b a m d v rest begins =
-    let same = at_most_one Ber octets d.value v d.rest rest d.begins begins in
+    let same = at_most_one Ber octets d.begins.value v d.begins.rest rest d.begins.begins begins in
     subst (λ (w : Value). b + nodes w ≤ a) same.value d.least
 
 pub nothing_found : (X : Type 0) (e : DecodeError) → FindsSigned {X = X} (Err (of_der e)) → ⊥

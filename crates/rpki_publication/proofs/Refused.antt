@@ -17,9 +17,7 @@ use Rattle.rpki_publication.specs.declared.message.Message.{Message}
 use Rattle.rpki_publication.specs.Message.{message_of, Reads}
 use Rattle.rpki_publication.specs.Answers.{of_der, of_xml, RefusesMessage}
 use Rattle.rpki_publication.specs.Cms.{BeginsSigned, RefusesCms}
-
-none_some : {X : Type 0} (x : X) → None ≡ Some x → ⊥
-none_some x e = cc
+use Rattle.rpki_common.proofs.Truths.{none_some}
 
 -- ---- as a message
 

@@ -2,9 +2,7 @@
 use Rattle.std.proofs.Common.{◌≡◌, ℕ, eqb, cond, Option, None, Some, List, [], ◌∷◌, length, ◌<◌, refl, sym, ◌∙◌, arith}
 use Rattle.std.proofs.lemmas.Bool.{cond-false, ne_eqb}
 use Rattle.std.specs.Net.Reader.{Read, whole_value}
-
-none_some : {A : Type 0} (a : A) → ◌≡◌ {A = Option A} None (Some a) → ⊥
-none_some a e = cc
+use Rattle.rpki_common.proofs.Truths.{none_some}
 
 pub whole_value-all : {A : Type 0} (a : A) (r : Read A) → r ≡ Some (a, []) → whole_value r ≡ Some a
 whole_value-all a r e = rw e refl

@@ -1,7 +1,6 @@
 -- What an attribute adds to those found so far, and what all add up to.
 use Rattle.std.proofs.Common.{◌≡◌, ℕ, ℤ, true, false, Option, None, Some, List, refl, ap, ◌∙◌}
 use Rattle.std.specs.Prelude.{bytes_eq}
-use Rattle.std.proofs.lemmas.Slice.Eq.{bytes_eq-Decides}
 use Rattle.rpki_common.specs.Chaining.{◌>>=◌}
 use Rattle.rpki_common.specs.Collecting.{collect, once, slot, both}
 use Rattle.rpki_common.proofs.Collected.{bind_both, bind_under, bind_assoc, collect_required, collect_optional, collect_the_one, collect_slot}
@@ -17,19 +16,17 @@ use Rattle.rpki_der.proofs.Leftovers.{gather_every, gather_same, within_then}
 use Rattle.rpki_base.specs.Time.{time}
 use Rattle.rpki_sigmsg.specs.Names.{content_type, message_digest, signing_time, binary_signing_time, xml_content}
 use Rattle.rpki_sigmsg.specs.Attributes.{AttributeFields, type_in, digest_in, time_in, binary_in, attributes, TimesFound, FoundSoFar, add_times, add, add_value, complete}
-
-equal : (kind identifier : List ℕ) → bytes_eq kind identifier ≡ true → kind ≡ identifier
-equal kind identifier e = (bytes_eq-Decides kind identifier).0 e
+use Rattle.rpki_common.proofs.Truths.{same_octets}
 
 -- ---- one attribute
 
 pub add_signing_time : (f : TimesFound) (kind : List ℕ) (vs : Values) → bytes_eq kind signing_time ≡ true → (once f.0 (set_of time vs) >>= λ x. Some (x, f.1)) ≡ add_times f (kind, vs)
 unfolding add_times both slot time_in ◌>>=◌
-add_signing_time f kind vs e = rw (equal kind signing_time e) refl
+add_signing_time f kind vs e = rw (same_octets kind signing_time e) refl
 
 pub add_binary_time : (f : TimesFound) (kind : List ℕ) (vs : Values) → bytes_eq kind binary_signing_time ≡ true → (once f.1 (set_of u64 vs) >>= λ x. Some (f.0, x)) ≡ add_times f (kind, vs)
 unfolding add_times both slot binary_in ◌>>=◌
-add_binary_time f kind vs e = rw (equal kind binary_signing_time e) refl
+add_binary_time f kind vs e = rw (same_octets kind binary_signing_time e) refl
 
 pub add_no_time : (f : TimesFound) (kind : List ℕ) (vs : Values) → bytes_eq kind signing_time ≡ false → bytes_eq kind binary_signing_time ≡ false → (anything vs >>= λ u. Some f) ≡ add_times f (kind, vs)
 unfolding add_times both slot ◌>>=◌
@@ -62,11 +59,11 @@ beside_times f (Some x) = refl
 
 pub add_content_type : (mode : Mode) (f : FoundSoFar) (kind : List ℕ) (vs : Values) → bytes_eq kind content_type ≡ true → (once f.0 (set_of (oid_is xml_content) vs) >>= λ x. Some (x, f.1)) ≡ add mode f (kind, vs)
 unfolding add add_times both slot type_in ◌>>=◌
-add_content_type mode f kind vs e = rw (equal kind content_type e) refl
+add_content_type mode f kind vs e = rw (same_octets kind content_type e) refl
 
 pub add_digest : (mode : Mode) (f : FoundSoFar) (kind : List ℕ) (vs : Values) → bytes_eq kind message_digest ≡ true → (once f.1.0 (set_of (octet_string mode) vs) >>= digest_found f) ≡ add mode f (kind, vs)
 unfolding add add_times both slot digest_in ◌>>=◌
-add_digest mode f kind vs e = rw (equal kind message_digest e) (beside_digest f (once f.1.0 (set_of (octet_string mode) vs)))
+add_digest mode f kind vs e = rw (same_octets kind message_digest e) (beside_digest f (once f.1.0 (set_of (octet_string mode) vs)))
 
 pub add_times_found : (mode : Mode) (f : FoundSoFar) (kind : List ℕ) (vs : Values) → bytes_eq kind content_type ≡ false → bytes_eq kind message_digest ≡ false → (add_times f.1.1 (kind, vs) >>= times_found f) ≡ add mode f (kind, vs)
 unfolding add both slot ◌>>=◌

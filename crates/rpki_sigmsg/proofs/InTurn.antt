@@ -3,6 +3,7 @@ use Rattle.std.proofs.Common.{◌≡◌, ℕ, Bool, true, false, Option, None, S
 use Rattle.std.specs.Prelude.{if◌then◌else◌}
 use Rattle.std.proofs.lemmas.List.{append-nil}
 use Rattle.rpki_common.specs.Chaining.{◌>>=◌}
+use Rattle.rpki_common.proofs.Bounds.{bound, chosen}
 use Rattle.rpki_common.proofs.Truths.{none_some, same_some}
 use Rattle.rpki_der.specs.declared.mode.Mode.{Mode}
 use Rattle.rpki_der.specs.Identifier.{has_tag}
@@ -11,6 +12,7 @@ use Rattle.rpki_der.specs.Value.{Form, Value, Primitive, Constructed, Values, En
 use Rattle.rpki_der.specs.Grammar.{within, first, done, wrapped}
 use Rattle.rpki_der.specs.Held.{held, with_octets}
 use Rattle.rpki_der.specs.OctetString.{octet_string}
+use Rattle.rpki_der.proofs.Firsts.{FirstIs, first_is, done_is}
 use Rattle.rpki_idcert.specs.IdCert.{identity_certificate}
 use Rattle.rpki_sigmsg.specs.Attributes.{signed_attributes}
 use Rattle.rpki_sigmsg.specs.Message.{ViewFields, encapsulated_content, crl_in_der, signed_parts, viewed_message}
@@ -41,42 +43,6 @@ inside : (parts : List (List ℕ)) (i : List ℕ) (f : Form) (inner : Values) �
 inside parts i f inner s = in_front parts i _ (in_front parts (lengths_of f) _ (before_more parts (spellings inner) (end_mark f) s))
 
 -- ---- what a grammar reads, and where it stands
-
-record Bound {X Y : Type 0} (o : Option X) (f : X → Option Y) (y : Y) : Type 0 where
-  x : X
-  found : o ≡ Some x
-  then' : f x ≡ Some y
-
-bound : {X Y : Type 0} (o : Option X) (f : X → Option Y) (y : Y) → (o >>= f) ≡ Some y → Bound o f y
-unfolding ◌>>=◌
-bound None f y e = absurd (none_some y e)
-bound (Some x) f y e = record { x = x; found = refl; then' = e }
-
-chosen : {X : Type 0} (b : Bool) (o : Option X) (x : X) → (if b then o else None) ≡ Some x → o ≡ Some x
-chosen true o x e = e
-chosen false o x e = absurd (none_some x e)
-
-done_is : {X : Type 0} (x y : X) (vs : Values) → done x vs ≡ Some y → x ≡ y
-unfolding done
-done_is x y End e = same_some x y e
-done_is x y (v ▸ vs) e = absurd (none_some y e)
-
-record FirstIs {X : Type 0} (grammar : Value → Option X) (vs : Values) (p : X × Values) : Type 0 where
-  value : Value
-  parts : vs ≡ value ▸ p.1
-  reads : grammar value ≡ Some p.0
-
-first_is : {X : Type 0} (grammar : Value → Option X) (vs : Values) (p : X × Values) → first grammar vs ≡ Some p → FirstIs grammar vs p
-unfolding first
-first_is grammar End p e = absurd (none_some p e)
-first_is {X = X} grammar (v ▸ vs) p e =
-    let b = bound (grammar v) _ p e in
-    let is : (b.x, vs) ≡ p = same_some _ _ b.then' in
-    record {
-      value = v;
-      parts = ap (λ (q : X × Values). v ▸ q.1) is;
-      reads = b.found ∙ ap Some (ap (λ (q : X × Values). q.0) is);
-    }
 
 abbrev Shows : {X : Type 0} → (Value → Option X) → (X → List (List ℕ)) → Type 0
 Shows {X = X} grammar pick = (v : Value) (x : X) → grammar v ≡ Some x → StandInTurn (pick x) (spelling v)

@@ -20,7 +20,7 @@ use Rattle.rpki_der.proofs.Flats.{alone_begins, alone_only}
 use Rattle.rpki_der.proofs.Strict.{loose_begins}
 use Rattle.rpki_base.specs.KeyIdentifier.{twenty, key_identifier_under}
 use Rattle.rpki_base.specs.Extension.{extension}
-use Rattle.rpki_base.specs.SignedData.{algorithm_in}
+use Rattle.rpki_base.specs.SignedData.{algorithm_in, signature_in, signed_as, signed_value}
 use Rattle.rpki_base.specs.RpkiSignatureAlgorithm.{RpkiAlgorithm, x509_algorithm, cms_algorithm}
 use Rattle.rpki_idcert.specs.Extensions.{known_extensions, extension_list}
 use Rattle.rpki_idcert.specs.TbsIdCert.{tbs_certificate}
@@ -159,10 +159,10 @@ loose_tbs = loosens_within sequence _ _ λ vs.
     keeps_before _ _ _ (keeps_first _ _ key.1 (loosens_wrapped (context 3) _ _ loose_extensions))
 
 loose_certificate : Loosens (identity_certificate Der) (identity_certificate Ber)
-unfolding identity_certificate
+unfolding identity_certificate signed_value signed_as signature_in
 loose_certificate = loosens_within sequence _ _ λ vs.
     keeps_both _ _ _ _ (keeps_first _ _ vs (loosens_with_octets _ _ loose_tbs)) λ tbs.
-    keeps_before _ _ _ (keeps_first _ _ tbs.1 (loose_algorithm x509_algorithm))
+    keeps_before _ _ _ (keeps_before _ _ _ (keeps_first _ _ tbs.1 (loose_algorithm x509_algorithm)))
 
 -- ---- the signer
 

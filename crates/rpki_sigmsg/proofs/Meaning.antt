@@ -7,15 +7,15 @@ use Rattle.std.specs.List.{AllByRecursion}
 use Rattle.std.proofs.Math.Logic.{⊎_map}
 use Rattle.std.proofs.lemmas.List.Elements.{All-from_recursion}
 use Rattle.sha2.specs.Sha256.{sha256}
-use Rattle.rpki_base.specs.PublicKey.{KeyFields}
+use Rattle.rpki_base.specs.PublicKey.{KeyFields, names_issuer}
 use Rattle.rpki_base.specs.Scheme.{Relation}
-use Rattle.rpki_base.specs.Checks.{first_failure, failing}
-use Rattle.rpki_idcert.specs.Checks.{has_own_identifier, names_issuer, is_true}
+use Rattle.rpki_base.specs.Checks.{first_failure, failing, IsSigned}
+use Rattle.rpki_idcert.specs.Checks.{has_own_identifier, is_true}
 use Rattle.rpki_base.specs.declared.validation.ValidationError.{ValidationError}
 use Rattle.rpki_base.proofs.Checking.{passes}
 use Rattle.rpki_base.proofs.Believing.{decides_yes, none_failing, held_where_ok, passes_where_ok, ok_where_passes}
 use Rattle.rpki_sigmsg.specs.Crl.{CrlFields}
-use Rattle.rpki_sigmsg.specs.CrlChecks.{same_algorithm, IsListSigned, crl_checks, crl_kind, IsListBelieved}
+use Rattle.rpki_sigmsg.specs.CrlChecks.{same_algorithm, crl_checks, crl_kind, IsListBelieved}
 use Rattle.rpki_sigmsg.specs.Message.{MessageFields}
 use Rattle.rpki_sigmsg.specs.Checks.{checks, kind_of, is_not_revoked, Asked, AreSigned, IsBelieved, IsValidation, SameAnswers, Passes, IsInSpan}
 
@@ -37,12 +37,12 @@ believed scheme m issuer when r signed first = (
   (λ b. first (all_signed scheme m issuer b.signatures) ∙ ap (failing kind_of) b.passes),
 )
 
-pub list_believed : (scheme : Relation) (c : CrlFields) (issuer : KeyFields) (when : ℤ) (r : Result (Unit {0}) ValidationError) → OnOk r (IsListSigned scheme c issuer)
-    → ((q : Bool) → Decides q (IsListSigned scheme c issuer) → r ≡ failing crl_kind (first_failure 9 (crl_checks c issuer when q))) → (r ≡ Ok tt) ↔ IsListBelieved scheme c issuer when
+pub list_believed : (scheme : Relation) (c : CrlFields) (issuer : KeyFields) (when : ℤ) (r : Result (Unit {0}) ValidationError) → OnOk r (IsSigned scheme c issuer)
+    → ((q : Bool) → Decides q (IsSigned scheme c issuer) → r ≡ failing crl_kind (first_failure 9 (crl_checks c issuer when q))) → (r ≡ Ok tt) ↔ IsListBelieved scheme c issuer when
 list_believed scheme c issuer when r signed first = (
   (λ e. let s = held_where_ok r signed e in
-      record { signed = s; passes = passes_where_ok crl_kind (IsListSigned scheme c issuer) 9 (crl_checks c issuer when) r first s e }),
-  (λ b. ok_where_passes crl_kind (IsListSigned scheme c issuer) 9 (crl_checks c issuer when) r first b.signed b.passes),
+      record { signed = s; passes = passes_where_ok crl_kind (IsSigned scheme c issuer) 9 (crl_checks c issuer when) r first s e }),
+  (λ b. ok_where_passes crl_kind (IsSigned scheme c issuer) 9 (crl_checks c issuer when) r first b.signed b.passes),
 )
 
 -- ---- two schemes

@@ -5,13 +5,13 @@ use Rattle.sha2.specs.Sha256.{sha256}
 use Rattle.rpki_base.specs.PublicKey.{KeyFields}
 use Rattle.rpki_base.specs.Scheme.{Relation}
 use Rattle.rpki_base.specs.declared.algorithm.SigningAlgorithm.TheVariants.{RsaSha256}
-use Rattle.rpki_base.specs.Checks.{first_failure, failing}
-use Rattle.rpki_idcert.specs.Checks.{ee_checks, IsSigned}
+use Rattle.rpki_base.specs.Checks.{first_failure, failing, IsSigned}
+use Rattle.rpki_idcert.specs.Checks.{ee_checks}
 use Rattle.rpki_base.specs.declared.validation.ValidationError.{ValidationError}
 use Rattle.rpki_base.specs.declared.validation.ValidationKind.{ValidationKind}
 use Rattle.rpki_base.specs.declared.validation.ValidationKind.TheVariants.{Inspection, Verification}
 use Rattle.rpki_sigmsg.specs.RevokedCertificates.{is_listed}
-use Rattle.rpki_sigmsg.specs.CrlChecks.{crl_checks, IsListSigned}
+use Rattle.rpki_sigmsg.specs.CrlChecks.{crl_checks}
 use Rattle.rpki_sigmsg.specs.Message.{MessageFields}
 
 -- the question to the scheme: whether the signature of the attributes holds under the key of the certificate
@@ -50,14 +50,14 @@ pub record Asked (scheme : Relation) (m : MessageFields) (issuer : KeyFields) : 
   pub q10 : Bool
   pub attributes : Decides q3 (AreAttributesSigned scheme m)
   pub certificate : Decides q8 (IsSigned scheme m.certificate issuer)
-  pub crl : Decides q10 (IsListSigned scheme m.crl issuer)
+  pub crl : Decides q10 (IsSigned scheme m.crl issuer)
 
 -- the three signatures hold: that of the attributes under the key of the certificate, and those of certificate and CRL under the
 -- issuer's key
 pub record AreSigned (scheme : Relation) (m : MessageFields) (issuer : KeyFields) : Type 0 where
   pub attributes : AreAttributesSigned scheme m
   pub certificate : IsSigned scheme m.certificate issuer
-  pub crl : IsListSigned scheme m.crl issuer
+  pub crl : IsSigned scheme m.crl issuer
 
 -- the three signatures hold, and with them all fourteen checks
 pub record IsBelieved (scheme : Relation) (m : MessageFields) (issuer : KeyFields) (when : ℤ) : Type 0 where
@@ -75,7 +75,7 @@ pub record IsValidation (scheme : Relation) (m : MessageFields) (issuer : KeyFie
 pub record SameAnswers (s t : Relation) (m : MessageFields) (issuer : KeyFields) : Type 0 where
   pub attributes : AreAttributesSigned s m ↔ AreAttributesSigned t m
   pub certificate : IsSigned s m.certificate issuer ↔ IsSigned t m.certificate issuer
-  pub crl : IsListSigned s m.crl issuer ↔ IsListSigned t m.crl issuer
+  pub crl : IsSigned s m.crl issuer ↔ IsSigned t m.crl issuer
 
 -- ---- at which moments a message is accepted
 

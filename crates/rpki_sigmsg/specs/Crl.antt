@@ -1,34 +1,19 @@
 -- The CRL of a signed message (RFC 5280, 5.1; RFC 6492, 3.1.1).
 use Rattle.std.specs.Prelude.{Option}
-use Rattle.rpki_common.specs.Chaining.{◌>>=◌}
 use Rattle.rpki_der.specs.declared.mode.Mode.{Mode}
-use Rattle.rpki_der.specs.Tags.{sequence}
 use Rattle.rpki_der.specs.Value.{Value}
-use Rattle.rpki_der.specs.Grammar.{within, first, done}
-use Rattle.rpki_der.specs.Held.{with_octets}
-use Rattle.rpki_der.specs.Bits.{bit_string}
-use Rattle.rpki_base.specs.SignedData.{SignedParts}
-use Rattle.rpki_base.specs.RpkiSignatureAlgorithm.{RpkiAlgorithm}
-use Rattle.rpki_idcert.specs.TbsIdCert.{algorithm}
+use Rattle.rpki_der.specs.Whole.{whole_of}
+use Rattle.rpki_base.specs.SignedData.{Signed, signed_value}
+use Rattle.rpki_base.specs.RpkiSignatureAlgorithm.{RpkiAlgorithm, x509_algorithm}
 use Rattle.rpki_sigmsg.specs.TbsCrl.{TbsCrlFields, tbs_crl}
 
 -- the exact octets that are signed with their signature, and what they say
-pub record CrlFields : Type 0 where
-  pub signed : SignedParts RpkiAlgorithm
-  pub tbs : TbsCrlFields
+abbrev pub CrlFields : Type 0
+CrlFields = Signed RpkiAlgorithm TbsCrlFields
 
 --     CertificateList ::= SEQUENCE {
 --       tbsCertList TBSCertList,
 --       signatureAlgorithm AlgorithmIdentifier,
 --       signatureValue BIT STRING }
---
--- how many bits of the signature's last octet are unused is dropped
 unfoldable pub revocation_list : Mode → Value → Option CrlFields
-revocation_list mode = within sequence (λ vs. do
-  tbs ← first (with_octets (tbs_crl mode)) vs
-  algorithm ← first (algorithm mode) tbs.1
-  bits ← first bit_string algorithm.1
-  done (record {
-    signed = record { slice = tbs.0.0; signature = record { algorithm = algorithm.0; value = bits.0.octets } };
-    tbs = tbs.0.1;
-  }) bits.1)
+revocation_list mode = signed_value tbs_crl (whole_of x509_algorithm) mode

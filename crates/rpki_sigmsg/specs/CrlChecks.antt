@@ -1,14 +1,12 @@
 -- The checks of a signed message's CRL in their order (RFC 5280, 6.3.3; RFC 6492, 3.1.2).
 use Rattle.std.specs.Prelude.{◌≡◌, ℕ, ℤ, int_le, Bool, true, false, ◌&&◌, Ok, List, [], ◌∷◌}
 use Rattle.std.specs.Bool.{beq}
-use Rattle.rpki_base.specs.PublicKey.{KeyFields}
+use Rattle.rpki_base.specs.PublicKey.{KeyFields, names_issuer}
 use Rattle.rpki_base.specs.Scheme.{Relation}
-use Rattle.rpki_base.specs.declared.algorithm.SigningAlgorithm.TheVariants.{RsaSha256}
 use Rattle.rpki_base.specs.declared.rpki_algorithm.RsaIdentifier.{RsaIdentifier}
 use Rattle.rpki_base.specs.declared.rpki_algorithm.RsaIdentifier.TheVariants.{RsaEncryption, Sha256WithRsaEncryption}
 use Rattle.rpki_base.specs.RpkiSignatureAlgorithm.{RpkiAlgorithm}
-use Rattle.rpki_base.specs.Checks.{first_failure}
-use Rattle.rpki_idcert.specs.Checks.{names_issuer}
+use Rattle.rpki_base.specs.Checks.{first_failure, IsSigned}
 use Rattle.rpki_base.specs.declared.validation.ValidationKind.{ValidationKind}
 use Rattle.rpki_base.specs.declared.validation.ValidationKind.TheVariants.{Verification}
 use Rattle.rpki_sigmsg.specs.Crl.{CrlFields}
@@ -21,10 +19,6 @@ same_name a b = false
 -- the same object identifier, and NULL is there in both or in neither
 abbrev pub same_algorithm : RpkiAlgorithm → RpkiAlgorithm → Bool
 same_algorithm a b = same_name a.identifier b.identifier && beq a.null b.null
-
--- the question to the scheme: whether the CRL's signature holds under a key
-abbrev pub IsListSigned : Relation → CrlFields → KeyFields → Type 0
-IsListSigned scheme c key = scheme RsaSha256 key c.signed.slice c.signed.signature.value
 
 -- Under the issuer's key, at a moment; q: the CRL is signed under that key. 1 signatureAlgorithm is signature (5.1.1.2); 2 q (6.3.3);
 -- 3 thisUpdate (5.1.2.4); 4 nextUpdate (5.1.2.5); 5 authorityKeyIdentifier, if it is there, is the SHA-1 of the issuer's key (5.2.1)
@@ -39,7 +33,7 @@ crl_checks c issuer when q =
 
 -- the CRL is signed under the issuer's key, and with that all five checks hold
 pub record IsListBelieved (scheme : Relation) (c : CrlFields) (issuer : KeyFields) (when : ℤ) : Type 0 where
-  pub signed : IsListSigned scheme c issuer
+  pub signed : IsSigned scheme c issuer
   pub passes : first_failure 9 (crl_checks c issuer when true) ≡ Ok tt
 
 -- all are verifications

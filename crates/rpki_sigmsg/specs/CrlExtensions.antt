@@ -13,7 +13,6 @@ use Rattle.rpki_base.specs.KeyIdentifier.{key_identifier_under}
 use Rattle.rpki_base.specs.Serial.{serial}
 use Rattle.rpki_base.specs.Names as names
 use Rattle.rpki_base.specs.Extension.{ExtensionFields, extension, is}
-use Rattle.rpki_sigmsg.specs.declared.crl_extensions.Found.{Found}
 
 --     AuthorityKeyIdentifier ::= SEQUENCE {
 --       keyIdentifier [0] IMPLICIT KeyIdentifier OPTIONAL,
@@ -51,9 +50,3 @@ extension_list mode = within sequence (λ vs. every (extension mode) vs >>= know
 
 unfoldable pub add : KnownExtensions → ExtensionFields → Option KnownExtensions
 add = both (slot (is names.authority_key_identifier) authority_in) (slot (is names.crl_number) number_in)
-
-unfoldable pub add_value : Mode → KnownExtensions → Value → Option KnownExtensions
-add_value mode found = so (extension mode) (add found)
-
-abbrev pub shown : Found → KnownExtensions
-shown f = (f.authority, f.number)

@@ -6,10 +6,9 @@ use Rattle.rpki_der.specs.Tags.{sequence, context}
 use Rattle.rpki_der.specs.Value.{Value}
 use Rattle.rpki_der.specs.Grammar.{within, first, optional, done, wrapped}
 use Rattle.rpki_der.specs.Integer.{integer_is}
-use Rattle.rpki_base.specs.RpkiSignatureAlgorithm.{RpkiAlgorithm}
+use Rattle.rpki_base.specs.RpkiSignatureAlgorithm.{RpkiAlgorithm, algorithm}
 use Rattle.rpki_base.specs.Name.{name}
 use Rattle.rpki_base.specs.Time.{time}
-use Rattle.rpki_idcert.specs.TbsIdCert.{algorithm}
 use Rattle.rpki_sigmsg.specs.RevokedCertificates.{RevokedFields, revoked_certificates, none_revoked}
 use Rattle.rpki_sigmsg.specs.CrlExtensions.{extension_list}
 

@@ -11,8 +11,8 @@ ghost use Rattle.rpki_sigmsg.specs.Crl.{revocation_list};
 
 use crate::tbs_crl::{SignedMessageTbsCrl, take_held};
 use bytes::Bytes;
-use rpki_base::{RpkiSignatureAlgorithm, Signature, SignedData, take_algorithm};
-use rpki_der::{Cursor, DecodeError, Mode, OutOfMemory, Steps, Tag, take_bits_counted};
+use rpki_base::{RpkiSignatureAlgorithm, SignedData, leave_signature};
+use rpki_der::{Cursor, DecodeError, Mode, OutOfMemory, Steps, Tag};
 use std::alloc::Global;
 use std::marker::{Brand, Model};
 use std::sync::ledger::{Blank, Ledger};
@@ -74,12 +74,8 @@ impl SignedMessageCrl {
     {
         cursor.enter_counted(Tag::SEQUENCE, steps)?;
         let (octets, tbs) = take_held(alloc, cursor, steps)?;
-        let algorithm = take_algorithm::<RpkiSignatureAlgorithm, L>(cursor, steps)?;
-        let (_, bits) = take_bits_counted(cursor, steps)?;
         let slice = Bytes::copy_from_slice(alloc, octets)?;
-        let value = Bytes::copy_from_slice(alloc, bits)?;
-        cursor.leave_counted(steps)?;
-        let signature = Signature::new(algorithm, value);
+        let signature = leave_signature::<RpkiSignatureAlgorithm, L>(alloc, cursor, steps)?;
         let signed = SignedData::new(slice, signature);
         Ok(SignedMessageCrl { signed, tbs })
     }

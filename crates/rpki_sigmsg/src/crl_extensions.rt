@@ -8,17 +8,21 @@ ghost use Rattle.rpki_der.specs.Tags.{context};
 ghost use Rattle.rpki_der.specs.Ticks.{TakesCounted};
 ghost use Rattle.rpki_der.specs.InDer.{in_der, GivesCounted};
 ghost use Rattle.rpki_base.specs.Serial.{serial};
-ghost use Rattle.rpki_sigmsg.specs.CrlExtensions.{issuer_key, extension_list, add, add_value, shown};
+ghost use Rattle.rpki_sigmsg.specs.CrlExtensions.{issuer_key, extension_list};
 
 use rpki_base::{
-    AUTHORITY_KEY_IDENTIFIER, CRL_NUMBER, Extension, KeyIdentifier, Serial, take_extension_counted,
+    AUTHORITY_KEY_IDENTIFIER, CRL_NUMBER, Extension, FindsExtensions, KeyIdentifier, Serial,
+    take_tagged_extensions_counted,
 };
 use rpki_der::{Cursor, DecodeError, Mode, Steps, Tag};
 use std::alloc::Global;
+use std::marker::Model;
 use std::sync::ledger::Ledger;
 
 /// What the known extensions say, as far as they were found.
-#[derive(Clone, Copy)]
+///
+/// In a clause it is these two.
+#[derive(Drop)]
 pub(crate) struct Found {
     /// The key identifier of the issuer.
     authority: Option<KeyIdentifier>,
@@ -26,10 +30,18 @@ pub(crate) struct Found {
     number: Option<Serial>,
 }
 
+impl Model for Found {
+    ghost use Rattle.rpki_sigmsg.specs.CrlExtensions.{KnownExtensions};
+
+    ghost Value = { KnownExtensions };
+
+    ghost view = { λ f. (f.authority, f.number) };
+}
+
 impl Found {
     /// The key identifier of the issuer and the number of the CRL.
     pub(crate) fn parts(self) -> (Option<KeyIdentifier>, Option<Serial>)
-        ensures { result ≡ shown self }
+        ensures { result ≡ self }
     {
         (self.authority, self.number)
     }
@@ -90,59 +102,29 @@ fn held<'a>(extension: &'a Extension<'_>) -> &'a [u8]
     &extension.value
 }
 
-// What was found with this extension.
-fn add_extension<L: Ledger>(
-    alloc: Global,
-    extension: &Extension<'_>,
-    found: Found,
-    steps: &mut Steps<L>,
-) -> Result<Found, DecodeError>
-    ensures { GivesCounted 1 (add (shown found) extension.now) shown extension.now.value steps.old steps.new result }
-{
-    let Found { authority, number } = found;
-    let value = held(extension);
-    if extension.identifier == AUTHORITY_KEY_IDENTIFIER.as_slice() {
-        let authority = add_authority(alloc, value, authority, steps)?;
-        Ok(Found { authority, number })
-    } else if extension.identifier == CRL_NUMBER.as_slice() {
-        let number = add_number(alloc, value, number, steps)?;
-        Ok(Found { authority, number })
-    } else {
-        Ok(Found { authority, number })
-    }
-}
+impl FindsExtensions for Found {
+    ghost use Rattle.rpki_sigmsg.specs.CrlExtensions.{add};
 
-// What was found with the extension that stands next.
-fn take_extension<L: Ledger>(
-    alloc: Global,
-    cursor: &mut Cursor<'_>,
-    found: Found,
-    steps: &mut Steps<L>,
-) -> Result<Found, DecodeError>
-    ensures { TakesCounted 2 (add_value cursor.old.mode (shown found)) shown cursor.old cursor.new steps.old steps.new result }
-{
-    let extension = take_extension_counted(alloc, cursor, steps)?;
-    add_extension(alloc, &extension, found, steps)
-}
+    ghost with = { add };
 
-// What the known ones of the extensions say that stand next.
-fn take_extension_list<L: Ledger>(
-    alloc: Global,
-    cursor: &mut Cursor<'_>,
-    steps: &mut Steps<L>,
-) -> Result<Found, DecodeError>
-    ensures { TakesCounted 2 (extension_list cursor.old.mode) shown cursor.old cursor.new steps.old steps.new result }
-{
-    cursor.enter_counted(Tag::SEQUENCE, steps)?;
-    let mut found = Found {
-        authority: None,
-        number: None,
-    };
-    'extensions: while !cursor.end() {
-        found = take_extension(alloc, cursor, found, steps)?;
+    fn found_with<L: Ledger>(
+        self,
+        alloc: Global,
+        extension: &Extension<'_>,
+        steps: &mut Steps<L>,
+    ) -> Result<Found, DecodeError> {
+        let Found { authority, number } = self;
+        let value = held(extension);
+        if extension.identifier == AUTHORITY_KEY_IDENTIFIER.as_slice() {
+            let authority = add_authority(alloc, value, authority, steps)?;
+            Ok(Found { authority, number })
+        } else if extension.identifier == CRL_NUMBER.as_slice() {
+            let number = add_number(alloc, value, number, steps)?;
+            Ok(Found { authority, number })
+        } else {
+            Ok(Found { authority, number })
+        }
     }
-    cursor.leave_counted(steps)?;
-    Ok(found)
 }
 
 /// What the known ones of the extensions say that stand next under [0].
@@ -151,10 +133,11 @@ pub(crate) fn take_extensions<L: Ledger>(
     cursor: &mut Cursor<'_>,
     steps: &mut Steps<L>,
 ) -> Result<Found, DecodeError>
-    ensures { TakesCounted 2 (wrapped (context 0) (extension_list cursor.old.mode)) shown cursor.old cursor.new steps.old steps.new result }
+    ensures { TakesCounted 2 (wrapped (context 0) (extension_list cursor.old.mode)) (λ known. known) cursor.old cursor.new steps.old steps.new result }
 {
-    cursor.enter_counted(Tag::CTX_0, steps)?;
-    let known = take_extension_list(alloc, cursor, steps)?;
-    cursor.leave_counted(steps)?;
-    Ok(known)
+    let none = Found {
+        authority: None,
+        number: None,
+    };
+    take_tagged_extensions_counted(alloc, cursor, Tag::CTX_0, none, steps)
 }

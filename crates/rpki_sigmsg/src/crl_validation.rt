@@ -1,12 +1,14 @@
 //! Whether the CRL of a signed message may be believed.
 
 ghost use Rattle.std.specs.Prelude.{◌≡◌, ◌↔◌, Bool, Decides, Ok, OnOk};
-ghost use Rattle.rpki_base.specs.Checks.{first_failure, failing};
+ghost use Rattle.rpki_base.specs.Checks.{first_failure, failing, IsSigned};
 ghost use Rattle.rpki_sigmsg.specs.CrlChecks as spec;
 
 use crate::crl::SignedMessageCrl;
-use rpki_base::{PublicKey, RpkiSignatureAlgorithm, Scheme, Time, Verifier};
-use rpki_idcert::{ValidationError, ValidationKind, names_issuer, require};
+use rpki_base::{
+    PublicKey, RpkiSignatureAlgorithm, Scheme, Time, ValidationError, ValidationKind, Verifier,
+    names_issuer, require,
+};
 
 // Whether both have the same object identifier, and NULL is there in both or in neither.
 fn same_algorithm(a: RpkiSignatureAlgorithm, b: RpkiSignatureAlgorithm) -> bool
@@ -29,7 +31,7 @@ impl SignedMessageCrl {
 
     // Whether the signature holds under a key.
     fn is_signed<P: Scheme, V: Verifier<P>>(&self, verifier: &V, key: &PublicKey) -> bool
-        ensures { Decides result (spec.IsListSigned P.checks self.now key.now) }
+        ensures { Decides result (IsSigned P.checks self.now key.now) }
     {
         self.signed_data().verify_signature(verifier, key).is_ok()
     }
@@ -41,9 +43,9 @@ impl SignedMessageCrl {
         issuer_key: &PublicKey,
         when: Time,
     ) -> Result<(), u8>
-        ensures first_failing { (q : Bool) → Decides q (spec.IsListSigned P.checks self.now issuer_key.now) →
+        ensures first_failing { (q : Bool) → Decides q (IsSigned P.checks self.now issuer_key.now) →
             result ≡ first_failure 9 (spec.crl_checks self.now issuer_key.now when q) }
-        ensures signed { OnOk result (spec.IsListSigned P.checks self.now issuer_key.now) }
+        ensures signed { OnOk result (IsSigned P.checks self.now issuer_key.now) }
     {
         require(9, self.names_one_algorithm())?;
         require(10, self.is_signed(verifier, issuer_key))?;
@@ -67,7 +69,7 @@ impl SignedMessageCrl {
         ensures believed { (result ≡ Ok tt) ↔ spec.IsListBelieved P.checks self.now issuer_key.now when }
 
         // The first check that fails decides, whatever the scheme answers.
-        ensures first_failing { (q : Bool) → Decides q (spec.IsListSigned P.checks self.now issuer_key.now) →
+        ensures first_failing { (q : Bool) → Decides q (IsSigned P.checks self.now issuer_key.now) →
             result ≡ failing spec.crl_kind
             (first_failure 9 (spec.crl_checks self.now issuer_key.now when q)) }
     {

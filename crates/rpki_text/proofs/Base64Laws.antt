@@ -15,6 +15,7 @@ use Rattle.base64.proofs.RoundTrip.{length-encode_symbols}
 use Rattle.base64.proofs.Streams.{decoded_of-ok}
 use Rattle.rpki_text.specs.Json.{string_of_json}
 use Rattle.rpki_text.specs.Base64.{is_not_space, IsBase64Text, base64_content, base64_content_of_json, held_content, IsHeld}
+use Rattle.rpki_common.proofs.Truths.{both}
 
 -- the text of octets is read as these octets
 pub decoded_of-encode : (content : List ℕ) → IsBytes content → decoded_of standard (encode_of standard content) ≡ Some content
@@ -37,10 +38,6 @@ IsHeld-encode content text fits e =
 
 together : (a b : Bool) → a ≡ true → b ≡ true → (a && b) ≡ true
 together a b d e = rw (d, e)
-
-both : (a b : Bool) → (a && b) ≡ true → (a ≡ true) × (b ≡ true)
-both true b e = (refl, e)
-both false b e = cc e
 
 -- a text with no white space is kept as it is
 pub filter_none : (xs : List ℕ) → list_all is_not_space xs ≡ true → filter is_not_space xs ≡ xs

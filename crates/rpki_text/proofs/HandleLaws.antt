@@ -5,9 +5,7 @@ use Rattle.std.proofs.lemmas.List.Sums.{AllPass-from_list_all, list_all-from_All
 use Rattle.std.proofs.lemmas.Bool.Decides.{nat_tests, Decides-and}
 use Rattle.rpki_text.specs.Json.{string_of_json}
 use Rattle.rpki_text.specs.Handle.{is_handle_octet, is_handle, IsHandle, handle_of_text, handle_of_json}
-
-both : (a b : Bool) → (a && b) ≡ true → (a ≡ true) × (b ≡ true)
-both a b = (Decides-and a b (λ e. e, λ e. e) (λ e. e, λ e. e)).0
+use Rattle.rpki_common.proofs.Truths.{both}
 
 together : (a b : Bool) → a ≡ true → b ≡ true → (a && b) ≡ true
 together a b d e = rw (d, e)

@@ -1,22 +1,14 @@
-use Rattle.std.proofs.Common.{refl}
-use Rattle.rpki_der.specs.Grammar.{wrapped}
-use Rattle.rpki_idcert.specs.Extensions.{extension_list}
-use Rattle.rpki_der.proofs.Counting.{reads_done, reads_first, refuses_inside, refuses_within, stops_done, stops_first, stops_later, takes_err, takes_within}
-use Rattle.rpki_der.proofs.Modes.{refuses_in, takes_in}
+use Rattle.std.proofs.Common.{sym}
+use Rattle.rpki_der.proofs.Counting.{takes_err, takes_so, refuses_so, refuses_convert}
+use Rattle.rpki_der.proofs.Leftovers.{takes_alike, refuses_alike}
+use Rattle.rpki_idcert.proofs.Gathering.{tagged_is}
 use Rattle.rpki_idcert.proofs.extensions.take_extensions.Goals as goal
 
-pub returns-in_err-enter_counted : goal.returns-in_err-enter_counted
-unfolding wrapped
-returns-in_err-enter_counted g c = takes_err _ _ _ _ _ _ _ _ _ c.from_residual.ensures.1 (refuses_within _ _ _ c.args.cursor.now _ _ _ c.in_err-enter_counted.ensures.place c.in_err-enter_counted.ensures.ticks)
+pub returns-in_err-found : goal.returns-in_err-found
+returns-in_err-found g c = takes_err _ _ _ _ _ _ _ _ _ c.from_residual.ensures.1 (refuses_alike _ _ _ _ _ _ _ (tagged_is _) (refuses_so _ _ _ _ _ _ _ c.in_err-found.ensures))
 
-pub returns-in_err-known : goal.returns-in_err-known
-unfolding wrapped
-returns-in_err-known g c = takes_err _ _ _ _ _ _ _ _ _ c.from_residual-in_err-known.ensures.1 (refuses_inside _ _ _ _ _ _ _ _ _ _ refl c.in_ok-enter_counted.ensures.place c.in_ok-enter_counted.ensures.ticks (stops_first _ _ _ _ _ _ _ _ refl (refuses_in _ extension_list _ _ _ _ _ c.in_ok-enter_counted.ensures.place.mode c.in_err-known.ensures)))
+pub returns-in-Some : goal.returns-in-Some
+returns-in-Some g c = takes_alike _ _ _ _ _ _ _ _ (tagged_is _) (takes_so _ _ _ _ _ _ _ _ _ c.in_ok-found.ensures (sym c.in-Some.ensures))
 
-pub returns-in_err-leave_counted : goal.returns-in_err-leave_counted
-unfolding wrapped
-returns-in_err-leave_counted g c = takes_err _ _ _ _ _ _ _ _ _ c.from_residual-in_err-leave_counted.ensures.1 (refuses_inside _ _ _ _ _ _ _ _ _ _ refl c.in_ok-enter_counted.ensures.place c.in_ok-enter_counted.ensures.ticks (stops_later _ _ _ _ _ _ _ _ _ _ _ _ refl (takes_in _ extension_list _ _ _ _ _ _ c.in_ok-enter_counted.ensures.place.mode c.in_ok-known.ensures) (stops_done _ _ _ _ _ _ c.in_err-leave_counted.ensures.place c.in_err-leave_counted.ensures.refused)))
-
-pub returns : goal.returns
-unfolding wrapped
-returns g c = takes_within _ _ _ _ _ _ _ _ _ _ _ refl c.in_ok-enter_counted.ensures.place c.in_ok-enter_counted.ensures.ticks (reads_first _ _ _ _ _ _ _ _ _ _ _ _ _ refl (takes_in _ extension_list _ _ _ _ _ _ c.in_ok-enter_counted.ensures.place.mode c.in_ok-known.ensures) (reads_done _ _ _ _ _ _ refl c.in_ok-leave_counted.ensures.place c.in_ok-leave_counted.ensures.ticks))
+pub returns-in-None : goal.returns-in-None
+returns-in-None g c = refuses_alike _ _ _ _ _ _ _ (tagged_is _) (refuses_convert _ _ _ _ _ _ _ _ c.in_ok-found.ensures (sym c.in-None.ensures))

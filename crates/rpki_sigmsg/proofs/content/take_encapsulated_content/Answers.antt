@@ -18,12 +18,12 @@ returns-in_err-take_oid_if_counted g c = takes_err _ _ _ _ _ _ _ _ _ c.from_resi
 
 pub returns-in_err-content : goal.returns-in_err-content
 unfolding encapsulated_content
-returns-in_err-content g c = takes_err _ _ _ _ _ _ _ _ _ c.from_residual-in_err-content.ensures.1 (refuses_inside _ _ _ _ _ _ _ _ _ _ refl c.in_ok-enter_counted.ensures.place c.in_ok-enter_counted.ensures.ticks (stops_later _ _ _ _ _ _ _ _ _ _ _ _ refl c.in_ok-take_oid_if_counted.ensures (stops_first _ _ _ _ _ _ _ _ refl (refuses_in _ (λ m. wrapped (context 0) (with_octets (octet_string m))) _ _ _ _ _ (c.in_ok-take_oid_if_counted.ensures.mode ∙ c.in_ok-enter_counted.ensures.place.mode) c.in_err-content.ensures))))
+returns-in_err-content g c = takes_err _ _ _ _ _ _ _ _ _ c.from_residual-in_err-content.ensures.1 (refuses_inside _ _ _ _ _ _ _ _ _ _ refl c.in_ok-enter_counted.ensures.place c.in_ok-enter_counted.ensures.ticks (stops_later _ _ _ _ _ _ _ _ _ _ _ _ refl c.in_ok-take_oid_if_counted.ensures (stops_first _ _ _ _ _ _ _ _ refl (refuses_in _ (λ m. wrapped (context 0) (with_octets (octet_string m))) _ _ _ _ _ (c.in_ok-take_oid_if_counted.ensures.takes.mode ∙ c.in_ok-enter_counted.ensures.place.mode) c.in_err-content.ensures))))
 
 pub returns-in_err-leave_counted : goal.returns-in_err-leave_counted
 unfolding encapsulated_content
-returns-in_err-leave_counted g c = takes_err _ _ _ _ _ _ _ _ _ c.from_residual-in_err-leave_counted.ensures.1 (refuses_inside _ _ _ _ _ _ _ _ _ _ refl c.in_ok-enter_counted.ensures.place c.in_ok-enter_counted.ensures.ticks (stops_later _ _ _ _ _ _ _ _ _ _ _ _ refl c.in_ok-take_oid_if_counted.ensures (stops_later _ _ _ _ _ _ _ _ _ _ _ _ refl (takes_in _ (λ m. wrapped (context 0) (with_octets (octet_string m))) _ _ _ _ _ _ (c.in_ok-take_oid_if_counted.ensures.mode ∙ c.in_ok-enter_counted.ensures.place.mode) c.in_ok-content.ensures) (stops_done _ _ _ _ _ _ c.in_err-leave_counted.ensures.place c.in_err-leave_counted.ensures.refused))))
+returns-in_err-leave_counted g c = takes_err _ _ _ _ _ _ _ _ _ c.from_residual-in_err-leave_counted.ensures.1 (refuses_inside _ _ _ _ _ _ _ _ _ _ refl c.in_ok-enter_counted.ensures.place c.in_ok-enter_counted.ensures.ticks (stops_later _ _ _ _ _ _ _ _ _ _ _ _ refl c.in_ok-take_oid_if_counted.ensures (stops_later _ _ _ _ _ _ _ _ _ _ _ _ refl (takes_in _ (λ m. wrapped (context 0) (with_octets (octet_string m))) _ _ _ _ _ _ (c.in_ok-take_oid_if_counted.ensures.takes.mode ∙ c.in_ok-enter_counted.ensures.place.mode) c.in_ok-content.ensures) (stops_done _ _ _ _ _ _ c.in_err-leave_counted.ensures.place c.in_err-leave_counted.ensures.refused))))
 
 pub returns : goal.returns
 unfolding encapsulated_content
-returns g c = takes_within _ _ _ _ _ _ _ _ _ _ _ refl c.in_ok-enter_counted.ensures.place c.in_ok-enter_counted.ensures.ticks (reads_first _ _ _ _ _ _ _ _ _ _ _ _ _ refl c.in_ok-take_oid_if_counted.ensures (reads_first _ _ _ _ _ _ _ _ _ _ _ _ _ refl (takes_in _ (λ m. wrapped (context 0) (with_octets (octet_string m))) _ _ _ _ _ _ (c.in_ok-take_oid_if_counted.ensures.mode ∙ c.in_ok-enter_counted.ensures.place.mode) c.in_ok-content.ensures) (reads_done _ _ _ _ _ _ refl c.in_ok-leave_counted.ensures.place c.in_ok-leave_counted.ensures.ticks)))
+returns g c = takes_within _ _ _ _ _ _ _ _ _ _ _ refl c.in_ok-enter_counted.ensures.place c.in_ok-enter_counted.ensures.ticks (reads_first _ _ _ _ _ _ _ _ _ _ _ _ _ refl c.in_ok-take_oid_if_counted.ensures (reads_first _ _ _ _ _ _ _ _ _ _ _ _ _ refl (takes_in _ (λ m. wrapped (context 0) (with_octets (octet_string m))) _ _ _ _ _ _ (c.in_ok-take_oid_if_counted.ensures.takes.mode ∙ c.in_ok-enter_counted.ensures.place.mode) c.in_ok-content.ensures) (reads_done _ _ _ _ _ _ refl c.in_ok-leave_counted.ensures.place c.in_ok-leave_counted.ensures.ticks)))
