@@ -27,7 +27,8 @@ SaysOfDocument (outcome.Values count) octets = ⊥
 
 -- a value of so many octets begins the octets, or none does
 abbrev pub SaysOfTree : Outcome → List ℕ → Type 0
-SaysOfTree (outcome.Octets count) octets = (v : Value) × Begins Ber octets v (drop count octets) × (count ≡ length (spelling v))
+SaysOfTree (outcome.Octets count) octets =
+    (v : Value) × Begins Ber octets v (drop count octets) × (count ≡ length (spelling v))
 SaysOfTree outcome.Malformed octets = NoValue Ber octets
 SaysOfTree outcome.OutOfMemory octets = ⊤
 SaysOfTree outcome.Read octets = ⊥
@@ -35,7 +36,8 @@ SaysOfTree (outcome.Values count) octets = ⊥
 
 -- a value begins the octets, of which so many values were met, or none does
 abbrev pub SaysOfWalk : Outcome → List ℕ → Type 0
-SaysOfWalk (outcome.Values count) octets = (v : Value) × (rest : List ℕ) × Begins Ber octets v rest × (1 ≤ count) × (count ≤ length octets)
+SaysOfWalk (outcome.Values count) octets =
+    (v : Value) × (rest : List ℕ) × Begins Ber octets v rest × (1 ≤ count) × (count ≤ length octets)
 SaysOfWalk outcome.Malformed octets = NoValue Ber octets
 SaysOfWalk outcome.OutOfMemory octets = ⊤
 SaysOfWalk outcome.Read octets = ⊥

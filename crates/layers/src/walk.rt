@@ -25,7 +25,8 @@ fn enters(cursor: &mut Cursor<'_>, tag: Tag) -> Result<bool, DecodeError>
 // Goes into the SEQUENCE or the constructed OCTET STRING that stands next, or takes another value whole.
 fn go_on(cursor: &mut Cursor<'_>) -> Result<(), DecodeError>
     ensures ok { OnOk result (GoesOn cursor.old cursor.new) }
-    ensures malformed { result ≡ Err DecodeError.Malformed → NoValue cursor.old.mode cursor.old.here }
+    ensures malformed { result ≡ Err DecodeError.Malformed
+        → NoValue cursor.old.mode cursor.old.here }
 {
     if enters(cursor, Tag::SEQUENCE)? || enters(cursor, Tag::OCTET_STRING)? {
         return Ok(());
@@ -41,7 +42,8 @@ fn go_on(cursor: &mut Cursor<'_>) -> Result<(), DecodeError>
 /// enters each SEQUENCE and each constructed OCTET STRING, and leaves it at its end. Malformed exactly where no value begins
 /// the octets.
 pub fn values_met(alloc: Global, octets: &[u8]) -> Result<usize, DecodeError>
-    ensures ok { IfOk result (λ count. (v : Value) × (rest : List ℕ) × Begins Ber octets.now v rest × (1 ≤ count) × (count ≤ length octets.now)) }
+    ensures ok { IfOk result (λ count. (v : Value) × (rest : List ℕ) × Begins Ber octets.now v rest
+        × (1 ≤ count) × (count ≤ length octets.now)) }
     ensures malformed { result ≡ Err DecodeError.Malformed → NoValue Ber octets.now }
 {
     let mut cursor = Cursor::new(alloc, Mode::Ber, octets);

@@ -184,6 +184,3 @@ fn main(rt: HostRuntime) -> io::Result<()> {
     }
     println!(rt; "{count} cases, {differ} differ")
 }
-
-#[cfg(test)]
-mod crl_tests;

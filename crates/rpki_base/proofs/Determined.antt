@@ -1,5 +1,5 @@
 -- What a signed value says is what its signed octets are read as.
-use Rattle.std.proofs.Common.{◌≡◌, ℕ, Option, None, Some, List, refl, sym, ap, subst, ◌∙◌}
+use Rattle.std.proofs.Common.{◌≡◌, ℕ, Option, Some, List, refl, sym, ap, subst, ◌∙◌}
 use Rattle.std.proofs.lemmas.List.{append-nil}
 use Rattle.rpki_common.specs.Chaining.{◌>>=◌}
 use Rattle.rpki_common.proofs.Bounds.{bound, chosen}
@@ -7,7 +7,7 @@ use Rattle.rpki_common.proofs.Truths.{none_some, same_some}
 use Rattle.rpki_der.specs.declared.mode.Mode.{Mode}
 use Rattle.rpki_der.specs.Identifier.{has_tag}
 use Rattle.rpki_der.specs.Tags.{sequence}
-use Rattle.rpki_der.specs.Value.{Value, Primitive, Constructed, Values, End, ◌▸◌, spelling, IsValue, AreValues}
+use Rattle.rpki_der.specs.Value.{Value, Primitive, Constructed, Values, ◌▸◌, spelling, IsValue, AreValues}
 use Rattle.rpki_der.specs.Grammar.{within, first}
 use Rattle.rpki_der.specs.Held.{with_octets}
 use Rattle.rpki_der.specs.Whole.{whole_of}

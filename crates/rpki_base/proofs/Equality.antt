@@ -1,5 +1,5 @@
 -- Signed data that are equal, part by part, are the same.
-use Rattle.std.proofs.Common.{◌≡◌, ℕ, Bool, true, List, refl, ap, ◌∙◌}
+use Rattle.std.proofs.Common.{◌≡◌, ℕ, Bool, true, List, ap, ◌∙◌}
 use Rattle.std.specs.Prelude.{◌&&◌, bytes_eq}
 use Rattle.rpki_common.proofs.Truths.{both, are_true, same_octets, equal_octets}
 use Rattle.rpki_base.specs.SignedData.{SignedParts}

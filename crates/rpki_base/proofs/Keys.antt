@@ -15,7 +15,7 @@ use Rattle.rpki_base.specs.declared.algorithm.PublicKeyFormat.TheVariants.{Rsa, 
 use Rattle.rpki_base.specs.Bits.{spelled_bits}
 use Rattle.rpki_base.specs.Names.{rsa_encryption, ec_public_key, prime256v1}
 use Rattle.rpki_base.specs.PublicKey.{KeyFields, parameters, named_format, key_algorithm, public_key, spelled_algorithm, spelled_key, CanBeSpelled}
-use Rattle.rpki_base.specs.WritingLaws.{length-der_length, is_sequence, is_oid, is_null, is_bits}
+use Rattle.rpki_base.specs.WritingLaws.{is_sequence, is_oid, is_null, is_bits}
 
 -- the values that the two formats and the bits are written as
 

@@ -1,7 +1,6 @@
 -- Dates by their days, and moments by their dates.
 use Rattle.std.proofs.Common.{◌≡◌, ℕ, ◌+◌, ◌*◌, ◌<◌, ◌≤◌, refl, ap, arith, ℤ, pos, neg_ℤ, ◌≤ℤ◌, ◌+ℤ◌, ◌*ℤ◌}
-use Rattle.std.specs.Prelude.{Bool, true, nat_le, ◌&&◌}
-use Rattle.std.proofs.lemmas.Bool.Decides.{Decides-and}
+use Rattle.std.specs.Prelude.{true, nat_le, ◌&&◌}
 use Rattle.std.proofs.lemmas.Bool.{leb-true}
 use Rattle.std.proofs.lemmas.Int.{by_lt_z}
 use Rattle.jiff_core.specs.declared.civil.date.Date.{Date}

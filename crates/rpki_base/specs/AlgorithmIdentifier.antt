@@ -21,5 +21,6 @@ algorithm_identifier = within sequence (λ vs. do
 
 -- the same in DER
 abbrev pub spelled_identifier : List ℕ → Bool → List ℕ
-spelled_identifier name true = der_constructed sequence (der_primitive oid_tag name ++ der_primitive null_tag [])
+spelled_identifier name true = der_constructed sequence
+    (der_primitive oid_tag name ++ der_primitive null_tag [])
 spelled_identifier name false = der_constructed sequence (der_primitive oid_tag name)

@@ -31,24 +31,45 @@ pub record IsShortName (name : List ℕ) : Type 0 where
   pub short : length name < 100
 
 oid_short : (name : List ℕ) → length name < 100 → length (der_primitive oid_tag name) < 200
-oid_short name h = omega (arith, length-der_length (length name), length-append (der_length (length name)) name)
+oid_short name h = omega (
+  arith,
+  length-der_length (length name),
+  length-append
+      (der_length (length name)) name,
+)
 
-pub identifier_begins : (mode : Mode) (name : List ℕ) (b : Bool) (rest : List ℕ) → length name < 100 → Begins mode (spelled_identifier name b ++ rest) (constructed_value sequence (identifier_fields name b)) rest
+pub identifier_begins : (mode : Mode) (name : List ℕ) (b : Bool) (rest : List ℕ) → length name < 100
+    → Begins mode (spelled_identifier name b ++ rest)
+    (constructed_value sequence (identifier_fields name b)) rest
 identifier_begins mode name true rest h =
-    begins_constructed mode sequence (der_primitive oid_tag name ++ der_primitive null_tag []) rest _ is_sequence (omega (arith, oid_short name h, length-append (der_primitive oid_tag name) (der_primitive null_tag []))) (spells_followed mode _ _ _ _ (spells_primitive mode oid_tag name is_oid (omega arith)) (spells_primitive mode null_tag [] is_null (omega arith)))
+    begins_constructed mode sequence (der_primitive oid_tag name ++ der_primitive null_tag []) rest
+    _ is_sequence (omega (
+      arith,
+      oid_short name h,
+      length-append (der_primitive oid_tag name)
+          (der_primitive null_tag []),
+    )) (spells_followed mode _ _ _ _
+    (spells_primitive mode oid_tag name is_oid (omega arith))
+    (spells_primitive mode null_tag [] is_null (omega arith)))
 identifier_begins mode name false rest h =
-    begins_constructed mode sequence (der_primitive oid_tag name) rest _ is_sequence (omega (arith, oid_short name h)) (spells_primitive mode oid_tag name is_oid (omega arith))
+    begins_constructed mode sequence (der_primitive oid_tag name) rest _ is_sequence
+    (omega (arith, oid_short name h)) (spells_primitive mode oid_tag name is_oid (omega arith))
 
-identifier_reads : (name : List ℕ) (b : Bool) → subidentifiers name ≡ Some name → algorithm_identifier (constructed_value sequence (identifier_fields name b)) ≡ Some (name, b)
+identifier_reads : (name : List ℕ) (b : Bool) → subidentifiers name ≡ Some name
+    → algorithm_identifier (constructed_value sequence (identifier_fields name b)) ≡ Some (name, b)
 unfolding algorithm_identifier within first optional done so oid null ◌>>=◌
 identifier_reads name true e = rw e refl
 identifier_reads name false e = rw e refl
 
-pub taken_again : {X : Type 0} (meaning : List ℕ × Bool → Option X) (mode : Mode) (name : List ℕ) (b : Bool) → IsShortName name → whole_of (so algorithm_identifier meaning) mode (spelled_identifier name b) ≡ meaning (name, b)
+pub taken_again : {X : Type 0} (meaning : List ℕ × Bool → Option X) (mode : Mode) (name : List ℕ)
+    (b : Bool) → IsShortName name
+    → whole_of (so algorithm_identifier meaning) mode (spelled_identifier name b)
+    ≡ meaning (name, b)
 unfolding ◌>>=◌
 taken_again meaning mode name b n =
     whole_so algorithm_identifier meaning mode (spelled_identifier name b)
-    ∙ ap (λ o. o >>= meaning) (whole_begins algorithm_identifier mode (spelled_identifier name b) _ (identifier_begins mode name b [] n.short) ∙ identifier_reads name b n.lawful)
+    ∙ ap (λ o. o >>= meaning) (whole_begins algorithm_identifier mode (spelled_identifier name b) _
+    (identifier_begins mode name b [] n.short) ∙ identifier_reads name b n.lawful)
 
 -- ---- RSA over SHA-256
 
@@ -59,45 +80,71 @@ name_short : (i : RsaIdentifier) → IsShortName (name_of i)
 name_short RsaEncryption = record { lawful = refl; short = omega arith }
 name_short Sha256WithRsaEncryption = sha256_rsa_short
 
-meant_named : (b : Bool) (null' : Bool) (a : RpkiAlgorithm) → (if b then Some (record { identifier = RsaEncryption; null = null' }) else None) ≡ Some a → a.identifier ≡ RsaEncryption
-meant_named true null' a e = let f : a ≡ record { identifier = RsaEncryption; null = null' } = cc in ap (λ (r : RpkiAlgorithm). r.identifier) f
+meant_named : (b : Bool) (null' : Bool) (a : RpkiAlgorithm)
+    → (if b then Some (record { identifier = RsaEncryption; null = null' }) else None) ≡ Some a
+    → a.identifier ≡ RsaEncryption
+meant_named true null' a e = let f : a ≡ record { identifier = RsaEncryption; null = null' } =
+    cc in ap (λ (r : RpkiAlgorithm). r.identifier) f
 meant_named false null' a e = absurd cc
 
-found_named : (o : Option (List ℕ × Bool)) (a : RpkiAlgorithm) → (o >>= x509_meaning) ≡ Some a → a.identifier ≡ RsaEncryption
+found_named : (o : Option (List ℕ × Bool)) (a : RpkiAlgorithm) → (o >>= x509_meaning) ≡ Some a
+    → a.identifier ≡ RsaEncryption
 unfolding ◌>>=◌
 found_named None a e = absurd cc
 found_named (Some x) a e = meant_named (bytes_eq x.0 sha256_with_rsa) x.1 a e
 
-pub x509_named : (mode : Mode) (octets : List ℕ) (a : RpkiAlgorithm) → whole_of x509_algorithm mode octets ≡ Some a → a.identifier ≡ RsaEncryption
+pub x509_named : (mode : Mode) (octets : List ℕ) (a : RpkiAlgorithm)
+    → whole_of x509_algorithm mode octets ≡ Some a → a.identifier ≡ RsaEncryption
 unfolding x509_algorithm
-x509_named mode octets a e = found_named (whole_of algorithm_identifier mode octets) a (sym (whole_so algorithm_identifier x509_meaning mode octets) ∙ e)
+x509_named mode octets a e = found_named (whole_of algorithm_identifier mode octets) a
+    (sym (whole_so algorithm_identifier x509_meaning mode octets) ∙ e)
 
-pub x509_again : (mode : Mode) (a : RpkiAlgorithm) → a.identifier ≡ RsaEncryption → whole_of x509_algorithm mode (spelled_x509 a) ≡ Some a
+pub x509_again : (mode : Mode) (a : RpkiAlgorithm) → a.identifier ≡ RsaEncryption
+    → whole_of x509_algorithm mode (spelled_x509 a) ≡ Some a
 unfolding x509_algorithm
-x509_again mode a e = taken_again x509_meaning mode sha256_with_rsa a.null sha256_rsa_short ∙ ap (λ (i : RsaIdentifier). Some (record { identifier = i; null = a.null })) (sym e)
+x509_again mode a e = taken_again x509_meaning mode sha256_with_rsa a.null sha256_rsa_short
+    ∙ ap (λ (i : RsaIdentifier). Some (record { identifier = i; null = a.null })) (sym e)
 
-pub x509_value : (mode : Mode) (a : RpkiAlgorithm) (rest : List ℕ) → (v : Value) × Begins mode (spelled_x509 a ++ rest) v rest
-x509_value mode a rest = (constructed_value sequence (identifier_fields sha256_with_rsa a.null), identifier_begins mode sha256_with_rsa a.null rest (omega arith))
+pub x509_value : (mode : Mode) (a : RpkiAlgorithm) (rest : List ℕ)
+    → (v : Value) × Begins mode (spelled_x509 a ++ rest) v rest
+x509_value mode a rest = (
+  constructed_value sequence (identifier_fields sha256_with_rsa a.null),
+  identifier_begins mode sha256_with_rsa a.null rest (omega arith),
+)
 
-meant_cms : (i : RsaIdentifier) (b : Bool) → cms_meaning (name_of i, b) ≡ Some (record { identifier = i; null = b })
+meant_cms : (i : RsaIdentifier) (b : Bool)
+    → cms_meaning (name_of i, b) ≡ Some (record { identifier = i; null = b })
 meant_cms RsaEncryption b = refl
 meant_cms Sha256WithRsaEncryption b = refl
 
-pub cms_again : (mode : Mode) (a : RpkiAlgorithm) → whole_of cms_algorithm mode (spelled_cms a) ≡ Some a
+pub cms_again : (mode : Mode) (a : RpkiAlgorithm)
+    → whole_of cms_algorithm mode (spelled_cms a) ≡ Some a
 unfolding cms_algorithm
-cms_again mode a = taken_again cms_meaning mode (name_of a.identifier) a.null (name_short a.identifier) ∙ meant_cms a.identifier a.null
+cms_again mode a = taken_again cms_meaning mode (name_of a.identifier) a.null
+    (name_short a.identifier) ∙ meant_cms a.identifier a.null
 
-pub cms_value : (mode : Mode) (a : RpkiAlgorithm) (rest : List ℕ) → (v : Value) × Begins mode (spelled_cms a ++ rest) v rest
-cms_value mode a rest = (constructed_value sequence (identifier_fields (name_of a.identifier) a.null), identifier_begins mode (name_of a.identifier) a.null rest (omega (arith, (name_short a.identifier).short)))
+pub cms_value : (mode : Mode) (a : RpkiAlgorithm) (rest : List ℕ)
+    → (v : Value) × Begins mode (spelled_cms a ++ rest) v rest
+cms_value mode a rest = (
+  constructed_value sequence
+      (identifier_fields (name_of a.identifier) a.null),
+  identifier_begins mode (name_of a.identifier)
+      a.null rest (omega (arith, (name_short a.identifier).short)),
+)
 
 -- ---- ECDSA over SHA-256
 
 ecdsa_short : IsShortName ecdsa_with_sha256
 ecdsa_short = record { lawful = refl; short = omega arith }
 
-pub router_again : (mode : Mode) (a : Unit {0}) → whole_of router_algorithm mode spelled_router ≡ Some a
+pub router_again : (mode : Mode) (a : Unit {0})
+    → whole_of router_algorithm mode spelled_router ≡ Some a
 unfolding router_algorithm
 router_again mode a = taken_again router_meaning mode ecdsa_with_sha256 false ecdsa_short
 
-pub router_value : (mode : Mode) (rest : List ℕ) → (v : Value) × Begins mode (spelled_router ++ rest) v rest
-router_value mode rest = (constructed_value sequence (identifier_fields ecdsa_with_sha256 false), identifier_begins mode ecdsa_with_sha256 false rest (omega arith))
+pub router_value : (mode : Mode) (rest : List ℕ)
+    → (v : Value) × Begins mode (spelled_router ++ rest) v rest
+router_value mode rest = (
+  constructed_value sequence (identifier_fields ecdsa_with_sha256 false),
+  identifier_begins mode ecdsa_with_sha256 false rest (omega arith),
+)

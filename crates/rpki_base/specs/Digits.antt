@@ -7,7 +7,8 @@ use Rattle.rpki_common.specs.Chaining.{◌>>=◌}
 abbrev pub two_digits : List ℕ → Option (ℕ × List ℕ)
 two_digits [] = None
 two_digits (a ∷ []) = None
-two_digits (a ∷ b ∷ behind) = if is_ascii_digit a && is_ascii_digit b then Some (10 * digit_value a + digit_value b, behind) else None
+two_digits (a ∷ b ∷ behind) = if is_ascii_digit a && is_ascii_digit b
+    then Some (10 * digit_value a + digit_value b, behind) else None
 
 -- four digits
 unfoldable pub four_digits : List ℕ → Option (ℕ × List ℕ)

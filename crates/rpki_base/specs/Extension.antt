@@ -26,12 +26,18 @@ extension mode = within sequence (λ vs. do
   identifier ← first oid vs
   critical ← optional boolean_tag (boolean mode) identifier.1
   value ← first (octet_string mode) critical.1
-  done (record { identifier = identifier.0; critical = unwrap_or critical.0 false; value = value.0 }) value.1)
+  done (record {
+    identifier = identifier.0;
+    critical = unwrap_or critical.0 false;
+    value = value.0;
+  }) value.1)
 
 -- the extension has this identifier
 abbrev pub is : List ℕ → ExtensionFields → Bool
 is identifier e = bytes_eq e.identifier identifier
 
 -- A SEQUENCE of extensions, each of which adds what it says to what was found before it.
-unfoldable pub gathered : {F : Type 0} → (F → ExtensionFields → Option F) → Mode → F → Value → Option F
-gathered add mode found = within sequence (gather (λ so_far. so (extension mode) (add so_far)) found)
+unfoldable pub gathered : {F : Type 0} → (F → ExtensionFields → Option F) → Mode → F → Value
+    → Option F
+gathered add mode found = within sequence (gather (λ so_far. so (extension mode) (add so_far))
+    found)

@@ -26,4 +26,5 @@ null_leaf None = Some false
 null_leaf (Some l) = null_contents l.tag l.content
 
 abbrev pub identifier_leaves : LeafFields × Option LeafFields → Option (List ℕ × Bool)
-identifier_leaves (name, parameter) = oid_leaf name >>= λ n. null_leaf parameter >>= λ p. Some (n, p)
+identifier_leaves (name, parameter) =
+    oid_leaf name >>= λ n. null_leaf parameter >>= λ p. Some (n, p)

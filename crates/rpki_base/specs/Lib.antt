@@ -1,5 +1,5 @@
 -- Said in contracts, and to be believed: Names, Digits, Civil, Time, TimeText, Rfc3339, Validity, Serial, KeyIdentifier, Name, Extension,
--- Bits, Algorithm, AlgorithmIdentifier, RpkiSignatureAlgorithm, BgpsecSignatureAlgorithm, PublicKey, Signature, SignedData.
+-- Bits, Algorithm, AlgorithmIdentifier, RpkiSignatureAlgorithm, BgpsecSignatureAlgorithm, PublicKey, Signature, SignedData, Scheme, Checks.
 -- Means for readers without memory, and proofs of laws: Leaves, WritingLaws, AlgorithmLaws.
 pub mod Name
 pub mod Digits

@@ -45,4 +45,6 @@ printable_string_tag = 19 ∷ []
 
 -- the name whose one attribute, commonName, is this text
 abbrev pub name_of_text : List ℕ → List ℕ
-name_of_text text = der_constructed sequence (der_constructed set (der_constructed sequence (der_primitive oid_tag common_name ++ der_primitive printable_string_tag text)))
+name_of_text text = der_constructed sequence (der_constructed set
+    (der_constructed sequence (der_primitive oid_tag common_name
+    ++ der_primitive printable_string_tag text)))

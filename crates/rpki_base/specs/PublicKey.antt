@@ -22,7 +22,9 @@ pub record KeyFields : Type 0 where
 -- the format that an object identifier names
 abbrev pub format_named : List ℕ → Option PublicKeyFormat
 format_named name =
-    if bytes_eq name rsa_encryption then Some Rsa else if bytes_eq name ec_public_key then Some EcdsaP256 else None
+    if bytes_eq name rsa_encryption then Some Rsa
+    else if bytes_eq name ec_public_key then Some EcdsaP256
+    else None
 
 -- what stands behind it: NULL or nothing behind rsaEncryption, and the curve behind ecPublicKey
 unfoldable pub parameters : PublicKeyFormat → Values → Option PublicKeyFormat
@@ -62,8 +64,10 @@ names_issuer (Some id) issuer = bytes_eq id (sha1 issuer.bits)
 
 -- rsaEncryption with NULL, or ecPublicKey with its curve
 abbrev pub spelled_algorithm : PublicKeyFormat → List ℕ
-spelled_algorithm Rsa = der_constructed sequence (der_primitive oid_tag rsa_encryption ++ der_primitive null_tag [])
-spelled_algorithm EcdsaP256 = der_constructed sequence (der_primitive oid_tag ec_public_key ++ der_primitive oid_tag prime256v1)
+spelled_algorithm Rsa = der_constructed sequence
+    (der_primitive oid_tag rsa_encryption ++ der_primitive null_tag [])
+spelled_algorithm EcdsaP256 = der_constructed sequence
+    (der_primitive oid_tag ec_public_key ++ der_primitive oid_tag prime256v1)
 
 abbrev pub spelled_parts : KeyFields → List ℕ
 spelled_parts key = spelled_algorithm key.format ++ spelled_bits key.bits

@@ -43,7 +43,8 @@ offset (c ∷ more) =
 
 -- a moment in the years 0 to 9999
 abbrev pub in_range : ℤ → Option ℤ
-in_range s = if int_le (neg_ℤ (pos 62167219200)) s && int_le s (pos 253402300799) then Some s else None
+in_range s = if int_le (neg_ℤ (pos 62167219200)) s && int_le s (pos 253402300799) then Some s
+    else None
 
 -- YYYY-MM-DDTHH:MM:SS, a fraction or none, and the offset
 unfoldable pub rfc3339_time : List ℕ → Option ℤ
@@ -61,5 +62,12 @@ rfc3339_time text = do
   second ← two_digits behind_minute
   zone ← past_fraction second.1
   ahead ← offset zone
-  local ← moment (record { year = year.0; month = month.0; day = day.0; hour = hour.0; minute = minute.0; second = second.0 })
+  local ← moment (record {
+    year = year.0;
+    month = month.0;
+    day = day.0;
+    hour = hour.0;
+    minute = minute.0;
+    second = second.0;
+  })
   in_range (local -ℤ ahead)

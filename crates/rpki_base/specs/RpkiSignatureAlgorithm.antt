@@ -18,7 +18,8 @@ pub record RpkiAlgorithm : Type 0 where
 -- in certificates: sha256WithRSAEncryption alone; a signer's information then has rsaEncryption
 abbrev pub x509_meaning : List ℕ × Bool → Option RpkiAlgorithm
 x509_meaning a =
-    if bytes_eq a.0 sha256_with_rsa then Some (record { identifier = RsaEncryption; null = a.1 }) else None
+    if bytes_eq a.0 sha256_with_rsa then Some (record { identifier = RsaEncryption; null = a.1 })
+    else None
 
 unfoldable pub x509_algorithm : Value → Option RpkiAlgorithm
 x509_algorithm = so algorithm_identifier x509_meaning
@@ -30,7 +31,10 @@ algorithm mode = algorithm_in (whole_of x509_algorithm) mode
 -- in a signer's information: rsaEncryption or sha256WithRSAEncryption (RFC 7935, 2)
 abbrev pub cms_meaning : List ℕ × Bool → Option RpkiAlgorithm
 cms_meaning a =
-    if bytes_eq a.0 rsa_encryption then Some (record { identifier = RsaEncryption; null = a.1 }) else if bytes_eq a.0 sha256_with_rsa then Some (record { identifier = Sha256WithRsaEncryption; null = a.1 }) else None
+    if bytes_eq a.0 rsa_encryption then Some (record { identifier = RsaEncryption; null = a.1 })
+    else if bytes_eq a.0 sha256_with_rsa
+    then Some (record { identifier = Sha256WithRsaEncryption; null = a.1 })
+    else None
 
 unfoldable pub cms_algorithm : Value → Option RpkiAlgorithm
 cms_algorithm = so algorithm_identifier cms_meaning

@@ -14,7 +14,8 @@ without_zero (a ∷ more) = if a == 0 then more else a ∷ more
 
 -- the same number in twenty octets
 abbrev pub in_twenty : List ℕ → Option (List ℕ)
-in_twenty octets = if nat_le (length octets) 20 then Some (replicate (20 - length octets) 0 ++ octets) else None
+in_twenty octets = if nat_le (length octets) 20
+    then Some (replicate (20 - length octets) 0 ++ octets) else None
 
 -- the serial number that the contents of an INTEGER are
 abbrev pub serial_number : List ℕ → Option (List ℕ)

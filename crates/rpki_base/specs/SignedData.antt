@@ -21,7 +21,8 @@ abbrev pub algorithm_in : {A : Type 0} → (Mode → List ℕ → Option A) → 
 algorithm_in reads mode = so any (reads mode)
 
 -- the algorithm and the octets of the signature, and nothing behind them; how many bits of the last octet are unused is dropped
-unfoldable pub signature_in : {A : Type 0} → (Mode → List ℕ → Option A) → Mode → Values → Option (SignatureParts A)
+unfoldable pub signature_in : {A : Type 0} → (Mode → List ℕ → Option A) → Mode → Values
+    → Option (SignatureParts A)
 signature_in reads mode vs = do
   algorithm ← first (algorithm_in reads mode) vs
   bits ← first bit_string algorithm.1
@@ -46,7 +47,8 @@ abbrev pub signed_octets : {A : Type 0} → List ℕ → SignatureParts A → Si
 signed_octets slice signature = record { slice = slice; signature = signature }
 
 -- any signed value, by its octets
-unfoldable pub signed_data : {A : Type 0} → (Mode → List ℕ → Option A) → Mode → Value → Option (SignedParts A)
+unfoldable pub signed_data : {A : Type 0} → (Mode → List ℕ → Option A) → Mode → Value
+    → Option (SignedParts A)
 signed_data reads mode = signed_as any signed_octets reads mode
 
 -- the exact octets that are signed with their signature, and what they say
@@ -58,13 +60,15 @@ abbrev pub signed_fields : {A T : Type 0} → List ℕ × T → SignatureParts A
 signed_fields held signature = record { signed = signed_octets held.0 signature; tbs = held.1 }
 
 -- a signed value that a grammar reads, which says what it is
-unfoldable pub signed_value : {A T : Type 0} → (Mode → Value → Option T) → (Mode → List ℕ → Option A) → Mode → Value → Option (Signed A T)
+unfoldable pub signed_value : {A T : Type 0} → (Mode → Value → Option T)
+    → (Mode → List ℕ → Option A) → Mode → Value → Option (Signed A T)
 signed_value tbs reads mode = signed_as (with_octets (tbs mode)) signed_fields reads mode
 
 -- ---- as signed data are written, where spelled says how algorithms are
 
 abbrev pub spelled_parts : {A : Type 0} → (A → List ℕ) → SignedParts A → List ℕ
-spelled_parts spelled d = d.slice ++ (spelled d.signature.algorithm ++ spelled_bits d.signature.value)
+spelled_parts spelled d = d.slice ++ (spelled d.signature.algorithm
+    ++ spelled_bits d.signature.value)
 
 abbrev pub spelled_data : {A : Type 0} → (A → List ℕ) → SignedParts A → List ℕ
 spelled_data spelled d = der_constructed sequence (spelled_parts spelled d)

@@ -19,7 +19,14 @@ in_year year text = do
   second ← two_digits minute.1
   behind ← past 90 second.1
   nothing ← ended behind
-  moment (record { year = year; month = month.0; day = day.0; hour = hour.0; minute = minute.0; second = second.0 })
+  moment (record {
+    year = year;
+    month = month.0;
+    day = day.0;
+    hour = hour.0;
+    minute = minute.0;
+    second = second.0;
+  })
 
 -- two digits of a year: 50 to 99 are 1950 to 1999, and 00 to 49 are 2000 to 2049
 abbrev pub full_year : ℕ → ℕ
@@ -39,8 +46,11 @@ generalized_time text = do
 
 -- Time ::= CHOICE { utcTime UTCTime, generalTime GeneralizedTime }
 unfoldable pub time : Value → Option ℤ
-time v = option_or (so (primitive utc_time_tag) utc_time v) (so (primitive generalized_time_tag) generalized_time v)
+time v = option_or (so (primitive utc_time_tag) utc_time v)
+    (so (primitive generalized_time_tag) generalized_time v)
 
 -- the same of a primitive value, by its tag and its contents
 abbrev pub leaf_time : LeafFields → Option ℤ
-leaf_time leaf = if bytes_eq leaf.tag utc_time_tag then utc_time leaf.content else if bytes_eq leaf.tag generalized_time_tag then generalized_time leaf.content else None
+leaf_time leaf =
+    if bytes_eq leaf.tag utc_time_tag then utc_time leaf.content
+    else if bytes_eq leaf.tag generalized_time_tag then generalized_time leaf.content else None

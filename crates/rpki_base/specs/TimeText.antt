@@ -15,11 +15,13 @@ four n = two (n / 100) ++ two (n % 100)
 
 -- the year has four digits, and the others have two
 abbrev pub FitsDigits : Civil → Type 0
-FitsDigits c = (c.year < 10000) × (c.month < 100) × (c.day < 100) × (c.hour < 100) × (c.minute < 100) × (c.second < 100)
+FitsDigits c = (c.year < 10000) × (c.month < 100) × (c.day < 100) × (c.hour < 100)
+    × (c.minute < 100) × (c.second < 100)
 
 -- MMDDHHMMSSZ
 abbrev pub month_to_second : Civil → List ℕ
-month_to_second c = two c.month ++ (two c.day ++ (two c.hour ++ (two c.minute ++ (two c.second ++ codes "Z"))))
+month_to_second c = two c.month ++ (two c.day ++
+    (two c.hour ++ (two c.minute ++ (two c.second ++ codes "Z"))))
 
 -- YYMMDDHHMMSSZ, and YYYYMMDDHHMMSSZ
 abbrev pub utc_text : Civil → List ℕ
@@ -33,7 +35,8 @@ abbrev pub is_utc_year : ℕ → Bool
 is_utc_year year = nat_le 1950 year && nat_le year 2049
 
 abbrev pub civil_value : Civil → Value
-civil_value c = if is_utc_year c.year then primitive_value utc_time_tag (utc_text c) else primitive_value generalized_time_tag (generalized_text c)
+civil_value c = if is_utc_year c.year then primitive_value utc_time_tag (utc_text c)
+    else primitive_value generalized_time_tag (generalized_text c)
 
 -- the time as a value, and its spelling
 unfoldable pub time_value : ℤ → Value
@@ -45,4 +48,6 @@ der_time seconds = spelling (time_value seconds)
 -- YYYY-MM-DDTHH:MM:SSZ
 abbrev pub rfc3339_text : Civil → List ℕ
 rfc3339_text c =
-    four c.year ++ (codes "-" ++ (two c.month ++ (codes "-" ++ (two c.day ++ (codes "T" ++ (two c.hour ++ (codes ":" ++ (two c.minute ++ (codes ":" ++ (two c.second ++ codes "Z"))))))))))
+    four c.year ++ (codes "-" ++ (two c.month ++
+    (codes "-" ++ (two c.day ++ (codes "T" ++ (two c.hour
+    ++ (codes ":" ++ (two c.minute ++ (codes ":" ++ (two c.second ++ codes "Z"))))))))))

@@ -14,7 +14,8 @@ use Rattle.rpki_der.proofs.Flats.{alone_begins}
 
 -- ---- how long length octets are at most
 
-either_short : (b : Bool) (x y : List ℕ) → length x ≤ 5 → length y ≤ 5 → length (if b then x else y) ≤ 5
+either_short : (b : Bool) (x y : List ℕ) → length x ≤ 5 → length y ≤ 5
+    → length (if b then x else y) ≤ 5
 either_short true x y p q = p
 either_short false x y p q = q
 
@@ -41,15 +42,21 @@ is_bits = ((λ e. omega (arith, e), λ e. omega (arith, e), λ e. omega (arith, 
 
 -- ---- whole values
 
-pub bound_by : {X Y : Type 0} (o : Option Value) (f : Value → Option X) (g : X → Option Y) (h : Value → Option Y) → ((v : Value) → h v ≡ (f v >>= g)) → (o >>= h) ≡ ((o >>= f) >>= g)
+pub bound_by : {X Y : Type 0} (o : Option Value) (f : Value → Option X) (g : X → Option Y)
+    (h : Value → Option Y) → ((v : Value) → h v ≡ (f v >>= g)) → (o >>= h) ≡ ((o >>= f) >>= g)
 unfolding ◌>>=◌
 bound_by None f g h e = refl
 bound_by (Some v) f g h e = e v
 
-pub whole_so : {X Y : Type 0} (grammar : Value → Option X) (convert : X → Option Y) (mode : Mode) (octets : List ℕ) → whole_of (so grammar convert) mode octets ≡ (whole_of grammar mode octets >>= convert)
+pub whole_so : {X Y : Type 0} (grammar : Value → Option X) (convert : X → Option Y) (mode : Mode)
+    (octets : List ℕ) → whole_of (so grammar convert) mode octets
+    ≡ (whole_of grammar mode octets >>= convert)
 unfolding whole_of so
-whole_so grammar convert mode octets = bound_by (alone mode octets) grammar convert (λ v. grammar v >>= convert) (λ v. refl)
+whole_so grammar convert mode octets =
+    bound_by (alone mode octets) grammar convert (λ v. grammar v >>= convert) (λ v. refl)
 
-pub whole_begins : {X : Type 0} (grammar : Value → Option X) (mode : Mode) (octets : List ℕ) (v : Value) → Begins mode (octets ++ []) v [] → whole_of grammar mode octets ≡ grammar v
+pub whole_begins : {X : Type 0} (grammar : Value → Option X) (mode : Mode) (octets : List ℕ)
+    (v : Value) → Begins mode (octets ++ []) v [] → whole_of grammar mode octets ≡ grammar v
 unfolding whole_of ◌>>=◌
-whole_begins grammar mode octets v b = rw (alone_begins mode octets v (subst (λ o. Begins mode o v []) (append-nil octets) b)) refl
+whole_begins grammar mode octets v b =
+    rw (alone_begins mode octets v (subst (λ o. Begins mode o v []) (append-nil octets) b)) refl

@@ -38,7 +38,8 @@ impl Civil {
     // The date, where the calendar has it.
     fn date(self) -> Option<Date>
         ensures exists { IsSome result ↔ IsTrue (is_date self) }
-        ensures value { IfSome result (λ d. epoch_day d ≡ days_from_civil (pos self.year) self.month self.day) }
+        ensures value { IfSome result (λ d. epoch_day d
+            ≡ days_from_civil (pos self.year) self.month self.day) }
         ensures year { IfSome result (λ d. pos 0 ≤ℤ d.year) }
     {
         if self.year > 9999 || self.month > 12 || self.day > 31 {

@@ -31,7 +31,11 @@ impl<'a> Model for Extension<'a> {
 
     ghost Value = { ExtensionFields };
 
-    ghost view = { λ e. record { identifier = e.identifier.now; critical = e.critical; value = e.value.items } };
+    ghost view = { λ e. record {
+      identifier = e.identifier.now;
+      critical = e.critical;
+      value = e.value.items;
+    } };
 }
 
 /// The extension that stands next: a SEQUENCE of an object identifier, a BOOLEAN or none, and an OCTET STRING (RFC 5280, 4.1).
@@ -41,7 +45,8 @@ pub fn take_extension_counted<'a, L: Ledger>(
     cursor: &mut Cursor<'a>,
     steps: &mut Steps<L>,
 ) -> Result<Extension<'a>, DecodeError>
-    ensures value { TakesCounted 1 (extension cursor.old.mode) (λ e. e) cursor.old cursor.new steps.old steps.new result }
+    ensures value { TakesCounted 1 (extension cursor.old.mode) (λ e. e)
+        cursor.old cursor.new steps.old steps.new result }
 
     // What it holds is among the octets that were passed.
     ensures within { IfOk result (λ e. length e.value + left cursor.new ≤ left cursor.old) }
@@ -75,7 +80,8 @@ pub trait FindsExtensions: Drop {
         extension: &Extension<'_>,
         steps: &mut Steps<L>,
     ) -> Result<Self, DecodeError>
-        ensures { GivesCounted 1 (with self extension.now) (λ found. found) extension.now.value steps.old steps.new result };
+        ensures { GivesCounted 1 (with self extension.now) (λ found. found) extension.now.value
+            steps.old steps.new result };
 }
 
 // What was found with the extension that stands next.
@@ -85,7 +91,8 @@ fn take_extension<F: FindsExtensions, L: Ledger>(
     found: F,
     steps: &mut Steps<L>,
 ) -> Result<F, DecodeError>
-    ensures { TakesCounted 2 (so (extension cursor.old.mode) (F.with found)) (λ found. found) cursor.old cursor.new steps.old steps.new result }
+    ensures { TakesCounted 2 (so (extension cursor.old.mode) (F.with found)) (λ found. found)
+        cursor.old cursor.new steps.old steps.new result }
 {
     let extension = take_extension_counted(alloc, cursor, steps)?;
     found.found_with(alloc, &extension, steps)
@@ -99,7 +106,8 @@ pub fn take_extensions_counted<F: FindsExtensions, L: Ledger>(
     found: F,
     steps: &mut Steps<L>,
 ) -> Result<F, DecodeError>
-    ensures { TakesCounted 2 (gathered F.with cursor.old.mode found) (λ found. found) cursor.old cursor.new steps.old steps.new result }
+    ensures { TakesCounted 2 (gathered F.with cursor.old.mode found) (λ found. found)
+        cursor.old cursor.new steps.old steps.new result }
 {
     cursor.enter_counted(Tag::SEQUENCE, steps)?;
     let mut found = found;
@@ -118,7 +126,8 @@ pub fn take_tagged_extensions_counted<F: FindsExtensions, L: Ledger>(
     found: F,
     steps: &mut Steps<L>,
 ) -> Result<F, DecodeError>
-    ensures { TakesCounted 2 (wrapped tag (gathered F.with cursor.old.mode found)) (λ found. found) cursor.old cursor.new steps.old steps.new result }
+    ensures { TakesCounted 2 (wrapped tag (gathered F.with cursor.old.mode found)) (λ found. found)
+        cursor.old cursor.new steps.old steps.new result }
 {
     cursor.enter_counted(tag, steps)?;
     let found = take_extensions_counted(alloc, cursor, found, steps)?;

@@ -57,7 +57,8 @@ fn null_leaf(leaf: Option<Leaf<'_>>) -> Option<bool>
 /// The contents of the object identifier, and whether NULL is there, of the algorithm identifier that the octets are, with
 /// nothing behind it; None where they are none with NULL or without parameters. It takes no memory.
 pub(crate) fn take_identifier(mode: Mode, octets: &[u8]) -> Option<(&[u8], bool)>
-    ensures { option_map (λ r. (r.0.now, r.1)) result ≡ whole_of algorithm_identifier mode octets.now }
+    ensures { option_map (λ r. (r.0.now, r.1)) result
+        ≡ whole_of algorithm_identifier mode octets.now }
 {
     let (name, parameter) = take_whole_pair(mode, octets)?;
     let name = oid_leaf(name)?;

@@ -72,7 +72,8 @@ impl KeyIdentifier {
         tag: Tag,
         steps: &mut Steps<L>,
     ) -> Result<KeyIdentifier, DecodeError>
-        ensures { TakesCounted 1 (spec.key_identifier_under tag cursor.old.mode) (λ x. x) cursor.old cursor.new steps.old steps.new result }
+        ensures { TakesCounted 1 (spec.key_identifier_under tag cursor.old.mode) (λ x. x)
+            cursor.old cursor.new steps.old steps.new result }
     {
         let octets = take_octets_counted(alloc, cursor, tag, steps)?;
         match KeyIdentifier::from_octets(&octets) {
@@ -90,7 +91,8 @@ impl KeyIdentifier {
         requires name { blank.name ≡ L.name }
         requires parts { blank.parts ≡ L.parts }
         requires some { 0 < blank.parts }
-        ensures { Takes (spec.key_identifier_under tag cursor.old.mode) (λ x. x) cursor.old cursor.new result }
+        ensures { Takes (spec.key_identifier_under tag cursor.old.mode) (λ x. x)
+            cursor.old cursor.new result }
     {
         let mut steps = Steps::<L>::new(blank);
         KeyIdentifier::take_under_counted(alloc, cursor, tag, &mut steps)
@@ -103,7 +105,8 @@ impl KeyIdentifier {
         cursor: &mut Cursor<'_>,
         tag: Tag,
     ) -> Result<KeyIdentifier, DecodeError>
-        ensures { Takes (spec.key_identifier_under tag cursor.old.mode) (λ x. x) cursor.old cursor.new result }
+        ensures { Takes (spec.key_identifier_under tag cursor.old.mode) (λ x. x)
+            cursor.old cursor.new result }
     {
         KeyIdentifier::take_under_within::<Brand>(alloc, cursor, tag, Blank::new(1))
     }
@@ -114,14 +117,16 @@ impl KeyIdentifier {
         cursor: &mut Cursor<'_>,
         steps: &mut Steps<L>,
     ) -> Result<KeyIdentifier, DecodeError>
-        ensures { TakesCounted 1 (spec.key_identifier cursor.old.mode) (λ x. x) cursor.old cursor.new steps.old steps.new result }
+        ensures { TakesCounted 1 (spec.key_identifier cursor.old.mode) (λ x. x)
+            cursor.old cursor.new steps.old steps.new result }
     {
         KeyIdentifier::take_under_counted(alloc, cursor, Tag::OCTET_STRING, steps)
     }
 
     /// The key identifier that stands next as an OCTET STRING of twenty octets, whose segments are joined in BER.
     pub fn take_from(alloc: Global, cursor: &mut Cursor<'_>) -> Result<KeyIdentifier, DecodeError>
-        ensures { Takes (spec.key_identifier cursor.old.mode) (λ x. x) cursor.old cursor.new result }
+        ensures { Takes (spec.key_identifier cursor.old.mode) (λ x. x)
+            cursor.old cursor.new result }
     {
         KeyIdentifier::take_under(alloc, cursor, Tag::OCTET_STRING)
     }

@@ -28,33 +28,42 @@ use crate::validity::Validity;
 
 /// What `Serial::encode` writes is read as the same serial number, in both modes.
 pub fn serial_is_read_again()
-    ensures value { (octets : List ℕ) → length octets ≡ 20 → serial (serial_value octets) ≡ Some octets }
-    ensures begins { (mode : Mode) (octets rest : List ℕ) → length octets ≡ 20 → Begins mode (der_serial octets ++ rest) (serial_value octets) rest }
+    ensures value { (octets : List ℕ) → length octets ≡ 20
+        → serial (serial_value octets) ≡ Some octets }
+    ensures begins { (mode : Mode) (octets rest : List ℕ) → length octets ≡ 20
+        → Begins mode (der_serial octets ++ rest) (serial_value octets) rest }
 {}
 
 /// What `Time::to_der_varied` writes is read as the same time, in both modes.
 pub fn time_is_read_again()
     ensures value { (seconds : ℤ) → IsMoment seconds → time (time_value seconds) ≡ Some seconds }
-    ensures begins { (mode : Mode) (seconds : ℤ) (rest : List ℕ) → Begins mode (der_time seconds ++ rest) (time_value seconds) rest }
+    ensures begins { (mode : Mode) (seconds : ℤ) (rest : List ℕ)
+        → Begins mode (der_time seconds ++ rest) (time_value seconds) rest }
 {}
 
 /// What `Time::to_rfc3339` prints is read by `Time::from_rfc3339` as the same time.
 pub fn printed_time_is_read_again()
-    ensures { (seconds : ℤ) → IsMoment seconds → rfc3339_time (rfc3339_text (civil_at seconds)) ≡ Some seconds }
+    ensures { (seconds : ℤ) → IsMoment seconds
+        → rfc3339_time (rfc3339_text (civil_at seconds)) ≡ Some seconds }
 {}
 
 /// `==` holds exactly between values that are the same.
 pub fn equal_values_are_the_same()
     ensures time { (a b : ℤ) → (⟦<Time as PartialEq>⟧.eq a b ≡ true) ↔ (a ≡ b) }
-    ensures validity { (a b : ValidityFields) → (⟦<Validity as PartialEq>⟧.eq a b ≡ true) ↔ (a ≡ b) }
+    ensures validity { (a b : ValidityFields)
+        → (⟦<Validity as PartialEq>⟧.eq a b ≡ true) ↔ (a ≡ b) }
     ensures serial { (a b : List ℕ) → (⟦<Serial as PartialEq>⟧.eq a b ≡ true) ↔ (a ≡ b) }
     ensures identifier { (a b : List ℕ) → (⟦<KeyIdentifier as PartialEq>⟧.eq a b ≡ true) ↔ (a ≡ b) }
     ensures name { (a b : List ℕ) → (⟦<Name as PartialEq>⟧.eq a b ≡ true) ↔ (a ≡ b) }
-    ensures format { (a b : PublicKeyFormat) → (⟦<PublicKeyFormat as PartialEq>⟧.eq a b ≡ true) ↔ (a ≡ b) }
+    ensures format { (a b : PublicKeyFormat)
+        → (⟦<PublicKeyFormat as PartialEq>⟧.eq a b ≡ true) ↔ (a ≡ b) }
     ensures key { (a b : KeyFields) → (⟦<PublicKey as PartialEq>⟧.eq a b ≡ true) ↔ (a ≡ b) }
-    ensures kind { (a b : SigningAlgorithm) → (⟦<SigningAlgorithm as PartialEq>⟧.eq a b ≡ true) ↔ (a ≡ b) }
+    ensures kind { (a b : SigningAlgorithm)
+        → (⟦<SigningAlgorithm as PartialEq>⟧.eq a b ≡ true) ↔ (a ≡ b) }
     ensures rpki_algorithm { (a b : RpkiAlgorithm) →
         (⟦<RpkiSignatureAlgorithm as PartialEq>⟧.eq a b ≡ true) ↔ (a ≡ b) }
-    ensures bgpsec_algorithm { (a b : Unit {0}) → (⟦<BgpsecSignatureAlgorithm as PartialEq>⟧.eq a b ≡ true) ↔ (a ≡ b) }
-    ensures error { (a b : ValidationError) → (⟦<ValidationError as PartialEq>⟧.eq a b ≡ true) ↔ (a ≡ b) }
+    ensures bgpsec_algorithm { (a b : Unit {0})
+        → (⟦<BgpsecSignatureAlgorithm as PartialEq>⟧.eq a b ≡ true) ↔ (a ≡ b) }
+    ensures error { (a b : ValidationError)
+        → (⟦<ValidationError as PartialEq>⟧.eq a b ≡ true) ↔ (a ≡ b) }
 {}

@@ -59,6 +59,3 @@ pub use signed_data::{
 pub use time::Time;
 pub use validation::{ValidationError, ValidationKind, first_false_decides, require};
 pub use validity::Validity;
-
-#[cfg(test)]
-mod tests;

@@ -44,7 +44,8 @@ fn pass_attribute<L: Ledger>(
     cursor: &mut Cursor<'_>,
     steps: &mut Steps<L>,
 ) -> Result<(), DecodeError>
-    ensures { TakesCounted 1 name_attribute (λ x. x) cursor.old cursor.new steps.old steps.new result }
+    ensures { TakesCounted 1 name_attribute (λ x. x)
+        cursor.old cursor.new steps.old steps.new result }
 {
     cursor.enter_counted(Tag::SEQUENCE, steps)?;
     take_oid_counted(cursor, steps)?;
@@ -59,7 +60,8 @@ fn pass_attributes<L: Ledger>(
     steps: &mut Steps<L>,
 ) -> Result<(), DecodeError>
     requires { cursor.old.levels ≢ [] }
-    ensures { TakesRestCounted 1 0 (each name_attribute) (λ x. x) cursor.old cursor.new steps.old steps.new result }
+    ensures { TakesRestCounted 1 0 (each name_attribute) (λ x. x)
+        cursor.old cursor.new steps.old steps.new result }
 {
     'attributes: while !cursor.end() {
         pass_attribute(cursor, steps)?;
@@ -72,7 +74,8 @@ fn pass_relative_name<L: Ledger>(
     cursor: &mut Cursor<'_>,
     steps: &mut Steps<L>,
 ) -> Result<(), DecodeError>
-    ensures { TakesCounted 1 relative_name (λ x. x) cursor.old cursor.new steps.old steps.new result }
+    ensures { TakesCounted 1 relative_name (λ x. x)
+        cursor.old cursor.new steps.old steps.new result }
 {
     cursor.enter_counted(Tag::SET, steps)?;
     pass_attributes(cursor, steps)
@@ -84,7 +87,8 @@ fn pass_relative_names<L: Ledger>(
     steps: &mut Steps<L>,
 ) -> Result<(), DecodeError>
     requires { cursor.old.levels ≢ [] }
-    ensures { TakesRestCounted 1 0 (each relative_name) (λ x. x) cursor.old cursor.new steps.old steps.new result }
+    ensures { TakesRestCounted 1 0 (each relative_name) (λ x. x)
+        cursor.old cursor.new steps.old steps.new result }
 {
     'names: while !cursor.end() {
         pass_relative_name(cursor, steps)?;
@@ -94,7 +98,8 @@ fn pass_relative_names<L: Ledger>(
 
 // Passes a name.
 fn pass_name<L: Ledger>(cursor: &mut Cursor<'_>, steps: &mut Steps<L>) -> Result<(), DecodeError>
-    ensures { TakesCounted 1 (within sequence (each relative_name)) (λ x. x) cursor.old cursor.new steps.old steps.new result }
+    ensures { TakesCounted 1 (within sequence (each relative_name)) (λ x. x)
+        cursor.old cursor.new steps.old steps.new result }
 {
     cursor.enter_counted(Tag::SEQUENCE, steps)?;
     pass_relative_names(cursor, steps)
@@ -122,7 +127,9 @@ impl Name {
 
 /// What `from_pub_key` makes is read as that name, in both modes, whatever stands behind it.
 pub fn made_name_is_read()
-    ensures { (mode : Mode) (digits rest : List ℕ) → length digits ≡ 40 → (v : Value) × Begins mode (name_of_text digits ++ rest) v rest × (name v ≡ Some (name_of_text digits)) }
+    ensures { (mode : Mode) (digits rest : List ℕ) → length digits ≡ 40
+        → (v : Value) × Begins mode (name_of_text digits ++ rest) v rest
+        × (name v ≡ Some (name_of_text digits)) }
 {}
 
 /// # Decoding
@@ -205,7 +212,8 @@ impl Name {
 /// What `encode_ref` writes of a name that was read is read again as that name, by the rules that it was read by; and in BER, where
 /// it was read in DER.
 pub fn read_name_is_read_again()
-    ensures again { (mode : Mode) (v : Value) (octets rest more : List ℕ) → Begins mode octets v rest →
+    ensures again { (mode : Mode) (v : Value) (octets rest more : List ℕ)
+        → Begins mode octets v rest →
         (n : List ℕ) → name v ≡ Some n → Begins mode (n ++ more) v more }
     ensures loosely { (v : Value) (octets rest more : List ℕ) → Begins Der octets v rest →
         (n : List ℕ) → name v ≡ Some n → Begins Ber (n ++ more) v more }

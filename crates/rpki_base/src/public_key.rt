@@ -132,7 +132,8 @@ impl PublicKey {
         cursor: &mut Cursor<'_>,
         steps: &mut Steps<L>,
     ) -> Result<PublicKey, DecodeError>
-        ensures { TakesCounted 1 spec.public_key (λ k. k) cursor.old cursor.new steps.old steps.new result }
+        ensures { TakesCounted 1 spec.public_key (λ k. k)
+            cursor.old cursor.new steps.old steps.new result }
     {
         cursor.enter_counted(Tag::SEQUENCE, steps)?;
         let format = take_key_algorithm(cursor, steps)?;
@@ -195,7 +196,8 @@ fn take_key_algorithm<L: Ledger>(
     cursor: &mut Cursor<'_>,
     steps: &mut Steps<L>,
 ) -> Result<PublicKeyFormat, DecodeError>
-    ensures { TakesCounted 1 spec.key_algorithm (λ x. x) cursor.old cursor.new steps.old steps.new result }
+    ensures { TakesCounted 1 spec.key_algorithm (λ x. x)
+        cursor.old cursor.new steps.old steps.new result }
 {
     cursor.enter_counted(Tag::SEQUENCE, steps)?;
     let format = take_named_format(cursor, steps)?;
@@ -219,7 +221,8 @@ fn take_named_format<L: Ledger>(
     cursor: &mut Cursor<'_>,
     steps: &mut Steps<L>,
 ) -> Result<PublicKeyFormat, DecodeError>
-    ensures { TakesCounted 1 spec.named_format (λ x. x) cursor.old cursor.new steps.old steps.new result }
+    ensures { TakesCounted 1 spec.named_format (λ x. x)
+        cursor.old cursor.new steps.old steps.new result }
 {
     let name = take_oid_counted(cursor, steps)?;
     match format_named(name) {
@@ -235,7 +238,8 @@ fn leave_parameters<L: Ledger>(
     steps: &mut Steps<L>,
 ) -> Result<PublicKeyFormat, DecodeError>
     requires { cursor.old.levels ≢ [] }
-    ensures { TakesRestCounted 1 1 (spec.parameters format) (λ x. x) cursor.old cursor.new steps.old steps.new result }
+    ensures { TakesRestCounted 1 1 (spec.parameters format) (λ x. x)
+        cursor.old cursor.new steps.old steps.new result }
 {
     match format {
         PublicKeyFormat::Rsa => leave_opt_null(cursor, steps),
@@ -248,7 +252,8 @@ fn leave_opt_null<L: Ledger>(
     steps: &mut Steps<L>,
 ) -> Result<PublicKeyFormat, DecodeError>
     requires { cursor.old.levels ≢ [] }
-    ensures { TakesRestCounted 1 1 (spec.parameters Rsa) (λ x. x) cursor.old cursor.new steps.old steps.new result }
+    ensures { TakesRestCounted 1 1 (spec.parameters Rsa) (λ x. x)
+        cursor.old cursor.new steps.old steps.new result }
 {
     take_opt_null_counted(cursor, steps)?;
     cursor.leave_counted(steps)?;
@@ -260,7 +265,8 @@ fn leave_curve<L: Ledger>(
     steps: &mut Steps<L>,
 ) -> Result<PublicKeyFormat, DecodeError>
     requires { cursor.old.levels ≢ [] }
-    ensures { TakesRestCounted 1 0 (spec.parameters EcdsaP256) (λ x. x) cursor.old cursor.new steps.old steps.new result }
+    ensures { TakesRestCounted 1 0 (spec.parameters EcdsaP256) (λ x. x)
+        cursor.old cursor.new steps.old steps.new result }
 {
     take_oid_if_counted(cursor, &PRIME256V1, steps)?;
     cursor.leave_counted(steps)?;

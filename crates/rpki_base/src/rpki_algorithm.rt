@@ -114,8 +114,10 @@ impl RpkiSignatureAlgorithm {
 
 /// What `cms_encode` writes is taken again as the same algorithm, in both modes, and is one value.
 pub fn written_algorithm_is_taken()
-    ensures again { (mode : Mode) (a : RpkiAlgorithm) → whole_of cms_algorithm mode (spelled_cms a) ≡ Some a }
-    ensures one_value { (mode : Mode) (a : RpkiAlgorithm) (rest : List ℕ) → (v : Value) × Begins mode (spelled_cms a ++ rest) v rest }
+    ensures again { (mode : Mode) (a : RpkiAlgorithm)
+        → whole_of cms_algorithm mode (spelled_cms a) ≡ Some a }
+    ensures one_value { (mode : Mode) (a : RpkiAlgorithm) (rest : List ℕ)
+        → (v : Value) × Begins mode (spelled_cms a ++ rest) v rest }
 {}
 
 impl SignatureAlgorithm for RpkiSignatureAlgorithm {

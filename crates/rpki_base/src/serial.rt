@@ -138,7 +138,8 @@ impl Serial {
         cursor: &mut Cursor<'_>,
         steps: &mut Steps<L>,
     ) -> Result<Serial, DecodeError>
-        ensures { TakesCounted 1 spec.serial (λ x. x) cursor.old cursor.new steps.old steps.new result }
+        ensures { TakesCounted 1 spec.serial (λ x. x)
+            cursor.old cursor.new steps.old steps.new result }
     {
         let octets = take_integer_counted(cursor, steps)?;
         match serial_number(octets) {

@@ -43,13 +43,15 @@ pub trait SignatureAlgorithm: Copy + PartialEq {
         ensures err { OnErr result (out.new ≡ out.old) };
 
     /// What is read is named.
-    ghost named: { (mode : Mode) (octets : List ℕ) (a : Self) → reads mode octets ≡ Some a → is_named a };
+    ghost named: { (mode : Mode) (octets : List ℕ) (a : Self) → reads mode octets ≡ Some a
+        → is_named a };
 
     /// What is written of a named value is taken again as the same value, in both modes.
     ghost again: { (mode : Mode) (a : Self) → is_named a → reads mode (spelled a) ≡ Some a };
 
     /// What is written of a value is one value of X.690, whatever stands behind it.
-    ghost one_value: { (mode : Mode) (a : Self) (rest : List ℕ) → (v : Value) × Begins mode (spelled a ++ rest) v rest };
+    ghost one_value: { (mode : Mode) (a : Self) (rest : List ℕ)
+        → (v : Value) × Begins mode (spelled a ++ rest) v rest };
 
     /// Equal values are the same.
     ghost same: { (a b : Self) → Self.eq a b ≡ true → a ≡ b };

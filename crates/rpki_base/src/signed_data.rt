@@ -90,7 +90,8 @@ impl<Alg: SignatureAlgorithm> SignedData<Alg> {
 
     /// The signed data that stands next.
     pub fn take_from(alloc: Global, cursor: &mut Cursor<'_>) -> Result<SignedData<Alg>, DecodeError>
-        ensures { Takes (signed_data Alg.reads cursor.old.mode) (λ d. d) cursor.old cursor.new result }
+        ensures { Takes (signed_data Alg.reads cursor.old.mode) (λ d. d)
+            cursor.old cursor.new result }
     {
         take_from_within::<Alg, Brand>(alloc, cursor, Blank::new(1))
     }
@@ -101,7 +102,8 @@ impl<Alg: SignatureAlgorithm> SignedData<Alg> {
         cursor: &mut Cursor<'_>,
         steps: &mut Steps<L>,
     ) -> Result<SignedData<Alg>, DecodeError>
-        ensures { TakesCounted 1 (signed_data Alg.reads cursor.old.mode) (λ d. d) cursor.old cursor.new steps.old steps.new result }
+        ensures { TakesCounted 1 (signed_data Alg.reads cursor.old.mode) (λ d. d)
+            cursor.old cursor.new steps.old steps.new result }
     {
         cursor.enter_counted(Tag::SEQUENCE, steps)?;
         let octets = cursor.capture_counted(steps)?;
@@ -113,8 +115,10 @@ impl<Alg: SignatureAlgorithm> SignedData<Alg> {
 
 /// `==` holds exactly between signed data whose octets that were signed, algorithms and octets of the signature are the same.
 pub fn equal_data_are_the_same<Alg: SignatureAlgorithm>()
-    ensures same { (a b : SignedParts Alg) → ⟦<SignedData<Alg> as PartialEq>⟧.eq a b ≡ true → a ≡ b }
-    ensures equal { (a b : SignedParts Alg) → a ≡ b → ⟦<SignedData<Alg> as PartialEq>⟧.eq a b ≡ true }
+    ensures same { (a b : SignedParts Alg) → ⟦<SignedData<Alg> as PartialEq>⟧.eq a b ≡ true
+        → a ≡ b }
+    ensures equal { (a b : SignedParts Alg) → a ≡ b
+        → ⟦<SignedData<Alg> as PartialEq>⟧.eq a b ≡ true }
 {}
 
 /// # Encoding
@@ -153,7 +157,8 @@ impl<Alg: SignatureAlgorithm> SignedData<Alg> {
         verifier: &V,
         key: &PublicKey,
     ) -> Result<(), SignatureVerificationError>
-        ensures { IsOk result ↔ P.checks (Alg.kind self.now.signature.algorithm) key.now self.now.slice self.now.signature.value }
+        ensures { IsOk result ↔ P.checks (Alg.kind self.now.signature.algorithm) key.now
+            self.now.slice self.now.signature.value }
     {
         let kind = self.signature.algorithm().signing_algorithm();
         if verifier.verify(
@@ -191,7 +196,8 @@ pub fn leave_signature<Alg: SignatureAlgorithm, L: Ledger>(
     steps: &mut Steps<L>,
 ) -> Result<Signature<Alg>, DecodeError>
     requires { cursor.old.levels ≢ [] }
-    ensures { TakesRestCounted 1 0 (signature_in Alg.reads cursor.old.mode) (λ s. s) cursor.old cursor.new steps.old steps.new result }
+    ensures { TakesRestCounted 1 0 (signature_in Alg.reads cursor.old.mode) (λ s. s)
+        cursor.old cursor.new steps.old steps.new result }
 {
     let algorithm = take_algorithm::<Alg, L>(cursor, steps)?;
     let (_, bits) = take_bits_counted(cursor, steps)?;
@@ -206,7 +212,8 @@ pub fn take_algorithm<Alg: SignatureAlgorithm, L: Ledger>(
     cursor: &mut Cursor<'_>,
     steps: &mut Steps<L>,
 ) -> Result<Alg, DecodeError>
-    ensures { TakesCounted 1 (algorithm_in Alg.reads cursor.old.mode) (λ a. a) cursor.old cursor.new steps.old steps.new result }
+    ensures { TakesCounted 1 (algorithm_in Alg.reads cursor.old.mode) (λ a. a)
+        cursor.old cursor.new steps.old steps.new result }
 {
     let mode = cursor.mode();
     let octets = cursor.capture_counted(steps)?;

@@ -116,7 +116,8 @@ impl Time {
         cursor: &mut Cursor<'_>,
         steps: &mut Steps<L>,
     ) -> Result<Time, DecodeError>
-        ensures { TakesCounted 1 spec.time (λ x. x) cursor.old cursor.new steps.old steps.new result }
+        ensures { TakesCounted 1 spec.time (λ x. x)
+            cursor.old cursor.new steps.old steps.new result }
     {
         match cursor.take_primitive_counted(Tag::UTC_TIME, steps) {
             Ok(text) => match utc_time(text) {

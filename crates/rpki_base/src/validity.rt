@@ -82,7 +82,8 @@ impl Validity {
         cursor: &mut Cursor<'_>,
         steps: &mut Steps<L>,
     ) -> Result<Validity, DecodeError>
-        ensures { TakesCounted 1 validity (λ x. x) cursor.old cursor.new steps.old steps.new result }
+        ensures { TakesCounted 1 validity (λ x. x)
+            cursor.old cursor.new steps.old steps.new result }
     {
         cursor.enter_counted(Tag::SEQUENCE, steps)?;
         let not_before = Time::take_from_counted(cursor, steps)?;

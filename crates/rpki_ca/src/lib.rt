@@ -28,8 +28,3 @@ pub use receiving::{Kind, ReceiveError, Received, receive, receive_counted};
 pub use refusals::Refusal;
 pub use running::{Status, refuse, run};
 pub use words::Words;
-
-#[cfg(test)]
-mod receive_tests;
-#[cfg(test)]
-mod tests;

@@ -13,7 +13,8 @@ once None now = now >>= λ x. Some (Some x)
 once (Some y) now = None
 
 -- an item that passes the test is the only one
-unfoldable pub slot : {A X : Type 0} → (A → Bool) → (A → Option X) → Option X → A → Option (Option X)
+unfoldable pub slot : {A X : Type 0} → (A → Bool) → (A → Option X) → Option X → A
+    → Option (Option X)
 slot test read found a = if test a then once found (read a) else Some found
 
 -- an item that passes the test takes the place of the one before
@@ -25,5 +26,6 @@ unfoldable pub allowed : {A : Type 0} → (A → Bool) → Unit {0} → A → Op
 allowed test found a = if test a then Some tt else None
 
 -- two things are found at once
-unfoldable pub both : {A S T : Type 0} → (S → A → Option S) → (T → A → Option T) → S × T → A → Option (S × T)
+unfoldable pub both : {A S T : Type 0} → (S → A → Option S) → (T → A → Option T) → S × T → A
+    → Option (S × T)
 both f g s a = f s.0 a >>= λ x. g s.1 a >>= λ y. Some (x, y)

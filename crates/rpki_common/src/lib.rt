@@ -17,6 +17,3 @@ mod text;
 pub use memory::OutOfMemory;
 pub use sequence::Sequence;
 pub use text::Text;
-
-#[cfg(test)]
-mod tests;

@@ -13,7 +13,7 @@ use Rattle.rpki_der.specs.Level.{Level, Sized, Marked, behind_level, Ends, Opens
 use Rattle.rpki_der.specs.Position.{Position, top, AtEnd, Leaves}
 use Rattle.rpki_common.specs.Chaining.{◌>>=◌}
 use Rattle.rpki_der.specs.Grammar.{any, so, within, first, done, every, optional, gather}
-use Rattle.rpki_der.specs.Takes.{TakesOne, TakesFields, Refuses, Takes, Goes, RefusesToEnter, RefusesToLeave, BeginsAs, RefusesOctets, Reads, Stops}
+use Rattle.rpki_der.specs.Takes.{TakesOne, Refuses, Takes, Goes, RefusesToEnter, RefusesToLeave, RefusesOctets, Reads, Stops}
 use Rattle.rpki_der.specs.Ticks.{nodes, behind, left, marks, CountedOne, CountedRefuses, TakesCounted, CountedFields, CountedRefusesFields, TakesPartCounted, DecodesCounted, CountedReads, CountedStops}
 use Rattle.rpki_der.specs.Reader.{decoded}
 use Rattle.rpki_der.proofs.Walks.{opens_back, holds_cons, holds_end, smaller_over}

@@ -6,8 +6,10 @@ use Rattle.rpki_der.specs.declared.header.Length.{Length}
 use Rattle.rpki_der.specs.declared.header.Length.TheVariants as length_is
 use Rattle.rpki_der.specs.declared.mode.Mode.{Mode}
 use Rattle.rpki_der.specs.declared.mode.Mode.TheVariants.{Ber, Der}
-use Rattle.rpki_der.specs.Identifier.{IsIdentifier, is_constructed, identifier_size}
-use Rattle.rpki_der.specs.Lengths.{IsLength, length_at}
+use Rattle.rpki_der.specs.Identifier.{IsIdentifier, is_constructed}
+use Rattle.rpki_der.specs.HeaderAt.{identifier_size}
+use Rattle.rpki_der.specs.Lengths.{IsLength}
+use Rattle.rpki_der.specs.HeaderAt.{length_at}
 use Rattle.rpki_der.specs.Header.{Says}
 use Rattle.rpki_der.specs.Value.{Form, Definite, Indefinite, Value, Primitive, Constructed, Values, End, ◌▸◌, lengths_of, end_mark, spelling, spellings, IsForm, IsValue, AreValues, Begins}
 use Rattle.rpki_common.specs.Chaining.{◌>>=◌}

@@ -1,6 +1,5 @@
 -- What fields that were read say of the values that stand there.
-use Rattle.std.proofs.Common.{◌≡◌, Option, Some, refl, ap, ◌∙◌}
-use Rattle.rpki_common.specs.Chaining.{◌>>=◌}
+use Rattle.std.proofs.Common.{◌≡◌, Option, Some, ap, ◌∙◌}
 use Rattle.rpki_common.proofs.Bounds.{bound}
 use Rattle.rpki_common.proofs.Truths.{none_some, same_some}
 use Rattle.rpki_der.specs.Value.{Value, Values, End, ◌▸◌}

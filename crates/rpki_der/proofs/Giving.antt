@@ -1,5 +1,5 @@
 -- What is calculated of octets with counted calls, and then more.
-use Rattle.std.proofs.Common.{◌≡◌, ℕ, true, false, Option, None, Some, Result, Ok, Err, List, [], refl, ap, subst, arith}
+use Rattle.std.proofs.Common.{◌≡◌, ℕ, true, false, Option, None, Some, Ok, Err, List, [], refl, ap, subst, arith}
 use Rattle.std.specs.Prelude.{is_some}
 use Rattle.rpki_common.specs.Chaining.{◌>>=◌}
 use Rattle.rpki_common.specs.Collecting.{once}
@@ -13,7 +13,7 @@ use Rattle.rpki_der.specs.Position.{Position}
 use Rattle.rpki_der.specs.Ticks.{CountedOne, CountedRefuses}
 use Rattle.rpki_der.proofs.Insides.{gives_in_der}
 use Rattle.rpki_der.proofs.Modes.{takes_in, refuses_in}
-use Rattle.rpki_der.specs.InDer.{in_der, CountedGiven, CountedLacks, GivesCounted}
+use Rattle.rpki_der.specs.InDer.{in_der, CountedGiven, CountedLacks}
 
 pub given_as : {X : Type 0} (c : ℕ) (o o' : Option X) (octets : List ℕ) (b a : ℕ) (x : X) → o ≡ o' → CountedGiven c o octets b a x → CountedGiven c o' octets b a x
 given_as c o o' octets b a x e g = subst (λ w. CountedGiven c w octets b a x) e g

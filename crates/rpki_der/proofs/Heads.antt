@@ -9,8 +9,10 @@ use Rattle.rpki_der.specs.declared.header.Length.{Length}
 use Rattle.rpki_der.specs.declared.header.Length.TheVariants as length_is
 use Rattle.rpki_der.specs.declared.mode.Mode.{Mode}
 use Rattle.rpki_der.specs.declared.mode.Mode.TheVariants.{Ber, Der}
-use Rattle.rpki_der.specs.Identifier.{IsFurther, IsIdentifier, further_size, identifier_size}
-use Rattle.rpki_der.specs.Lengths.{number, IsShortest, IsLength, is_overlong, long_length, indefinite_length, length_at}
+use Rattle.rpki_der.specs.Identifier.{IsFurther, IsIdentifier}
+use Rattle.rpki_der.specs.HeaderAt.{further_size, identifier_size}
+use Rattle.rpki_der.specs.Lengths.{number, IsShortest, IsLength}
+use Rattle.rpki_der.specs.HeaderAt.{is_overlong, long_length, indefinite_length, length_at}
 use Rattle.rpki_der.specs.Header.{Says, IdentifierFirst, NoIdentifier, HeaderFirst, NoHeader}
 use Rattle.rpki_der.proofs.Uniqueness.{same_identifier}
 

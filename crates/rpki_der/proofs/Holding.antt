@@ -1,5 +1,5 @@
 -- The octets of a level's values, with counted calls.
-use Rattle.std.proofs.Common.{◌≡◌, ℕ, ◌+◌, ◌-◌, Option, None, Some, Result, Ok, Err, Bor, List, ◌∷◌, ◌++◌, length, refl, sym, ap, ◌∙◌, arith, length-append}
+use Rattle.std.proofs.Common.{◌≡◌, ℕ, ◌+◌, ◌-◌, Option, Some, Result, Ok, Err, Bor, List, ◌∷◌, ◌++◌, length, refl, sym, ap, ◌∙◌, arith, length-append}
 use Rattle.std.specs.Prelude.{IfOk, OnOk, MatchResult}
 use Rattle.std.proofs.lemmas.List.{take_at, take_all}
 use Rattle.rpki_common.specs.Chaining.{◌>>=◌}

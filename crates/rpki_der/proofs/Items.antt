@@ -16,7 +16,8 @@ use Rattle.rpki_der.specs.Position.{Position, top, AtEnd}
 use Rattle.rpki_der.specs.Grammar.{identifier_of, optional}
 use Rattle.rpki_der.specs.Takes.{TakesOne, NoneStands, Refuses, RefusesFields}
 use Rattle.rpki_der.specs.Ticks.{counts, all_counts, left, CountedOne, CountedRefuses, TakesCounted, CountedFields, CountedRefusesFields}
-use Rattle.rpki_der.specs.Item.{ItemFields, item, any_item, item_with, content_in, ShowsWhole, OtherFirst, Absent, CountedAbsent, RefusesOptionalAs, TakesOptionalAs, RefusesNext, CountedRefusesNext, TakesNextCounted, RefusesOptional, CountedRefusesOptional, TakesOptionalCounted}
+use Rattle.rpki_der.specs.Item.{ItemFields, item, any_item, item_with, OtherFirst, Absent, CountedAbsent, RefusesOptionalAs, TakesOptionalAs, RefusesNext, CountedRefusesNext, TakesNextCounted, RefusesOptional, CountedRefusesOptional, TakesOptionalCounted}
+use Rattle.rpki_der.specs.BehindHeader.{content_in, ShowsWhole}
 use Rattle.rpki_der.proofs.Uniqueness.{same_identifier, three_parts, four_parts}
 use Rattle.rpki_der.proofs.Parts.{at_most_one}
 use Rattle.rpki_der.proofs.Walks.{opens_back, opens_forth, ends_no_value, end_holds, holds_more}

@@ -28,7 +28,6 @@ pub mod Giving
 pub mod Dotted
 pub mod Flats
 pub mod Depths
-mod Row
 pub mod Tagging
 pub mod Stops
 pub mod Rooms

@@ -1,11 +1,10 @@
 -- The count of levels never comes to its end.
-use Rattle.std.proofs.Common.{◌≡◌, ℕ, ◌+◌, ◌≤◌, ◌<◌, ◌^◌, List, [], ◌∷◌, length, drop, sym, subst, arith}
+use Rattle.std.proofs.Common.{◌≡◌, ℕ, ◌+◌, ◌<◌, ◌^◌, List, [], ◌∷◌, length, drop, sym, subst, arith}
 use Rattle.rpki_der.specs.declared.mode.Mode.{Mode}
 use Rattle.rpki_der.specs.Value.{Value, Begins}
-use Rattle.rpki_der.specs.Level.{Level, Sized, Marked, behind_level, Ends, Opens}
+use Rattle.rpki_der.specs.Level.{Level, Ends, Opens}
 use Rattle.rpki_der.specs.Levels.{HasRoom}
 use Rattle.rpki_der.specs.Position.{top}
-use Rattle.rpki_der.specs.Ticks.{behind, marks}
 use Rattle.rpki_der.proofs.Counting.{opens_left, begins_left, ends_left}
 
 pub room_for : (mode : Mode) (here i : List ℕ) (level : Level) (inner : List ℕ) (levels : List Level) → Opens mode here i level inner → HasRoom here levels → length levels + 1 < 2 ^ 64

@@ -1,5 +1,5 @@
 -- Equal tags, as they are held, are the same.
-use Rattle.std.proofs.Common.{◌≡◌, ℕ, ◌-◌, Bool, true, List, ◌++◌, length, replicate, refl}
+use Rattle.std.proofs.Common.{◌≡◌, ℕ, ◌-◌, true, List, ◌++◌, length, replicate, refl}
 use Rattle.std.specs.Prelude.{◌&&◌, bytes_eq, nat_eq}
 use Rattle.std.proofs.lemmas.Bool.{eqb-true, eq-eqb}
 use Rattle.rpki_common.proofs.Truths.{both, are_true, same_octets, equal_octets}

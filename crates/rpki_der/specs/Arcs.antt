@@ -10,7 +10,9 @@ in_front a (part ∷ parts) = (a ∷ part) ∷ parts
 -- the octets of each subidentifier: up to the first with bit 8 clear
 abbrev pub subidentifier_parts : List ℕ → List (List ℕ)
 subidentifier_parts [] = []
-subidentifier_parts (a ∷ more) = if nat_lt a 128 then (a ∷ []) ∷ subidentifier_parts more else in_front a (subidentifier_parts more)
+subidentifier_parts (a ∷ more) =
+    if nat_lt a 128 then (a ∷ []) ∷ subidentifier_parts more
+    else in_front a (subidentifier_parts more)
 
 -- the number that their low seven bits spell, the most significant first
 abbrev pub base_128 : List ℕ → ℕ
@@ -22,7 +24,10 @@ arc_text octets = if nat_lt 9 (length octets) then codes "?" else decimal (base_
 
 -- the first subidentifier stands for two arcs
 abbrev pub two_arcs : ℕ → List ℕ
-two_arcs n = if nat_lt n 40 then codes "0." ++ decimal n else if nat_lt n 80 then codes "1." ++ decimal (n - 40) else codes "2." ++ decimal (n - 80)
+two_arcs n =
+    if nat_lt n 40 then codes "0." ++ decimal n
+    else if nat_lt n 80 then codes "1." ++ decimal (n - 40)
+    else codes "2." ++ decimal (n - 80)
 
 abbrev pub first_text : List ℕ → List ℕ
 first_text octets = if nat_lt 9 (length octets) then codes "?" else two_arcs (base_128 octets)

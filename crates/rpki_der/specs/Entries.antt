@@ -29,8 +29,10 @@ entry_of v = record {
 
 abbrev mutual
   pub entries_of : Value → List Entry
-  entries_of (Primitive identifier lengths contents) = entry_of (Primitive identifier lengths contents) ∷ []
-  entries_of (Constructed identifier form inner) = entry_of (Constructed identifier form inner) ∷ all_entries_of inner
+  entries_of (Primitive identifier lengths contents) =
+      entry_of (Primitive identifier lengths contents) ∷ []
+  entries_of (Constructed identifier form inner) =
+      entry_of (Constructed identifier form inner) ∷ all_entries_of inner
 
   pub all_entries_of : Values → List Entry
   all_entries_of End = []

@@ -16,7 +16,8 @@ any v = Some (spelling v)
 
 -- the contents of a primitive value
 abbrev pub primitive : List ℕ → Value → Option (List ℕ)
-primitive tag (Primitive identifier lengths contents) = if has_tag tag identifier then Some contents else None
+primitive tag (Primitive identifier lengths contents) =
+    if has_tag tag identifier then Some contents else None
 primitive tag (Constructed identifier form inner) = None
 
 -- what a grammar reads, and then a test or a conversion
@@ -26,7 +27,8 @@ so grammar convert v = grammar v >>= convert
 -- the values inside a constructed value, as fields reads them
 unfoldable pub within : {X : Type 0} → List ℕ → (Values → Option X) → Value → Option X
 within tag fields (Primitive identifier lengths contents) = None
-within tag fields (Constructed identifier form inner) = if has_tag tag identifier then fields inner else None
+within tag fields (Constructed identifier form inner) =
+    if has_tag tag identifier then fields inner else None
 
 -- the first value, and the values behind it
 unfoldable pub first : {X : Type 0} → (Value → Option X) → Values → Option (X × Values)
@@ -34,9 +36,11 @@ first field End = None
 first field (v ▸ vs) = field v >>= λ x. Some (x, vs)
 
 -- the first value if it has this tag, and the values behind it
-unfoldable pub optional : {X : Type 0} → List ℕ → (Value → Option X) → Values → Option (Option X × Values)
+unfoldable pub optional : {X : Type 0} → List ℕ → (Value → Option X) → Values
+    → Option (Option X × Values)
 optional tag field End = Some (None, End)
-optional tag field (v ▸ vs) = if has_tag tag (identifier_of v) then (field v >>= λ x. Some (Some x, vs)) else Some (None, v ▸ vs)
+optional tag field (v ▸ vs) = if has_tag tag (identifier_of v)
+    then (field v >>= λ x. Some (Some x, vs)) else Some (None, v ▸ vs)
 
 -- each value
 unfoldable pub every : {X : Type 0} → (Value → Option X) → Values → Option (List X)

@@ -24,21 +24,30 @@ abbrev pub CompletesTree : Mode → List ℕ → List Inside → List Entry → 
 CompletesTree mode here [] entries final total = (here ≡ final) × (entries ≡ total)
 CompletesTree mode here (level ∷ levels) entries final total =
     (vs : Values) × (next : List ℕ) × Holds mode (level_of level.extent) here vs next
-    × CompletesTree mode next levels (closed (entries ++ all_entries_of vs) level.entry (length level.before.now - length next)) final total
+    × CompletesTree mode next levels (closed (entries ++ all_entries_of vs) level.entry
+    (length level.before.now - length next)) final total
 
 -- one value stands first, and then as before
 abbrev pub OneFirstTree : Mode → List ℕ → List Inside → List Entry → List ℕ → List Entry → Type 0
 OneFirstTree mode here levels entries final total =
-    (v : Value) × (next : List ℕ) × Begins mode here v next × CompletesTree mode next levels (entries ++ entries_of v) final total
+    (v : Value) × (next : List ℕ) × Begins mode here v next
+    × CompletesTree mode next levels (entries ++ entries_of v) final total
 
 -- reading a value here is reading on at here'
-pub record Stepped (mode : Mode) (here : List ℕ) (levels : List Inside) (entries : List Entry) (here' : List ℕ) (levels' : List Inside) (entries' : List Entry) : Type 0 where
-  pub forth : (final : List ℕ) (total : List Entry) → OneFirstTree mode here levels entries final total → CompletesTree mode here' levels' entries' final total
-  pub back : (final : List ℕ) (total : List Entry) → CompletesTree mode here' levels' entries' final total → OneFirstTree mode here levels entries final total
+pub record Stepped (mode : Mode) (here : List ℕ) (levels : List Inside) (entries : List Entry)
+    (here' : List ℕ) (levels' : List Inside) (entries' : List Entry) : Type 0 where
+  pub forth : (final : List ℕ) (total : List Entry)
+      → OneFirstTree mode here levels entries final total
+      → CompletesTree mode here' levels' entries' final total
+  pub back : (final : List ℕ) (total : List Entry)
+      → CompletesTree mode here' levels' entries' final total
+      → OneFirstTree mode here levels entries final total
 
 -- the same of the levels as the code keeps them, the outermost first
-abbrev pub DescendsTree : Mode → List ℕ → List Inside → List Entry → List ℕ → List Inside → List Entry → Type 0
-DescendsTree mode here levels entries here' levels' entries' = Stepped mode here (inner_first levels) entries here' (inner_first levels') entries'
+abbrev pub DescendsTree : Mode → List ℕ → List Inside → List Entry → List ℕ → List Inside
+    → List Entry → Type 0
+DescendsTree mode here levels entries here' levels' entries' =
+    Stepped mode here (inner_first levels) entries here' (inner_first levels') entries'
 
 abbrev pub left_at : List Inside → ℕ
 left_at levels = left_in (map (λ l. level_of l.extent) (inner_first levels))

@@ -20,11 +20,13 @@ pub record IdentifierFirst (octets identifier rest : List ℕ) : Type 0 where
 abbrev pub NoIdentifier : List ℕ → Type 0
 NoIdentifier octets = (identifier rest : List ℕ) → IdentifierFirst octets identifier rest → ⊥
 
-pub record HeaderFirst (mode : Mode) (octets identifier : List ℕ) (length : Length) (rest : List ℕ) : Type 0 where
+pub record HeaderFirst (mode : Mode) (octets identifier : List ℕ) (length : Length)
+    (rest : List ℕ) : Type 0 where
   pub lengths : List ℕ
   pub is_identifier : IsIdentifier identifier
   pub says : Says mode lengths length
   pub parts : octets ≡ identifier ++ (lengths ++ rest)
 
 abbrev pub NoHeader : Mode → List ℕ → Type 0
-NoHeader mode octets = (identifier : List ℕ) (length : Length) (rest : List ℕ) → HeaderFirst mode octets identifier length rest → ⊥
+NoHeader mode octets = (identifier : List ℕ) (length : Length) (rest : List ℕ)
+    → HeaderFirst mode octets identifier length rest → ⊥

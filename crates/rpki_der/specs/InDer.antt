@@ -11,17 +11,21 @@ abbrev pub in_der : {X : Type 0} → (Value → Option X) → List ℕ → Optio
 in_der grammar octets = decoded grammar Der octets
 
 -- What is there, after at most c ticks for each of the octets.
-pub record CountedGiven {X : Type 0} (c : ℕ) (o : Option X) (octets : List ℕ) (before after : ℕ) (x : X) : Type 0 where
+pub record CountedGiven {X : Type 0} (c : ℕ) (o : Option X) (octets : List ℕ) (before after : ℕ)
+    (x : X) : Type 0 where
   pub is : o ≡ Some x
   pub least : before ≤ after
   pub most : after ≤ before + c * length octets
 
 -- Nothing is there, or memory ran out, after at most c ticks for each of the octets, and 8.
-pub record CountedLacks {X : Type 0} (c : ℕ) (o : Option X) (octets : List ℕ) (before after : ℕ) (error : DecodeError) : Type 0 where
+pub record CountedLacks {X : Type 0} (c : ℕ) (o : Option X) (octets : List ℕ) (before after : ℕ)
+    (error : DecodeError) : Type 0 where
   pub lacks : Lacks o error
   pub most : after ≤ before + c * length octets + 8
 
 -- Gives, and at most c ticks for each of the octets from which it is calculated.
-abbrev pub GivesCounted : {X Y : Type 0} → ℕ → Option X → (Y → X) → List ℕ → ℕ → ℕ → Result Y DecodeError → Type 0
+abbrev pub GivesCounted : {X Y : Type 0} → ℕ → Option X → (Y → X) → List ℕ → ℕ → ℕ
+    → Result Y DecodeError → Type 0
 GivesCounted c o view octets before after result =
-    MatchResult result (λ y. CountedGiven c o octets before after (view y)) (λ e. CountedLacks c o octets before after e)
+    MatchResult result (λ y. CountedGiven c o octets before after (view y))
+    (λ e. CountedLacks c o octets before after e)

@@ -1,17 +1,15 @@
 -- Whole values, as the octets show them, and what it is to take one (X.690, 8.1).
-use Rattle.std.specs.Prelude.{◌≡◌, ℕ, ◌+◌, ◌-◌, ◌*◌, ◌≤◌, ◌⊎◌, Bool, true, false, if◌then◌else◌, Option, None, Some, Result, List, length, take, MatchOption, MatchResult}
+use Rattle.std.specs.Prelude.{◌≡◌, ℕ, ◌+◌, ◌*◌, ◌≤◌, ◌⊎◌, Bool, true, false, if◌then◌else◌, Option, None, Some, Result, List, MatchOption, MatchResult}
 use Rattle.rpki_der.specs.declared.error.DecodeError.{DecodeError}
 use Rattle.rpki_der.specs.declared.error.DecodeError.TheVariants.{Malformed, OutOfMemory}
-use Rattle.rpki_der.specs.declared.mode.Mode.{Mode}
 use Rattle.rpki_der.specs.Identifier.{tag_of, has_tag}
-use Rattle.rpki_der.specs.Value.{Value, Primitive, Constructed, spelling, spellings, Begins}
+use Rattle.rpki_der.specs.Value.{Value, Primitive, Constructed, spelling, spellings}
 use Rattle.rpki_der.specs.Header.{IdentifierFirst}
-use Rattle.rpki_der.specs.Level.{Level, Sized, Marked}
 use Rattle.rpki_der.specs.Part.{NoValue}
 use Rattle.rpki_der.specs.Position.{Position, AtEnd}
 use Rattle.rpki_der.specs.Grammar.{identifier_of}
 use Rattle.rpki_der.specs.Takes.{TakesOne, NoneStands}
-use Rattle.rpki_der.specs.Ticks.{counts, left, CountedOne}
+use Rattle.rpki_der.specs.Ticks.{left, CountedOne}
 
 -- the tag, whether the form is constructed, the contents octets, and all octets
 pub record ItemFields : Type 0 where
@@ -53,22 +51,27 @@ RefusesNext old OutOfMemory = AtEnd old → ⊥
 -- The answer is the value that stands next; or None, at the end of the level; or Malformed, exactly where neither is so.
 abbrev pub TakesNext : Position → Position → Result (Option ItemFields) DecodeError → Type 0
 TakesNext old new result =
-    MatchResult result (λ found. MatchOption found (AtEnd old × (new ≡ old)) (λ i. TakesOne any_item old new i)) (RefusesNext old)
+    MatchResult result (λ found. MatchOption found (AtEnd old × (new ≡ old))
+    (λ i. TakesOne any_item old new i)) (RefusesNext old)
 
-pub record CountedRefusesNext (c : ℕ) (old : Position) (before after : ℕ) (error : DecodeError) : Type 0 where
+pub record CountedRefusesNext (c : ℕ) (old : Position) (before after : ℕ)
+    (error : DecodeError) : Type 0 where
   pub refuses : RefusesNext old error
   pub most : after ≤ before + c * left old + 8
 
 -- TakesNext, and c ticks an octet at most; None ticks nothing.
-abbrev pub TakesNextCounted : ℕ → Position → Position → ℕ → ℕ → Result (Option ItemFields) DecodeError → Type 0
+abbrev pub TakesNextCounted : ℕ → Position → Position → ℕ → ℕ
+    → Result (Option ItemFields) DecodeError → Type 0
 TakesNextCounted c old new before after result =
-    MatchResult result (λ found. MatchOption found (AtEnd old × (new ≡ old) × (after ≡ before)) (λ i. CountedOne c any_item old new before after i)) (CountedRefusesNext c old before after)
+    MatchResult result (λ found. MatchOption found (AtEnd old × (new ≡ old) × (after ≡ before))
+    (λ i. CountedOne c any_item old new before after i)) (CountedRefusesNext c old before after)
 
 -- ---- the next value, if it has this tag
 
 -- an identifier of another tag stands at the beginning of the octets, whatever follows it
 abbrev pub OtherFirst : List ℕ → List ℕ → Type 0
-OtherFirst tag octets = (identifier : List ℕ) × (rest : List ℕ) × IdentifierFirst octets identifier rest × (has_tag tag identifier ≡ false)
+OtherFirst tag octets = (identifier : List ℕ) × (rest : List ℕ)
+    × IdentifierFirst octets identifier rest × (has_tag tag identifier ≡ false)
 
 -- the level ends here, or an identifier of another tag stands next
 abbrev pub Absent : List ℕ → Position → Type 0
@@ -80,42 +83,42 @@ RefusesOptional tag old Malformed = (Absent tag old → ⊥) × NoValue old.mode
 RefusesOptional tag old OutOfMemory = Absent tag old → ⊥
 
 -- The answer is the value that stands next, which has this tag; or None, at the end of the level and where an identifier of another tag stands next; or Malformed, exactly where none of these is so.
-abbrev pub TakesOptional : List ℕ → Position → Position → Result (Option ItemFields) DecodeError → Type 0
+abbrev pub TakesOptional : List ℕ → Position → Position → Result (Option ItemFields) DecodeError
+    → Type 0
 TakesOptional tag old new result =
-    MatchResult result (λ found. MatchOption found (Absent tag old × (new ≡ old)) (λ i. TakesOne (item_with tag) old new i)) (RefusesOptional tag old)
+    MatchResult result (λ found. MatchOption found (Absent tag old × (new ≡ old))
+    (λ i. TakesOne (item_with tag) old new i)) (RefusesOptional tag old)
 
 -- Absent: the end of the level ticks nothing, and the identifier of another tag once.
 abbrev pub CountedAbsent : List ℕ → Position → ℕ → ℕ → Type 0
-CountedAbsent tag old before after = (AtEnd old × (after ≡ before)) ⊎ (OtherFirst tag old.here × (after ≡ before + 1))
+CountedAbsent tag old before after =
+    (AtEnd old × (after ≡ before)) ⊎ (OtherFirst tag old.here × (after ≡ before + 1))
 
-pub record CountedRefusesOptional (c : ℕ) (tag : List ℕ) (old : Position) (before after : ℕ) (error : DecodeError) : Type 0 where
+pub record CountedRefusesOptional (c : ℕ) (tag : List ℕ) (old : Position) (before after : ℕ)
+    (error : DecodeError) : Type 0 where
   pub refuses : RefusesOptional tag old error
   pub most : after ≤ before + c * left old + 8
 
 -- TakesOptional, and c ticks an octet at most.
-abbrev pub TakesOptionalCounted : ℕ → List ℕ → Position → Position → ℕ → ℕ → Result (Option ItemFields) DecodeError → Type 0
+abbrev pub TakesOptionalCounted : ℕ → List ℕ → Position → Position → ℕ → ℕ
+    → Result (Option ItemFields) DecodeError → Type 0
 TakesOptionalCounted c tag old new before after result =
-    MatchResult result (λ found. MatchOption found (CountedAbsent tag old before after × (new ≡ old)) (λ i. CountedOne c (item_with tag) old new before after i)) (CountedRefusesOptional c tag old before after)
+    MatchResult result (λ found. MatchOption found
+    (CountedAbsent tag old before after × (new ≡ old))
+    (λ i. CountedOne c (item_with tag) old new before after i))
+    (CountedRefusesOptional c tag old before after)
 
 -- ---- the same, by what a grammar reads of the value
 
 -- It isn't so that the level ends or another tag stands next; and the answer is Malformed only where the grammar reads no value that stands next.
-unfoldable pub RefusesOptionalAs : {X : Type 0} → List ℕ → (Value → Option X) → Position → DecodeError → Type 0
+unfoldable pub RefusesOptionalAs : {X : Type 0} → List ℕ → (Value → Option X) → Position
+    → DecodeError → Type 0
 RefusesOptionalAs tag grammar old Malformed = (Absent tag old → ⊥) × NoneStands grammar old
 RefusesOptionalAs tag grammar old OutOfMemory = Absent tag old → ⊥
 
 -- The answer is what the grammar reads of the value that stands next, whatever follows it; or nothing, at the end of the level and where an identifier of another tag stands next; or Malformed, exactly where none of these is so.
-abbrev pub TakesOptionalAs : {X Y : Type 0} → List ℕ → (Value → Option X) → (Y → Option X) → Position → Position → Result Y DecodeError → Type 0
+abbrev pub TakesOptionalAs : {X Y : Type 0} → List ℕ → (Value → Option X) → (Y → Option X)
+    → Position → Position → Result Y DecodeError → Type 0
 TakesOptionalAs tag grammar view old new result =
-    MatchResult result (λ y. MatchOption (view y) (Absent tag old × (new ≡ old)) (λ x. TakesOne grammar old new x)) (RefusesOptionalAs tag grammar old)
-
--- ---- a value whose first header was counted before
-
--- A value stands at the beginning of the octets that shows these fields, and behind it rest; it ticked for all its headers and end marks but the first.
-abbrev pub ShowsWhole : Mode → List ℕ → List ℕ → ℕ → ℕ → ItemFields → Type 0
-ShowsWhole mode here rest before after fields = (v : Value) × Begins mode here v rest × (fields ≡ item v) × (after + 1 ≡ before + counts v)
-
--- the contents of a constructed value, where inner begins with them and rest stands behind the value
-abbrev pub content_in : Level → List ℕ → List ℕ → List ℕ
-content_in (Sized after) inner rest = inner
-content_in Marked inner rest = take (length inner - length rest - 2) inner
+    MatchResult result (λ y. MatchOption (view y) (Absent tag old × (new ≡ old))
+    (λ x. TakesOne grammar old new x)) (RefusesOptionalAs tag grammar old)

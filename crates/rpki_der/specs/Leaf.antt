@@ -12,7 +12,8 @@ pub record LeafFields : Type 0 where
 
 -- a primitive value
 abbrev pub leaf : Value → Option LeafFields
-leaf (Primitive identifier lengths contents) = Some (record { tag = tag_of identifier; content = contents })
+leaf (Primitive identifier lengths contents) =
+    Some (record { tag = tag_of identifier; content = contents })
 leaf (Constructed identifier form inner) = None
 
 -- a further value, if one is left, and the values behind it

@@ -38,6 +38,9 @@ Ends Marked here rest = here ≡ 0 ∷ 0 ∷ rest
 -- a constructed value with this identifier stands at the beginning of the octets, by its header; inner are the octets from its contents on
 abbrev pub Opens : Mode → List ℕ → List ℕ → Level → List ℕ → Type 0
 Opens mode octets identifier (Sized after) inner =
-    IsIdentifier identifier × (is_constructed identifier ≡ true) × (lengths : List ℕ) × IsLength mode lengths (length inner) × (octets ≡ identifier ++ (lengths ++ (inner ++ after)))
+    IsIdentifier identifier × (is_constructed identifier ≡ true) × (lengths : List ℕ)
+    × IsLength mode lengths (length inner) × (octets ≡ identifier
+    ++ (lengths ++ (inner ++ after)))
 Opens mode octets identifier Marked inner =
-    IsIdentifier identifier × (is_constructed identifier ≡ true) × (mode ≡ Ber) × (octets ≡ identifier ++ 128 ∷ inner)
+    IsIdentifier identifier × (is_constructed identifier ≡ true) × (mode ≡ Ber)
+    × (octets ≡ identifier ++ 128 ∷ inner)

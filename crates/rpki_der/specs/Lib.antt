@@ -1,15 +1,16 @@
 -- Said in contracts, and to be believed:
 -- what values are: Identifier, Tags, Lengths, Value, Tree, Arcs; of Header and Part what stands first (`IdentifierFirst`, `NoValue`);
 -- grammars: Grammar, OctetString, Oid, Null, Integer, Number, Boolean, Bits, Entry, Held, InDer, Leaf, Whole;
--- what calls take and count: Level, Position, Takes, Item, Ticks;
+-- what calls take and count: Level, Position, Takes, Item, Ticks, Stopping;
 -- what is written: Writing.
 -- Reader says `value_at` and `decoded`: the first is known by its law `value_at_is`, and its steps are means.
--- Means for loops, proofs and stored values: Padding, Walk, CountedWalk, ExactWalk, Segments, OptionalBoolean, ValueCode, Entries, Growth,
--- Flat, Levels.
+-- Means for loops, proofs and stored values: HeaderAt, BehindHeader, Padding, Walk, CountedWalk, ExactWalk, Segments, OptionalBoolean,
+-- ValueCode, Entries, Growth, Flat, Levels.
 pub mod Identifier
 pub mod Padding
 pub mod Tags
 pub mod Lengths
+pub mod HeaderAt
 pub mod Header
 pub mod Value
 pub mod Level
@@ -30,6 +31,7 @@ pub mod Stopping
 pub mod CountedWalk
 pub mod ExactWalk
 pub mod Item
+pub mod BehindHeader
 pub mod ValueCode
 pub mod Tree
 pub mod Entries

@@ -9,7 +9,8 @@ use Rattle.rpki_der.specs.Grammar.{primitive, so}
 abbrev pub minimal : List ℕ → Option (List ℕ)
 minimal [] = None
 minimal (a ∷ []) = Some (a ∷ [])
-minimal (a ∷ b ∷ more) = if (a == 0 && nat_lt b 128) || (a == 255 && nat_le 128 b) then None else Some (a ∷ b ∷ more)
+minimal (a ∷ b ∷ more) = if (a == 0 && nat_lt b 128) || (a == 255 && nat_le 128 b) then None
+    else Some (a ∷ b ∷ more)
 
 -- the contents of an INTEGER
 unfoldable pub integer : Value → Option (List ℕ)

@@ -11,8 +11,10 @@ use Rattle.rpki_der.specs.Grammar.{primitive}
 -- the octets of a value with this tag: its contents, or those of the octet strings inside it, joined in their order
 unfoldable mutual
   pub joined : List ℕ → Value → Option (List ℕ)
-  joined tag (Primitive identifier lengths contents) = if has_tag tag identifier then Some contents else None
-  joined tag (Constructed identifier form inner) = if has_tag tag identifier then joined_all inner else None
+  joined tag (Primitive identifier lengths contents) =
+      if has_tag tag identifier then Some contents else None
+  joined tag (Constructed identifier form inner) =
+      if has_tag tag identifier then joined_all inner else None
 
   pub joined_all : Values → Option (List ℕ)
   joined_all End = Some []

@@ -6,7 +6,8 @@ use Rattle.rpki_der.specs.Grammar.{primitive, so, exactly}
 
 -- there is a last octet, and its bit 8 is clear
 abbrev pub subidentifiers : List ℕ → Option (List ℕ)
-subidentifiers octets = if nat_lt (slice_index_or octets (length octets - 1) 128) 128 then Some octets else None
+subidentifiers octets = if nat_lt (slice_index_or octets (length octets - 1) 128) 128
+    then Some octets else None
 
 -- the contents of an object identifier
 unfoldable pub oid : Value → Option (List ℕ)

@@ -3,8 +3,9 @@ use Rattle.std.specs.Prelude.{ℕ, zero, suc, ◌+◌, Bool, true, false, nat_lt
 use Rattle.rpki_der.specs.declared.header.Length.{Length}
 use Rattle.rpki_der.specs.declared.header.Length.TheVariants as length_is
 use Rattle.rpki_der.specs.declared.mode.Mode.{Mode}
-use Rattle.rpki_der.specs.Identifier.{is_constructed, identifier_size}
-use Rattle.rpki_der.specs.Lengths.{length_at}
+use Rattle.rpki_der.specs.Identifier.{is_constructed}
+use Rattle.rpki_der.specs.HeaderAt.{identifier_size}
+use Rattle.rpki_der.specs.HeaderAt.{length_at}
 use Rattle.rpki_der.specs.Value.{Definite, Indefinite, Value, Primitive, Constructed, Values, End, ◌▸◌}
 use Rattle.rpki_common.specs.Chaining.{◌>>=◌}
 
@@ -18,7 +19,12 @@ pub record Headed : Type 0 where
 unfoldable pub head_at : Mode → List ℕ → Option Headed
 head_at mode octets =
     identifier_size octets >>= λ k. length_at mode (drop k octets) >>= λ l.
-    Some (record { identifier = take k octets; lengths = take l.1 (drop k octets); length' = l.0; rest = drop l.1 (drop k octets) })
+    Some (record {
+      identifier = take k octets;
+      lengths = take l.1 (drop k octets);
+      length' = l.0;
+      rest = drop l.1 (drop k octets);
+    })
 
 abbrev pub primitive_of : Headed → ℕ → Option (Value × List ℕ)
 primitive_of h n = Some (Primitive h.identifier h.lengths (take n h.rest), drop n h.rest)
@@ -36,12 +42,16 @@ marked_of h (vs, rest) = None
 unfoldable mutual
   pub read_value : ℕ → Mode → List ℕ → Option (Value × List ℕ)
   read_value zero mode octets = None
-  read_value (suc n) mode octets = head_at mode octets >>= λ h. read_contents n mode h h.length' (is_constructed h.identifier)
+  read_value (suc n) mode octets =
+      head_at mode octets >>= λ h. read_contents n mode h h.length' (is_constructed h.identifier)
 
   pub read_contents : ℕ → Mode → Headed → Length → Bool → Option (Value × List ℕ)
   read_contents zero mode h l constructed = None
-  read_contents (suc n) mode h (length_is.Definite k) false = if nat_lt (length h.rest) k then None else primitive_of h k
-  read_contents (suc n) mode h (length_is.Definite k) true = if nat_lt (length h.rest) k then None else (read_values n mode (take k h.rest) >>= sized_of h k)
+  read_contents (suc n) mode h (length_is.Definite k) false =
+      if nat_lt (length h.rest) k then None else primitive_of h k
+  read_contents (suc n) mode h (length_is.Definite k) true =
+      if nat_lt (length h.rest) k then None else (read_values n mode (take k h.rest)
+      >>= sized_of h k)
   read_contents (suc n) mode h length_is.Indefinite false = None
   read_contents (suc n) mode h length_is.Indefinite true = read_values n mode h.rest >>= marked_of h
 
@@ -49,7 +59,9 @@ unfoldable mutual
   read_values zero mode octets = None
   read_values (suc n) mode [] = Some (End, [])
   read_values (suc n) mode (zero ∷ more) = Some (End, zero ∷ more)
-  read_values (suc n) mode (suc a ∷ more) = read_value n mode (suc a ∷ more) >>= λ v. read_values n mode v.1 >>= λ w. Some (v.0 ▸ w.0, w.1)
+  read_values (suc n) mode (suc a ∷ more) =
+      read_value n mode (suc a ∷ more) >>= λ v. read_values n mode v.1
+      >>= λ w. Some (v.0 ▸ w.0, w.1)
 
 -- the value that begins the octets, and the octets behind it
 unfoldable pub value_at : Mode → List ℕ → Option (Value × List ℕ)

@@ -12,24 +12,28 @@ use Rattle.rpki_der.specs.Position.{Position, top, AtEnd, Leaves}
 -- ---- one value
 
 -- A value that the grammar reads as x stands here, and behind it the cursor stands afterwards.
-pub record TakesOne {X : Type 0} (grammar : Value → Option X) (old new : Position) (x : X) : Type 0 where
-  pub value : Value
-  pub begins : Begins old.mode old.here value new.here
-  pub reads : grammar value ≡ Some x
-  pub levels : new.levels ≡ old.levels
-  pub mode : new.mode ≡ old.mode
+pub record TakesOne {X : Type 0} (grammar : Value → Option X) (old new : Position) (x : X) : Type 0
+  where
+    pub value : Value
+    pub begins : Begins old.mode old.here value new.here
+    pub reads : grammar value ≡ Some x
+    pub levels : new.levels ≡ old.levels
+    pub mode : new.mode ≡ old.mode
 
 -- no value stands here that the grammar reads
 abbrev pub NoneStands : {X : Type 0} → (Value → Option X) → Position → Type 0
-NoneStands grammar old = (v : Value) (rest : List ℕ) → Begins old.mode old.here v rest → grammar v ≡ None
+NoneStands grammar old = (v : Value) (rest : List ℕ) → Begins old.mode old.here v rest
+    → grammar v ≡ None
 
 unfoldable pub Refuses : {X : Type 0} → (Value → Option X) → Position → DecodeError → Type 0
 Refuses grammar old Malformed = NoneStands grammar old
 Refuses grammar old OutOfMemory = ⊤
 
 -- The answer is the value that stands here, or Malformed exactly where the grammar reads none that does.
-abbrev pub Takes : {X Y : Type 0} → (Value → Option X) → (Y → X) → Position → Position → Result Y DecodeError → Type 0
-Takes grammar view old new result = MatchResult result (λ y. TakesOne grammar old new (view y)) (Refuses grammar old)
+abbrev pub Takes : {X Y : Type 0} → (Value → Option X) → (Y → X) → Position → Position
+    → Result Y DecodeError → Type 0
+Takes grammar view old new result =
+    MatchResult result (λ y. TakesOne grammar old new (view y)) (Refuses grammar old)
 
 -- ---- into a constructed value, and out of it
 
@@ -44,7 +48,8 @@ pub record Goes (tag : List ℕ) (old new : Position) : Type 0 where
 
 -- no constructed value with this tag begins here
 abbrev pub NoneOpens : List ℕ → Position → Type 0
-NoneOpens tag old = (identifier : List ℕ) (level : Level) (inner : List ℕ) → Opens old.mode old.here identifier level inner → has_tag tag identifier ≡ false
+NoneOpens tag old = (identifier : List ℕ) (level : Level) (inner : List ℕ)
+    → Opens old.mode old.here identifier level inner → has_tag tag identifier ≡ false
 
 -- a constructed value with this tag and of definite length begins here
 pub record OpensSized (tag : List ℕ) (old : Position) : Type 0 where
@@ -74,36 +79,52 @@ GoesOut old new result = MatchResult result (λ _. Leaves old new) (RefusesToLea
 -- ---- fields that are not one value
 
 -- Fields that stand next at this level are read as x, and the cursor stands behind them afterwards.
-pub record TakesFields {X : Type 0} (fields : Values → Option (X × Values)) (old new : Position) (x : X) : Type 0 where
-  pub reads : (vs : Values) (rest : List ℕ) → Holds new.mode (top new.levels) new.here vs rest → (all : Values) × Holds old.mode (top old.levels) old.here all rest × (fields all ≡ Some (x, vs))
-  pub only : (all : Values) (rest : List ℕ) → Holds old.mode (top old.levels) old.here all rest → (vs : Values) × Holds new.mode (top new.levels) new.here vs rest × (fields all ≡ Some (x, vs))
+pub record TakesFields {X : Type 0} (fields : Values → Option (X × Values)) (old new : Position)
+    (x : X) : Type 0 where
+  pub reads : (vs : Values) (rest : List ℕ) → Holds new.mode (top new.levels) new.here vs rest
+      → (all : Values) × Holds old.mode (top old.levels) old.here all rest
+      × (fields all ≡ Some (x, vs))
+  pub only : (all : Values) (rest : List ℕ) → Holds old.mode (top old.levels) old.here all rest
+      → (vs : Values) × Holds new.mode (top new.levels) new.here vs rest
+      × (fields all ≡ Some (x, vs))
   pub levels : new.levels ≡ old.levels
   pub mode : new.mode ≡ old.mode
 
 -- no fields stand at this level that are read so
-unfoldable pub RefusesFields : {X : Type 0} → (Values → Option (X × Values)) → Position → DecodeError → Type 0
-RefusesFields fields old Malformed = (all : Values) (rest : List ℕ) → Holds old.mode (top old.levels) old.here all rest → fields all ≡ None
+unfoldable pub RefusesFields : {X : Type 0} → (Values → Option (X × Values)) → Position
+    → DecodeError → Type 0
+RefusesFields fields old Malformed =
+    (all : Values) (rest : List ℕ) → Holds old.mode (top old.levels) old.here all rest
+    → fields all ≡ None
 RefusesFields fields old OutOfMemory = ⊤
 
-abbrev pub TakesPart : {X Y : Type 0} → (Values → Option (X × Values)) → (Y → X) → Position → Position → Result Y DecodeError → Type 0
-TakesPart fields view old new result = MatchResult result (λ y. TakesFields fields old new (view y)) (RefusesFields fields old)
+abbrev pub TakesPart : {X Y : Type 0} → (Values → Option (X × Values)) → (Y → X) → Position
+    → Position → Result Y DecodeError → Type 0
+TakesPart fields view old new result =
+    MatchResult result (λ y. TakesFields fields old new (view y)) (RefusesFields fields old)
 
 -- ---- the beginning of octets
 
 -- A value that the grammar reads as x begins the octets.
-pub record BeginsAs {X : Type 0} (grammar : Value → Option X) (mode : Mode) (octets : List ℕ) (x : X) : Type 0 where
+pub record BeginsAs {X : Type 0} (grammar : Value → Option X) (mode : Mode) (octets : List ℕ)
+    (x : X) : Type 0 where
   pub value : Value
   pub rest : List ℕ
   pub begins : Begins mode octets value rest
   pub reads : grammar value ≡ Some x
 
-unfoldable pub RefusesOctets : {X : Type 0} → (Value → Option X) → Mode → List ℕ → DecodeError → Type 0
-RefusesOctets grammar mode octets Malformed = (v : Value) (rest : List ℕ) → Begins mode octets v rest → grammar v ≡ None
+unfoldable pub RefusesOctets : {X : Type 0} → (Value → Option X) → Mode → List ℕ → DecodeError
+    → Type 0
+RefusesOctets grammar mode octets Malformed =
+    (v : Value) (rest : List ℕ) → Begins mode octets v rest → grammar v ≡ None
 RefusesOctets grammar mode octets OutOfMemory = ⊤
 
 -- The answer is the value that begins the octets, or Malformed exactly where the grammar reads none that does.
-abbrev pub Decodes : {X Y : Type 0} → (Value → Option X) → (Y → X) → Mode → List ℕ → Result Y DecodeError → Type 0
-Decodes grammar view mode octets result = MatchResult result (λ y. BeginsAs grammar mode octets (view y)) (RefusesOctets grammar mode octets)
+abbrev pub Decodes : {X Y : Type 0} → (Value → Option X) → (Y → X) → Mode → List ℕ
+    → Result Y DecodeError → Type 0
+Decodes grammar view mode octets result =
+    MatchResult result (λ y. BeginsAs grammar mode octets (view y))
+    (RefusesOctets grammar mode octets)
 
 -- ---- what is left of a level, up to its end
 
@@ -117,7 +138,8 @@ pub record Reads {Y : Type 0} (fields : Values → Option Y) (p q : Position) (y
 
 -- What is left of the level at p is nothing that fields reads.
 pub record ReadsNone {Y : Type 0} (fields : Values → Option Y) (p : Position) : Type 0 where
-  pub none : (vs : Values) (rest : List ℕ) → Holds p.mode (top p.levels) p.here vs rest → fields vs ≡ None
+  pub none : (vs : Values) (rest : List ℕ) → Holds p.mode (top p.levels) p.here vs rest
+      → fields vs ≡ None
 
 unfoldable pub Stops : {Y : Type 0} → (Values → Option Y) → Position → DecodeError → Type 0
 Stops fields p Malformed = ReadsNone fields p
@@ -125,8 +147,10 @@ Stops fields p OutOfMemory = ⊤
 
 -- What is left of the level is read as y, and the cursor stands behind the level afterwards; or the answer is Malformed exactly where
 -- nothing that fields reads is left.
-abbrev pub TakesRest : {X Y : Type 0} → (Values → Option X) → (Y → X) → Position → Position → Result Y DecodeError → Type 0
-TakesRest fields view old new result = MatchResult result (λ y. Reads fields old new (view y)) (Stops fields old)
+abbrev pub TakesRest : {X Y : Type 0} → (Values → Option X) → (Y → X) → Position → Position
+    → Result Y DecodeError → Type 0
+TakesRest fields view old new result =
+    MatchResult result (λ y. Reads fields old new (view y)) (Stops fields old)
 
 -- ---- what is calculated of octets
 

@@ -1,7 +1,7 @@
 -- Ticks: one for each header and each end mark that was read.
-use Rattle.std.specs.Prelude.{◌≡◌, ℕ, ◌+◌, ◌*◌, ◌≤◌, Option, Some, Result, List, [], ◌∷◌, length, drop, MatchResult}
+use Rattle.std.specs.Prelude.{ℕ, ◌+◌, ◌*◌, ◌≤◌, Option, Result, List, [], ◌∷◌, length, MatchResult}
 use Rattle.rpki_der.specs.declared.error.DecodeError.{DecodeError}
-use Rattle.rpki_der.specs.Value.{Form, Definite, Indefinite, Value, Primitive, Constructed, Values, End, ◌▸◌, Begins}
+use Rattle.rpki_der.specs.Value.{Form, Definite, Indefinite, Value, Primitive, Constructed, Values, End, ◌▸◌}
 use Rattle.rpki_der.specs.Level.{Level, Sized, Marked, behind_level, Holds}
 use Rattle.rpki_der.specs.Position.{Position, top}
 use Rattle.rpki_der.specs.Takes.{TakesOne, Refuses, TakesFields, RefusesFields, BeginsAs, RefusesOctets, Reads, Stops}
@@ -46,65 +46,82 @@ marks Marked = 1
 
 -- A value that the grammar reads as x stands here, and behind it the cursor stands afterwards.
 -- Each value in it ticked, and there were at most c ticks for each octet that was passed.
-pub record CountedOne {X : Type 0} (c : ℕ) (grammar : Value → Option X) (old new : Position) (before after : ℕ) (x : X) : Type 0 where
+pub record CountedOne {X : Type 0} (c : ℕ) (grammar : Value → Option X) (old new : Position)
+    (before after : ℕ) (x : X) : Type 0 where
   pub takes : TakesOne grammar old new x
   pub least : before + nodes takes.value ≤ after
   pub most : after + c * left new ≤ before + c * left old
 
 -- The grammar reads no value that stands here, or memory ran out, after at most c ticks for each octet that was left, and 8.
-pub record CountedRefuses {X : Type 0} (c : ℕ) (grammar : Value → Option X) (old : Position) (before after : ℕ) (error : DecodeError) : Type 0 where
+pub record CountedRefuses {X : Type 0} (c : ℕ) (grammar : Value → Option X) (old : Position)
+    (before after : ℕ) (error : DecodeError) : Type 0 where
   pub refuses : Refuses grammar old error
   pub most : after ≤ before + c * left old + 8
 
 -- Takes, and c ticks an octet at most.
-abbrev pub TakesCounted : {X Y : Type 0} → ℕ → (Value → Option X) → (Y → X) → Position → Position → ℕ → ℕ → Result Y DecodeError → Type 0
+abbrev pub TakesCounted : {X Y : Type 0} → ℕ → (Value → Option X) → (Y → X) → Position → Position
+    → ℕ → ℕ → Result Y DecodeError → Type 0
 TakesCounted c grammar view old new before after result =
-    MatchResult result (λ y. CountedOne c grammar old new before after (view y)) (λ e. CountedRefuses c grammar old before after e)
+    MatchResult result (λ y. CountedOne c grammar old new before after (view y))
+    (λ e. CountedRefuses c grammar old before after e)
 
 -- Fields that stand next at this level are read as x, and the cursor stands behind them afterwards.
 -- Each value in them ticked, and there were at most c ticks for each octet that was passed, and k.
-pub record CountedFields {X : Type 0} (c k : ℕ) (fields : Values → Option (X × Values)) (old new : Position) (before after : ℕ) (x : X) : Type 0 where
+pub record CountedFields {X : Type 0} (c k : ℕ) (fields : Values → Option (X × Values))
+    (old new : Position) (before after : ℕ) (x : X) : Type 0 where
   pub takes : TakesFields fields old new x
-  pub least : (vs : Values) (rest : List ℕ) (h : Holds new.mode (top new.levels) new.here vs rest) → before + all_nodes (takes.reads vs rest h).0 ≤ after + all_nodes vs
+  pub least : (vs : Values) (rest : List ℕ) (h : Holds new.mode (top new.levels) new.here vs rest)
+      → before + all_nodes (takes.reads vs rest h).0 ≤ after + all_nodes vs
   pub on : left new ≤ left old
   pub most : after + c * left new ≤ before + c * left old + k
 
-pub record CountedRefusesFields {X : Type 0} (c k : ℕ) (fields : Values → Option (X × Values)) (old : Position) (before after : ℕ) (error : DecodeError) : Type 0 where
+pub record CountedRefusesFields {X : Type 0} (c k : ℕ) (fields : Values → Option (X × Values))
+    (old : Position) (before after : ℕ) (error : DecodeError) : Type 0 where
   pub refuses : RefusesFields fields old error
   pub most : after ≤ before + c * left old + k + 8
 
-abbrev pub TakesPartCounted : {X Y : Type 0} → ℕ → ℕ → (Values → Option (X × Values)) → (Y → X) → Position → Position → ℕ → ℕ → Result Y DecodeError → Type 0
+abbrev pub TakesPartCounted : {X Y : Type 0} → ℕ → ℕ → (Values → Option (X × Values)) → (Y → X)
+    → Position → Position → ℕ → ℕ → Result Y DecodeError → Type 0
 TakesPartCounted c k fields view old new before after result =
-    MatchResult result (λ y. CountedFields c k fields old new before after (view y)) (λ e. CountedRefusesFields c k fields old before after e)
+    MatchResult result (λ y. CountedFields c k fields old new before after (view y))
+    (λ e. CountedRefusesFields c k fields old before after e)
 
 -- A value that the grammar reads as x begins the octets. Each value in it ticked, and there were at most c ticks for each octet that was passed.
-pub record CountedBegins {X : Type 0} (c : ℕ) (grammar : Value → Option X) (mode : Mode) (octets : List ℕ) (before after : ℕ) (x : X) : Type 0 where
+pub record CountedBegins {X : Type 0} (c : ℕ) (grammar : Value → Option X) (mode : Mode)
+    (octets : List ℕ) (before after : ℕ) (x : X) : Type 0 where
   pub begins : BeginsAs grammar mode octets x
   pub least : before + nodes begins.value ≤ after
   pub most : after + c * length begins.rest ≤ before + c * length octets
 
-pub record CountedRefusesOctets {X : Type 0} (c : ℕ) (grammar : Value → Option X) (mode : Mode) (octets : List ℕ) (before after : ℕ) (error : DecodeError) : Type 0 where
+pub record CountedRefusesOctets {X : Type 0} (c : ℕ) (grammar : Value → Option X) (mode : Mode)
+    (octets : List ℕ) (before after : ℕ) (error : DecodeError) : Type 0 where
   pub refuses : RefusesOctets grammar mode octets error
   pub most : after ≤ before + c * length octets + 8
 
 -- Decodes, and c ticks an octet at most.
-abbrev pub DecodesCounted : {X Y : Type 0} → ℕ → (Value → Option X) → (Y → X) → Mode → List ℕ → ℕ → ℕ → Result Y DecodeError → Type 0
+abbrev pub DecodesCounted : {X Y : Type 0} → ℕ → (Value → Option X) → (Y → X) → Mode → List ℕ → ℕ
+    → ℕ → Result Y DecodeError → Type 0
 DecodesCounted c grammar view mode octets before after result =
-    MatchResult result (λ y. CountedBegins c grammar mode octets before after (view y)) (λ e. CountedRefusesOctets c grammar mode octets before after e)
+    MatchResult result (λ y. CountedBegins c grammar mode octets before after (view y))
+    (λ e. CountedRefusesOctets c grammar mode octets before after e)
 
 -- ---- what is left of a level, up to its end
 
 -- What is left of the level at p, fields reads as y, and q is behind the level; k ticks are paid by the header in front.
-pub record CountedReads {Y : Type 0} (c k : ℕ) (fields : Values → Option Y) (p q : Position) (before after : ℕ) (y : Y) : Type 0 where
+pub record CountedReads {Y : Type 0} (c k : ℕ) (fields : Values → Option Y) (p q : Position)
+    (before after : ℕ) (y : Y) : Type 0 where
   pub reads : Reads fields p q y
   pub least : before + all_nodes reads.values ≤ after
   pub most : after + c * left q ≤ before + c * left p + k
 
-pub record CountedStops {Y : Type 0} (c k : ℕ) (fields : Values → Option Y) (p : Position) (before after : ℕ) (error : DecodeError) : Type 0 where
+pub record CountedStops {Y : Type 0} (c k : ℕ) (fields : Values → Option Y) (p : Position)
+    (before after : ℕ) (error : DecodeError) : Type 0 where
   pub stops : Stops fields p error
   pub most : after ≤ before + c * left p + k + 8
 
 -- TakesRest, and c ticks an octet at most; k ticks more are paid by the header in front.
-abbrev pub TakesRestCounted : {X Y : Type 0} → ℕ → ℕ → (Values → Option X) → (Y → X) → Position → Position → ℕ → ℕ → Result Y DecodeError → Type 0
+abbrev pub TakesRestCounted : {X Y : Type 0} → ℕ → ℕ → (Values → Option X) → (Y → X) → Position
+    → Position → ℕ → ℕ → Result Y DecodeError → Type 0
 TakesRestCounted c k fields view old new before after result =
-    MatchResult result (λ y. CountedReads c k fields old new before after (view y)) (λ e. CountedStops c k fields old before after e)
+    MatchResult result (λ y. CountedReads c k fields old new before after (view y))
+    (λ e. CountedStops c k fields old before after e)

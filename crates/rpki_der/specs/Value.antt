@@ -31,7 +31,8 @@ end_mark Indefinite = 0 ∷ 0 ∷ []
 abbrev mutual
   pub spelling : Value → List ℕ
   spelling (Primitive identifier lengths contents) = identifier ++ (lengths ++ contents)
-  spelling (Constructed identifier form inner) = identifier ++ (lengths_of form ++ (spellings inner ++ end_mark form))
+  spelling (Constructed identifier form inner) =
+      identifier ++ (lengths_of form ++ (spellings inner ++ end_mark form))
 
   pub spellings : Values → List ℕ
   spellings End = []
@@ -44,8 +45,12 @@ IsForm Der Indefinite n = ⊥
 
 abbrev mutual
   pub IsValue : Mode → Value → Type 0
-  IsValue mode (Primitive identifier lengths contents) = IsIdentifier identifier × (is_constructed identifier ≡ false) × IsLength mode lengths (length contents)
-  IsValue mode (Constructed identifier form inner) = IsIdentifier identifier × (is_constructed identifier ≡ true) × IsForm mode form (length (spellings inner)) × AreValues mode inner
+  IsValue mode (Primitive identifier lengths contents) =
+      IsIdentifier identifier × (is_constructed identifier ≡ false)
+      × IsLength mode lengths (length contents)
+  IsValue mode (Constructed identifier form inner) =
+      IsIdentifier identifier × (is_constructed identifier ≡ true)
+      × IsForm mode form (length (spellings inner)) × AreValues mode inner
 
   pub AreValues : Mode → Values → Type 0
   AreValues mode End = ⊤

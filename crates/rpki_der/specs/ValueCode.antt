@@ -18,8 +18,10 @@ front_step = [] ∷ [] ∷ [] ∷ [] ∷ []
 
 abbrev mutual
   pub steps : Value → List (List (List ℕ)) → List (List (List ℕ))
-  steps (Primitive identifier lengths contents) later = (identifier ∷ lengths ∷ contents ∷ []) ∷ later
-  steps (Constructed identifier form inner) later = all_steps inner (constructed_step identifier form ∷ later)
+  steps (Primitive identifier lengths contents) later =
+      (identifier ∷ lengths ∷ contents ∷ []) ∷ later
+  steps (Constructed identifier form inner) later =
+      all_steps inner (constructed_step identifier form ∷ later)
 
   pub all_steps : Values → List (List (List ℕ)) → List (List (List ℕ))
   all_steps End later = end_step ∷ later
@@ -30,23 +32,36 @@ put_together [] [] lists = Primitive [] [] []
 put_together [] (v ∷ values) lists = v
 put_together ([] ∷ later) values lists = put_together later values (End ∷ lists)
 put_together ((i ∷ []) ∷ later) values [] = Primitive [] [] []
-put_together ((i ∷ []) ∷ later) values (vs ∷ lists) = put_together later (Constructed i Indefinite vs ∷ values) lists
+put_together ((i ∷ []) ∷ later) values (vs ∷ lists) =
+    put_together later (Constructed i Indefinite vs ∷ values) lists
 put_together ((i ∷ l ∷ []) ∷ later) values [] = Primitive [] [] []
-put_together ((i ∷ l ∷ []) ∷ later) values (vs ∷ lists) = put_together later (Constructed i (Definite l) vs ∷ values) lists
-put_together ((i ∷ l ∷ c ∷ []) ∷ later) values lists = put_together later (Primitive i l c ∷ values) lists
+put_together ((i ∷ l ∷ []) ∷ later) values (vs ∷ lists) =
+    put_together later (Constructed i (Definite l) vs ∷ values) lists
+put_together ((i ∷ l ∷ c ∷ []) ∷ later) values lists =
+    put_together later (Primitive i l c ∷ values) lists
 put_together ((i ∷ l ∷ c ∷ d ∷ more) ∷ later) [] lists = Primitive [] [] []
 put_together ((i ∷ l ∷ c ∷ d ∷ more) ∷ later) (v ∷ values) [] = Primitive [] [] []
-put_together ((i ∷ l ∷ c ∷ d ∷ more) ∷ later) (v ∷ values) (vs ∷ lists) = put_together later values ((v ▸ vs) ∷ lists)
+put_together ((i ∷ l ∷ c ∷ d ∷ more) ∷ later) (v ∷ values) (vs ∷ lists) =
+    put_together later values ((v ▸ vs) ∷ lists)
 
 abbrev mutual
-  pub together : (v : Value) (later : List (List (List ℕ))) (values : List Value) (lists : List Values) → put_together (steps v later) values lists ≡ put_together later (v ∷ values) lists
+  pub together : (v : Value) (later : List (List (List ℕ))) (values : List Value)
+      (lists : List Values) → put_together (steps v later) values lists
+      ≡ put_together later (v ∷ values) lists
   together (Primitive i l c) later values lists = refl
-  together (Constructed i (Definite l) vs) later values lists = all_together vs (constructed_step i (Definite l) ∷ later) values lists
-  together (Constructed i Indefinite vs) later values lists = all_together vs (constructed_step i Indefinite ∷ later) values lists
+  together (Constructed i (Definite l) vs) later values lists =
+      all_together vs (constructed_step i (Definite l) ∷ later) values lists
+  together (Constructed i Indefinite vs) later values lists =
+      all_together vs (constructed_step i Indefinite ∷ later) values lists
 
-  pub all_together : (vs : Values) (later : List (List (List ℕ))) (values : List Value) (lists : List Values) → put_together (all_steps vs later) values lists ≡ put_together later values (vs ∷ lists)
+  pub all_together : (vs : Values) (later : List (List (List ℕ))) (values : List Value)
+      (lists : List Values) → put_together (all_steps vs later) values lists
+      ≡ put_together later values (vs ∷ lists)
   all_together End later values lists = refl
-  all_together (v ▸ vs) later values lists = all_together vs (steps v (front_step ∷ later)) values lists ∙ together v (front_step ∷ later) values (vs ∷ lists)
+  all_together (v ▸ vs) later values lists =
+      all_together vs (steps v (front_step ∷ later)) values lists
+      ∙ together v (front_step ∷ later) values (vs ∷ lists)
 
 abbrev pub value_code : Coded Value
-value_code = code_by (List (List (List ℕ))) (coded_list (coded_list (coded_list coded_ℕ))) (λ v. steps v []) (λ s. put_together s [] []) (λ v. together v [] [] [])
+value_code = code_by (List (List (List ℕ))) (coded_list (coded_list (coded_list coded_ℕ)))
+    (λ v. steps v []) (λ s. put_together s [] []) (λ v. together v [] [] [])

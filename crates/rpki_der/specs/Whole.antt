@@ -8,18 +8,24 @@ use Rattle.rpki_der.specs.Reader.{value_at}
 use Rattle.rpki_der.specs.Value.{Value, Begins}
 
 -- The octets are one value, which the grammar reads as x, and nothing stands behind it.
-pub record IsWhole {X : Type 0} (grammar : Value → Option X) (mode : Mode) (octets : List ℕ) (x : X) : Type 0 where
+pub record IsWhole {X : Type 0} (grammar : Value → Option X) (mode : Mode) (octets : List ℕ)
+    (x : X) : Type 0 where
   pub value : Value
   pub begins : Begins mode octets value []
   pub reads : grammar value ≡ Some x
 
-unfoldable pub RefusesWhole : {X : Type 0} → (Value → Option X) → Mode → List ℕ → DecodeError → Type 0
-RefusesWhole grammar mode octets Malformed = (v : Value) → Begins mode octets v [] → grammar v ≡ None
+unfoldable pub RefusesWhole : {X : Type 0} → (Value → Option X) → Mode → List ℕ → DecodeError
+    → Type 0
+RefusesWhole grammar mode octets Malformed =
+    (v : Value) → Begins mode octets v [] → grammar v ≡ None
 RefusesWhole grammar mode octets OutOfMemory = ⊤
 
 -- The answer is the one value that the octets are, or Malformed exactly where they are none that the grammar reads.
-abbrev pub HoldsOne : {X Y : Type 0} → (Value → Option X) → (Y → X) → Mode → List ℕ → Result Y DecodeError → Type 0
-HoldsOne grammar view mode octets result = MatchResult result (λ y. IsWhole grammar mode octets (view y)) (RefusesWhole grammar mode octets)
+abbrev pub HoldsOne : {X Y : Type 0} → (Value → Option X) → (Y → X) → Mode → List ℕ
+    → Result Y DecodeError → Type 0
+HoldsOne grammar view mode octets result =
+    MatchResult result (λ y. IsWhole grammar mode octets (view y))
+    (RefusesWhole grammar mode octets)
 
 -- ---- the same as a function, for the calls that take no memory
 

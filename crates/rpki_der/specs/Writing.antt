@@ -11,7 +11,11 @@ octets_of (suc k) n = octets_of k (n / 256) ++ (n % 256) ∷ []
 -- the length octets of n, for an n below 2^32: n itself below 80, and otherwise 81 to 84 and n in the fewest octets
 abbrev pub der_length : ℕ → List ℕ
 der_length n =
-    if nat_lt n 128 then n ∷ [] else if nat_lt n 256 then 129 ∷ octets_of 1 n else if nat_lt n 65536 then 130 ∷ octets_of 2 n else if nat_lt n 16777216 then 131 ∷ octets_of 3 n else 132 ∷ octets_of 4 n
+    if nat_lt n 128 then n ∷ []
+    else if nat_lt n 256 then 129 ∷ octets_of 1 n
+    else if nat_lt n 65536 then 130 ∷ octets_of 2 n
+    else if nat_lt n 16777216 then 131 ∷ octets_of 3 n
+    else 132 ∷ octets_of 4 n
 
 -- the identifier of a constructed value with this tag: bit 6 of its first octet is set
 abbrev pub with_bit_6 : List ℕ → List ℕ
@@ -27,7 +31,8 @@ der_primitive tag content = tag ++ (der_length (length content) ++ content)
 
 -- a constructed value with this tag and these values inside it
 abbrev pub constructed_value : List ℕ → Values → Value
-constructed_value tag inner = Constructed (with_bit_6 tag) (Definite (der_length (length (spellings inner)))) inner
+constructed_value tag inner = Constructed (with_bit_6 tag)
+    (Definite (der_length (length (spellings inner)))) inner
 
 abbrev pub der_constructed : List ℕ → List ℕ → List ℕ
 der_constructed tag content = with_bit_6 tag ++ (der_length (length content) ++ content)

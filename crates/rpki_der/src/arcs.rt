@@ -15,7 +15,8 @@ fn end_place(octets: &[u8]) -> Option<usize>
 
 // The octets of the first subidentifier, and those behind it.
 fn split_subidentifier(octets: &[u8]) -> Option<(&[u8], &[u8])>
-    ensures found { IfSome result (λ r. text.subidentifier_parts octets.now ≡ r.0.now ∷ text.subidentifier_parts r.1.now) }
+    ensures found { IfSome result (λ r. text.subidentifier_parts octets.now ≡ r.0.now
+        ∷ text.subidentifier_parts r.1.now) }
     ensures smaller { IfSome result (λ r. length r.1.now < length octets.now) }
     ensures none { IfNone result (text.subidentifier_parts octets.now ≡ []) }
 {

@@ -15,7 +15,8 @@ use std::sync::ledger::{Blank, Ledger};
 
 // The count of unused bits and the octets of the bits, if the octets are the contents of a BIT STRING.
 fn bits(octets: &[u8]) -> Option<(u8, &[u8])>
-    ensures { option_map (λ x. record { unused = x.0; octets = x.1.now }) result ≡ spec.bits octets.now }
+    ensures { option_map (λ x. record { unused = x.0; octets = x.1.now }) result
+        ≡ spec.bits octets.now }
 {
     match octets {
         [0] => Some((0, &[])),
@@ -29,7 +30,8 @@ pub fn take_bits_counted<'a, L: Ledger>(
     cursor: &mut Cursor<'a>,
     steps: &mut Steps<L>,
 ) -> Result<(u8, &'a [u8]), DecodeError>
-    ensures { TakesCounted 1 spec.bit_string (λ x. record { unused = x.0; octets = x.1.now }) cursor.old cursor.new steps.old steps.new result }
+    ensures { TakesCounted 1 spec.bit_string (λ x. record { unused = x.0; octets = x.1.now })
+        cursor.old cursor.new steps.old steps.new result }
 {
     let octets = cursor.take_primitive_counted(Tag::BIT_STRING, steps)?;
     match bits(octets) {
@@ -45,7 +47,8 @@ fn take_bits_within<'a, L: Ledger>(
     requires name { blank.name ≡ L.name }
     requires parts { blank.parts ≡ L.parts }
     requires some { 0 < blank.parts }
-    ensures { Takes spec.bit_string (λ x. record { unused = x.0; octets = x.1.now }) cursor.old cursor.new result }
+    ensures { Takes spec.bit_string (λ x. record { unused = x.0; octets = x.1.now })
+        cursor.old cursor.new result }
 {
     let mut steps = Steps::<L>::new(blank);
     take_bits_counted(cursor, &mut steps)
@@ -55,7 +58,8 @@ fn take_bits_within<'a, L: Ledger>(
 ///
 /// It is primitive in both modes. The count is 0 to 7, and 0 where there are no octets.
 pub fn take_bits<'a>(cursor: &mut Cursor<'a>) -> Result<(u8, &'a [u8]), DecodeError>
-    ensures { Takes spec.bit_string (λ x. record { unused = x.0; octets = x.1.now }) cursor.old cursor.new result }
+    ensures { Takes spec.bit_string (λ x. record { unused = x.0; octets = x.1.now })
+        cursor.old cursor.new result }
 {
     take_bits_within::<Brand>(cursor, Blank::new(1))
 }

@@ -32,7 +32,8 @@ pub fn take_boolean_counted<L: Ledger>(
     cursor: &mut Cursor<'_>,
     steps: &mut Steps<L>,
 ) -> Result<bool, DecodeError>
-    ensures { TakesCounted 1 (spec.boolean cursor.old.mode) (λ x. x) cursor.old cursor.new steps.old steps.new result }
+    ensures { TakesCounted 1 (spec.boolean cursor.old.mode) (λ x. x)
+        cursor.old cursor.new steps.old steps.new result }
 {
     let mode = cursor.mode();
     let octets = cursor.take_primitive_counted(Tag::BOOLEAN, steps)?;
@@ -59,8 +60,10 @@ pub fn take_opt_boolean_counted<L: Ledger>(
     cursor: &mut Cursor<'_>,
     steps: &mut Steps<L>,
 ) -> Result<Option<bool>, DecodeError>
-    ensures fields { TakesPartCounted 1 1 (optional boolean_tag (spec.boolean cursor.old.mode)) (λ x. x) cursor.old cursor.new steps.old steps.new result }
-    ensures next { TakesOptionalAs boolean_tag (spec.boolean cursor.old.mode) (λ x. x) cursor.old cursor.new result }
+    ensures fields { TakesPartCounted 1 1 (optional boolean_tag (spec.boolean cursor.old.mode))
+        (λ x. x) cursor.old cursor.new steps.old steps.new result }
+    ensures next { TakesOptionalAs boolean_tag (spec.boolean cursor.old.mode) (λ x. x)
+        cursor.old cursor.new result }
 {
     let mode = cursor.mode();
     match cursor.take_opt_if_counted(Tag::BOOLEAN, steps)? {

@@ -196,7 +196,8 @@ impl<'a> Cursor<'a> {
         tag: Tag,
         steps: &mut Steps<L>,
     ) -> Result<&'a [u8], DecodeError>
-        ensures value { TakesCounted 1 (primitive tag) (λ x. x.now) self.old self.new steps.old steps.new result }
+        ensures value { TakesCounted 1 (primitive tag) (λ x. x.now) self.old self.new steps.old
+            steps.new result }
         ensures err { OnErr result (self.new ≡ self.old) }
         ensures ticks { steps.new ≡ steps.old + 1 }
     {
@@ -245,9 +246,11 @@ impl<'a> Cursor<'a> {
         &mut self,
         steps: &mut Steps<L>,
     ) -> Result<&'a [u8], DecodeError>
-        ensures value { TakesCounted 1 any (λ x. x.now) self.old self.new steps.old steps.new result }
+        ensures value { TakesCounted 1 any (λ x. x.now) self.old self.new steps.old steps.new
+            result }
         ensures err { OnErr result (self.new ≡ self.old) }
-        ensures ticks { OnOk result ((v : Value) × Begins self.old.mode self.old.here v self.new.here × (steps.new ≡ steps.old + counts v)) }
+        ensures ticks { OnOk result ((v : Value) × Begins self.old.mode self.old.here v
+            self.new.here × (steps.new ≡ steps.old + counts v)) }
         ensures refused { OnErr result (steps.new ≤ steps.old + length self.old.here + 1) }
         ensures stopped { OnErr result (StopsAt self.old.mode self.old.here steps.old steps.new) }
     {

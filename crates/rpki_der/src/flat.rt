@@ -40,7 +40,8 @@ impl<'a> Model for Leaf<'a> {
 // The contents of the primitive value with this tag that stands here, and what stands behind it.
 #[tactic(auto, using(crate::proofs::Cursors::takes_primitive, crate::proofs::Cursors::none_primitive, crate::proofs::Cursors::none_primitive_other, crate::proofs::Cursors::none_primitive_opens))]
 fn take_tagged(mode: Mode, here: &[u8], tag: Tag) -> Option<(&[u8], &[u8])>
-    ensures found { IfSome result (λ r. TakesOne (primitive tag) (before mode here.now) (before mode r.1.now) r.0.now) }
+    ensures found { IfSome result (λ r. TakesOne (primitive tag) (before mode here.now)
+        (before mode r.1.now) r.0.now) }
     ensures none { IfNone result (NoneStands (primitive tag) (before mode here.now)) }
 {
     match take_part(mode, here) {
@@ -66,7 +67,8 @@ pub fn take_whole_primitive(mode: Mode, octets: &[u8], tag: Tag) -> Option<&[u8]
 
 // Into the SEQUENCE that begins the octets.
 fn enter_sequence(mode: Mode, octets: &[u8]) -> Option<(Open<'_>, &[u8])>
-    ensures found { IfSome result (λ r. Goes sequence (before mode octets.now) (in_level mode (level_of r.0) r.1.now)) }
+    ensures found { IfSome result (λ r. Goes sequence (before mode octets.now)
+        (in_level mode (level_of r.0) r.1.now)) }
     ensures none { IfNone result (NoneOpens sequence (before mode octets.now)) }
 {
     match take_part(mode, octets) {
@@ -83,8 +85,10 @@ fn enter_sequence(mode: Mode, octets: &[u8]) -> Option<(Open<'_>, &[u8])>
 
 // The primitive value that stands here, and what stands behind it.
 fn take_leaf(mode: Mode, here: &[u8]) -> Option<(Leaf<'_>, &[u8])>
-    ensures found { IfSome result (λ r. (level : Level) → TakesOne leaf (in_level mode level here.now) (in_level mode level r.1.now) r.0) }
-    ensures none { IfNone result ((level : Level) → NoneStands leaf (in_level mode level here.now)) }
+    ensures found { IfSome result (λ r. (level : Level)
+        → TakesOne leaf (in_level mode level here.now) (in_level mode level r.1.now) r.0) }
+    ensures none { IfNone result ((level : Level)
+        → NoneStands leaf (in_level mode level here.now)) }
 {
     match take_part(mode, here) {
         Some(
@@ -110,8 +114,11 @@ fn take_further<'a>(
     level: Open<'a>,
     here: &'a [u8],
 ) -> Option<(Option<Leaf<'a>>, &'a [u8])>
-    ensures found { IfSome result (λ r. TakesFields (further leaf) (in_level mode (level_of level.entry) here.now) (in_level mode (level_of level.entry) r.1.now) r.0) }
-    ensures none { IfNone result (RefusesFields (further leaf) (in_level mode (level_of level.entry) here.now) Malformed) }
+    ensures found { IfSome result (λ r. TakesFields (further leaf)
+        (in_level mode (level_of level.entry) here.now)
+        (in_level mode (level_of level.entry) r.1.now) r.0) }
+    ensures none { IfNone result (RefusesFields (further leaf)
+        (in_level mode (level_of level.entry) here.now) Malformed) }
 {
     match level_end(level, here) {
         Some(_) => Some((None, here)),

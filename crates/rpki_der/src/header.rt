@@ -2,7 +2,8 @@
 
 ghost use Rattle.std.specs.Prelude.{◌≡◌, ◌+◌, ◌≤◌, ◌++◌, length, IfSome, IfNone};
 ghost use Rattle.rpki_der.specs.Identifier.{IsIdentifier, is_constructed};
-ghost use Rattle.rpki_der.specs.Lengths.{number, is_overlong, long_length, length_at};
+ghost use Rattle.rpki_der.specs.Lengths.{number};
+ghost use Rattle.rpki_der.specs.HeaderAt.{is_overlong, long_length, length_at};
 ghost use Rattle.rpki_der.specs.Header.{IdentifierFirst, NoIdentifier, HeaderFirst, NoHeader};
 
 use crate::mode::Mode;
@@ -108,7 +109,8 @@ pub(crate) fn take_header<'a>(
     behind: &'a [u8],
 ) -> Option<Header<'a>>
     requires identifier { IsIdentifier identifier.now }
-    ensures found { IfSome result (λ h. HeaderFirst mode (identifier.now ++ behind.now) h.identifier.now h.length h.rest.now) }
+    ensures found { IfSome result (λ h. HeaderFirst mode (identifier.now ++ behind.now)
+        h.identifier.now h.length h.rest.now) }
     ensures form { IfSome result (λ h. h.constructed ≡ is_constructed h.identifier.now) }
     ensures none { IfNone result (NoHeader mode (identifier.now ++ behind.now)) }
 {

@@ -34,7 +34,8 @@ impl<'a> Cursor<'a> {
         steps: &mut Steps<L>,
     ) -> Result<&'a [u8], DecodeError>
         requires inside { self.old.levels ≢ [] }
-        ensures place { MatchResult result (λ _. Leaves self.old self.new) (RefusesToLeave self.old) }
+        ensures place { MatchResult result (λ _. Leaves self.old self.new)
+            (RefusesToLeave self.old) }
         ensures contents { IfOk result (λ x. x.now ≡ up_to start.now self.old.here) }
         ensures err { OnErr result (self.new ≡ self.old) }
         ensures ticks { OnOk result (steps.new ≡ steps.old + marks (top self.old.levels)) }
@@ -53,7 +54,8 @@ pub fn take_rest_counted<'a, L: Ledger>(
     steps: &mut Steps<L>,
 ) -> Result<&'a [u8], DecodeError>
     requires { cursor.old.levels ≢ [] }
-    ensures { TakesRestCounted 1 0 as_octets (λ x. x.now) cursor.old cursor.new steps.old steps.new result }
+    ensures { TakesRestCounted 1 0 as_octets (λ x. x.now)
+        cursor.old cursor.new steps.old steps.new result }
 {
     let start = cursor.here();
     'values: while !cursor.end() {

@@ -47,7 +47,15 @@ fn mark_len(level: Open<'_>) -> usize
 // The entry of a primitive value, behind which `rest` stands.
 fn primitive_entry(here: &[u8], identifier: &[u8], content: &[u8], rest: &[u8]) -> Entry
     requires identifier { IsIdentifier identifier.now }
-    ensures { result ≡ record { tag = tag_of identifier.now; constructed = false; header = length here.now - length rest.now - length content.now; mark = 0; size = length here.now - length rest.now; count = 0 } }
+    ensures { result ≡ record {
+      tag = tag_of identifier.now;
+      constructed = false;
+      header = length here.now - length rest.now - length content.now;
+      mark = 0;
+      size =
+          length here.now - length rest.now;
+      count = 0;
+    } }
 {
     let size = here.len().saturating_sub(rest.len());
     Entry {
@@ -63,7 +71,16 @@ fn primitive_entry(here: &[u8], identifier: &[u8], content: &[u8], rest: &[u8]) 
 // The entry of a constructed value, as far as its header tells.
 fn opening_entry(here: &[u8], identifier: &[u8], extent: Open<'_>, inner: &[u8]) -> Entry
     requires identifier { IsIdentifier identifier.now }
-    ensures { result ≡ record { tag = tag_of identifier.now; constructed = true; header = length here.now - behind_level (level_of extent.entry) - length inner.now; mark = length (mark_of (level_of extent.entry)); size = length here.now - behind_level (level_of extent.entry); count = 0 } }
+    ensures { result ≡ record {
+      tag = tag_of identifier.now;
+      constructed = true;
+      header = length here.now - behind_level (level_of extent.entry) - length inner.now;
+      mark =
+          length (mark_of (level_of extent.entry));
+      size =
+          length here.now - behind_level (level_of extent.entry);
+      count = 0;
+    } }
 {
     let size = here.len().saturating_sub(behind(extent));
     Entry {
@@ -83,9 +100,11 @@ fn descend<'a>(
     levels: &mut Vec<Inside<'a>>,
     entries: &mut Vec<Entry>,
 ) -> Result<&'a [u8], DecodeError>
-    ensures ok { IfOk result (λ r. DescendsTree mode here.now levels.old.items entries.old.items r.now levels.new.items entries.new.items) }
+    ensures ok { IfOk result (λ r. DescendsTree mode here.now levels.old.items entries.old.items
+        r.now levels.new.items entries.new.items) }
     ensures malformed { result ≡ Err DecodeError.Malformed → NoValue mode here.now }
-    ensures smaller { IfOk result (λ r. length r.now + left_at levels.new.items < length here.now + left_at levels.old.items) }
+    ensures smaller { IfOk result (λ r. length r.now + left_at levels.new.items < length here.now +
+        left_at levels.old.items) }
 {
     match take_part(mode, here) {
         None => Err(DecodeError::Malformed),
@@ -136,7 +155,8 @@ fn index_value<'a>(
     mode: Mode,
     octets: &'a [u8],
 ) -> Result<(Vec<Entry>, &'a [u8]), DecodeError>
-    ensures ok { IfOk result (λ r. (v : Value) × Begins mode octets.now v r.1.now × (r.0.items ≡ entries_of v)) }
+    ensures ok { IfOk result (λ r. (v : Value) × Begins mode octets.now v r.1.now
+        × (r.0.items ≡ entries_of v)) }
     ensures malformed { result ≡ Err DecodeError.Malformed → NoValue mode octets.now }
 {
     let mut entries: Vec<Entry> = Vec::new(alloc);

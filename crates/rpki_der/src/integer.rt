@@ -18,7 +18,8 @@ pub fn take_integer_if_counted<L: Ledger>(
     steps: &mut Steps<L>,
 ) -> Result<(), DecodeError>
     requires { number < 128 }
-    ensures { TakesCounted 1 (integer_is number) (λ x. x) cursor.old cursor.new steps.old steps.new result }
+    ensures { TakesCounted 1 (integer_is number) (λ x. x)
+        cursor.old cursor.new steps.old steps.new result }
 {
     let octets = cursor.take_primitive_counted(Tag::INTEGER, steps)?;
     match is_exactly(octets, &[number]) {

@@ -7,7 +7,8 @@ ghost use Rattle.rpki_der.specs.Header.{IdentifierFirst};
 ghost use Rattle.rpki_der.specs.Part.{level_of, IsPart, NoValue};
 ghost use Rattle.rpki_der.specs.Takes.{Takes};
 ghost use Rattle.rpki_der.specs.Ticks.{TakesCounted, counts};
-ghost use Rattle.rpki_der.specs.Item.{item_with, TakesNext, TakesNextCounted, TakesOptional, TakesOptionalCounted, content_in, OtherFirst, ShowsWhole};
+ghost use Rattle.rpki_der.specs.Item.{item_with, TakesNext, TakesNextCounted, TakesOptional, TakesOptionalCounted, OtherFirst};
+ghost use Rattle.rpki_der.specs.BehindHeader.{content_in, ShowsWhole};
 ghost use Rattle.rpki_der.specs.Stopping.{StopsIn, StopsAt};
 
 use crate::cursor::Cursor;
@@ -43,7 +44,12 @@ impl<'a> Model for Item<'a> {
 
     ghost Value = { ItemFields };
 
-    ghost view = { λ i. record { tag = i.tag; constructed = i.constructed; content = i.content.now; slice = i.slice.now } };
+    ghost view = { λ i. record {
+      tag = i.tag;
+      constructed = i.constructed;
+      content = i.content.now;
+      slice = i.slice.now;
+    } };
 }
 
 // The octets in front of those at the end.
@@ -138,12 +144,16 @@ impl<'a> Cursor<'a> {
         steps: &mut Steps<L>,
     ) -> Result<Item<'a>, DecodeError>
         requires first { IdentifierFirst self.old.here identifier.now behind.now }
-        ensures ok { IfOk result (λ i. ShowsWhole self.old.mode self.old.here self.new.here steps.old steps.new i) }
-        ensures place { OnOk result ((self.new.levels ≡ self.old.levels) × (self.new.mode ≡ self.old.mode)) }
-        ensures malformed { result ≡ Err DecodeError.Malformed → NoValue self.old.mode self.old.here }
+        ensures ok { IfOk result (λ i. ShowsWhole self.old.mode self.old.here self.new.here
+            steps.old steps.new i) }
+        ensures place { OnOk result ((self.new.levels ≡ self.old.levels)
+            × (self.new.mode ≡ self.old.mode)) }
+        ensures malformed { result ≡ Err DecodeError.Malformed
+            → NoValue self.old.mode self.old.here }
         ensures err { OnErr result (self.new ≡ self.old) }
         ensures refused { OnErr result (steps.new ≤ steps.old + length self.old.here) }
-        ensures stopped { OnErr result (StopsIn 0 self.old.mode self.old.here [] steps.old steps.new) }
+        ensures stopped { OnErr result (StopsIn 0 self.old.mode self.old.here [] steps.old
+            steps.new) }
     {
         match take_part_behind(self.mode, identifier, behind) {
             Some(part) => {
@@ -162,7 +172,9 @@ impl<'a> Cursor<'a> {
     ) -> Result<Option<Item<'a>>, DecodeError>
         ensures value { TakesNextCounted 1 self.old self.new steps.old steps.new result }
         ensures err { OnErr result (self.new ≡ self.old) }
-        ensures ticks { IfOk result (λ found. OnSome found ((v : Value) × Begins self.old.mode self.old.here v self.new.here × (steps.new ≡ steps.old + counts v))) }
+        ensures ticks { IfOk result (λ found. OnSome found
+            ((v : Value) × Begins self.old.mode self.old.here v self.new.here
+            × (steps.new ≡ steps.old + counts v))) }
         ensures refused { OnErr result (steps.new ≤ steps.old + length self.old.here + 1) }
         ensures stopped { OnErr result (StopsAt self.old.mode self.old.here steps.old steps.new) }
     {
@@ -207,9 +219,11 @@ impl<'a> Cursor<'a> {
         tag: Tag,
         steps: &mut Steps<L>,
     ) -> Result<Item<'a>, DecodeError>
-        ensures value { TakesCounted 1 (item_with tag) (λ i. i) self.old self.new steps.old steps.new result }
+        ensures value { TakesCounted 1 (item_with tag) (λ i. i) self.old self.new steps.old
+            steps.new result }
         ensures err { OnErr result (self.new ≡ self.old) }
-        ensures ticks { OnOk result ((v : Value) × Begins self.old.mode self.old.here v self.new.here × (steps.new ≡ steps.old + counts v)) }
+        ensures ticks { OnOk result ((v : Value) × Begins self.old.mode self.old.here v
+            self.new.here × (steps.new ≡ steps.old + counts v)) }
         ensures other { OtherFirst tag self.old.here → steps.new ≡ steps.old + 1 }
         ensures refused { OnErr result (steps.new ≤ steps.old + length self.old.here + 1) }
         ensures stopped { OnErr result (StopsAt self.old.mode self.old.here steps.old steps.new) }
@@ -252,7 +266,9 @@ impl<'a> Cursor<'a> {
     ) -> Result<Option<Item<'a>>, DecodeError>
         ensures value { TakesOptionalCounted 1 tag self.old self.new steps.old steps.new result }
         ensures err { OnErr result (self.new ≡ self.old) }
-        ensures ticks { IfOk result (λ found. OnSome found ((v : Value) × Begins self.old.mode self.old.here v self.new.here × (steps.new ≡ steps.old + counts v))) }
+        ensures ticks { IfOk result (λ found. OnSome found
+            ((v : Value) × Begins self.old.mode self.old.here v self.new.here
+            × (steps.new ≡ steps.old + counts v))) }
         ensures refused { OnErr result (steps.new ≤ steps.old + length self.old.here + 1) }
         ensures stopped { OnErr result (StopsAt self.old.mode self.old.here steps.old steps.new) }
     {

@@ -61,6 +61,3 @@ pub use steps::Steps;
 pub use tag::Tag;
 pub use tree::{Children, Node, Tree};
 pub use writer::{Captured, Writer};
-
-#[cfg(test)]
-mod tests;

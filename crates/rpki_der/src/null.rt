@@ -26,7 +26,8 @@ pub fn take_opt_null_counted<L: Ledger>(
     cursor: &mut Cursor<'_>,
     steps: &mut Steps<L>,
 ) -> Result<bool, DecodeError>
-    ensures fields { TakesPartCounted 1 1 (optional null_tag null) present cursor.old cursor.new steps.old steps.new result }
+    ensures fields { TakesPartCounted 1 1 (optional null_tag null) present
+        cursor.old cursor.new steps.old steps.new result }
     ensures next { TakesOptionalAs null_tag null present cursor.old cursor.new result }
 {
     match cursor.take_opt_if_counted(Tag::NULL, steps)? {

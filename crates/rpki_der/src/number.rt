@@ -53,7 +53,8 @@ pub fn take_integer_counted<'a, L: Ledger>(
     cursor: &mut Cursor<'a>,
     steps: &mut Steps<L>,
 ) -> Result<&'a [u8], DecodeError>
-    ensures { TakesCounted 1 spec.integer (λ x. x.now) cursor.old cursor.new steps.old steps.new result }
+    ensures { TakesCounted 1 spec.integer (λ x. x.now)
+        cursor.old cursor.new steps.old steps.new result }
 {
     let octets = cursor.take_primitive_counted(Tag::INTEGER, steps)?;
     match minimal(octets) {

@@ -25,8 +25,10 @@ fn segment<L: Ledger>(
     octets: &mut Vec<u8>,
     steps: &mut Steps<L>,
 ) -> Result<(), DecodeError>
-    ensures place { MatchResult result (λ _. Segment tag cursor.old octets.old.items cursor.new octets.new.items) (Refuses (joined tag) cursor.old) }
-    ensures smaller { OnOk result (length cursor.new.here + left_in cursor.new.levels < length cursor.old.here + left_in cursor.old.levels) }
+    ensures place { MatchResult result (λ _. Segment tag cursor.old octets.old.items cursor.new
+        octets.new.items) (Refuses (joined tag) cursor.old) }
+    ensures smaller { OnOk result (length cursor.new.here + left_in cursor.new.levels < length
+        cursor.old.here + left_in cursor.old.levels) }
     ensures counted { OnOk result (Onward cursor.old steps.old cursor.new steps.new) }
     ensures most { OnOk result (steps.new + left cursor.new ≤ steps.old + left cursor.old) }
     ensures refused { OnErr result (steps.new ≤ steps.old + 2) }
@@ -49,7 +51,8 @@ fn take_joined_counted<L: Ledger>(
     tag: Tag,
     steps: &mut Steps<L>,
 ) -> Result<Vec<u8>, DecodeError>
-    ensures { TakesCounted 1 (joined tag) (λ x. x.items) cursor.old cursor.new steps.old steps.new result }
+    ensures { TakesCounted 1 (joined tag) (λ x. x.items)
+        cursor.old cursor.new steps.old steps.new result }
 {
     let mut octets: Vec<u8> = Vec::new(alloc);
     let base = cursor.depth();
@@ -71,7 +74,8 @@ fn take_copied_counted<L: Ledger>(
     tag: Tag,
     steps: &mut Steps<L>,
 ) -> Result<Vec<u8>, DecodeError>
-    ensures { TakesCounted 1 (primitive tag) (λ x. x.items) cursor.old cursor.new steps.old steps.new result }
+    ensures { TakesCounted 1 (primitive tag) (λ x. x.items)
+        cursor.old cursor.new steps.old steps.new result }
 {
     let contents = cursor.take_primitive_counted(tag, steps)?;
     Ok(contents.to_vec(alloc)?)
@@ -85,7 +89,8 @@ pub fn take_octets_counted<L: Ledger>(
     tag: Tag,
     steps: &mut Steps<L>,
 ) -> Result<Vec<u8>, DecodeError>
-    ensures { TakesCounted 1 (octets_under tag cursor.old.mode) (λ x. x.items) cursor.old cursor.new steps.old steps.new result }
+    ensures { TakesCounted 1 (octets_under tag cursor.old.mode) (λ x. x.items)
+        cursor.old cursor.new steps.old steps.new result }
 {
     match cursor.mode() {
         Mode::Ber => take_joined_counted(alloc, cursor, tag, steps),

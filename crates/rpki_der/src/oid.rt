@@ -71,7 +71,8 @@ pub fn take_oid_if_counted<L: Ledger>(
     wanted: &[u8],
     steps: &mut Steps<L>,
 ) -> Result<(), DecodeError>
-    ensures { TakesCounted 1 (oid_is wanted.now) (λ x. x) cursor.old cursor.new steps.old steps.new result }
+    ensures { TakesCounted 1 (oid_is wanted.now) (λ x. x)
+        cursor.old cursor.new steps.old steps.new result }
 {
     let octets = take_oid_counted(cursor, steps)?;
     match is_exactly(octets, wanted) {

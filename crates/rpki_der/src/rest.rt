@@ -16,7 +16,8 @@ pub fn pass_rest_counted<L: Ledger>(
     steps: &mut Steps<L>,
 ) -> Result<(), DecodeError>
     requires { cursor.old.levels ≢ [] }
-    ensures { TakesRestCounted 1 0 anything (λ x. x) cursor.old cursor.new steps.old steps.new result }
+    ensures { TakesRestCounted 1 0 anything (λ x. x)
+        cursor.old cursor.new steps.old steps.new result }
 {
     'values: while !cursor.end() {
         cursor.capture_counted(steps)?;

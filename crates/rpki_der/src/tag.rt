@@ -1,7 +1,8 @@
 //! Tags, and the identifier octets that spell them.
 
 ghost use Rattle.std.specs.Prelude.{◌≡◌, [], ◌∷◌, ◌+◌, ◌≤◌, ◌↔◌, length, take, IsSome, IfSome, IsTrue};
-ghost use Rattle.rpki_der.specs.Identifier.{IsIdentifier, IsTag, is_constructed, without_bit_6, tag_of, has_tag, further_size, identifier_size};
+ghost use Rattle.rpki_der.specs.Identifier.{IsIdentifier, IsTag, is_constructed, without_bit_6, tag_of, has_tag};
+ghost use Rattle.rpki_der.specs.HeaderAt.{further_size, identifier_size};
 ghost use Rattle.rpki_der.specs.Writing.{with_bit_6};
 ghost use Rattle.rpki_der.specs.Tags.{boolean_tag, integer_tag, bit_string_tag, octet_string_tag, null_tag, oid_tag, sequence, set, utc_time_tag, generalized_time_tag, context};
 
@@ -26,7 +27,8 @@ impl Model for Tag {
 
     ghost view = { λ t. take t.len t.octets };
 
-    ghost invariant = { λ t. (t.len ≤ 4) × (length t.octets ≡ 4) × (drop t.len t.octets ≡ replicate (4 - t.len) 0) × IsTag (take t.len t.octets) };
+    ghost invariant = { λ t. (t.len ≤ 4) × (length t.octets ≡ 4)
+        × (drop t.len t.octets ≡ replicate (4 - t.len) 0) × IsTag (take t.len t.octets) };
 
     ghost inverse = { λ l. record { octets = l ++ replicate (4 - length l) 0; len = length l } };
 

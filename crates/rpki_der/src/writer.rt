@@ -42,7 +42,8 @@ fn length_octets(n: usize) -> ([u8; 5], usize)
 // Appends identifier, length and contents; a part of them may stand there where memory ran out.
 fn append(out: &mut Vec<u8>, identifier: &[u8], content: &[u8]) -> Result<(), OutOfMemory>
     requires { length content.now < 2 ^ 32 }
-    ensures ok { OnOk result (out.new.items ≡ out.old.items ++ (identifier.now ++ (der_length (length content.now) ++ content.now))) }
+    ensures ok { OnOk result (out.new.items ≡ out.old.items
+        ++ (identifier.now ++ (der_length (length content.now) ++ content.now))) }
     ensures err { OnErr result (StartsWith out.new.items out.old.items) }
 {
     let (octets, count) = length_octets(content.len());
@@ -90,7 +91,8 @@ impl Writer {
     // Appends a value with this identifier and these contents.
     fn write(&mut self, identifier: &[u8], content: &[u8]) -> Result<(), OutOfMemory>
         requires { length content.now < 2 ^ 32 }
-        ensures ok { OnOk result (self.new ≡ self.old ++ (identifier.now ++ (der_length (length content.now) ++ content.now))) }
+        ensures ok { OnOk result (self.new ≡ self.old
+            ++ (identifier.now ++ (der_length (length content.now) ++ content.now))) }
         ensures err { OnErr result (self.new ≡ self.old) }
     {
         let start = self.octets.len();

@@ -14,7 +14,8 @@ use Rattle.rpki_der.proofs.Leftovers.{gather_every, gather_same, within_then, wi
 use Rattle.rpki_base.specs.KeyIdentifier.{key_identifier}
 use Rattle.rpki_base.specs.Names.{subject_key_identifier, basic_constraints as basic_name, authority_key_identifier}
 use Rattle.rpki_base.specs.Extension.{ExtensionFields, extension, gathered, is}
-use Rattle.rpki_idcert.specs.Extensions.{KnownExtensions, basic_constraints, authority_key, ca_in, subject_in, authority_in, known_extensions, extension_list, FoundSoFar, add, complete}
+use Rattle.rpki_idcert.specs.Extensions.{KnownExtensions, basic_constraints, authority_key, ca_in, subject_in, authority_in, known_extensions, extension_list}
+use Rattle.rpki_idcert.specs.Gathered.{FoundSoFar, add, complete}
 use Rattle.rpki_common.proofs.Truths.{same_octets}
 
 -- ---- one extension

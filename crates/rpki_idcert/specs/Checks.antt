@@ -46,7 +46,8 @@ ee_checks c issuer when q =
     ∷ []
 
 -- the certificate is signed under the issuer's key, and with that all five checks hold
-pub record IsEeBelieved (scheme : Relation) (c : CertificateFields) (issuer : KeyFields) (when : ℤ) : Type 0 where
+pub record IsEeBelieved (scheme : Relation) (c : CertificateFields) (issuer : KeyFields)
+    (when : ℤ) : Type 0 where
   pub signed : IsSigned scheme c issuer
   pub passes : first_failure 1 (ee_checks c issuer when true) ≡ Ok tt
 

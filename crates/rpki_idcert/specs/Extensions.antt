@@ -2,7 +2,6 @@
 use Rattle.std.specs.Prelude.{ℕ, Bool, false, filter, unwrap_or, Option, None, Some, List}
 use Rattle.rpki_common.specs.Chaining.{◌>>=◌}
 use Rattle.rpki_common.specs.Items.{the_one, at_most_one, the_last}
-use Rattle.rpki_common.specs.Collecting.{slot, last_slot, both}
 use Rattle.rpki_der.specs.declared.mode.Mode.{Mode}
 use Rattle.rpki_der.specs.declared.mode.Mode.TheVariants.{Der}
 use Rattle.rpki_der.specs.Tags.{sequence, boolean_tag, integer_tag, context}
@@ -77,14 +76,3 @@ known_extensions all = do
 -- a SEQUENCE of extensions
 unfoldable pub extension_list : Mode → Value → Option KnownExtensions
 extension_list mode = within sequence (λ vs. every (extension mode) vs >>= known_extensions)
-
--- ---- while they are read, what was found so far: a means for the loop, tied to the above by proofs/Gathering.antt
-
-abbrev pub FoundSoFar : Type 0
-FoundSoFar = Option (List ℕ) × (Option Bool × Option (List ℕ))
-
-unfoldable pub add : FoundSoFar → ExtensionFields → Option FoundSoFar
-add = both (slot (is names.subject_key_identifier) subject_in) (both (slot (is names.basic_constraints) ca_in) (last_slot (is names.authority_key_identifier) authority_in))
-
-unfoldable pub complete : FoundSoFar → Option KnownExtensions
-complete found = found.0 >>= λ subject. Some (record { subject = subject; basic_ca = found.1.0; authority = found.1.1 })

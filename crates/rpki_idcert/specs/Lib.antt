@@ -1,6 +1,7 @@
--- Said in contracts, and to be believed: TbsIdCert, IdCert, Extensions up to its last part, Spelling, Checks.
--- Means for readers: Shown, and the last part of Extensions.
+-- Said in contracts, and to be believed: TbsIdCert, IdCert, Extensions, Spelling, Checks.
+-- Means for readers: Shown, Gathered.
 pub mod Extensions
+pub mod Gathered
 pub mod Shown
 pub mod TbsIdCert
 pub mod IdCert

@@ -16,7 +16,9 @@ critical_flag true = der_primitive boolean_tag (255 ∷ [])
 critical_flag false = []
 
 abbrev pub spelled_extension : List ℕ → Bool → List ℕ → List ℕ
-spelled_extension identifier critical value = der_constructed sequence (der_primitive oid_tag identifier ++ (critical_flag critical ++ der_primitive octet_string_tag value))
+spelled_extension identifier critical value =
+    der_constructed sequence (der_primitive oid_tag identifier
+    ++ (critical_flag critical ++ der_primitive octet_string_tag value))
 
 -- basicConstraints, critical: a SEQUENCE of TRUE, or an empty one
 abbrev pub authority_flag : Bool → List ℕ
@@ -27,14 +29,18 @@ spelled_constraints None = []
 spelled_constraints (Some ca) = spelled_extension names.basic_constraints true (authority_flag ca)
 
 abbrev pub spelled_subject_key : List ℕ → List ℕ
-spelled_subject_key identifier = spelled_extension names.subject_key_identifier false (der_primitive octet_string_tag identifier)
+spelled_subject_key identifier =
+    spelled_extension names.subject_key_identifier false (der_primitive octet_string_tag identifier)
 
 abbrev pub spelled_authority_key : Option (List ℕ) → List ℕ
 spelled_authority_key None = []
-spelled_authority_key (Some identifier) = spelled_extension names.authority_key_identifier false (der_constructed sequence (der_primitive (context 0) identifier))
+spelled_authority_key (Some identifier) =
+    spelled_extension names.authority_key_identifier false
+    (der_constructed sequence (der_primitive (context 0) identifier))
 
 abbrev pub spelled_extensions : TbsFields → List ℕ
-spelled_extensions t = spelled_constraints t.basic_ca ++ (spelled_subject_key t.subject_key_id ++ spelled_authority_key t.authority_key_id)
+spelled_extensions t = spelled_constraints t.basic_ca
+    ++ (spelled_subject_key t.subject_key_id ++ spelled_authority_key t.authority_key_id)
 
 abbrev pub spelled_validity : ValidityFields → List ℕ
 spelled_validity v = der_constructed sequence (der_time v.not_before ++ der_time v.not_after)

@@ -8,7 +8,8 @@ ghost use Rattle.rpki_der.specs.Tags.{context};
 ghost use Rattle.rpki_der.specs.Ticks.{TakesCounted, TakesPartCounted, TakesRestCounted};
 ghost use Rattle.rpki_der.specs.InDer.{in_der, GivesCounted};
 ghost use Rattle.rpki_base.specs.KeyIdentifier.{key_identifier, key_identifier_under};
-ghost use Rattle.rpki_idcert.specs.Extensions.{path_length, basic_constraints, authority_key, extension_list, complete};
+ghost use Rattle.rpki_idcert.specs.Extensions.{path_length, basic_constraints, authority_key, extension_list};
+ghost use Rattle.rpki_idcert.specs.Gathered.{complete};
 ghost use Rattle.rpki_idcert.specs.Shown.{key_shown};
 
 use rpki_base::{
@@ -41,9 +42,17 @@ impl Model for Known {
 
     ghost Value = { KnownExtensions };
 
-    ghost view = { λ k. record { subject = k.subject; basic_ca = k.basic_ca; authority = k.authority } };
+    ghost view = { λ k. record {
+      subject = k.subject;
+      basic_ca = k.basic_ca;
+      authority = k.authority;
+    } };
 
-    ghost inverse = { λ k. record { subject = k.subject; basic_ca = k.basic_ca; authority = k.authority } };
+    ghost inverse = { λ k. record {
+      subject = k.subject;
+      basic_ca = k.basic_ca;
+      authority = k.authority;
+    } };
 }
 
 impl Known {
@@ -64,7 +73,7 @@ struct Found {
 }
 
 impl Model for Found {
-    ghost use Rattle.rpki_idcert.specs.Extensions.{FoundSoFar};
+    ghost use Rattle.rpki_idcert.specs.Gathered.{FoundSoFar};
 
     ghost Value = { FoundSoFar };
 
@@ -77,7 +86,8 @@ fn leave_path_length<L: Ledger>(
     steps: &mut Steps<L>,
 ) -> Result<(), DecodeError>
     requires { cursor.old.levels ≢ [] }
-    ensures { TakesRestCounted 1 0 path_length (λ x. x) cursor.old cursor.new steps.old steps.new result }
+    ensures { TakesRestCounted 1 0 path_length (λ x. x)
+        cursor.old cursor.new steps.old steps.new result }
 {
     if cursor.end() {
         return cursor.leave_counted(steps);
@@ -91,7 +101,8 @@ fn take_basic_constraints<L: Ledger>(
     cursor: &mut Cursor<'_>,
     steps: &mut Steps<L>,
 ) -> Result<bool, DecodeError>
-    ensures { TakesCounted 1 (basic_constraints cursor.old.mode) (λ x. x) cursor.old cursor.new steps.old steps.new result }
+    ensures { TakesCounted 1 (basic_constraints cursor.old.mode) (λ x. x)
+        cursor.old cursor.new steps.old steps.new result }
 {
     cursor.enter_counted(Tag::SEQUENCE, steps)?;
     let ca = take_opt_boolean_counted(cursor, steps)?;
@@ -115,7 +126,8 @@ fn take_opt_key_identifier<L: Ledger>(
     cursor: &mut Cursor<'_>,
     steps: &mut Steps<L>,
 ) -> Result<Option<KeyIdentifier>, DecodeError>
-    ensures { TakesPartCounted 1 1 (optional (context 0) (key_identifier_under (context 0) Der)) (λ x. x) cursor.old cursor.new steps.old steps.new result }
+    ensures { TakesPartCounted 1 1 (optional (context 0) (key_identifier_under (context 0) Der))
+        (λ x. x) cursor.old cursor.new steps.old steps.new result }
 {
     match cursor.take_opt_if_counted(Tag::CTX_0, steps)? {
         None => Ok(None),
@@ -131,7 +143,8 @@ fn take_authority_key<L: Ledger>(
     cursor: &mut Cursor<'_>,
     steps: &mut Steps<L>,
 ) -> Result<Option<KeyIdentifier>, DecodeError>
-    ensures { TakesCounted 1 authority_key (λ x. x) cursor.old cursor.new steps.old steps.new result }
+    ensures { TakesCounted 1 authority_key (λ x. x)
+        cursor.old cursor.new steps.old steps.new result }
 {
     cursor.enter_counted(Tag::SEQUENCE, steps)?;
     let key = take_opt_key_identifier(cursor, steps)?;
@@ -146,7 +159,8 @@ fn add_subject<L: Ledger>(
     found: Option<KeyIdentifier>,
     steps: &mut Steps<L>,
 ) -> Result<Option<KeyIdentifier>, DecodeError>
-    ensures { GivesCounted 1 (once found (in_der (key_identifier Der) octets.now)) (λ x. x) octets.now steps.old steps.new result }
+    ensures { GivesCounted 1 (once found (in_der (key_identifier Der) octets.now)) (λ x. x)
+        octets.now steps.old steps.new result }
 {
     if found.is_some() {
         return Err(DecodeError::Malformed);
@@ -163,7 +177,8 @@ fn add_ca<L: Ledger>(
     found: Option<bool>,
     steps: &mut Steps<L>,
 ) -> Result<Option<bool>, DecodeError>
-    ensures { GivesCounted 1 (once found (in_der (basic_constraints Der) octets.now)) (λ x. x) octets.now steps.old steps.new result }
+    ensures { GivesCounted 1 (once found (in_der (basic_constraints Der) octets.now)) (λ x. x)
+        octets.now steps.old steps.new result }
 {
     if found.is_some() {
         return Err(DecodeError::Malformed);
@@ -179,7 +194,8 @@ fn read_authority<L: Ledger>(
     octets: &[u8],
     steps: &mut Steps<L>,
 ) -> Result<Option<KeyIdentifier>, DecodeError>
-    ensures { GivesCounted 1 (in_der authority_key octets.now) (λ x. x) octets.now steps.old steps.new result }
+    ensures { GivesCounted 1 (in_der authority_key octets.now) (λ x. x) octets.now steps.old
+        steps.new result }
 {
     let mut cursor = Cursor::new(alloc, Mode::Der, octets);
     take_authority_key(&mut cursor, steps)
@@ -193,7 +209,7 @@ fn held<'a>(extension: &'a Extension<'_>) -> &'a [u8]
 }
 
 impl FindsExtensions for Found {
-    ghost use Rattle.rpki_idcert.specs.Extensions.{add};
+    ghost use Rattle.rpki_idcert.specs.Gathered.{add};
 
     ghost with = { add };
 
@@ -258,7 +274,8 @@ pub(crate) fn take_extensions<L: Ledger>(
     cursor: &mut Cursor<'_>,
     steps: &mut Steps<L>,
 ) -> Result<Known, DecodeError>
-    ensures { TakesCounted 2 (wrapped (context 3) (extension_list cursor.old.mode)) (λ x. x) cursor.old cursor.new steps.old steps.new result }
+    ensures { TakesCounted 2 (wrapped (context 3) (extension_list cursor.old.mode)) (λ x. x)
+        cursor.old cursor.new steps.old steps.new result }
 {
     let none = Found {
         subject: None,

@@ -14,12 +14,8 @@ ghost use Rattle.rpki_idcert.specs.TbsIdCert.{tbs_certificate};
 
 use crate::tbs::{TbsIdCert, take_held};
 use bytes::Bytes;
-use rpki_base::{
-    RpkiSignatureAlgorithm, SignedData, Time, VerificationError, leave_signature,
-};
-use rpki_der::{
-    Captured, Cursor, DecodeError, Mode, OutOfMemory, Steps, Tag, Writer,
-};
+use rpki_base::{RpkiSignatureAlgorithm, SignedData, Time, VerificationError, leave_signature};
+use rpki_der::{Captured, Cursor, DecodeError, Mode, OutOfMemory, Steps, Tag, Writer};
 use std::alloc::Global;
 use std::marker::{Brand, Model};
 use std::sync::ledger::{Blank, Ledger};
@@ -107,7 +103,8 @@ impl IdCert {
 
     /// The certificate that stands next.
     pub fn take_from(alloc: Global, cursor: &mut Cursor<'_>) -> Result<IdCert, DecodeError>
-        ensures { Takes (identity_certificate cursor.old.mode) (λ c. c) cursor.old cursor.new result }
+        ensures { Takes (identity_certificate cursor.old.mode) (λ c. c)
+            cursor.old cursor.new result }
     {
         IdCert::take_from_within::<Brand>(alloc, cursor, Blank::new(1))
     }
@@ -120,7 +117,8 @@ impl IdCert {
         requires name { blank.name ≡ L.name }
         requires parts { blank.parts ≡ L.parts }
         requires some { 0 < blank.parts }
-        ensures { Takes (identity_certificate cursor.old.mode) (λ c. c) cursor.old cursor.new result }
+        ensures { Takes (identity_certificate cursor.old.mode) (λ c. c)
+            cursor.old cursor.new result }
     {
         let mut steps = Steps::<L>::new(blank);
         IdCert::take_from_counted(alloc, cursor, &mut steps)
@@ -132,7 +130,8 @@ impl IdCert {
         cursor: &mut Cursor<'_>,
         steps: &mut Steps<L>,
     ) -> Result<IdCert, DecodeError>
-        ensures { TakesCounted 2 (identity_certificate cursor.old.mode) (λ c. c) cursor.old cursor.new steps.old steps.new result }
+        ensures { TakesCounted 2 (identity_certificate cursor.old.mode) (λ c. c)
+            cursor.old cursor.new steps.old steps.new result }
     {
         cursor.enter_counted(Tag::SEQUENCE, steps)?;
         let (octets, tbs) = take_held(alloc, cursor, steps)?;

@@ -13,10 +13,5 @@ mod tbs;
 mod validation;
 
 pub use id_cert::{IdCert, signed_octets_determine_the_fields};
-pub use rpki_base::{
-    ValidationError, ValidationKind, first_false_decides, names_issuer, require,
-};
+pub use rpki_base::{ValidationError, ValidationKind, first_false_decides, names_issuer, require};
 pub use tbs::{TbsIdCert, equal_certificates_are_the_same};
-
-#[cfg(test)]
-mod tests;

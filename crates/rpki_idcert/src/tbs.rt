@@ -180,7 +180,8 @@ impl TbsIdCert {
         cursor: &mut Cursor<'_>,
         steps: &mut Steps<L>,
     ) -> Result<TbsIdCert, DecodeError>
-        ensures { TakesCounted 2 (tbs_certificate cursor.old.mode) (λ x. x) cursor.old cursor.new steps.old steps.new result }
+        ensures { TakesCounted 2 (tbs_certificate cursor.old.mode) (λ x. x)
+            cursor.old cursor.new steps.old steps.new result }
     {
         cursor.enter_counted(Tag::SEQUENCE, steps)?;
         take_version(cursor, steps)?;
@@ -235,7 +236,8 @@ pub(crate) fn take_held<'a, L: Ledger>(
     cursor: &mut Cursor<'a>,
     steps: &mut Steps<L>,
 ) -> Result<(&'a [u8], TbsIdCert), DecodeError>
-    ensures { TakesCounted 2 (with_octets (tbs_certificate cursor.old.mode)) (λ x. (x.0.now, x.1)) cursor.old cursor.new steps.old steps.new result }
+    ensures { TakesCounted 2 (with_octets (tbs_certificate cursor.old.mode)) (λ x. (x.0.now, x.1))
+        cursor.old cursor.new steps.old steps.new result }
 {
     let start = cursor.here();
     let tbs = TbsIdCert::take_from_counted(alloc, cursor, steps)?;

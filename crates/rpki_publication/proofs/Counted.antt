@@ -1,9 +1,8 @@
 -- How often the decoding of a signed message ticks.
-use Rattle.std.proofs.Common.{◌≡◌, ℕ, ◌+◌, ◌*◌, ◌≤◌, Result, Ok, Err, List, length, ap, subst, arith}
+use Rattle.std.proofs.Common.{◌≡◌, ℕ, ◌+◌, ◌*◌, ◌≤◌, Result, Ok, Err, List, length, subst, arith}
 use Rattle.rpki_der.specs.declared.error.DecodeError.{DecodeError}
 use Rattle.rpki_der.specs.declared.error.DecodeError.TheVariants as der
 use Rattle.rpki_der.specs.declared.mode.Mode.TheVariants.{Ber}
-use Rattle.rpki_der.specs.Takes.{RefusesOctets}
 use Rattle.rpki_der.specs.Ticks.{nodes, DecodesCounted, CountedBegins}
 use Rattle.rpki_der.specs.Value.{Value, Begins}
 use Rattle.rpki_der.proofs.Parts.{at_most_one}

@@ -87,7 +87,8 @@ impl PublicationCms {
         ensures most { steps.new ≤ steps.old + 3 * length octets.now + 8 }
 
         // Where a signed message was found, each value in it ticked.
-        ensures least { FindsSigned result → (v : Value) (rest : List ℕ) → Begins Ber octets.now v rest →
+        ensures least { FindsSigned result → (v : Value) (rest : List ℕ)
+            → Begins Ber octets.now v rest →
             steps.old + nodes v ≤ steps.new }
     {
         let signed = SignedMessage::decode_counted(alloc, octets, false, steps)?;
@@ -147,7 +148,8 @@ impl PublicationCms {
         when: Time,
     ) -> Result<(), Error>
         // Ok exactly where the three signatures and all the other checks hold.
-        ensures believed { (result ≡ Ok tt) ↔ checks.IsBelieved P.checks self.now.signed issuer_key.now when }
+        ensures believed { (result ≡ Ok tt) ↔ checks.IsBelieved P.checks self.now.signed
+            issuer_key.now when }
 
         // The first check that fails decides, whatever the scheme answers to the three questions.
         ensures first_failing { (q : checks.Asked P.checks self.now.signed issuer_key.now) →

@@ -23,6 +23,3 @@ pub use error::Error;
 pub use law::{at_most_one, content_type_is, written_is_read};
 pub use message::{CONTENT_TYPE, Message, Query, Reply};
 pub use rpki_common::OutOfMemory;
-
-#[cfg(test)]
-mod tests;

@@ -1,5 +1,5 @@
 -- A value that a whole text spells.
-use Rattle.std.proofs.Common.{◌≡◌, ℕ, eqb, cond, Option, None, Some, List, [], ◌∷◌, length, ◌<◌, refl, sym, ◌∙◌, arith}
+use Rattle.std.proofs.Common.{◌≡◌, ℕ, eqb, cond, None, Some, List, [], ◌∷◌, length, ◌<◌, refl, sym, ◌∙◌, arith}
 use Rattle.std.proofs.lemmas.Bool.{cond-false, ne_eqb}
 use Rattle.std.specs.Net.Reader.{Read, whole_value}
 use Rattle.rpki_common.proofs.Truths.{none_some}

@@ -9,7 +9,8 @@ use Rattle.rpki_sets.specs.Kinds.{Kind, blocks_of, text_of}
 
 -- what stands behind `AS` in any case, or the whole text where it doesn't begin so
 abbrev pub without_as : List ℕ → List ℕ
-without_as text = if bytes_eq (map to_ascii_lowercase (take 2 text)) (codes "as") then drop 2 text else text
+without_as text = if bytes_eq (map to_ascii_lowercase (take 2 text)) (codes "as") then drop 2 text
+    else text
 
 -- decimal digits below 2 ^ 32, optionally after `AS` in any case
 unfoldable pub as_number : List ℕ → Option ℕ

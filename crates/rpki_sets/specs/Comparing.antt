@@ -8,4 +8,5 @@ abbrev pub is_same : Run → Run → Bool
 is_same a b = a.first == b.first && a.last == b.last
 
 pub is_same-equiv : IsEquivalence is_same
-is_same-equiv = and_equiv (on_equiv (λ r. r.first) nat_eq_equiv) (on_equiv (λ r. r.last) nat_eq_equiv)
+is_same-equiv = and_equiv (on_equiv (λ r. r.first) nat_eq_equiv)
+    (on_equiv (λ r. r.last) nat_eq_equiv)

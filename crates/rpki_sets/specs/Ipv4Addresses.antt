@@ -17,7 +17,12 @@ ipv4_number_text n = ipv4_text (to_be_bytes w32 n)
 
 -- IPv4 addresses
 abbrev pub ipv4_kind : Kind
-ipv4_kind = record { width = 32; has_prefixes = true; number = ipv4_number; number_text = ipv4_number_text }
+ipv4_kind = record {
+  width = 32;
+  has_prefixes = true;
+  number = ipv4_number;
+  number_text = ipv4_number_text;
+}
 
 -- the IPv4 addresses that a text stands for, as maximal runs
 abbrev pub ipv4_blocks : List ℕ → Option (List Run)

@@ -19,12 +19,14 @@ pub record Kind : Type 0 where
 
 -- a run between two ends, the first not above the second
 abbrev pub run_from : ℕ → ℕ → Option Run
-run_from first last = if nat_le first last then Some (record { first = first; last = last }) else None
+run_from first last = if nat_le first last then Some (record { first = first; last = last })
+    else None
 
 -- one number, or two with `-` between
 abbrev pub range_of : Kind → List ℕ → Option (List ℕ × List ℕ) → Option Run
 range_of kind text None = kind.number text >>= λ n. run_from n n
-range_of kind text (Some ends) = kind.number ends.0 >>= λ first. kind.number ends.1 >>= λ last. run_from first last
+range_of kind text (Some ends) =
+    kind.number ends.0 >>= λ first. kind.number ends.1 >>= λ last. run_from first last
 
 unfoldable pub range : Kind → List ℕ → Option Run
 range kind text = range_of kind text (cut dash text)
@@ -32,7 +34,8 @@ range kind text = range_of kind text (cut dash text)
 -- an address and a length; what the address has past the length is of no account
 abbrev pub prefix_of : Kind → List ℕ × List ℕ → Option Run
 prefix_of kind parts =
-    kind.number parts.0 >>= λ address. decimal_below (kind.width + 1) parts.1 >>= λ len. Some (prefix kind.width address len)
+    kind.number parts.0 >>= λ address. decimal_below (kind.width + 1) parts.1
+    >>= λ len. Some (prefix kind.width address len)
 
 -- an address and a length with `/` between, or a range
 abbrev pub prefix_or_range : Kind → List ℕ → Option (List ℕ × List ℕ) → Option Run
@@ -41,7 +44,8 @@ prefix_or_range kind text (Some parts) = prefix_of kind parts
 
 -- one item of a text
 unfoldable pub item : Kind → List ℕ → Option Run
-item kind text = if kind.has_prefixes then prefix_or_range kind text (cut slash text) else range kind text
+item kind text = if kind.has_prefixes then prefix_or_range kind text (cut slash text)
+    else range kind text
 
 -- one item, which may have spaces round it
 abbrev pub spaced_item : Kind → List ℕ → Option Run
@@ -75,7 +79,8 @@ run_text kind run =
 -- the runs with commas between them
 unfoldable pub text_of : Kind → List Run → List ℕ
 text_of kind [] = []
-text_of kind (run ∷ more) = run_text kind run ++ flat_map (λ next. codes "," ++ run_text kind next) more
+text_of kind (run ∷ more) = run_text kind run ++ flat_map (λ next. codes "," ++ run_text kind next)
+    more
 
 -- ---- what is asked of a kind
 

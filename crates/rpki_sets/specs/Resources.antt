@@ -17,15 +17,18 @@ pub record Resources : Type 0 where
 -- both have the same sets
 abbrev pub are_same : Resources → Resources → Bool
 are_same a b =
-    pointwise is_same a.asn b.asn && (pointwise is_same a.ipv4 b.ipv4 && pointwise is_same a.ipv6 b.ipv6)
+    pointwise is_same a.asn b.asn && (pointwise is_same a.ipv4 b.ipv4 && pointwise is_same a.ipv6
+    b.ipv6)
 
 pub are_same-equiv : IsEquivalence are_same
 are_same-equiv =
     and_equiv (on_equiv (λ r. r.asn) (lists_equiv is_same-equiv))
-    (and_equiv (on_equiv (λ r. r.ipv4) (lists_equiv is_same-equiv)) (on_equiv (λ r. r.ipv6) (lists_equiv is_same-equiv)))
+    (and_equiv (on_equiv (λ r. r.ipv4) (lists_equiv is_same-equiv))
+    (on_equiv (λ r. r.ipv6) (lists_equiv is_same-equiv)))
 
 -- the three sets, each in quotation marks
 abbrev pub resources_text : Resources → List ℕ
 resources_text r =
-    codes "asn: '" ++ (as_text r.asn ++ (codes "', ipv4: '" ++ (ipv4_blocks_text r.ipv4 ++ (codes "', ipv6: '"
+    codes "asn: '" ++ (as_text r.asn ++ (codes "', ipv4: '"
+    ++ (ipv4_blocks_text r.ipv4 ++ (codes "', ipv6: '"
     ++ (ipv6_blocks_text r.ipv6 ++ codes "'")))))

@@ -52,7 +52,8 @@ unfoldable pub add : Run → List Run → List Run
 add run [] = run ∷ []
 add run (next ∷ more) =
     if nat_lt (run.last + 1) next.first then run ∷ next ∷ more
-    else (if nat_lt (next.last + 1) run.first then next ∷ add run more else add (hull run next) more)
+    else (if nat_lt (next.last + 1) run.first then next ∷ add run more
+    else add (hull run next) more)
 
 -- the maximal runs of the numbers in these runs
 unfoldable pub union : List Run → List Run

@@ -33,7 +33,8 @@ trimmed text = reverse (skip_spaces (reverse (skip_spaces text)))
 -- what stands before the first mark, and what stands behind it
 unfoldable pub cut : ℕ → List ℕ → Option (List ℕ × List ℕ)
 cut mark text =
-    position (λ octet. octet == mark) text >>= λ place. Some (take place text, drop (place + 1) text)
+    position (λ octet. octet == mark) text >>= λ place.
+    Some (take place text, drop (place + 1) text)
 
 -- what stands between commas
 abbrev pub at_commas : List ℕ → List (List ℕ)

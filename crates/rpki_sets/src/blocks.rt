@@ -55,8 +55,10 @@ impl<N: Numbers> Blocks<N> {
     /// rule.
     pub fn from_str(alloc: Global, text: &str) -> Result<Self, BlocksError>
         ensures set { IfOk result (λ blocks. blocks_of N.kind text.now ≡ Some blocks) }
-        ensures numbers { IfOk result (λ blocks. IsSomeAnd (runs_of N.kind text.now) (λ runs. SameNumbers blocks runs)) }
-        ensures malformed { IsErrOf result BlocksError.Malformed → blocks_of N.kind text.now ≡ None }
+        ensures numbers { IfOk result (λ blocks. IsSomeAnd (runs_of N.kind text.now)
+            (λ runs. SameNumbers blocks runs)) }
+        ensures malformed { IsErrOf result BlocksError.Malformed
+            → blocks_of N.kind text.now ≡ None }
     {
         let runs = read_runs::<N>(alloc, text.as_bytes())?;
         N::law();

@@ -39,6 +39,3 @@ pub use numbers::Numbers;
 pub use resource_set::ResourceSet;
 pub use rpki_common::OutOfMemory;
 pub use run::Run;
-
-#[cfg(test)]
-mod tests;

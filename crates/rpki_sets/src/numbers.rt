@@ -25,7 +25,8 @@ pub trait Numbers {
     /// Writes the text of a number.
     fn write<W: fmt::Write>(f: &mut fmt::Formatter<W>, number: u128) -> fmt::Result
         requires { number < 2 ^ kind.width }
-        ensures { DisplaysOnOk W.Write.write_str_gives f.old result (Some (kind.number_text number)) f.new };
+        ensures { DisplaysOnOk W.Write.write_str_gives f.old result (Some (kind.number_text number))
+            f.new };
 
     /// What holds of every kind: numbers that are read have no more bits than the kind, and what is written is read as
     /// the same number.

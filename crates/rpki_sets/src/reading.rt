@@ -20,8 +20,10 @@ fn read_spaced_item<N: Numbers>(text: &[u8]) -> Option<Run>
 
 /// The runs of the items between commas.
 fn read_parts<N: Numbers>(alloc: Global, text: &[u8]) -> Result<Vec<Run>, BlocksError>
-    ensures runs { IfOk result (λ runs. read_all (spaced_item N.kind) (at_commas text.now) ≡ Some runs.items) }
-    ensures malformed { IsErrOf result BlocksError.Malformed → read_all (spaced_item N.kind) (at_commas text.now) ≡ None }
+    ensures runs { IfOk result (λ runs. read_all (spaced_item N.kind) (at_commas text.now)
+        ≡ Some runs.items) }
+    ensures malformed { IsErrOf result BlocksError.Malformed
+        → read_all (spaced_item N.kind) (at_commas text.now) ≡ None }
 {
     let mut runs = Vec::new(alloc);
     let mut rest = text;

@@ -13,7 +13,8 @@ use std::fmt;
 fn write_range<N: Numbers, W: fmt::Write>(f: &mut fmt::Formatter<W>, run: &Run) -> fmt::Result
     requires ordered { run.now.first ≤ run.now.last }
     requires within { run.now.last < 2 ^ N.kind.width }
-    ensures { DisplaysOnOk W.Write.write_str_gives f.old result (Some (range_text N.kind run.now)) f.new }
+    ensures { DisplaysOnOk W.Write.write_str_gives f.old result (Some (range_text N.kind run.now))
+        f.new }
 {
     N::write(f, run.first)?;
     f.write_str("-")?;
@@ -24,7 +25,8 @@ fn write_range<N: Numbers, W: fmt::Write>(f: &mut fmt::Formatter<W>, run: &Run) 
 pub fn write_run<N: Numbers, W: fmt::Write>(f: &mut fmt::Formatter<W>, run: &Run) -> fmt::Result
     requires ordered { run.now.first ≤ run.now.last }
     requires within { run.now.last < 2 ^ N.kind.width }
-    ensures { DisplaysOnOk W.Write.write_str_gives f.old result (Some (run_text N.kind run.now)) f.new }
+    ensures { DisplaysOnOk W.Write.write_str_gives f.old result (Some (run_text N.kind run.now))
+        f.new }
 {
     if N::has_prefixes() {
         N::law();

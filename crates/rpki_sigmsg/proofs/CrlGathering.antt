@@ -1,5 +1,5 @@
 -- What an extension of a CRL adds to those found so far, and what all add up to.
-use Rattle.std.proofs.Common.{◌≡◌, ℕ, true, false, Option, None, Some, List, refl, ◌∙◌}
+use Rattle.std.proofs.Common.{◌≡◌, ℕ, true, false, None, Some, List, refl, ◌∙◌}
 use Rattle.std.specs.Prelude.{bytes_eq}
 use Rattle.rpki_common.specs.Chaining.{◌>>=◌}
 use Rattle.rpki_common.specs.Collecting.{collect, once, slot, both}
@@ -14,7 +14,8 @@ use Rattle.rpki_der.proofs.Leftovers.{gather_every, gather_same, within_same, wr
 use Rattle.rpki_base.specs.Names.{authority_key_identifier, crl_number}
 use Rattle.rpki_base.specs.Serial.{serial}
 use Rattle.rpki_base.specs.Extension.{ExtensionFields, extension, gathered, is}
-use Rattle.rpki_sigmsg.specs.CrlExtensions.{issuer_key, authority_in, number_in, KnownExtensions, known_extensions, extension_list, add}
+use Rattle.rpki_sigmsg.specs.CrlExtensions.{issuer_key, authority_in, number_in, KnownExtensions, known_extensions, extension_list}
+use Rattle.rpki_sigmsg.specs.CrlGathered.{add}
 use Rattle.rpki_common.proofs.Truths.{same_octets}
 
 -- ---- one extension

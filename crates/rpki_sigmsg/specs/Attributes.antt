@@ -2,20 +2,18 @@
 use Rattle.std.specs.Prelude.{ℕ, ℤ, filter, Option, Some, List}
 use Rattle.rpki_common.specs.Chaining.{◌>>=◌}
 use Rattle.rpki_common.specs.Items.{the_one, at_most_one}
-use Rattle.rpki_common.specs.Collecting.{slot, both}
 use Rattle.rpki_der.specs.declared.mode.Mode.{Mode}
-use Rattle.rpki_der.specs.Tags.{context, sequence, set}
+use Rattle.rpki_der.specs.Tags.{context, set}
 use Rattle.rpki_der.specs.Value.{Value, Values}
-use Rattle.rpki_der.specs.Grammar.{within, first, every}
+use Rattle.rpki_der.specs.Grammar.{within, every}
 use Rattle.rpki_der.specs.Held.{held}
 use Rattle.rpki_der.specs.Number.{u64}
-use Rattle.rpki_der.specs.Oid.{oid, oid_is}
+use Rattle.rpki_der.specs.Oid.{oid_is}
 use Rattle.rpki_der.specs.OctetString.{octet_string}
 use Rattle.rpki_der.specs.Entry.{entry, is, set_of}
 use Rattle.rpki_der.specs.Writing.{der_constructed}
 use Rattle.rpki_base.specs.Time.{time}
 use Rattle.rpki_sigmsg.specs.Names.{content_type, message_digest, signing_time, binary_signing_time, xml_content}
-use Rattle.rpki_sigmsg.specs.declared.attributes.Found.{Found}
 
 -- the signed digest, and the time of signing, if it is said
 pub record AttributeFields : Type 0 where
@@ -60,26 +58,3 @@ signed_attributes mode = within (context 0) (held (λ vs. every entry vs >>= att
 -- what the signature of the attributes covers: their octets as they stand, in a SET with a DER length in place of [0] (5.4)
 abbrev pub covered : List ℕ → List ℕ
 covered octets = der_constructed set octets
-
--- ---- while they are read, what was found so far: a means for the loop, tied to the above by proofs/Adding.antt
-
-abbrev pub TimesFound : Type 0
-TimesFound = Option ℤ × Option ℕ
-
-abbrev pub FoundSoFar : Type 0
-FoundSoFar = Option (Unit {0}) × (Option (List ℕ) × TimesFound)
-
-unfoldable pub add_times : TimesFound → List ℕ × Values → Option TimesFound
-add_times = both (slot (is signing_time) time_in) (slot (is binary_signing_time) binary_in)
-
-unfoldable pub add : Mode → FoundSoFar → List ℕ × Values → Option FoundSoFar
-add mode = both (slot (is content_type) type_in) (both (slot (is message_digest) (digest_in mode)) add_times)
-
-unfoldable pub add_value : Mode → FoundSoFar → Value → Option FoundSoFar
-add_value mode found = within sequence (λ vs. first oid vs >>= add mode found)
-
-unfoldable pub complete : FoundSoFar → Option AttributeFields
-complete found = found.0 >>= λ type. found.1.0 >>= λ digest. Some (record { digest = digest; signing_time = found.1.1.0 })
-
-abbrev pub shown : Found → FoundSoFar
-shown f = (f.content_type, (f.digest, (f.times.signing, f.times.binary)))

@@ -60,14 +60,17 @@ pub record AreSigned (scheme : Relation) (m : MessageFields) (issuer : KeyFields
   pub crl : IsSigned scheme m.crl issuer
 
 -- the three signatures hold, and with them all fourteen checks
-pub record IsBelieved (scheme : Relation) (m : MessageFields) (issuer : KeyFields) (when : ℤ) : Type 0 where
+pub record IsBelieved (scheme : Relation) (m : MessageFields) (issuer : KeyFields) (when : ℤ) : Type
+    0 where
   pub signatures : AreSigned scheme m issuer
   pub passes : first_failure 1 (checks m issuer when true true true) ≡ Ok tt
 
 -- what the checks answer: Ok exactly where the message is believed, and else the first check that fails, whatever the scheme answers
-pub record IsValidation (scheme : Relation) (m : MessageFields) (issuer : KeyFields) (when : ℤ) (answer : Result (Unit {0}) ValidationError) : Type 0 where
+pub record IsValidation (scheme : Relation) (m : MessageFields) (issuer : KeyFields) (when : ℤ)
+    (answer : Result (Unit {0}) ValidationError) : Type 0 where
   pub believed : (answer ≡ Ok tt) ↔ IsBelieved scheme m issuer when
-  pub first_failing : (q : Asked scheme m issuer) → answer ≡ failing kind_of (first_failure 1 (checks m issuer when q.q3 q.q8 q.q10))
+  pub first_failing : (q : Asked scheme m issuer)
+      → answer ≡ failing kind_of (first_failure 1 (checks m issuer when q.q3 q.q8 q.q10))
 
 -- ---- what the checks ask of a scheme
 

@@ -32,7 +32,8 @@ crl_checks c issuer when q =
     ∷ []
 
 -- the CRL is signed under the issuer's key, and with that all five checks hold
-pub record IsListBelieved (scheme : Relation) (c : CrlFields) (issuer : KeyFields) (when : ℤ) : Type 0 where
+pub record IsListBelieved (scheme : Relation) (c : CrlFields) (issuer : KeyFields) (when : ℤ) : Type
+    0 where
   pub signed : IsSigned scheme c issuer
   pub passes : first_failure 9 (crl_checks c issuer when true) ≡ Ok tt
 

@@ -2,12 +2,11 @@
 use Rattle.std.specs.Prelude.{ℕ, filter, Option, Some, List}
 use Rattle.rpki_common.specs.Chaining.{◌>>=◌}
 use Rattle.rpki_common.specs.Items.{at_most_one}
-use Rattle.rpki_common.specs.Collecting.{slot, both}
 use Rattle.rpki_der.specs.declared.mode.Mode.{Mode}
 use Rattle.rpki_der.specs.declared.mode.Mode.TheVariants.{Der}
 use Rattle.rpki_der.specs.Tags.{sequence, context}
 use Rattle.rpki_der.specs.Value.{Value}
-use Rattle.rpki_der.specs.Grammar.{within, wrapped, every, so}
+use Rattle.rpki_der.specs.Grammar.{within, wrapped, every}
 use Rattle.rpki_der.specs.InDer.{in_der}
 use Rattle.rpki_base.specs.KeyIdentifier.{key_identifier_under}
 use Rattle.rpki_base.specs.Serial.{serial}
@@ -45,8 +44,3 @@ known_extensions all = do
 -- a SEQUENCE of extensions
 unfoldable pub extension_list : Mode → Value → Option KnownExtensions
 extension_list mode = within sequence (λ vs. every (extension mode) vs >>= known_extensions)
-
--- ---- while they are read, what was found so far: a means for the loop, tied to the above by proofs/CrlGathering.antt
-
-unfoldable pub add : KnownExtensions → ExtensionFields → Option KnownExtensions
-add = both (slot (is names.authority_key_identifier) authority_in) (slot (is names.crl_number) number_in)

@@ -1,13 +1,15 @@
--- Said in contracts, and to be believed: Names, Algorithm, Attributes and CrlExtensions up to their last parts, Signer,
--- RevokedCertificates, TbsCrl, Crl, Message, CrlChecks, Checks.
--- Means for readers: Ahead, and the last parts of Attributes and CrlExtensions.
+-- Said in contracts, and to be believed: Names, Algorithm, Attributes, CrlExtensions, Signer, RevokedCertificates, TbsCrl, Crl, Message,
+-- Places, CrlChecks, Checks.
+-- Means for readers: Ahead, Gathered, CrlGathered.
 pub mod Names
 pub mod Algorithm
 pub mod Attributes
+pub mod Gathered
 pub mod Signer
 pub mod Ahead
 pub mod RevokedCertificates
 pub mod CrlExtensions
+pub mod CrlGathered
 pub mod TbsCrl
 pub mod Crl
 pub mod CrlChecks

@@ -59,7 +59,8 @@ abbrev pub crl_in_der : Value → Option CrlFields
 crl_in_der = so any (in_der (revocation_list Der))
 
 -- the parts of a message as a view of it
-abbrev pub view_of : List ℕ × List ℕ → List ℕ × CertificateFields → List ℕ × CrlFields → SignerFields → ViewFields
+abbrev pub view_of : List ℕ × List ℕ → List ℕ × CertificateFields → List ℕ × CrlFields
+    → SignerFields → ViewFields
 view_of content certificate crl signer = record {
   message = record {
     content = content.1;

@@ -6,8 +6,10 @@ use Rattle.rpki_sigmsg.specs.Message.{ViewFields}
 abbrev pub StandInTurn : List (List ℕ) → List ℕ → Type 0
 StandInTurn [] octets = ⊤
 StandInTurn (part ∷ parts) octets =
-    (before : List ℕ) × (behind : List ℕ) × (octets ≡ before ++ (part ++ behind)) × StandInTurn parts behind
+    (before : List ℕ) × (behind : List ℕ) × (octets ≡ before ++ (part ++ behind))
+    × StandInTurn parts behind
 
 -- in the order in which they are read
 abbrev pub parts_of : ViewFields → List (List ℕ)
-parts_of view = view.content_value ∷ view.certificate ∷ view.crl ∷ view.attributes ∷ view.signature_value ∷ []
+parts_of view = view.content_value ∷ view.certificate ∷ view.crl ∷ view.attributes
+    ∷ view.signature_value ∷ []

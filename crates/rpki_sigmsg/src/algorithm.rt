@@ -16,7 +16,8 @@ pub(crate) fn pass_digest_algorithm<L: Ledger>(
     cursor: &mut Cursor<'_>,
     steps: &mut Steps<L>,
 ) -> Result<(), DecodeError>
-    ensures { TakesCounted 1 digest_algorithm (λ x. x) cursor.old cursor.new steps.old steps.new result }
+    ensures { TakesCounted 1 digest_algorithm (λ x. x)
+        cursor.old cursor.new steps.old steps.new result }
 {
     cursor.enter_counted(Tag::SEQUENCE, steps)?;
     take_oid_if_counted(cursor, &SHA256, steps)?;
@@ -31,7 +32,8 @@ pub(crate) fn take_signature_algorithm<L: Ledger>(
     cursor: &mut Cursor<'_>,
     steps: &mut Steps<L>,
 ) -> Result<RpkiSignatureAlgorithm, DecodeError>
-    ensures { TakesCounted 1 (signature_algorithm cursor.old.mode) (λ a. a) cursor.old cursor.new steps.old steps.new result }
+    ensures { TakesCounted 1 (signature_algorithm cursor.old.mode) (λ a. a)
+        cursor.old cursor.new steps.old steps.new result }
 {
     let mode = cursor.mode();
     let octets = cursor.capture_counted(steps)?;
@@ -46,7 +48,8 @@ pub(crate) fn pass_sequence<L: Ledger>(
     cursor: &mut Cursor<'_>,
     steps: &mut Steps<L>,
 ) -> Result<(), DecodeError>
-    ensures { TakesCounted 1 any_sequence (λ x. x) cursor.old cursor.new steps.old steps.new result }
+    ensures { TakesCounted 1 any_sequence (λ x. x)
+        cursor.old cursor.new steps.old steps.new result }
 {
     cursor.enter_counted(Tag::SEQUENCE, steps)?;
     pass_rest_counted(cursor, steps)

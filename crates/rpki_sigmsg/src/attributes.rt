@@ -9,7 +9,8 @@ ghost use Rattle.rpki_der.specs.Ticks.{TakesCounted, TakesRestCounted};
 ghost use Rattle.rpki_common.specs.Collecting.{once};
 ghost use Rattle.rpki_base.specs.Time.{time};
 ghost use Rattle.rpki_sigmsg.specs.Names.{xml_content};
-ghost use Rattle.rpki_sigmsg.specs.Attributes.{signed_attributes, covered, add, add_times, add_value, complete, shown};
+ghost use Rattle.rpki_sigmsg.specs.Attributes.{signed_attributes, covered};
+ghost use Rattle.rpki_sigmsg.specs.Gathered.{add, add_times, add_value, complete, shown};
 
 use crate::names::{BINARY_SIGNING_TIME, CONTENT_TYPE, CT_XML, MESSAGE_DIGEST, SIGNING_TIME};
 use crate::octets::take_shared_octets;
@@ -67,7 +68,8 @@ fn finish_content_type<L: Ledger>(
     steps: &mut Steps<L>,
 ) -> Result<Option<()>, DecodeError>
     requires { cursor.old.levels ≢ [] }
-    ensures { TakesRestCounted 1 0 (λ vs. once found (set_of (oid_is xml_content) vs)) (λ x. x) cursor.old cursor.new steps.old steps.new result }
+    ensures { TakesRestCounted 1 0 (λ vs. once found (set_of (oid_is xml_content) vs)) (λ x. x)
+        cursor.old cursor.new steps.old steps.new result }
 {
     if found.is_some() {
         return Err(DecodeError::Malformed);
@@ -87,7 +89,8 @@ fn finish_digest<L: Ledger>(
     steps: &mut Steps<L>,
 ) -> Result<Option<Bytes>, DecodeError>
     requires { cursor.old.levels ≢ [] }
-    ensures { TakesRestCounted 1 0 (λ vs. once found (set_of (octet_string cursor.old.mode) vs)) (λ x. x) cursor.old cursor.new steps.old steps.new result }
+    ensures { TakesRestCounted 1 0 (λ vs. once found (set_of (octet_string cursor.old.mode) vs))
+        (λ x. x) cursor.old cursor.new steps.old steps.new result }
 {
     if found.is_some() {
         return Err(DecodeError::Malformed);
@@ -106,7 +109,8 @@ fn finish_signing_time<L: Ledger>(
     steps: &mut Steps<L>,
 ) -> Result<Option<Time>, DecodeError>
     requires { cursor.old.levels ≢ [] }
-    ensures { TakesRestCounted 1 0 (λ vs. once found (set_of time vs)) (λ x. x) cursor.old cursor.new steps.old steps.new result }
+    ensures { TakesRestCounted 1 0 (λ vs. once found (set_of time vs)) (λ x. x)
+        cursor.old cursor.new steps.old steps.new result }
 {
     if found.is_some() {
         return Err(DecodeError::Malformed);
@@ -125,7 +129,8 @@ fn finish_binary_time<L: Ledger>(
     steps: &mut Steps<L>,
 ) -> Result<Option<u64>, DecodeError>
     requires { cursor.old.levels ≢ [] }
-    ensures { TakesRestCounted 1 0 (λ vs. once found (set_of u64 vs)) (λ x. x) cursor.old cursor.new steps.old steps.new result }
+    ensures { TakesRestCounted 1 0 (λ vs. once found (set_of u64 vs)) (λ x. x)
+        cursor.old cursor.new steps.old steps.new result }
 {
     if found.is_some() {
         return Err(DecodeError::Malformed);
@@ -145,7 +150,8 @@ fn finish_time<L: Ledger>(
     steps: &mut Steps<L>,
 ) -> Result<Times, DecodeError>
     requires { cursor.old.levels ≢ [] }
-    ensures { TakesRestCounted 1 0 (λ vs. add_times (found.signing, found.binary) (kind.now, vs)) (λ t. (t.signing, t.binary)) cursor.old cursor.new steps.old steps.new result }
+    ensures { TakesRestCounted 1 0 (λ vs. add_times (found.signing, found.binary) (kind.now, vs))
+        (λ t. (t.signing, t.binary)) cursor.old cursor.new steps.old steps.new result }
 {
     let Times { signing, binary } = found;
     if kind == SIGNING_TIME.as_slice() {
@@ -169,7 +175,8 @@ fn finish_attribute<L: Ledger>(
     steps: &mut Steps<L>,
 ) -> Result<Found, DecodeError>
     requires { cursor.old.levels ≢ [] }
-    ensures { TakesRestCounted 1 0 (λ vs. add cursor.old.mode (shown found) (kind.now, vs)) shown cursor.old cursor.new steps.old steps.new result }
+    ensures { TakesRestCounted 1 0 (λ vs. add cursor.old.mode (shown found) (kind.now, vs)) shown
+        cursor.old cursor.new steps.old steps.new result }
 {
     let Found {
         content_type,
@@ -206,7 +213,8 @@ fn take_attribute<L: Ledger>(
     found: Found,
     steps: &mut Steps<L>,
 ) -> Result<Found, DecodeError>
-    ensures { TakesCounted 1 (add_value cursor.old.mode (shown found)) shown cursor.old cursor.new steps.old steps.new result }
+    ensures { TakesCounted 1 (add_value cursor.old.mode (shown found)) shown
+        cursor.old cursor.new steps.old steps.new result }
 {
     cursor.enter_counted(Tag::SEQUENCE, steps)?;
     let kind = take_oid_counted(cursor, steps)?;
@@ -236,7 +244,8 @@ pub(crate) fn take_signed_attributes<'a, L: Ledger>(
     cursor: &mut Cursor<'a>,
     steps: &mut Steps<L>,
 ) -> Result<(&'a [u8], SignedAttributes), DecodeError>
-    ensures { TakesCounted 1 (signed_attributes cursor.old.mode) (λ x. (x.0.now, x.1)) cursor.old cursor.new steps.old steps.new result }
+    ensures { TakesCounted 1 (signed_attributes cursor.old.mode) (λ x. (x.0.now, x.1))
+        cursor.old cursor.new steps.old steps.new result }
 {
     cursor.enter_counted(Tag::CTX_0, steps)?;
     let start = cursor.here();

@@ -22,7 +22,8 @@ pub(crate) fn pass_digest_algorithms<L: Ledger>(
     cursor: &mut Cursor<'_>,
     steps: &mut Steps<L>,
 ) -> Result<(), DecodeError>
-    ensures { TakesCounted 1 (wrapped set digest_algorithm) (λ x. x) cursor.old cursor.new steps.old steps.new result }
+    ensures { TakesCounted 1 (wrapped set digest_algorithm) (λ x. x)
+        cursor.old cursor.new steps.old steps.new result }
 {
     cursor.enter_counted(Tag::SET, steps)?;
     pass_digest_algorithm(cursor, steps)?;
@@ -35,7 +36,8 @@ fn take_explicit_octets<'a, L: Ledger>(
     cursor: &mut Cursor<'a>,
     steps: &mut Steps<L>,
 ) -> Result<(&'a [u8], Bytes), DecodeError>
-    ensures { TakesCounted 1 (wrapped (context 0) (with_octets (octet_string cursor.old.mode))) (λ x. (x.0.now, x.1)) cursor.old cursor.new steps.old steps.new result }
+    ensures { TakesCounted 1 (wrapped (context 0) (with_octets (octet_string cursor.old.mode)))
+        (λ x. (x.0.now, x.1)) cursor.old cursor.new steps.old steps.new result }
 {
     cursor.enter_counted(Tag::CTX_0, steps)?;
     let octets = take_held_octets(alloc, cursor, steps)?;
@@ -49,7 +51,8 @@ pub(crate) fn take_encapsulated_content<'a, L: Ledger>(
     cursor: &mut Cursor<'a>,
     steps: &mut Steps<L>,
 ) -> Result<(&'a [u8], Bytes), DecodeError>
-    ensures { TakesCounted 1 (encapsulated_content cursor.old.mode) (λ x. (x.0.now, x.1)) cursor.old cursor.new steps.old steps.new result }
+    ensures { TakesCounted 1 (encapsulated_content cursor.old.mode) (λ x. (x.0.now, x.1))
+        cursor.old cursor.new steps.old steps.new result }
 {
     cursor.enter_counted(Tag::SEQUENCE, steps)?;
     take_oid_if_counted(cursor, &CT_XML, steps)?;

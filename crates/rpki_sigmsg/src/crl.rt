@@ -70,7 +70,8 @@ impl SignedMessageCrl {
         cursor: &mut Cursor<'_>,
         steps: &mut Steps<L>,
     ) -> Result<SignedMessageCrl, DecodeError>
-        ensures { TakesCounted 2 (revocation_list cursor.old.mode) (λ c. c) cursor.old cursor.new steps.old steps.new result }
+        ensures { TakesCounted 2 (revocation_list cursor.old.mode) (λ c. c)
+            cursor.old cursor.new steps.old steps.new result }
     {
         cursor.enter_counted(Tag::SEQUENCE, steps)?;
         let (octets, tbs) = take_held(alloc, cursor, steps)?;
@@ -111,7 +112,8 @@ impl SignedMessageCrl {
         alloc: Global,
         cursor: &mut Cursor<'_>,
     ) -> Result<SignedMessageCrl, DecodeError>
-        ensures { Takes (so any (in_der (revocation_list Der))) (λ c. c) cursor.old cursor.new result }
+        ensures { Takes (so any (in_der (revocation_list Der))) (λ c. c)
+            cursor.old cursor.new result }
     {
         SignedMessageCrl::take_from_within::<Brand>(alloc, cursor, Blank::new(1))
     }
@@ -124,7 +126,8 @@ impl SignedMessageCrl {
         requires name { blank.name ≡ L.name }
         requires parts { blank.parts ≡ L.parts }
         requires some { 0 < blank.parts }
-        ensures { Takes (so any (in_der (revocation_list Der))) (λ c. c) cursor.old cursor.new result }
+        ensures { Takes (so any (in_der (revocation_list Der))) (λ c. c)
+            cursor.old cursor.new result }
     {
         let mut steps = Steps::<L>::new(blank);
         SignedMessageCrl::take_from_counted(alloc, cursor, &mut steps)
@@ -136,7 +139,8 @@ impl SignedMessageCrl {
         cursor: &mut Cursor<'_>,
         steps: &mut Steps<L>,
     ) -> Result<SignedMessageCrl, DecodeError>
-        ensures { TakesCounted 3 (so any (in_der (revocation_list Der))) (λ c. c) cursor.old cursor.new steps.old steps.new result }
+        ensures { TakesCounted 3 (so any (in_der (revocation_list Der))) (λ c. c)
+            cursor.old cursor.new steps.old steps.new result }
     {
         let octets = cursor.capture_counted(steps)?;
         let mut inner = Cursor::new(alloc, Mode::Der, octets);

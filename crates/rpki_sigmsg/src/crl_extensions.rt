@@ -53,7 +53,8 @@ fn take_issuer_key<L: Ledger>(
     cursor: &mut Cursor<'_>,
     steps: &mut Steps<L>,
 ) -> Result<KeyIdentifier, DecodeError>
-    ensures { TakesCounted 1 (issuer_key cursor.old.mode) (λ x. x) cursor.old cursor.new steps.old steps.new result }
+    ensures { TakesCounted 1 (issuer_key cursor.old.mode) (λ x. x)
+        cursor.old cursor.new steps.old steps.new result }
 {
     cursor.enter_counted(Tag::SEQUENCE, steps)?;
     let key = KeyIdentifier::take_under_counted(alloc, cursor, Tag::CTX_0, steps)?;
@@ -68,7 +69,8 @@ fn add_authority<L: Ledger>(
     found: Option<KeyIdentifier>,
     steps: &mut Steps<L>,
 ) -> Result<Option<KeyIdentifier>, DecodeError>
-    ensures { GivesCounted 1 (once found (in_der (issuer_key Der) octets.now)) (λ x. x) octets.now steps.old steps.new result }
+    ensures { GivesCounted 1 (once found (in_der (issuer_key Der) octets.now)) (λ x. x) octets.now
+        steps.old steps.new result }
 {
     if found.is_some() {
         return Err(DecodeError::Malformed);
@@ -85,7 +87,8 @@ fn add_number<L: Ledger>(
     found: Option<Serial>,
     steps: &mut Steps<L>,
 ) -> Result<Option<Serial>, DecodeError>
-    ensures { GivesCounted 1 (once found (in_der serial octets.now)) (λ x. x) octets.now steps.old steps.new result }
+    ensures { GivesCounted 1 (once found (in_der serial octets.now)) (λ x. x) octets.now steps.old
+        steps.new result }
 {
     if found.is_some() {
         return Err(DecodeError::Malformed);
@@ -103,7 +106,7 @@ fn held<'a>(extension: &'a Extension<'_>) -> &'a [u8]
 }
 
 impl FindsExtensions for Found {
-    ghost use Rattle.rpki_sigmsg.specs.CrlExtensions.{add};
+    ghost use Rattle.rpki_sigmsg.specs.CrlGathered.{add};
 
     ghost with = { add };
 
@@ -133,7 +136,8 @@ pub(crate) fn take_extensions<L: Ledger>(
     cursor: &mut Cursor<'_>,
     steps: &mut Steps<L>,
 ) -> Result<Found, DecodeError>
-    ensures { TakesCounted 2 (wrapped (context 0) (extension_list cursor.old.mode)) (λ known. known) cursor.old cursor.new steps.old steps.new result }
+    ensures { TakesCounted 2 (wrapped (context 0) (extension_list cursor.old.mode)) (λ known. known)
+        cursor.old cursor.new steps.old steps.new result }
 {
     let none = Found {
         authority: None,

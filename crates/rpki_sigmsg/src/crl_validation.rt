@@ -21,7 +21,8 @@ fn same_algorithm(a: RpkiSignatureAlgorithm, b: RpkiSignatureAlgorithm) -> bool
 impl SignedMessageCrl {
     // Whether both places name the same algorithm.
     fn names_one_algorithm(&self) -> bool
-        ensures { result ≡ spec.same_algorithm self.now.tbs.algorithm self.now.signed.signature.algorithm }
+        ensures { result ≡ spec.same_algorithm self.now.tbs.algorithm
+            self.now.signed.signature.algorithm }
     {
         same_algorithm(
             self.tbs().algorithm(),
@@ -66,7 +67,8 @@ impl SignedMessageCrl {
         when: Time,
     ) -> Result<(), ValidationError>
         // Ok exactly where the signature and all the other checks hold.
-        ensures believed { (result ≡ Ok tt) ↔ spec.IsListBelieved P.checks self.now issuer_key.now when }
+        ensures believed { (result ≡ Ok tt) ↔ spec.IsListBelieved P.checks self.now issuer_key.now
+            when }
 
         // The first check that fails decides, whatever the scheme answers.
         ensures first_failing { (q : Bool) → Decides q (IsSigned P.checks self.now issuer_key.now) →

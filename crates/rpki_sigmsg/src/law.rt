@@ -11,14 +11,18 @@ ghost use Rattle.rpki_sigmsg.specs.Places.{StandInTurn, parts_of};
 /// What is a message in DER is the same message in BER, and so is a view of one: what strict decoding accepts, loose decoding
 /// accepts with the same fields (X.690, 10).
 pub fn strict_messages_are_loose()
-    ensures message { (octets : List ℕ) (m : MessageFields) → BeginsAs (signed_message Der) Der octets m → BeginsAs (signed_message Ber) Ber octets m }
-    ensures view { (octets : List ℕ) (w : ViewFields) → BeginsAs (viewed_message Der) Der octets w → BeginsAs (viewed_message Ber) Ber octets w }
+    ensures message { (octets : List ℕ) (m : MessageFields)
+        → BeginsAs (signed_message Der) Der octets m → BeginsAs (signed_message Ber) Ber octets m }
+    ensures view { (octets : List ℕ) (w : ViewFields) → BeginsAs (viewed_message Der) Der octets w
+        → BeginsAs (viewed_message Ber) Ber octets w }
 {}
 
 /// A value is a message exactly where there is a view of it, which has that message.
 pub fn views_are_of_messages()
-    ensures seen { (mode : Mode) (v : Value) (w : ViewFields) → viewed_message mode v ≡ Some w → signed_message mode v ≡ Some w.message }
-    ensures none { (mode : Mode) (v : Value) → viewed_message mode v ≡ None → signed_message mode v ≡ None }
+    ensures seen { (mode : Mode) (v : Value) (w : ViewFields) → viewed_message mode v ≡ Some w
+        → signed_message mode v ≡ Some w.message }
+    ensures none { (mode : Mode) (v : Value) → viewed_message mode v ≡ None
+        → signed_message mode v ≡ None }
 {}
 
 /// The five parts of a view stand in the octets of its message, in the order in which they are read: each is a piece of these octets,

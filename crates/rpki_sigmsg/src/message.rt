@@ -41,9 +41,29 @@ impl Model for SignedMessage {
 
     ghost Value = { MessageFields };
 
-    ghost view = { λ m. record { content = m.content; signer = m.signer; digest = m.digest; signing_time = m.signing_time; covered = m.covered; signature = m.signature; certificate = m.certificate; crl = m.crl } };
+    ghost view = { λ m. record {
+      content = m.content;
+      signer = m.signer;
+      digest = m.digest;
+      signing_time = m.signing_time;
+      covered = m.covered;
+      signature = m.signature;
+      certificate =
+          m.certificate;
+      crl = m.crl;
+    } };
 
-    ghost inverse = { λ m. record { content = m.content; signer = m.signer; digest = m.digest; signing_time = m.signing_time; covered = m.covered; signature = m.signature; certificate = m.certificate; crl = m.crl } };
+    ghost inverse = { λ m. record {
+      content = m.content;
+      signer = m.signer;
+      digest = m.digest;
+      signing_time = m.signing_time;
+      covered = m.covered;
+      signature = m.signature;
+      certificate =
+          m.certificate;
+      crl = m.crl;
+    } };
 }
 
 /// The mode of strict or loose reading: DER or BER.
@@ -60,7 +80,8 @@ impl SignedMessage {
     ///
     /// Malformed exactly where no beginning of the octets is a message.
     pub fn decode(alloc: Global, octets: &[u8], strict: bool) -> Result<SignedMessage, DecodeError>
-        ensures { Decodes (signed_message (mode_of strict)) (λ m. m) (mode_of strict) octets.now result }
+        ensures { Decodes (signed_message (mode_of strict)) (λ m. m) (mode_of strict) octets.now
+            result }
     {
         let mut cursor = Cursor::new(alloc, mode_of(strict), octets);
         SignedMessage::take_from(alloc, &mut cursor)
@@ -74,7 +95,8 @@ impl SignedMessage {
         strict: bool,
         steps: &mut Steps<L>,
     ) -> Result<SignedMessage, DecodeError>
-        ensures { DecodesCounted 3 (signed_message (mode_of strict)) (λ m. m) (mode_of strict) octets.now steps.old steps.new result }
+        ensures { DecodesCounted 3 (signed_message (mode_of strict)) (λ m. m) (mode_of strict)
+            octets.now steps.old steps.new result }
     {
         let mut cursor = Cursor::new(alloc, mode_of(strict), octets);
         SignedMessage::take_from_counted(alloc, &mut cursor, steps)
@@ -119,7 +141,8 @@ impl SignedMessage {
         cursor: &mut Cursor<'_>,
         steps: &mut Steps<L>,
     ) -> Result<SignedMessage, DecodeError>
-        ensures { TakesCounted 3 (signed_message cursor.old.mode) (λ m. m) cursor.old cursor.new steps.old steps.new result }
+        ensures { TakesCounted 3 (signed_message cursor.old.mode) (λ m. m)
+            cursor.old cursor.new steps.old steps.new result }
     {
         let view = SignedMessageRef::take_from_counted(alloc, cursor, steps)?;
         Ok(view.into_message())

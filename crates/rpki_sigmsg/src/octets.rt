@@ -16,7 +16,8 @@ pub(crate) fn take_shared_octets<L: Ledger>(
     cursor: &mut Cursor<'_>,
     steps: &mut Steps<L>,
 ) -> Result<Bytes, DecodeError>
-    ensures { TakesCounted 1 (octet_string cursor.old.mode) (λ x. x) cursor.old cursor.new steps.old steps.new result }
+    ensures { TakesCounted 1 (octet_string cursor.old.mode) (λ x. x)
+        cursor.old cursor.new steps.old steps.new result }
 {
     let octets = take_octets_counted(alloc, cursor, Tag::OCTET_STRING, steps)?;
     Ok(Bytes::from_vec(octets)?)
@@ -28,7 +29,8 @@ pub(crate) fn take_held_octets<'a, L: Ledger>(
     cursor: &mut Cursor<'a>,
     steps: &mut Steps<L>,
 ) -> Result<(&'a [u8], Bytes), DecodeError>
-    ensures { TakesCounted 1 (with_octets (octet_string cursor.old.mode)) (λ x. (x.0.now, x.1)) cursor.old cursor.new steps.old steps.new result }
+    ensures { TakesCounted 1 (with_octets (octet_string cursor.old.mode)) (λ x. (x.0.now, x.1))
+        cursor.old cursor.new steps.old steps.new result }
 {
     let start = cursor.here();
     let joined = take_shared_octets(alloc, cursor, steps)?;

@@ -19,7 +19,8 @@ fn take_held_certificate<'a, L: Ledger>(
     cursor: &mut Cursor<'a>,
     steps: &mut Steps<L>,
 ) -> Result<(&'a [u8], IdCert), DecodeError>
-    ensures { TakesCounted 2 (with_octets (identity_certificate cursor.old.mode)) (λ x. (x.0.now, x.1)) cursor.old cursor.new steps.old steps.new result }
+    ensures { TakesCounted 2 (with_octets (identity_certificate cursor.old.mode))
+        (λ x. (x.0.now, x.1)) cursor.old cursor.new steps.old steps.new result }
 {
     let start = cursor.here();
     let certificate = IdCert::take_from_counted(alloc, cursor, steps)?;
@@ -33,7 +34,9 @@ pub(crate) fn take_certificates<'a, L: Ledger>(
     cursor: &mut Cursor<'a>,
     steps: &mut Steps<L>,
 ) -> Result<(&'a [u8], IdCert), DecodeError>
-    ensures { TakesCounted 2 (wrapped (context 0) (with_octets (identity_certificate cursor.old.mode))) (λ x. (x.0.now, x.1)) cursor.old cursor.new steps.old steps.new result }
+    ensures { TakesCounted 2 (wrapped (context 0)
+        (with_octets (identity_certificate cursor.old.mode))) (λ x. (x.0.now, x.1))
+        cursor.old cursor.new steps.old steps.new result }
 {
     cursor.enter_counted(Tag::CTX_0, steps)?;
     let certificate = take_held_certificate(alloc, cursor, steps)?;
@@ -46,7 +49,8 @@ fn take_held_crl<'a, L: Ledger>(
     cursor: &mut Cursor<'a>,
     steps: &mut Steps<L>,
 ) -> Result<(&'a [u8], SignedMessageCrl), DecodeError>
-    ensures { TakesCounted 3 (with_octets crl_in_der) (λ x. (x.0.now, x.1)) cursor.old cursor.new steps.old steps.new result }
+    ensures { TakesCounted 3 (with_octets crl_in_der) (λ x. (x.0.now, x.1))
+        cursor.old cursor.new steps.old steps.new result }
 {
     let start = cursor.here();
     let crl = SignedMessageCrl::take_from_counted(alloc, cursor, steps)?;
@@ -60,7 +64,8 @@ pub(crate) fn take_crls<'a, L: Ledger>(
     cursor: &mut Cursor<'a>,
     steps: &mut Steps<L>,
 ) -> Result<(&'a [u8], SignedMessageCrl), DecodeError>
-    ensures { TakesCounted 3 (wrapped (context 1) (with_octets crl_in_der)) (λ x. (x.0.now, x.1)) cursor.old cursor.new steps.old steps.new result }
+    ensures { TakesCounted 3 (wrapped (context 1) (with_octets crl_in_der)) (λ x. (x.0.now, x.1))
+        cursor.old cursor.new steps.old steps.new result }
 {
     cursor.enter_counted(Tag::CTX_1, steps)?;
     let crl = take_held_crl(alloc, cursor, steps)?;

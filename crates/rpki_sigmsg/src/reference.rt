@@ -42,7 +42,15 @@ impl<'a> Model for SignedMessageRef<'a> {
 
     ghost Value = { ViewFields };
 
-    ghost view = { λ m. record { message = m.message; content_value = m.content_value.now; certificate = m.certificate.now; crl = m.crl.now; attributes = m.attributes.now; signature_value = m.signature_value.now } };
+    ghost view = { λ m. record {
+      message = m.message;
+      content_value = m.content_value.now;
+      certificate = m.certificate.now;
+      crl = m.crl.now;
+      attributes =
+          m.attributes.now;
+      signature_value = m.signature_value.now;
+    } };
 }
 
 /// # Data access
@@ -105,7 +113,9 @@ impl<'a> SignedMessageRef<'a> {
         signed: Bytes,
     ) -> SignedMessageRef<'a>
         requires { signed ≡ covered signer.attributes }
-        ensures { result ≡ spec.view_of (content.entry.0.now, content.entry.1) (certificate.entry.0.now, certificate.entry.1) (crl.entry.0.now, crl.entry.1) signer.entry }
+        ensures { result ≡ spec.view_of (content.entry.0.now, content.entry.1)
+            (certificate.entry.0.now, certificate.entry.1) (crl.entry.0.now, crl.entry.1)
+            signer.entry }
     {
         SignedMessageRef {
             message: SignedMessage {
@@ -133,7 +143,8 @@ fn take_signed_parts<'a, L: Ledger>(
     cursor: &mut Cursor<'a>,
     steps: &mut Steps<L>,
 ) -> Result<SignedMessageRef<'a>, DecodeError>
-    ensures { TakesCounted 3 (spec.signed_parts cursor.old.mode) (λ x. x) cursor.old cursor.new steps.old steps.new result }
+    ensures { TakesCounted 3 (spec.signed_parts cursor.old.mode) (λ x. x)
+        cursor.old cursor.new steps.old steps.new result }
 {
     cursor.enter_counted(Tag::SEQUENCE, steps)?;
     take_integer_if_counted(cursor, 3, steps)?;
@@ -152,7 +163,8 @@ fn take_explicit_parts<'a, L: Ledger>(
     cursor: &mut Cursor<'a>,
     steps: &mut Steps<L>,
 ) -> Result<SignedMessageRef<'a>, DecodeError>
-    ensures { TakesCounted 3 (wrapped (context 0) (spec.signed_parts cursor.old.mode)) (λ x. x) cursor.old cursor.new steps.old steps.new result }
+    ensures { TakesCounted 3 (wrapped (context 0) (spec.signed_parts cursor.old.mode)) (λ x. x)
+        cursor.old cursor.new steps.old steps.new result }
 {
     cursor.enter_counted(Tag::CTX_0, steps)?;
     let view = take_signed_parts(alloc, cursor, steps)?;
@@ -171,7 +183,8 @@ impl<'a> SignedMessageRef<'a> {
         octets: &'a [u8],
         strict: bool,
     ) -> Result<SignedMessageRef<'a>, DecodeError>
-        ensures { Decodes (spec.viewed_message (spec.mode_of strict)) (λ m. m) (spec.mode_of strict) octets.now result }
+        ensures { Decodes (spec.viewed_message (spec.mode_of strict)) (λ m. m) (spec.mode_of strict)
+            octets.now result }
     {
         let mut cursor = Cursor::new(alloc, mode_of(strict), octets);
         SignedMessageRef::take_from(alloc, &mut cursor)
@@ -185,7 +198,8 @@ impl<'a> SignedMessageRef<'a> {
         requires name { blank.name ≡ L.name }
         requires parts { blank.parts ≡ L.parts }
         requires some { 0 < blank.parts }
-        ensures { Takes (spec.viewed_message cursor.old.mode) (λ m. m) cursor.old cursor.new result }
+        ensures { Takes (spec.viewed_message cursor.old.mode) (λ m. m)
+            cursor.old cursor.new result }
     {
         let mut steps = Steps::<L>::new(blank);
         SignedMessageRef::take_from_counted(alloc, cursor, &mut steps)
@@ -196,7 +210,8 @@ impl<'a> SignedMessageRef<'a> {
         alloc: Global,
         cursor: &mut Cursor<'a>,
     ) -> Result<SignedMessageRef<'a>, DecodeError>
-        ensures { Takes (spec.viewed_message cursor.old.mode) (λ m. m) cursor.old cursor.new result }
+        ensures { Takes (spec.viewed_message cursor.old.mode) (λ m. m)
+            cursor.old cursor.new result }
     {
         SignedMessageRef::take_from_within::<Brand>(alloc, cursor, Blank::new(1))
     }
@@ -207,7 +222,8 @@ impl<'a> SignedMessageRef<'a> {
         cursor: &mut Cursor<'a>,
         steps: &mut Steps<L>,
     ) -> Result<SignedMessageRef<'a>, DecodeError>
-        ensures { TakesCounted 3 (spec.viewed_message cursor.old.mode) (λ m. m) cursor.old cursor.new steps.old steps.new result }
+        ensures { TakesCounted 3 (spec.viewed_message cursor.old.mode) (λ m. m)
+            cursor.old cursor.new steps.old steps.new result }
     {
         cursor.enter_counted(Tag::SEQUENCE, steps)?;
         take_oid_if_counted(cursor, &SIGNED_DATA, steps)?;

@@ -35,9 +35,15 @@ impl Model for CrlEntry {
 
     ghost Value = { EntryFields };
 
-    ghost view = { λ e. record { user_certificate = e.user_certificate; revocation_date = e.revocation_date } };
+    ghost view = { λ e. record {
+      user_certificate = e.user_certificate;
+      revocation_date = e.revocation_date;
+    } };
 
-    ghost inverse = { λ e. record { user_certificate = e.user_certificate; revocation_date = e.revocation_date } };
+    ghost inverse = { λ e. record {
+      user_certificate = e.user_certificate;
+      revocation_date = e.revocation_date;
+    } };
 }
 
 /// `==` holds exactly between entries that are the same.
@@ -57,7 +63,8 @@ fn pass_entry_extensions<L: Ledger>(
     cursor: &mut Cursor<'_>,
     steps: &mut Steps<L>,
 ) -> Result<Option<()>, DecodeError>
-    ensures { TakesPartCounted 1 1 (optional sequence any_sequence) (λ x. x) cursor.old cursor.new steps.old steps.new result }
+    ensures { TakesPartCounted 1 1 (optional sequence any_sequence) (λ x. x)
+        cursor.old cursor.new steps.old steps.new result }
 {
     if !begins_sequence(cursor.here()) {
         return Ok(None);
@@ -106,7 +113,8 @@ impl CrlEntry {
         cursor: &mut Cursor<'_>,
         steps: &mut Steps<L>,
     ) -> Result<CrlEntry, DecodeError>
-        ensures { TakesCounted 1 crl_entry (λ e. e) cursor.old cursor.new steps.old steps.new result }
+        ensures { TakesCounted 1 crl_entry (λ e. e)
+            cursor.old cursor.new steps.old steps.new result }
     {
         cursor.enter_counted(Tag::SEQUENCE, steps)?;
         let user_certificate = Serial::take_from_counted(cursor, steps)?;
@@ -197,7 +205,8 @@ impl RevokedCertificates {
         cursor: &mut Cursor<'_>,
         steps: &mut Steps<L>,
     ) -> Result<RevokedCertificates, DecodeError>
-        ensures { TakesCounted 1 revoked_certificates (λ r. r) cursor.old cursor.new steps.old steps.new result }
+        ensures { TakesCounted 1 revoked_certificates (λ r. r)
+            cursor.old cursor.new steps.old steps.new result }
     {
         cursor.enter_counted(Tag::SEQUENCE, steps)?;
         let start = cursor.here();
@@ -221,7 +230,8 @@ pub(crate) fn take_opt_revoked<L: Ledger>(
     cursor: &mut Cursor<'_>,
     steps: &mut Steps<L>,
 ) -> Result<Option<RevokedCertificates>, DecodeError>
-    ensures { TakesPartCounted 1 1 (optional sequence revoked_certificates) (λ x. x) cursor.old cursor.new steps.old steps.new result }
+    ensures { TakesPartCounted 1 1 (optional sequence revoked_certificates) (λ x. x)
+        cursor.old cursor.new steps.old steps.new result }
 {
     if !begins_sequence(cursor.here()) {
         return Ok(None);

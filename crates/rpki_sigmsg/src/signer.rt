@@ -37,7 +37,13 @@ impl<'a> Model for SignerInfo<'a> {
 
     ghost Value = { SignerFields };
 
-    ghost view = { λ s. record { identifier = s.identifier; attributes = s.attributes.now; said = s.said; signature_value = s.signature_value.now; signature = s.signature } };
+    ghost view = { λ s. record {
+      identifier = s.identifier;
+      attributes = s.attributes.now;
+      said = s.said;
+      signature_value = s.signature_value.now;
+      signature = s.signature;
+    } };
 }
 
 fn take_signer_info<'a, L: Ledger>(
@@ -45,7 +51,8 @@ fn take_signer_info<'a, L: Ledger>(
     cursor: &mut Cursor<'a>,
     steps: &mut Steps<L>,
 ) -> Result<SignerInfo<'a>, DecodeError>
-    ensures { TakesCounted 1 (signer_info cursor.old.mode) (λ x. x) cursor.old cursor.new steps.old steps.new result }
+    ensures { TakesCounted 1 (signer_info cursor.old.mode) (λ x. x)
+        cursor.old cursor.new steps.old steps.new result }
 {
     cursor.enter_counted(Tag::SEQUENCE, steps)?;
     take_integer_if_counted(cursor, 3, steps)?;
@@ -71,7 +78,8 @@ pub(crate) fn take_signer_infos<'a, L: Ledger>(
     cursor: &mut Cursor<'a>,
     steps: &mut Steps<L>,
 ) -> Result<SignerInfo<'a>, DecodeError>
-    ensures { TakesCounted 1 (wrapped set (signer_info cursor.old.mode)) (λ x. x) cursor.old cursor.new steps.old steps.new result }
+    ensures { TakesCounted 1 (wrapped set (signer_info cursor.old.mode)) (λ x. x)
+        cursor.old cursor.new steps.old steps.new result }
 {
     cursor.enter_counted(Tag::SET, steps)?;
     let signer = take_signer_info(alloc, cursor, steps)?;

@@ -34,9 +34,27 @@ impl Model for SignedMessageTbsCrl {
 
     ghost Value = { TbsCrlFields };
 
-    ghost view = { λ t. record { algorithm = t.algorithm; issuer = t.issuer; this_update = t.this_update; next_update = t.next_update; revoked = t.revoked; authority_key_id = t.authority_key_id; crl_number = t.crl_number } };
+    ghost view = { λ t. record {
+      algorithm = t.algorithm;
+      issuer = t.issuer;
+      this_update = t.this_update;
+      next_update = t.next_update;
+      revoked =
+          t.revoked;
+      authority_key_id = t.authority_key_id;
+      crl_number = t.crl_number;
+    } };
 
-    ghost inverse = { λ t. record { algorithm = t.algorithm; issuer = t.issuer; this_update = t.this_update; next_update = t.next_update; revoked = t.revoked; authority_key_id = t.authority_key_id; crl_number = t.crl_number } };
+    ghost inverse = { λ t. record {
+      algorithm = t.algorithm;
+      issuer = t.issuer;
+      this_update = t.this_update;
+      next_update = t.next_update;
+      revoked =
+          t.revoked;
+      authority_key_id = t.authority_key_id;
+      crl_number = t.crl_number;
+    } };
 }
 
 /// # Data access
@@ -156,7 +174,8 @@ impl SignedMessageTbsCrl {
         cursor: &mut Cursor<'_>,
         steps: &mut Steps<L>,
     ) -> Result<SignedMessageTbsCrl, DecodeError>
-        ensures { TakesCounted 2 (tbs_crl cursor.old.mode) (λ t. t) cursor.old cursor.new steps.old steps.new result }
+        ensures { TakesCounted 2 (tbs_crl cursor.old.mode) (λ t. t)
+            cursor.old cursor.new steps.old steps.new result }
     {
         cursor.enter_counted(Tag::SEQUENCE, steps)?;
         take_integer_if_counted(cursor, 1, steps)?;
@@ -186,7 +205,8 @@ pub(crate) fn take_held<'a, L: Ledger>(
     cursor: &mut Cursor<'a>,
     steps: &mut Steps<L>,
 ) -> Result<(&'a [u8], SignedMessageTbsCrl), DecodeError>
-    ensures { TakesCounted 2 (with_octets (tbs_crl cursor.old.mode)) (λ x. (x.0.now, x.1)) cursor.old cursor.new steps.old steps.new result }
+    ensures { TakesCounted 2 (with_octets (tbs_crl cursor.old.mode)) (λ x. (x.0.now, x.1))
+        cursor.old cursor.new steps.old steps.new result }
 {
     let start = cursor.here();
     let tbs = SignedMessageTbsCrl::take_from_counted(alloc, cursor, steps)?;

@@ -44,7 +44,8 @@ impl SignedMessage {
 
     // Checks 1 to 3.
     fn own_failure<P: Scheme, V: Verifier<P>>(&self, verifier: &V) -> Result<(), u8>
-        ensures first_failing { (q : Bool) → Decides q (spec.AreAttributesSigned P.checks self.now) →
+        ensures first_failing { (q : Bool) → Decides q (spec.AreAttributesSigned P.checks self.now)
+            →
             result ≡ first_failure 1 (spec.message_checks self.now q) }
         ensures signed { OnOk result (spec.AreAttributesSigned P.checks self.now) }
     {
@@ -93,7 +94,8 @@ impl SignedMessage {
         when: Time,
     ) -> Result<(), ValidationError>
         // Ok exactly where the three signatures and all the other checks hold.
-        ensures believed { (result ≡ Ok tt) ↔ spec.IsBelieved P.checks self.now issuer_key.now when }
+        ensures believed { (result ≡ Ok tt) ↔ spec.IsBelieved P.checks self.now issuer_key.now
+            when }
 
         // The first check that fails decides, whatever the scheme answers to the three questions.
         ensures first_failing { (q : spec.Asked P.checks self.now issuer_key.now) →

@@ -13,7 +13,8 @@ toy_signature key message = sha256 (key.bits ++ message)
 
 -- The key has the kind's format, and the signature is that digest.
 abbrev pub ToyChecks : SigningAlgorithm → KeyFields → List ℕ → List ℕ → Type 0
-ToyChecks kind key message signature = (key.format ≡ format_of kind) × (signature ≡ toy_signature key message)
+ToyChecks kind key message signature =
+    (key.format ≡ format_of kind) × (signature ≡ toy_signature key message)
 
 -- key number k of a seed: an RSA key with eight octets of each as its bits, the most significant first
 abbrev pub toy_key : ℕ → ℕ → KeyFields

@@ -6,6 +6,3 @@
 mod toy;
 
 pub use toy::{ToyScheme, ToyVerifier};
-
-#[cfg(test)]
-mod tests;

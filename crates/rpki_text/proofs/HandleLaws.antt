@@ -2,7 +2,7 @@
 use Rattle.std.proofs.Common.{◌≡◌, ℕ, Bool, true, false, ◌&&◌, if◌then◌else◌, nat_le, List, length, Some, None, refl, ap, arith}
 use Rattle.std.specs.List.{list_all}
 use Rattle.std.proofs.lemmas.List.Sums.{AllPass-from_list_all, list_all-from_AllPass}
-use Rattle.std.proofs.lemmas.Bool.Decides.{nat_tests, Decides-and}
+use Rattle.std.proofs.lemmas.Bool.Decides.{nat_tests}
 use Rattle.rpki_text.specs.Json.{string_of_json}
 use Rattle.rpki_text.specs.Handle.{is_handle_octet, is_handle, IsHandle, handle_of_text, handle_of_json}
 use Rattle.rpki_common.proofs.Truths.{both}

@@ -52,8 +52,3 @@ pub use reading::{ReadAllError, read_all};
 pub use standard::{StdSink, StdSource};
 pub use traits::{Failed, Sink, Source};
 pub use writing::write_all;
-
-#[cfg(test)]
-mod outside_tests;
-#[cfg(test)]
-mod text_tests;

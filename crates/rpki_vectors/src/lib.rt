@@ -16,10 +16,3 @@ mod writing;
 pub use envelope::build;
 pub use error::BuildError;
 pub use parts::Parts;
-
-#[cfg(test)]
-mod receive_tests;
-#[cfg(test)]
-mod tests;
-#[cfg(test)]
-mod validation_tests;

@@ -1,5 +1,5 @@
 use Rattle.std.proofs.Common.{refl}
-use Rattle.rpki_base.specs.SignedData.{algorithm_in, signature_in}
+use Rattle.rpki_base.specs.SignedData.{signature_in}
 use Rattle.rpki_der.proofs.Counting.{reads_done, reads_first, stops_done, stops_first, stops_later, stops_memory}
 use Rattle.rpki_der.proofs.Leftovers.{takes_rest_err}
 use Rattle.rpki_base.proofs.signed_data.leave_signature.Goals as goal

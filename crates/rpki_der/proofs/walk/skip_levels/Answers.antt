@@ -3,7 +3,7 @@ use Rattle.std.proofs.lemmas.Result.{err_from_is_err_and}
 use Rattle.rpki_der.proofs.Walks.{ended_last, went_on_last, refused_last}
 use Rattle.rpki_der.proofs.ExactWalks.{exact_ended_last, exact_on_last, passed_end_last, exact_finished}
 use Rattle.rpki_der.proofs.Rooms.{room_out_last}
-use Rattle.rpki_der.proofs.Stops.{passed_none, passed_one, passed_out, stops_after}
+use Rattle.rpki_der.proofs.Stops.{passed_none, passed_one, passed_out}
 use Rattle.rpki_der.proofs.walk.skip_levels.Goals as goal
 
 pub levels-init : goal.levels-init

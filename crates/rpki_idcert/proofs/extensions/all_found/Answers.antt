@@ -1,6 +1,6 @@
 use Rattle.std.proofs.Common.{rules}
 use Rattle.rpki_common.specs.Chaining.{◌>>=◌}
-use Rattle.rpki_idcert.specs.Extensions.{complete}
+use Rattle.rpki_idcert.specs.Gathered.{complete}
 use Rattle.rpki_idcert.proofs.extensions.all_found.Goals as goal
 
 pub returns-in_err-subject : goal.returns-in_err-subject

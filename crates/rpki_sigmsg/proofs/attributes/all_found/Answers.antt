@@ -1,6 +1,6 @@
 use Rattle.std.proofs.Common.{rules}
 use Rattle.rpki_common.specs.Chaining.{◌>>=◌}
-use Rattle.rpki_sigmsg.specs.Attributes.{complete}
+use Rattle.rpki_sigmsg.specs.Gathered.{complete}
 use Rattle.rpki_sigmsg.proofs.attributes.all_found.Goals as goal
 
 pub returns-in_err-content_type : goal.returns-in_err-content_type

@@ -1,5 +1,5 @@
 use Rattle.std.proofs.Common.{refl, ◌∙◌}
-use Rattle.rpki_sigmsg.specs.Attributes.{add, add_value, shown}
+use Rattle.rpki_sigmsg.specs.Gathered.{add, add_value, shown}
 use Rattle.rpki_der.proofs.Counting.{refuses_inside, refuses_within, stops_first, takes_err}
 use Rattle.rpki_der.proofs.Leftovers.{takes_within_rest}
 use Rattle.rpki_der.proofs.Modes.{rest_in}

@@ -1,6 +1,7 @@
 use Rattle.std.proofs.Common.{refl, sym, ap, ◌∙◌}
 use Rattle.rpki_der.specs.Position.{top}
-use Rattle.rpki_sigmsg.specs.Attributes.{signed_attributes, add_value, shown}
+use Rattle.rpki_sigmsg.specs.Attributes.{signed_attributes}
+use Rattle.rpki_sigmsg.specs.Gathered.{add_value, shown}
 use Rattle.rpki_der.proofs.Reading.{can_leave, not_ended, never_refused}
 use Rattle.rpki_der.proofs.Counting.{takes_err, refuses_within, refuses_inside, takes_within, continues_step, reads_gathered, stops_step, stops_gathered, takes_smaller}
 use Rattle.rpki_der.proofs.Modes.{takes_in, refuses_in}

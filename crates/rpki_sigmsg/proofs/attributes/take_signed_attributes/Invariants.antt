@@ -3,7 +3,8 @@ use Rattle.rpki_common.specs.Chaining.{◌>>=◌}
 use Rattle.rpki_der.specs.Grammar.{every, gather}
 use Rattle.rpki_der.specs.Entry.{entry}
 use Rattle.rpki_der.proofs.Counting.{CountedContinues}
-use Rattle.rpki_sigmsg.specs.Attributes.{attributes, add_value, complete, shown}
+use Rattle.rpki_sigmsg.specs.Attributes.{attributes}
+use Rattle.rpki_sigmsg.specs.Gathered.{add_value, complete, shown}
 use Rattle.rpki_sigmsg.proofs.attributes.take_signed_attributes.Given as goal
 
 abbrev pub invariant-attributes : goal.invariant-attributes

@@ -1,0 +1,18 @@
+//! Tests of messages and of what builds them: what no clause says. They stand apart, since a crate with tests is proved a second time for
+//! them. Signed messages and what `run` answers have programs over stored cases besides.
+#![tactic(auto)]
+
+#[cfg(test)]
+mod built_checks;
+#[cfg(test)]
+mod built_receipts;
+#[cfg(test)]
+mod crls;
+#[cfg(test)]
+mod publication;
+#[cfg(test)]
+mod receiving;
+#[cfg(test)]
+mod running;
+#[cfg(test)]
+mod vectors;

@@ -1,0 +1,282 @@
+ghost use Rattle.std.specs.Prelude.{◌≡◌, ◌<◌};
+
+use rpki_base::{PublicKey, Time};
+use rpki_ca::*;
+use rpki_idcert::{ValidationError, ValidationKind};
+use rpki_publication::Message;
+use rpki_signer::{ToyScheme, ToyVerifier};
+use std::alloc::Global;
+use std::marker::Brand;
+use std::sync::ledger::{Blank, Ledger};
+use std::test::Fail;
+
+// A query for the list, signed at 1700000000; made by a model that was written apart.
+const QUERY: &str =
+    "3082039906092a864886f70d010702a082038a30820386020103310d300b06096086480165030402013076\
+    060b2a864886f70d010910011ca06704653c6d736720786d6c6e733d22687474703a2f2f7777772e686163\
+    74726e2e6e65742f757269732f72706b692f7075626c69636174696f6e2d737065632f222076657273696f\
+    6e3d22342220747970653d227175657279223e3c6c6973742f3e3c2f6d73673ea082015630820152308201\
+    1ca003020102021460eb9b2e645831bbbde56a8e1b9fada76e08d55e300d06092a864886f70d01010b0500\
+    30333131302f06035504031328303444313436374134443546343846313733313541333543393041344637\
+    41374443334334413130301e170d3233313131343232303832305a170d3233313131343232313832305a30\
+    333131302f0603550403132831343534303145343334424344323445453134323232323634314544434138\
+    4131354144344437323022300d06092a864886f70d01010105000311000000000000000001000000000000\
+    0001a3423040301d0603551d0e04160414145401e434bcd24ee142222641edca8a15ad4d72301f0603551d\
+    2304183016801404d1467a4d5f48f17315a35c90a4f7a7dc3c4a10300d06092a864886f70d01010b050003\
+    210027c165d936dedfbd3641d23f86a34edbcdc07b18df1ce7624cb0bfffc3b90b6da181d53081d230819d\
+    020101300d06092a864886f70d01010b050030333131302f06035504031328303444313436374134443546\
+    34384631373331354133354339304134463741374443334334413130170d3233313131343232303832305a\
+    170d3233313131343232313832305a3000a0343032301f0603551d2304183016801404d1467a4d5f48f173\
+    15a35c90a4f7a7dc3c4a10300f0603551d1404080206018bcfe56800300d06092a864886f70d01010b0500\
+    032100e9aea3c9966b17e3166e87134cfe30499fdb5ad19c2ab35279fb87df7400393f3181c73081c40201\
+    038014145401e434bcd24ee142222641edca8a15ad4d72300b0609608648016503040201a06b301a06092a\
+    864886f70d010903310d060b2a864886f70d010910011c301c06092a864886f70d010905310f170d323331\
+    3131343232313332305a302f06092a864886f70d01090431220420516a8581b2f8c63c7dcd04f072fc9b63\
+    07d32b911bb49de486efae423fd3db80300d06092a864886f70d01010105000420f38bb9e3ce558a61ab8b\
+    5a0f288b3e3b4042a65b15bbcaf67bce22ba6b3f7d51";
+
+const KEY: &str = "3022300d06092a864886f70d010101050003110000000000000000010000000000000000";
+
+const NOW: i64 = 1_700_000_000;
+
+fn octets_of(alloc: Global, digits: &str) -> Result<Vec<u8>, Fail> {
+    match hex::decode(alloc, digits.as_bytes()) {
+        Ok(octets) => Ok(octets),
+        Err(_) => Err(Fail::new("the digits")),
+    }
+}
+
+// What is received of the octets under the key with this number, at so many seconds.
+fn received(
+    alloc: Global,
+    octets: &[u8],
+    number: u64,
+    seconds: i64,
+) -> Result<Received, ReceiveError> {
+    let (Ok(key), Some(when)) = (ToyScheme::key(alloc, 1, number), Time::new(seconds)) else {
+        return Err(ReceiveError::OutOfMemory);
+    };
+    receive(alloc, Kind::Publication, octets, &key, when, &ToyVerifier)
+}
+
+fn failing(kind: ValidationKind, check: u8) -> Result<Received, ReceiveError> {
+    Err(ReceiveError::Validation(ValidationError { kind, check }))
+}
+
+#[test]
+fn a_message_is_received(rt: HostRuntime) -> Result<(), Fail> {
+    let alloc = rt.alloc();
+    let octets = octets_of(alloc, QUERY)?;
+    let list = Ok(Received::Publication(Message::list_query()));
+    let late = failing(ValidationKind::Verification, 5);
+    let other = failing(ValidationKind::Verification, 6);
+    for (number, seconds, answer) in [
+        (0u64, NOW, list),
+        (0, NOW - 300, list),
+        (0, NOW + 300, list),
+        (0, NOW - 301, late),
+        (0, NOW + 301, late),
+        (9, NOW, other),
+    ] {
+        assert!(rt;
+            received(alloc, &octets, number, seconds) == answer,
+            "{number} {seconds}"
+        );
+    }
+    let cut = &octets[..octets.len().saturating_sub(1)];
+    assert!(rt; received(alloc, cut, 0, NOW) == Err(ReceiveError::CmsDecode));
+    Ok(())
+}
+
+fn counted<L: Ledger>(
+    alloc: Global,
+    octets: &[u8],
+    key: &PublicKey,
+    when: Time,
+    blank: Blank,
+) -> Result<Received, ReceiveError>
+    requires name { blank.name ≡ L.name }
+    requires parts { blank.parts ≡ L.parts }
+    requires some { 0 < blank.parts }
+{
+    let mut steps = rpki_der::Steps::<L>::new(blank);
+    receive_counted(
+        alloc,
+        Kind::Publication,
+        octets,
+        key,
+        when,
+        &ToyVerifier,
+        &mut steps,
+    )
+}
+
+#[test]
+fn a_message_is_received_counted(rt: HostRuntime) -> Result<(), Fail> {
+    let alloc = rt.alloc();
+    let octets = octets_of(alloc, QUERY)?;
+    let key = ToyScheme::key(alloc, 1, 0)?;
+    let Some(when) = Time::new(NOW) else {
+        return Err(Fail::new("the moment"));
+    };
+    assert!(rt;
+        counted::<Brand>(alloc, &octets, &key, when, Blank::new(1))
+            == Ok(Received::Publication(Message::list_query()))
+    );
+    Ok(())
+}
+
+#[test]
+fn errors_print(rt: HostRuntime) -> Result<(), Fail> {
+    let alloc = rt.alloc();
+    let error = ValidationError {
+        kind: ValidationKind::Verification,
+        check: 14,
+    };
+    for (error, text) in [
+        (ReceiveError::CmsDecode, "Could not decode CMS"),
+        (
+            ReceiveError::XmlError,
+            "the content is no message of this kind",
+        ),
+        (
+            ReceiveError::Validation(error),
+            "CMS is not valid: check 14 failed",
+        ),
+        (ReceiveError::OutOfMemory, "out of memory"),
+    ] {
+        assert_eq!(rt; error.to_string(alloc)?.as_str(), text);
+    }
+    Ok(())
+}
+
+fn words_of(alloc: Global, words: &[&str]) -> Result<Words, Fail> {
+    let mut all = Words::new(alloc);
+    for word in words {
+        all.push(word)?;
+    }
+    Ok(all)
+}
+
+#[test]
+fn moments_are_read_of_words(rt: HostRuntime) -> Result<(), Fail> {
+    let alloc = rt.alloc();
+    let rows: [(&str, Option<i64>); 12] = [
+        ("0", Some(0)),
+        ("1700000000", Some(NOW)),
+        ("253402300799", Some(253_402_300_799)),
+        ("253402300800", None),
+        ("99999999999999999999", None),
+        ("00", None),
+        ("01", None),
+        ("+1", None),
+        ("-1", None),
+        ("-0", None),
+        ("1 ", None),
+        ("", None),
+    ];
+    for (word, seconds) in rows {
+        let words = words_of(alloc, &["receive", word])?;
+        let moment = match words.moment(1) {
+            Some(when) => Some(when.seconds()),
+            None => None,
+        };
+        assert!(rt; moment == seconds, "{word}");
+    }
+    let words = words_of(alloc, &["0"])?;
+    assert!(rt; words.moment(1).is_none());
+    Ok(())
+}
+
+// Whether the word is the key with this number, of seed 1.
+fn is_key(alloc: Global, word: &str, number: Option<u64>) -> Result<bool, Fail> {
+    let words = words_of(alloc, &[word])?;
+    let key = words.key(alloc, 0)?;
+    match number {
+        None => Ok(key.is_none()),
+        Some(number) => Ok(key == Some(ToyScheme::key(alloc, 1, number)?)),
+    }
+}
+
+#[test]
+fn keys_are_read_of_words(rt: HostRuntime) -> Result<(), Fail> {
+    let alloc = rt.alloc();
+    let rows: [(&str, Option<u64>); 8] = [
+        (KEY, Some(0)),
+        (
+            "3022300D06092A864886F70D010101050003110000000000000000010000000000000009",
+            Some(9),
+        ),
+        (
+            "3020300b06092a864886f70d01010103110000000000000000010000000000000000",
+            Some(0),
+        ),
+        (
+            "3022300d06092a864886f70d01010105000311000000000000000001000000000000000000",
+            None,
+        ),
+        (
+            "3022300d06092a864886f70d01010105000311000000000000000001000000000000000",
+            None,
+        ),
+        (
+            "308122300d06092a864886f70d010101050003110000000000000000010000000000000000",
+            None,
+        ),
+        ("zz", None),
+        ("", None),
+    ];
+    for (word, number) in rows {
+        assert!(rt; is_key(alloc, word, number)?, "{word}");
+    }
+    assert!(rt; words_of(alloc, &[])?.key(alloc, 0)?.is_none());
+    Ok(())
+}
+
+// Whether the words are those of `receive` at the moment 1, under the key with number 0 of seed 1.
+fn is_receive(alloc: Global, words: &Words) -> Result<bool, Fail> {
+    let Some(command) = words.command(alloc)? else {
+        return Ok(false);
+    };
+    let wanted = ToyScheme::key(alloc, 1, 0)?;
+    match &command {
+        Command::Content => Ok(false),
+        Command::Receive { kind, when, key } => {
+            Ok(*kind == Kind::Publication && when.seconds() == 1 && *key == wanted)
+        }
+    }
+}
+
+fn is_content(alloc: Global, words: &Words) -> Result<bool, Fail> {
+    let Some(command) = words.command(alloc)? else {
+        return Ok(false);
+    };
+    match &command {
+        Command::Content => Ok(true),
+        Command::Receive { .. } => Ok(false),
+    }
+}
+
+#[test]
+fn commands_are_read_of_words(rt: HostRuntime) -> Result<(), Fail> {
+    let alloc = rt.alloc();
+    let words = words_of(alloc, &["receive", "publication", "1", KEY])?;
+    assert!(rt; is_receive(alloc, &words)?);
+    assert!(rt; !is_content(alloc, &words)?);
+    assert!(rt; is_content(alloc, &words_of(alloc, &["content"])?)?);
+    assert!(rt; words_of(alloc, &["contents"])?.command(alloc)?.is_none());
+    Ok(())
+}
+
+#[test]
+fn a_message_is_written(rt: HostRuntime) -> Result<(), Fail> {
+    let alloc = rt.alloc();
+    let text = Received::Publication(Message::success()).to_xml_bytes(alloc)?;
+    assert!(rt;
+        text.as_slice()
+            == b"<msg xmlns=\"http://www.hactrn.net/uris/rpki/publication-spec/\" \
+                version=\"4\" type=\"reply\"><success/></msg>"
+                .as_slice()
+    );
+    Ok(())
+}

@@ -1,0 +1,11 @@
+-- What was found so far, while the extensions of a CRL are read: a means for the reader, tied to `known_extensions` by
+-- proofs/CrlGathering.antt.
+use Rattle.std.specs.Prelude.{Option}
+use Rattle.rpki_common.specs.Collecting.{slot, both}
+use Rattle.rpki_base.specs.Names as names
+use Rattle.rpki_base.specs.Extension.{ExtensionFields, is}
+use Rattle.rpki_sigmsg.specs.CrlExtensions.{authority_in, number_in, KnownExtensions}
+
+unfoldable pub add : KnownExtensions → ExtensionFields → Option KnownExtensions
+add = both (slot (is names.authority_key_identifier) authority_in)
+    (slot (is names.crl_number) number_in)
