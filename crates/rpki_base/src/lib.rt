@@ -46,7 +46,7 @@ pub use law::{
 pub use name::{Name, made_name_is_read, read_name_is_read_again};
 pub use names::{
     AUTHORITY_KEY_IDENTIFIER, BASIC_CONSTRAINTS, CRL_NUMBER, SUBJECT_KEY_IDENTIFIER,
-    extensions_are_named,
+    extensions_are_named, identifiers_have_texts,
 };
 pub use public_key::{PublicKey, names_issuer, written_key_is_taken};
 pub use rpki_algorithm::{RpkiSignatureAlgorithm, RsaIdentifier, written_algorithm_is_taken};

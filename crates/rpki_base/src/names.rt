@@ -1,6 +1,7 @@
 //! The contents octets of the object identifiers of keys, signatures and extensions.
 
-ghost use Rattle.std.specs.Prelude.{◌≡◌};
+ghost use Rattle.std.specs.Prelude.{◌≡◌, codes};
+ghost use Rattle.rpki_der.specs.Arcs.{oid_text};
 ghost use Rattle.rpki_base.specs.Names as spec;
 
 /// rsaEncryption, 1.2.840.113549.1.1.1.
@@ -64,4 +65,18 @@ pub fn extensions_are_named()
     ensures constraints { BASIC_CONSTRAINTS ≡ spec.basic_constraints }
     ensures number { CRL_NUMBER ≡ spec.crl_number }
     ensures authority { AUTHORITY_KEY_IDENTIFIER ≡ spec.authority_key_identifier }
+{}
+
+/// The object identifiers that certificates, CRLs and messages name have these texts, the dotted names of the standards.
+pub fn identifiers_have_texts()
+    ensures rsa_encryption { oid_text spec.rsa_encryption ≡ codes "1.2.840.113549.1.1.1" }
+    ensures sha256_with_rsa { oid_text spec.sha256_with_rsa ≡ codes "1.2.840.113549.1.1.11" }
+    ensures ec_public_key { oid_text spec.ec_public_key ≡ codes "1.2.840.10045.2.1" }
+    ensures prime256v1 { oid_text spec.prime256v1 ≡ codes "1.2.840.10045.3.1.7" }
+    ensures ecdsa_with_sha256 { oid_text spec.ecdsa_with_sha256 ≡ codes "1.2.840.10045.4.3.2" }
+    ensures common_name { oid_text spec.common_name ≡ codes "2.5.4.3" }
+    ensures subject { oid_text spec.subject_key_identifier ≡ codes "2.5.29.14" }
+    ensures constraints { oid_text spec.basic_constraints ≡ codes "2.5.29.19" }
+    ensures number { oid_text spec.crl_number ≡ codes "2.5.29.20" }
+    ensures authority { oid_text spec.authority_key_identifier ≡ codes "2.5.29.35" }
 {}

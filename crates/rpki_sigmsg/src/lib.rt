@@ -28,6 +28,7 @@ mod validation;
 pub use crl::SignedMessageCrl;
 pub use law::{parts_stand_in_turn, strict_messages_are_loose, views_are_of_messages};
 pub use message::SignedMessage;
+pub use names::message_identifiers_have_texts;
 pub use reference::SignedMessageRef;
 pub use revoked::{CrlEntry, RevokedCertificates, equal_entries_are_the_same};
 pub use rpki_der::{DecodeError, OutOfMemory};
