@@ -5,7 +5,7 @@ use Rattle.rpki_xml.specs.declared.lexing.Piece.TheVariants as code
 use Rattle.rpki_xml.specs.Content.{Tag, Piece, run, passed_over, leaf, start, end}
 
 abbrev pub tag : declared_tag.Tag → Tag
-tag t = record { name = t.name; attributes = t.attributes.items }
+tag t = record { name = t.name.now; attributes = t.attributes.items }
 
 abbrev pub piece : Found → Piece
 piece (code.Run text) = run text

@@ -104,14 +104,14 @@ abbrev pub opens_of : List Slot → List ℕ → List Open
 opens_of list [] = []
 opens_of list (i ∷ places) = open_at (drop i list) ++ opens_of (take i list) places
 
--- the open elements that the code holds
-unfoldable pub held : List Node → List ℕ → List Open
-held nodes places = opens_of (slots nodes) (reverse places)
+-- the open elements that the code holds of a document
+unfoldable pub held : List ℕ → List Node → List ℕ → List Open
+held source nodes places = opens_of (slots source nodes) (reverse places)
 
 -- what the code holds is open elements, and nothing else
-pub record IsHeld (nodes : List Node) (places : List ℕ) : Type 0 where
-  pub nodes_are : slots nodes ≡ slots_of (held nodes places)
-  pub places_are : reverse places ≡ places_of (held nodes places)
+pub record IsHeld (source : List ℕ) (nodes : List Node) (places : List ℕ) : Type 0 where
+  pub nodes_are : slots source nodes ≡ slots_of (held source nodes places)
+  pub places_are : reverse places ≡ places_of (held source nodes places)
 
 -- the text of an element with so many elements below it, if it may have one
 abbrev pub settled : ℕ → List ℕ → Option (List ℕ)

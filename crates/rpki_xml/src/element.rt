@@ -14,6 +14,7 @@ ghost use Rattle.rpki_xml.specs.Views.{slots};
 
 use crate::error::Mismatch;
 use crate::joined::Joined;
+use crate::kept::name_from;
 use crate::lookup::{local_of, only_among, optional_among, require, required_among};
 use bytes::Bytes;
 use std::marker::Model;
@@ -31,17 +32,19 @@ pub struct Attribute {
 /// An element without its children, and how many elements are below it.
 #[derive(Debug, Drop)]
 pub(crate) struct Node {
-    pub(crate) name: Bytes,
+    /// Where its name begins in the document.
+    pub(crate) name: u32,
     pub(crate) namespace: Option<Bytes>,
     pub(crate) attributes: Vec<Attribute>,
     pub(crate) text: Joined,
-    pub(crate) below: usize,
+    pub(crate) below: u32,
 }
 
 /// Elements that follow each other: the children of one, or those that are left of them. In a clause it is these elements, as
 /// `Elements` of specs/Element.antt has them.
 #[derive(Drop)]
 pub struct Children<'a> {
+    source: &'a [u8],
     nodes: &'a [Node],
 }
 
@@ -55,15 +58,16 @@ impl<'a> Model for Children<'a> {
 
     ghost coded = { elements_code };
 
-    ghost view = { λ c. tree_of (slots c.nodes.now) };
+    ghost view = { λ c. tree_of (slots c.source.now c.nodes.now) };
 
-    ghost invariant = { λ c. IsFlat (slots c.nodes.now) × AreLettered (tree_of (slots c.nodes.now)) };
+    ghost invariant = { λ c. IsFlat (slots c.source.now c.nodes.now) × AreLettered (tree_of (slots c.source.now c.nodes.now)) };
 }
 
 /// An element of a document. In a clause it is a record of its head, which has name, namespace, attributes and text, and of
 /// its children.
 #[derive(Drop)]
 pub struct ElementRef<'a> {
+    source: &'a [u8],
     head: &'a Node,
     below: &'a [Node],
 }
@@ -78,10 +82,10 @@ impl<'a> Model for ElementRef<'a> {
 
     ghost coded = { element_code };
 
-    ghost view = { λ e. record { head = head_of e.head.now; children = tree_of (slots e.below.now) } };
+    ghost view = { λ e. record { head = head_of e.source.now e.head.now; children = tree_of (slots e.source.now e.below.now) } };
 
-    ghost invariant = { λ e. IsLetteredHead (head_of e.head.now)
-        × (IsFlat (slots e.below.now) × AreLettered (tree_of (slots e.below.now))) };
+    ghost invariant = { λ e. IsLetteredHead (head_of e.source.now e.head.now)
+        × (IsFlat (slots e.source.now e.below.now) × AreLettered (tree_of (slots e.source.now e.below.now))) };
 }
 
 impl<'a> Iterator for Children<'a> {
@@ -96,20 +100,24 @@ impl<'a> Iterator for Children<'a> {
 
     fn next(&mut self) -> Option<ElementRef<'a>> {
         let (node, rest) = self.nodes.split_first()?;
-        let (below, after) = rest.split_at(node.below);
+        let (below, after) = rest.split_at(node.below as usize);
         self.nodes = after;
-        Some(ElementRef { head: node, below })
+        Some(ElementRef {
+            source: self.source,
+            head: node,
+            below,
+        })
     }
 }
 
 impl<'a> Children<'a> {
-    /// The elements that a flat list holds.
-    pub(crate) fn over(nodes: &'a [Node]) -> Children<'a>
-        requires flat { IsFlat (slots nodes.now) }
-        requires lettered { AreLettered (tree_of (slots nodes.now)) }
-        ensures { result ≡ tree_of (slots nodes.now) }
+    /// The elements that a flat list holds, of a document.
+    pub(crate) fn over(source: &'a [u8], nodes: &'a [Node]) -> Children<'a>
+        requires flat { IsFlat (slots source.now nodes.now) }
+        requires lettered { AreLettered (tree_of (slots source.now nodes.now)) }
+        ensures { result ≡ tree_of (slots source.now nodes.now) }
     {
-        Children { nodes }
+        Children { source, nodes }
     }
 
     /// Whether there is no element.
@@ -125,7 +133,7 @@ impl<'a> Children<'a> {
     {
         match self.nodes.split_first() {
             None => false,
-            Some((node, _)) => local_of(node.name.as_slice()) == local.as_bytes(),
+            Some((node, _)) => local_of(name_from(self.source, node.name)) == local.as_bytes(),
         }
     }
 
@@ -175,14 +183,14 @@ impl<'a> ElementRef<'a> {
     pub fn name(&self) -> &'a str
         ensures { result.now ≡ self.now.head.name }
     {
-        as_text(self.head.name.as_slice())
+        as_text(name_from(self.source, self.head.name))
     }
 
     /// The part of the name behind its colon, or the whole.
     pub fn local(&self) -> &'a str
         ensures { result.now ≡ local_name self.now.head.name }
     {
-        as_text(local_of(self.head.name.as_slice()))
+        as_text(local_of(name_from(self.source, self.head.name)))
     }
 
     /// The namespace that its own declaration gives, where there is one and it is not empty.
@@ -206,7 +214,10 @@ impl<'a> ElementRef<'a> {
     pub fn children(&self) -> Children<'a>
         ensures { result ≡ self.now.children }
     {
-        Children { nodes: self.below }
+        Children {
+            source: self.source,
+            nodes: self.below,
+        }
     }
 
     /// The text without outer white space, empty where there is a child.
@@ -220,7 +231,7 @@ impl<'a> ElementRef<'a> {
     pub fn is_named(&self, local: &str) -> bool
         ensures { result ≡ is_named local.now self.now.head }
     {
-        local_of(self.head.name.as_slice()) == local.as_bytes()
+        local_of(name_from(self.source, self.head.name)) == local.as_bytes()
     }
 
     /// Whether it has neither child nor text.

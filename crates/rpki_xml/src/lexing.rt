@@ -19,8 +19,10 @@ use std::alloc::Global;
 
 /// The start of an element: its whole name and all its attributes.
 #[derive(Debug, Drop)]
-pub(crate) struct Tag {
-    pub(crate) name: Bytes,
+pub(crate) struct Tag<'a> {
+    pub(crate) name: &'a [u8],
+    /// How many octets of the document stand behind the name.
+    pub(crate) behind: usize,
     pub(crate) attributes: Vec<Attribute>,
 }
 
@@ -32,9 +34,9 @@ pub(crate) enum Piece<'a> {
     /// A comment or an instruction.
     PassedOver,
     /// `<name attributes/>`
-    Leaf(Tag),
+    Leaf(Tag<'a>),
     /// `<name attributes>`
-    Start(Tag),
+    Start(Tag<'a>),
     /// `</name>`
     End(&'a [u8]),
 }
@@ -111,8 +113,8 @@ fn is_name(name: &[u8]) -> bool
     }
 }
 
-// The longest run of name octets, and what follows it.
-fn split_name(b: &[u8]) -> (&[u8], &[u8])
+/// The longest run of name octets, and what follows it.
+pub(crate) fn split_name(b: &[u8]) -> (&[u8], &[u8])
     ensures front { result.0.now ≡ front_of is_name_octet b.now }
     ensures back { result.1.now ≡ back_of is_name_octet b.now }
     ensures shorter { length result.1.now ≤ length b.now }
@@ -361,10 +363,14 @@ fn tag_at<'a>(alloc: Global, source: &Bytes, b: &'a [u8]) -> Result<(Piece<'a>, 
     let Some((name, rest)) = name_at(b) else {
         return Err(XmlError::Malformed);
     };
-    let name = shared(alloc, source, name, rest.len())?;
+    let behind_name = rest.len();
     let (attributes, rest) = attributes_at(alloc, source, rest)?;
     let rest = past_white(rest);
-    let tag = Tag { name, attributes };
+    let tag = Tag {
+        name,
+        behind: behind_name,
+        attributes,
+    };
     if let Some(rest) = behind(b"/>", rest) {
         return Ok((Piece::Leaf(tag), rest));
     }

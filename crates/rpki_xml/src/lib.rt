@@ -21,6 +21,7 @@ mod document;
 mod element;
 mod error;
 mod joined;
+mod kept;
 mod law;
 mod lexing;
 mod lookup;

@@ -1,4 +1,4 @@
-//! The open elements, as they lie in the list of nodes.
+//! The open elements, as they lie in the list of nodes. `source` is the document, in which the nodes have their places.
 
 ghost use Rattle.std.specs.Prelude.{◌≡◌, ◌≤◌, OnOk, length, reverse, Some};
 ghost use Rattle.std.specs.List.{list_all};
@@ -10,6 +10,7 @@ ghost use Rattle.rpki_xml.specs.Views.{head_of};
 use crate::element::Node;
 use crate::error::XmlError;
 use crate::joined::Joined;
+use crate::kept::{name_from, narrow};
 use bytes::Bytes;
 use std::alloc::Global;
 use std::mem;
@@ -17,19 +18,20 @@ use std::mem;
 /// One more run in the innermost open element.
 pub(crate) fn add_run(
     alloc: Global,
+    source: &[u8],
     nodes: &mut Vec<Node>,
-    places: &[usize],
+    places: &[u32],
     run: Bytes,
 ) -> Result<(), XmlError>
-    requires { IsHeld nodes.old.items places.now }
-    ensures given { Gives (add_run run (held nodes.old.items places.now))
-        (λ _. held nodes.new.items places.now) result }
-    ensures kept { OnOk result (IsHeld nodes.new.items places.now) }
+    requires { IsHeld source.now nodes.old.items places.now }
+    ensures given { Gives (add_run run (held source.now nodes.old.items places.now))
+        (λ _. held source.now nodes.new.items places.now) result }
+    ensures kept { OnOk result (IsHeld source.now nodes.new.items places.now) }
 {
     let Some((place, _)) = places.split_last() else {
         return Err(XmlError::Malformed);
     };
-    let node = &mut nodes[*place];
+    let node = &mut nodes[*place as usize];
     let so_far = mem::replace(&mut node.text, Joined::empty());
     let text = so_far.with(alloc, run)?;
     node.text = text;
@@ -38,15 +40,16 @@ pub(crate) fn add_run(
 
 /// An element without children, in the innermost open element.
 pub(crate) fn add_element(
+    source: &[u8],
     nodes: &mut Vec<Node>,
-    places: &[usize],
+    places: &[u32],
     node: Node,
 ) -> Result<(), XmlError>
-    requires held { IsHeld nodes.old.items places.now }
+    requires held { IsHeld source.now nodes.old.items places.now }
     requires below { node.below ≡ 0 }
-    ensures given { Gives (add_element (head_of node) (held nodes.old.items places.now))
-        (λ _. held nodes.new.items places.now) result }
-    ensures kept { OnOk result (IsHeld nodes.new.items places.now) }
+    ensures given { Gives (add_element (head_of source.now node) (held source.now nodes.old.items places.now))
+        (λ _. held source.now nodes.new.items places.now) result }
+    ensures kept { OnOk result (IsHeld source.now nodes.new.items places.now) }
 {
     if places.is_empty() {
         return Err(XmlError::Malformed);
@@ -57,20 +60,22 @@ pub(crate) fn add_element(
 
 /// The start of an element.
 pub(crate) fn begin_element(
+    source: &[u8],
     nodes: &mut Vec<Node>,
-    places: &mut Vec<usize>,
+    places: &mut Vec<u32>,
     node: Node,
 ) -> Result<(), XmlError>
-    requires held { IsHeld nodes.old.items places.old.items }
+    requires held { IsHeld source.now nodes.old.items places.old.items }
     requires below { node.below ≡ 0 }
-    ensures given { Gives (begin_element (head_of node) (held nodes.old.items places.old.items))
-        (λ _. held nodes.new.items places.new.items) result }
-    ensures kept { OnOk result (IsHeld nodes.new.items places.new.items) }
+    ensures given { Gives (begin_element (head_of source.now node) (held source.now nodes.old.items places.old.items))
+        (λ _. held source.now nodes.new.items places.new.items) result }
+    ensures kept { OnOk result (IsHeld source.now nodes.new.items places.new.items) }
 {
     if places.is_empty() {
         return Err(XmlError::Malformed);
     }
-    places.push(nodes.len())?;
+    let place = narrow(nodes.len())?;
+    places.push(place)?;
     nodes.push(node)?;
     Ok(())
 }
@@ -78,14 +83,15 @@ pub(crate) fn begin_element(
 /// The end of the innermost open element, which must have the name.
 pub(crate) fn end_element(
     alloc: Global,
+    source: &[u8],
     nodes: &mut Vec<Node>,
-    places: &mut Vec<usize>,
+    places: &mut Vec<u32>,
     name: &[u8],
 ) -> Result<(), XmlError>
-    requires { IsHeld nodes.old.items places.old.items }
-    ensures given { Gives (end_element name.now (held nodes.old.items places.old.items))
-        (λ _. held nodes.new.items places.new.items) result }
-    ensures kept { OnOk result (IsHeld nodes.new.items places.new.items) }
+    requires { IsHeld source.now nodes.old.items places.old.items }
+    ensures given { Gives (end_element name.now (held source.now nodes.old.items places.old.items))
+        (λ _. held source.now nodes.new.items places.new.items) result }
+    ensures kept { OnOk result (IsHeld source.now nodes.new.items places.new.items) }
 {
     let Some(place) = places.pop() else {
         return Err(XmlError::Malformed);
@@ -93,9 +99,9 @@ pub(crate) fn end_element(
     if places.is_empty() {
         return Err(XmlError::Malformed);
     }
-    let below = nodes.len() - place - 1;
-    let node = &mut nodes[place];
-    if node.name.as_slice() != name {
+    let below = narrow(nodes.len() - place as usize - 1)?;
+    let node = &mut nodes[place as usize];
+    if name_from(source, node.name) != name {
         return Err(XmlError::Malformed);
     }
     let so_far = mem::replace(&mut node.text, Joined::empty());
@@ -106,7 +112,7 @@ pub(crate) fn end_element(
 }
 
 // The text of an element with so many elements below it.
-fn settled(alloc: Global, below: usize, text: Joined) -> Result<Joined, XmlError>
+fn settled(alloc: Global, below: u32, text: Joined) -> Result<Joined, XmlError>
     ensures { Gives (settled below text) (λ t. t) result }
 {
     if below == 0 {

@@ -11,6 +11,7 @@ ghost use Rattle.rpki_xml.specs.Views.{head_of};
 use crate::element::{Attribute, Node};
 use crate::error::XmlError;
 use crate::joined::Joined;
+use crate::kept::name_place;
 use crate::lexing::{Tag, behind};
 use bytes::Bytes;
 
@@ -87,15 +88,19 @@ fn handed_on(attributes: Vec<Attribute>) -> Vec<Attribute>
     kept
 }
 
-/// The element that a start begins, without children and text.
-pub(crate) fn node_of(tag: Tag) -> Result<Node, XmlError>
-    ensures head { Gives (Some (tag_head (tag_of tag) [])) head_of result }
+/// The element that a start begins in a document, without children and text.
+pub(crate) fn node_of(source: &[u8], tag: Tag<'_>) -> Result<Node, XmlError>
+    ensures head { Gives (Some (tag_head (tag_of tag.entry) [])) (head_of source.now) result }
     ensures below { IfOk result (λ n. n.below ≡ 0) }
 {
-    let Tag { name, attributes } = tag;
-    let namespace = namespace_of(name.as_slice(), attributes.as_slice())?;
-    Ok(Node {
+    let Tag {
         name,
+        behind,
+        attributes,
+    } = tag;
+    let namespace = namespace_of(name, attributes.as_slice())?;
+    Ok(Node {
+        name: name_place(source, name, behind)?,
         namespace,
         attributes: handed_on(attributes),
         text: Joined::empty(),
