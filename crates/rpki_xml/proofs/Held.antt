@@ -1,5 +1,5 @@
 -- The open elements in the flat list that the code holds.
-use Rattle.std.proofs.Common.{◌≡◌, ℕ, suc, ◌<◌, List, [], ◌∷◌, ◌++◌, length, take, set, get_or, reverse, Bool, ◌&&◌, not, true, false, cond, eqb, ◌-◌, Some, None, refl, sym, ap, ◌∙◌, append_assoc, arith}
+use Rattle.std.proofs.Common.{◌≡◌, ℕ, suc, ◌<◌, List, [], ◌∷◌, ◌++◌, length, take, set, get_or, reverse, Bool, ◌&&◌, not, true, false, cond, eqb, ◌-◌, Option, Some, None, refl, sym, ap, ◌∙◌, append_assoc, arith}
 use Rattle.std.proofs.lemmas.List.{take_at, drop_at, set_at, get_or_at, map-set, map-append, length-append, append-nil, reverse-append, reverse-reverse, get_or-map}
 use Rattle.std.proofs.lemmas.Bool.{ne_eqb}
 use Rattle.rpki_xml.specs.declared.element.Node.{Node}
@@ -8,8 +8,11 @@ use Rattle.rpki_xml.specs.declared.error.XmlError.TheVariants as errors
 use Rattle.rpki_xml.specs.Answers.{Fails}
 use Rattle.rpki_xml.specs.Element.{Head, Elements, none, first, alone, joined}
 use Rattle.rpki_xml.specs.Nodes.{Slot, flat, tree_of-flat}
-use Rattle.rpki_xml.specs.Views.{head_of, slots}
-use Rattle.rpki_xml.specs.Stack.{Open, opened, and_more, closed, with_text, open_slot, slots_of, places_of, open_at, opens_of, held, IsHeld, settled, add_run, add_element, begin_element, end_element}
+use Rattle.rpki_xml.specs.Kept.{name_from}
+use Rattle.rpki_xml.specs.Views.{Parts, parts_in, text_in, head_of, slots}
+use Rattle.rpki_xml.specs.declared.element.Rest.{Rest}
+use Rattle.rpki_common.specs.Chaining.{◌>>=◌}
+use Rattle.rpki_xml.specs.Stack.{Open, opened, and_more, closed, with_text, open_slot, slots_of, places_of, open_at, opens_of, held, IsHeld, settled, settled_parts, with_part, with_more_text, add_run, add_element, begin_element, end_element}
 use Rattle.rpki_xml.specs.Content.{text_of, fits}
 use Rattle.std.specs.Str.{bytes_eq}
 use Rattle.rpki_xml.proofs.Stacks.{joined-none}
@@ -105,9 +108,44 @@ some_same a b e = cc
 pub same_number : (a b : ℕ) → Some a ≡ Some b → a ≡ b
 same_number a b e = cc
 
--- a node whose text was taken and put back with one more run
-pub with_run : (source : List ℕ) (n : Node) (so_far run text : List ℕ) → so_far ≡ (head_of source n).text → Some (so_far ++ run) ≡ Some text → head_of source (record n { text = text }) ≡ with_text ((head_of source n).text ++ run) (head_of source n)
-with_run source n so_far run text is more = ap (λ (t : List ℕ). with_text t (head_of source n)) (sym (some_same (so_far ++ run) text more) ∙ ap (λ (s : List ℕ). s ++ run) is)
+-- a node whose text, namespace and attributes were taken, and put back with another text
+abbrev head_with : List ℕ → Parts → Head
+head_with name p = record {
+  name = name;
+  namespace = p.namespace;
+  attributes = p.attributes;
+  text = p.text;
+}
+
+same_parts : (a b : Parts) → Some a ≡ Some b → a ≡ b
+same_parts a b e = cc
+
+pub with_run : (source : List ℕ) (n : Node) (so_far new : Rest) (run : List ℕ) → so_far ≡ n.rest → Some (with_more_text run (parts_in source so_far)) ≡ Some (parts_in source new) → head_of source (record n { rest = new }) ≡ with_text ((head_of source n).text ++ run) (head_of source n)
+with_run source n so_far new run is more =
+    ap (head_with (name_from source n.name)) (sym (same_parts (with_more_text run (parts_in source so_far)) (parts_in source new) more) ∙ ap (λ (r : Rest). with_more_text run (parts_in source r)) is)
+
+-- the same at the end of an element
+settled_as : (x : Option (List ℕ)) (p q : Parts) → (x >>= λ text. Some (with_part text p)) ≡ Some q → (x ≡ Some q.text) × (with_part q.text p ≡ q)
+unfolding ◌>>=◌
+settled_as (Some text) p q e = let same = same_parts (with_part text p) q e in (ap (λ (r : Parts). Some r.text) same, ap (λ (r : Parts). with_part r.text p) (sym same) ∙ same)
+settled_as None p q e = absurd cc
+
+pub at_end : (source : List ℕ) (n : Node) (so_far new : Rest) (below : ℕ) → so_far ≡ n.rest → settled_parts below (parts_in source so_far) ≡ Some (parts_in source new)
+    → (settled below (head_of source n).text ≡ Some (text_in source new)) × (head_of source (record n { rest = new; below = below }) ≡ with_text (text_in source new) (head_of source n))
+unfolding settled_parts
+at_end source n so_far new below is done =
+    let s = settled_as (settled below (text_in source n.rest)) (parts_in source n.rest) (parts_in source new) (ap (λ (r : Rest). settled below (text_in source r) >>= λ text. Some (with_part text (parts_in source r))) (sym is) ∙ done) in
+    (s.0, ap (head_with (name_from source n.name)) (sym s.1))
+
+none_settled : (x : Option (List ℕ)) (p : Parts) → (x >>= λ text. Some (with_part text p)) ≡ None → x ≡ None
+unfolding ◌>>=◌
+none_settled (Some text) p e = absurd cc
+none_settled None p e = refl
+
+pub fails_at_end : (e : XmlError) (source : List ℕ) (n : Node) (so_far : Rest) (below : ℕ) → so_far ≡ n.rest → Fails e (settled_parts below (parts_in source so_far)) → Fails e (settled below (head_of source n).text)
+unfolding settled_parts
+fails_at_end errors.OutOfMemory source n so_far below is fails = tt
+fails_at_end errors.Malformed source n so_far below is fails = none_settled (settled below (text_in source n.rest)) (parts_in source n.rest) (ap (λ (r : Rest). settled below (text_in source r) >>= λ text. Some (with_part text (parts_in source r))) (sym is) ∙ fails)
 
 pub run_added : (source : List ℕ) (nodes : List Node) (places front : List ℕ) (i : ℕ) (text : List ℕ) (n n' : Node) → places ≡ front ++ i ∷ [] → IsHeld source nodes places → n ≡ get_or nodes i n
     → head_of source n' ≡ with_text ((head_of source n).text ++ text) (head_of source n) → n'.below ≡ n.below

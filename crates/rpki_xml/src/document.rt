@@ -16,14 +16,12 @@ ghost use Rattle.rpki_xml.specs.Stack.{held, IsHeld, step};
 ghost use Rattle.rpki_xml.specs.Views.{head_of, slots};
 
 use crate::distinct::is_distinct;
-use crate::element::{Attribute, Children, ElementRef, Node};
+use crate::element::{Attributes, Children, ElementRef, Node, Rest};
 use crate::error::XmlError;
-use crate::joined::Joined;
 use crate::kept::name_place;
 use crate::lexing::{Piece, are_octets, piece_at};
 use crate::stack::{add_element, add_run, begin_element, end_element, is_all_white};
 use crate::tag::node_of;
-use bytes::Bytes;
 use rpki_common::OutOfMemory;
 use std::alloc::Global;
 use std::marker::Model;
@@ -40,7 +38,7 @@ pub struct Element {
 #[derive(Drop)]
 struct Document {
     // Its octets, in which the nodes have their places.
-    source: Bytes,
+    source: Vec<u8>,
     // A node for the document itself, and the elements in the order of their starts.
     nodes: Vec<Node>,
 }
@@ -79,26 +77,26 @@ fn document_of(alloc: Global, octets: &[u8]) -> Result<Document, XmlError>
     ensures value { MatchResult result (λ d. IsDocument octets.now (root_in d)) (λ e. IsRefused e octets.now) }
     ensures whole { IfOk result IsWholeIn }
 {
-    let source = Bytes::copy_from_slice(alloc, octets)?;
-    let nodes = nodes_of(alloc, &source, octets)?;
+    let source = Vec::from_slice(alloc, octets)?;
+    let nodes = nodes_of(alloc, octets)?;
     Ok(Document { source, nodes })
 }
 
 // The nodes of a document.
-fn nodes_of(alloc: Global, shared: &Bytes, octets: &[u8]) -> Result<Vec<Node>, XmlError>
+fn nodes_of(alloc: Global, octets: &[u8]) -> Result<Vec<Node>, XmlError>
     requires { list_all is_octet octets.now ≡ true }
     ensures value { MatchResult result (λ v. IsDocument octets.now (root_of octets.now v.items))
         (λ e. IsRefused e octets.now) }
     ensures whole { IfOk result (λ v. IsWhole octets.now v.items) }
 {
     let mut nodes = Vec::new(alloc);
-    let own = own_node(alloc, octets)?;
+    let own = own_node(octets)?;
     nodes.push(own)?;
     let mut places: Vec<u32> = Vec::new(alloc);
     places.push(0)?;
     let mut rest = octets;
     while !rest.is_empty() {
-        let (piece, after) = piece_at(alloc, shared, rest)?;
+        let (piece, after) = piece_at(alloc, octets, rest)?;
         take(alloc, octets, &mut nodes, &mut places, piece)?;
         rest = after;
     }
@@ -106,16 +104,14 @@ fn nodes_of(alloc: Global, shared: &Bytes, octets: &[u8]) -> Result<Vec<Node>, X
 }
 
 // The document itself, as an element. Its name is the empty one behind the last octet.
-fn own_node(alloc: Global, source: &[u8]) -> Result<Node, XmlError>
+fn own_node(source: &[u8]) -> Result<Node, XmlError>
     ensures head { Gives (Some (bare_head [])) (head_of source.now) result }
     ensures below { IfOk result (λ n. n.below ≡ 0) }
 {
     Ok(Node {
         name: name_place(source, &[], 0)?,
-        namespace: None,
-        attributes: Vec::new(alloc),
-        text: Joined::empty(),
         below: 0,
+        rest: Rest::Plain { start: 0, end: 0 },
     })
 }
 
@@ -128,7 +124,7 @@ fn take(
     piece: Piece<'_>,
 ) -> Result<(), XmlError>
     requires { IsHeld source.now nodes.old.items places.old.items }
-    ensures given { Gives (step (piece_of piece.entry) (held source.now nodes.old.items places.old.items))
+    ensures given { Gives (step (piece_of source.now piece.entry) (held source.now nodes.old.items places.old.items))
         (λ _. held source.now nodes.new.items places.new.items) result }
     ensures kept { OnOk result (IsHeld source.now nodes.new.items places.new.items) }
 {
@@ -136,17 +132,17 @@ fn take(
         Piece::Run(text) => add_run(alloc, source, nodes, places, text),
         Piece::PassedOver => Ok(()),
         Piece::Leaf(tag) => {
-            if !is_distinct(alloc, tag.attributes.as_slice())? {
+            if !is_distinct(alloc, source, tag.attributes.as_slice())? {
                 return Err(XmlError::Malformed);
             }
-            let node = node_of(source, tag)?;
+            let node = node_of(alloc, source, tag)?;
             add_element(source, nodes, places, node)
         }
         Piece::Start(tag) => {
-            if !is_distinct(alloc, tag.attributes.as_slice())? {
+            if !is_distinct(alloc, source, tag.attributes.as_slice())? {
                 return Err(XmlError::Malformed);
             }
-            let node = node_of(source, tag)?;
+            let node = node_of(alloc, source, tag)?;
             begin_element(source, nodes, places, node)
         }
         Piece::End(name) => end_element(alloc, source, nodes, places, name),
@@ -166,7 +162,7 @@ fn finished(source: &[u8], nodes: Vec<Node>, places: &[u32]) -> Result<Vec<Node>
     let Some((document, below)) = nodes.split_first() else {
         return Err(XmlError::Malformed);
     };
-    if !is_all_white(document.text.as_slice()) {
+    if !is_all_white(document.rest.text(source)) {
         return Err(XmlError::Malformed);
     }
     if !is_one(source, below) {
@@ -233,8 +229,8 @@ impl Element {
     }
 
     /// The attributes in their order, without declarations of namespaces.
-    pub fn attributes(&self) -> &[Attribute]
-        ensures { result.now ≡ self.now.head.attributes }
+    pub fn attributes(&self) -> Attributes<'_>
+        ensures { result ≡ self.now.head.attributes }
     {
         self.as_ref().attributes()
     }

@@ -4,14 +4,13 @@ ghost use Rattle.std.specs.Prelude.{◌≡◌, ◌≤◌, OnOk, length, reverse,
 ghost use Rattle.std.specs.List.{list_all};
 ghost use Rattle.rpki_xml.specs.Content.{is_white, trimmed, without_white};
 ghost use Rattle.rpki_xml.specs.Answers.{Gives};
-ghost use Rattle.rpki_xml.specs.Stack.{held, IsHeld, settled, add_element, begin_element, end_element, add_run};
-ghost use Rattle.rpki_xml.specs.Views.{head_of};
+ghost use Rattle.rpki_xml.specs.Kept.{text_of};
+ghost use Rattle.rpki_xml.specs.Stack.{held, IsHeld, settled, settled_parts, with_more_text, add_element, begin_element, end_element, add_run};
+ghost use Rattle.rpki_xml.specs.Views.{head_of, parts_in};
 
-use crate::element::Node;
+use crate::element::{Node, Rest, rest_of, taken_apart};
 use crate::error::XmlError;
-use crate::joined::Joined;
-use crate::kept::{name_from, narrow};
-use bytes::Bytes;
+use crate::kept::{Text, name_from, narrow};
 use std::alloc::Global;
 use std::mem;
 
@@ -21,10 +20,10 @@ pub(crate) fn add_run(
     source: &[u8],
     nodes: &mut Vec<Node>,
     places: &[u32],
-    run: Bytes,
+    run: Text,
 ) -> Result<(), XmlError>
     requires { IsHeld source.now nodes.old.items places.now }
-    ensures given { Gives (add_run run (held source.now nodes.old.items places.now))
+    ensures given { Gives (add_run (text_of source.now run) (held source.now nodes.old.items places.now))
         (λ _. held source.now nodes.new.items places.now) result }
     ensures kept { OnOk result (IsHeld source.now nodes.new.items places.now) }
 {
@@ -32,9 +31,9 @@ pub(crate) fn add_run(
         return Err(XmlError::Malformed);
     };
     let node = &mut nodes[*place as usize];
-    let so_far = mem::replace(&mut node.text, Joined::empty());
-    let text = so_far.with(alloc, run)?;
-    node.text = text;
+    let so_far = mem::replace(&mut node.rest, Rest::Plain { start: 0, end: 0 });
+    let rest = with_run(alloc, source, so_far, run)?;
+    node.rest = rest;
     Ok(())
 }
 
@@ -104,33 +103,52 @@ pub(crate) fn end_element(
     if name_from(source, node.name) != name {
         return Err(XmlError::Malformed);
     }
-    let so_far = mem::replace(&mut node.text, Joined::empty());
-    let text = settled(alloc, below, so_far)?;
-    node.text = text;
+    let so_far = mem::replace(&mut node.rest, Rest::Plain { start: 0, end: 0 });
+    let rest = with_settled(alloc, source, below, so_far)?;
+    node.rest = rest;
     node.below = below;
     Ok(())
 }
 
+// What an element has beside its name, after one more run.
+fn with_run(alloc: Global, source: &[u8], rest: Rest, run: Text) -> Result<Rest, XmlError>
+    ensures { Gives (Some (with_more_text (text_of source.now run) (parts_in source.now rest)))
+        (parts_in source.now) result }
+{
+    let (text, namespace, attributes) = taken_apart(alloc, rest);
+    let joined = text.with(alloc, source, run)?;
+    rest_of(alloc, joined, namespace, attributes)
+}
+
+// The same, of an element with so many elements below it, at its end.
+fn with_settled(alloc: Global, source: &[u8], below: u32, rest: Rest) -> Result<Rest, XmlError>
+    ensures { Gives (settled_parts below (parts_in source.now rest)) (parts_in source.now) result }
+{
+    let (text, namespace, attributes) = taken_apart(alloc, rest);
+    let settled = settled(alloc, source, below, text)?;
+    rest_of(alloc, settled, namespace, attributes)
+}
+
 // The text of an element with so many elements below it.
-fn settled(alloc: Global, below: u32, text: Joined) -> Result<Joined, XmlError>
-    ensures { Gives (settled below text) (λ t. t) result }
+fn settled(alloc: Global, source: &[u8], below: u32, text: Text) -> Result<Text, XmlError>
+    ensures { Gives (settled below (text_of source.now text)) (text_of source.now) result }
 {
     if below == 0 {
-        return trimmed_of(alloc, text);
+        return trimmed_of(alloc, source, &text);
     }
-    if !is_all_white(text.as_slice()) {
+    if !is_all_white(text.octets(source)) {
         return Err(XmlError::Malformed);
     }
-    Ok(Joined::empty())
+    Ok(Text::At { start: 0, end: 0 })
 }
 
 #[tactic(auto, unfolding(crate::specs::Content::trimmed))]
-fn trimmed_of(alloc: Global, text: Joined) -> Result<Joined, XmlError>
-    ensures { Gives (Some (trimmed text)) (λ t. t) result }
+fn trimmed_of(alloc: Global, source: &[u8], text: &Text) -> Result<Text, XmlError>
+    ensures { Gives (Some (trimmed (text_of source.now text.now))) (text_of source.now) result }
 {
-    let begun = without_leading(text.as_slice());
+    let begun = without_leading(text.octets(source));
     let trimmed = without_trailing(begun);
-    text.part(alloc, trimmed, begun.len() - trimmed.len())
+    text.part(alloc, source, trimmed, begun.len() - trimmed.len())
 }
 
 /// Whether a text is white space alone.

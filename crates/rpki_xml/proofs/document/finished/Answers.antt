@@ -11,7 +11,7 @@ returns-in_default-clause-value c = absurd (no_nodes_open c.args.source.now c.ar
 pub returns-then-not-is_all_white-clause-value : goal.returns-then-not-is_all_white-clause-value
 returns-then-not-is_all_white-clause-value c =
     let p = parts c.args.source.now c.args.nodes.items c.args.places.now c.in-Some.document.now c.in-Some.below.now c.requires c.if-places-ne1.false (rw c.deref.ensures.value at c.in-Some.ensures.cases.0) in
-    not_white c.args.source.now c.args.nodes.items c.args.places.now c.in-Some.document.now c.in-Some.below.now p (sym (rw c.as_slice.ensures at c.if-not-is_all_white.ensures))
+    not_white c.args.source.now c.args.nodes.items c.args.places.now c.in-Some.document.now c.in-Some.below.now p (sym (rw c.text.ensures at c.if-not-is_all_white.ensures))
 
 pub is_one-requires : goal.is_one-requires
 is_one-requires c = (parts c.args.source.now c.args.nodes.items c.args.places.now c.in-Some.document.now c.in-Some.below.now c.requires c.if-places-ne1.false (rw c.deref.ensures.value at c.in-Some.ensures.cases.0)).flat_is
@@ -25,10 +25,10 @@ pub returns-clause-value : goal.returns-clause-value
 returns-clause-value c =
     let e = rw c.deref.ensures.value at c.in-Some.ensures.cases.0 in
     let p = parts c.args.source.now c.args.nodes.items c.args.places.now c.in-Some.document.now c.in-Some.below.now c.requires c.if-places-ne1.false e in
-    (root_is c.args.source.now c.args.nodes.items c.args.places.now c.in-Some.document.now c.in-Some.below.now p e (sym (rw c.as_slice.ensures at c.if-not-is_all_white.ensures)) (sym c.if-not-is_one.ensures)).0
+    (root_is c.args.source.now c.args.nodes.items c.args.places.now c.in-Some.document.now c.in-Some.below.now p e (sym (rw c.text.ensures at c.if-not-is_all_white.ensures)) (sym c.if-not-is_one.ensures)).0
 
 pub returns-clause-whole : goal.returns-clause-whole
 returns-clause-whole c =
     let e = rw c.deref.ensures.value at c.in-Some.ensures.cases.0 in
     let p = parts c.args.source.now c.args.nodes.items c.args.places.now c.in-Some.document.now c.in-Some.below.now c.requires c.if-places-ne1.false e in
-    (root_is c.args.source.now c.args.nodes.items c.args.places.now c.in-Some.document.now c.in-Some.below.now p e (sym (rw c.as_slice.ensures at c.if-not-is_all_white.ensures)) (sym c.if-not-is_one.ensures)).1
+    (root_is c.args.source.now c.args.nodes.items c.args.places.now c.in-Some.document.now c.in-Some.below.now p e (sym (rw c.text.ensures at c.if-not-is_all_white.ensures)) (sym c.if-not-is_one.ensures)).1

@@ -22,11 +22,11 @@ returns-in_err-piece-clause-value c =
 pub returns-in_err-take-clause-value : goal.returns-in_err-take-clause-value
 returns-in_err-take-clause-value c =
     let p = err_from_is_err_and c.from_residual-in_err-take.result c.from_residual-in_err-take.ensures.1 in
-    rw (p.1, p.2) (step_refused c.in_err-take.field-0.0 c.args.octets.now c.loop-rest.rest.now c.in_ok-piece.after.now (piece c.in_ok-piece.piece) (held c.args.octets.now c.loop-rest.nodes.items c.loop-rest.places.items) c.loop-rest.invariant.reached c.in_ok-piece.ensures.value c.in_err-take.ensures.given)
+    rw (p.1, p.2) (step_refused c.in_err-take.field-0.0 c.args.octets.now c.loop-rest.rest.now c.in_ok-piece.after.now (piece c.args.octets.now c.in_ok-piece.piece) (held c.args.octets.now c.loop-rest.nodes.items c.loop-rest.places.items) c.loop-rest.invariant.reached c.in_ok-piece.ensures.value c.in_err-take.ensures.given)
 
 pub loop-rest-preserved : goal.loop-rest-preserved
 loop-rest-preserved c = record {
-  reached = one_more c.args.octets.now c.loop-rest.rest.now c.in_ok-piece.after.now (piece c.in_ok-piece.piece) (held c.args.octets.now c.loop-rest.nodes.items c.loop-rest.places.items) (held c.args.octets.now c.take.new.nodes.items c.take.new.places.items) c.loop-rest.invariant.reached c.in_ok-piece.ensures.value c.in_ok-take.ensures.given;
+  reached = one_more c.args.octets.now c.loop-rest.rest.now c.in_ok-piece.after.now (piece c.args.octets.now c.in_ok-piece.piece) (held c.args.octets.now c.loop-rest.nodes.items c.loop-rest.places.items) (held c.args.octets.now c.take.new.nodes.items c.take.new.places.items) c.loop-rest.invariant.reached c.in_ok-piece.ensures.value c.in_ok-take.ensures.given;
   kept = c.in_ok-take.ensures.kept;
 }
 

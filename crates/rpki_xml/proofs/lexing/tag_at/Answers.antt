@@ -19,6 +19,6 @@ pub returns-in-None-clause-value : goal.returns-in-None-clause-value
 unfolding tag_at ◌>>=◌
 returns-in-None-clause-value c = search rules
 
-pub returns-clause-value : goal.returns-clause-value
+pub returns-in-Some-behind-2-clause-value : goal.returns-in-Some-behind-2-clause-value
 unfolding tag_at ◌>>=◌
-returns-clause-value c = search rules
+returns-in-Some-behind-2-clause-value c = search rules

@@ -1,4 +1,4 @@
-use Rattle.rpki_xml.specs.Views.{name_from}
+use Rattle.rpki_xml.specs.Kept.{name_from}
 use Rattle.rpki_xml.proofs.Letters.{local_octets}
 use Rattle.rpki_xml.proofs.element.ElementRef.local.Goals as goal
 
