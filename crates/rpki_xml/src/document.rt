@@ -19,7 +19,7 @@ use crate::distinct::is_distinct;
 use crate::element::{Attributes, Children, ElementRef, Node, Rest};
 use crate::error::XmlError;
 use crate::kept::name_place;
-use crate::lexing::{Piece, are_octets, piece_at};
+use crate::lexing::{Piece, are_octets, is_letter, piece_at};
 use crate::stack::{add_element, add_run, begin_element, end_element, is_all_white};
 use crate::tag::node_of;
 use rpki_common::OutOfMemory;
@@ -89,7 +89,7 @@ fn nodes_of(alloc: Global, octets: &[u8]) -> Result<Vec<Node>, XmlError>
         (λ e. IsRefused e octets.now) }
     ensures whole { IfOk result (λ v. IsWhole octets.now v.items) }
 {
-    let mut nodes = Vec::new(alloc);
+    let mut nodes = Vec::with_capacity(alloc, starts_in(octets).saturating_add(1))?;
     let own = own_node(octets)?;
     nodes.push(own)?;
     let mut places: Vec<u32> = Vec::new(alloc);
@@ -101,6 +101,20 @@ fn nodes_of(alloc: Global, octets: &[u8]) -> Result<Vec<Node>, XmlError>
         rest = after;
     }
     finished(octets, nodes, &places)
+}
+
+// How many starts of elements there may be at most: each is a `<` before the first octet of a name. A list of the nodes with
+// so much room never grows.
+fn starts_in(octets: &[u8]) -> usize {
+    let mut count = 0usize;
+    let mut before = 0u8;
+    for c in octets {
+        if before == b'<' && (is_letter(*c) || *c == b'_') {
+            count = count.saturating_add(1);
+        }
+        before = *c;
+    }
+    count
 }
 
 // The document itself, as an element. Its name is the empty one behind the last octet.

@@ -72,7 +72,8 @@ fn past_white(b: &[u8]) -> &[u8]
     &[]
 }
 
-fn is_letter(c: u8) -> bool
+/// A letter.
+pub(crate) fn is_letter(c: u8) -> bool
     ensures { result ≡ is_letter c }
 {
     (65 <= c && c <= 90) || (97 <= c && c <= 122)

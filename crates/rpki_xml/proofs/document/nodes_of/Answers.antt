@@ -10,8 +10,8 @@ use Rattle.rpki_xml.proofs.document.nodes_of.Goals as goal
 
 pub loop-rest-init : goal.loop-rest-init
 loop-rest-init c = record {
-  reached = rw (c.in_ok-push.ensures.items, c.in_ok-push-2.ensures.items, c.new-nodes.ensures.items, c.new-places.ensures.items) (starts c.args.octets.now c.args.octets.now c.in_ok-own.own (own_head c.args.octets.now c.in_ok-own.own c.in_ok-own.ensures.head) c.in_ok-own.ensures.below);
-  kept = rw (c.in_ok-push.ensures.items, c.in_ok-push-2.ensures.items, c.new-nodes.ensures.items, c.new-places.ensures.items) (whole_held c.args.octets.now c.in_ok-own.own (own_head c.args.octets.now c.in_ok-own.own c.in_ok-own.ensures.head) c.in_ok-own.ensures.below).1;
+  reached = rw (c.in_ok-push.ensures.items, c.in_ok-push-2.ensures.items, c.in_ok-nodes.ensures.items, c.new-places.ensures.items) (starts c.args.octets.now c.args.octets.now c.in_ok-own.own (own_head c.args.octets.now c.in_ok-own.own c.in_ok-own.ensures.head) c.in_ok-own.ensures.below);
+  kept = rw (c.in_ok-push.ensures.items, c.in_ok-push-2.ensures.items, c.in_ok-nodes.ensures.items, c.new-places.ensures.items) (whole_held c.args.octets.now c.in_ok-own.own (own_head c.args.octets.now c.in_ok-own.own c.in_ok-own.ensures.head) c.in_ok-own.ensures.below).1;
 }
 
 pub returns-in_err-piece-clause-value : goal.returns-in_err-piece-clause-value
