@@ -124,6 +124,29 @@ def deep_elements(size):
     return b"<a>" * count + b"</a>" * count, count
 
 
+def open_elements(size):
+    """Elements that are never closed, so no document"""
+    return b"<a>" * (size // 3), size // 3
+
+
+def open_lists(size):
+    return b"<list>" * (size // 6), size // 6
+
+
+def open_elements_with_attributes(size):
+    return b"<a b=''>" * (size // 8), size // 8
+
+
+def elements_with_entities(size):
+    count = size // 11 - 1
+    return b"<a>" + b"<a>&lt;</a>" * count + b"</a>", count + 1
+
+
+def values_with_entities(size):
+    count = size // 13 - 1
+    return b"<a>" + b"<a b='&lt;'/>" * count + b"</a>", count + 1
+
+
 def long_text(size):
     return b"<a>" + b"x" * (size - 7) + b"</a>", 1
 
@@ -169,7 +192,8 @@ def indefinite_levels(size):
 
 
 DOCUMENTS = [(shape, [1, 4, 16]) for shape in (small_elements, deep_elements, long_text, text_of_entities, text_in_parts)]
-DOCUMENTS += [(shape, [1, 24]) for shape in (list_elements, empty_elements, elements_with_attributes, elements_with_texts, comments, one_name)]
+DOCUMENTS += [(shape, [1, 24]) for shape in (list_elements, empty_elements, elements_with_attributes, elements_with_texts, comments, one_name, open_elements, open_lists,
+                                        open_elements_with_attributes, elements_with_entities, values_with_entities)]
 # some 10000 objects each
 DOCUMENTS += [(delta_of_objects, [22]), (list_reply, [2])]
 DOCUMENTS += [(attributes, [1, 4, 16, 32]), (declarations, [1, 4, 16]), (long_name, [1, 4, 16])]

@@ -67,17 +67,12 @@ fn field_octets(alloc: Global, field: &str) -> io::Result<Vec<u8>> {
     Ok(out)
 }
 
-// Octets of a document, which are ASCII.
-fn text_of(octets: &[u8]) -> &str {
-    std::str::from_utf8(octets).unwrap_or("?")
-}
-
 // The start of an element, and its text.
 fn begin(writer: &mut ElementWriter, element: &ElementRef<'_>) -> Result<(), OutOfMemory> {
     writer.element(element.name())?;
     writer.attr_opt("xmlns", element.namespace())?;
     for attribute in element.attributes() {
-        writer.attr(text_of(&attribute.name), text_of(&attribute.value))?;
+        writer.attr(attribute.name, attribute.value)?;
     }
     writer.text(element.text())
 }

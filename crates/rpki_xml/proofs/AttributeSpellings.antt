@@ -8,6 +8,7 @@ use Rattle.std.specs.List.{list_all}
 use Rattle.std.specs.Prelude.{codes}
 use Rattle.std.specs.Str.{bytes_eq}
 use Rattle.rpki_common.specs.Chaining.{◌>>=◌}
+use Rattle.rpki_common.proofs.Truths.{both}
 use Rattle.rpki_xml.specs.AttributeSpelling.{is_entity, is_itself, IsValueSpelling, concatenated, IsAttributeSpelling}
 use Rattle.rpki_xml.specs.Content.{is_white}
 use Rattle.rpki_xml.specs.Element.{Attribute, is_nil}
@@ -16,11 +17,6 @@ use Rattle.rpki_xml.specs.Name.{is_name, is_name_octet}
 use Rattle.rpki_xml.specs.Runs.{RunsTo}
 use Rattle.rpki_xml.proofs.Repetitions.{characters_both}
 use Rattle.rpki_xml.proofs.Spelled.{Stops, front_again, past_white_name, first_goes_on}
-
-both : (a b : Bool) → (a && b) ≡ true → (a ≡ true) × (b ≡ true)
-both true true e = (refl, refl)
-both true false e = absurd cc
-both false b e = absurd cc
 
 either : {P : Type 0} (a b : Bool) → (a ≡ true → P) → (b ≡ true → P) → (a || b) ≡ true → P
 either true b f g e = f refl

@@ -1,5 +1,5 @@
 -- The open elements in the flat list that the code holds.
-use Rattle.std.proofs.Common.{◌≡◌, ℕ, suc, ◌<◌, List, [], ◌∷◌, ◌++◌, length, take, set, get_or, reverse, Bool, ◌&&◌, not, true, false, cond, eqb, ◌-◌, Some, None, refl, sym, ap, ◌∙◌, append_assoc, arith}
+use Rattle.std.proofs.Common.{◌≡◌, ℕ, suc, ◌<◌, List, [], ◌∷◌, ◌++◌, length, take, set, get_or, reverse, Bool, ◌&&◌, not, true, false, cond, eqb, ◌-◌, Option, Some, None, refl, sym, ap, ◌∙◌, append_assoc, arith}
 use Rattle.std.proofs.lemmas.List.{take_at, drop_at, set_at, get_or_at, map-set, map-append, length-append, append-nil, reverse-append, reverse-reverse, get_or-map}
 use Rattle.std.proofs.lemmas.Bool.{ne_eqb}
 use Rattle.rpki_xml.specs.declared.element.Node.{Node}
@@ -8,8 +8,11 @@ use Rattle.rpki_xml.specs.declared.error.XmlError.TheVariants as errors
 use Rattle.rpki_xml.specs.Answers.{Fails}
 use Rattle.rpki_xml.specs.Element.{Head, Elements, none, first, alone, joined}
 use Rattle.rpki_xml.specs.Nodes.{Slot, flat, tree_of-flat}
-use Rattle.rpki_xml.specs.Views.{head_of, slots}
-use Rattle.rpki_xml.specs.Stack.{Open, opened, and_more, closed, with_text, open_slot, slots_of, places_of, open_at, opens_of, held, IsHeld, settled, add_run, add_element, begin_element, end_element}
+use Rattle.rpki_xml.specs.Kept.{name_from}
+use Rattle.rpki_xml.specs.Views.{Parts, parts_in, text_in, head_of, slots}
+use Rattle.rpki_xml.specs.declared.element.Rest.{Rest}
+use Rattle.rpki_common.specs.Chaining.{◌>>=◌}
+use Rattle.rpki_xml.specs.Stack.{Open, opened, and_more, closed, with_text, open_slot, slots_of, places_of, open_at, opens_of, held, IsHeld, settled, settled_parts, with_part, with_more_text, add_run, add_element, begin_element, end_element}
 use Rattle.rpki_xml.specs.Content.{text_of, fits}
 use Rattle.std.specs.Str.{bytes_eq}
 use Rattle.rpki_xml.proofs.Stacks.{joined-none}
@@ -25,14 +28,14 @@ opens_of-slots (o ∷ outer) =
     ∙ ap (λ (t : Elements). record { head = o.head; done = t } ∷ outer) (tree_of-flat o.done)
 
 -- open elements that the code holds are those that it holds
-pub record Holds (nodes : List Node) (places : List ℕ) (opens : List Open) : Type 0 where
-  pub nodes_are : slots nodes ≡ slots_of opens
+pub record Holds (source : List ℕ) (nodes : List Node) (places : List ℕ) (opens : List Open) : Type 0 where
+  pub nodes_are : slots source nodes ≡ slots_of opens
   pub places_are : reverse places ≡ places_of opens
 
-pub held_is : (nodes : List Node) (places : List ℕ) (opens : List Open) → Holds nodes places opens → (held nodes places ≡ opens) × IsHeld nodes places
+pub held_is : (source : List ℕ) (nodes : List Node) (places : List ℕ) (opens : List Open) → Holds source nodes places opens → (held source nodes places ≡ opens) × IsHeld source nodes places
 unfolding held
-held_is nodes places opens h =
-    let same : held nodes places ≡ opens = ap (λ (l : List Slot). opens_of l (reverse places)) h.nodes_are ∙ ap (opens_of (slots_of opens)) h.places_are ∙ opens_of-slots opens in
+held_is source nodes places opens h =
+    let same : held source nodes places ≡ opens = ap (λ (l : List Slot). opens_of l (reverse places)) h.nodes_are ∙ ap (opens_of (slots_of opens)) h.places_are ∙ opens_of-slots opens in
     (same, record { nodes_are = h.nodes_are ∙ ap slots_of (sym same); places_are = h.places_are ∙ ap places_of (sym same) })
 
 flat-joined : (a b : Elements) → flat (joined a b) ≡ flat a ++ flat b
@@ -43,32 +46,32 @@ flat-joined (first h cs rest) b =
 abbrev pub slot_with : Head → ℕ → Slot
 slot_with head below = record { head = head; below = below }
 
-abbrev slot : Node → Slot
-slot n = record { head = head_of n; below = n.below }
+abbrev slot : List ℕ → Node → Slot
+slot source n = record { head = head_of source n; below = n.below }
 
-slots-set : (nodes : List Node) (i : ℕ) (n : Node) → slots (set nodes i n) ≡ set (slots nodes) i (slot n)
-slots-set nodes i n = map-set slot nodes i n
+slots-set : (source : List ℕ) (nodes : List Node) (i : ℕ) (n : Node) → slots source (set nodes i n) ≡ set (slots source nodes) i (slot source n)
+slots-set source nodes i n = map-set (slot source) nodes i n
 
-pub slots-push : (nodes : List Node) (n : Node) → slots (nodes ++ n ∷ []) ≡ slots nodes ++ slot n ∷ []
-slots-push nodes n = map-append slot nodes (n ∷ [])
+pub slots-push : (source : List ℕ) (nodes : List Node) (n : Node) → slots source (nodes ++ n ∷ []) ≡ slots source nodes ++ slot source n ∷ []
+slots-push source nodes n = map-append (slot source) nodes (n ∷ [])
 
-pub length-slots : (nodes : List Node) → length (slots nodes) ≡ length nodes
-length-slots [] = refl
-length-slots (n ∷ nodes) = ap suc (length-slots nodes)
+pub length-slots : (source : List ℕ) (nodes : List Node) → length (slots source nodes) ≡ length nodes
+length-slots source [] = refl
+length-slots source (n ∷ nodes) = ap suc (length-slots source nodes)
 
 -- the innermost open element, at the place that was pushed last
-pub record Innermost (nodes : List Node) (places front : List ℕ) (i : ℕ) : Type 0 where
+pub record Innermost (source : List ℕ) (nodes : List Node) (places front : List ℕ) (i : ℕ) : Type 0 where
   pub o : Open
   pub outer : List Open
-  pub held_are : held nodes places ≡ o ∷ outer
-  pub slots_are : slots nodes ≡ slots_of (o ∷ outer)
+  pub held_are : held source nodes places ≡ o ∷ outer
+  pub slots_are : slots source nodes ≡ slots_of (o ∷ outer)
   pub place_is : i ≡ length (slots_of outer)
   pub others_are : reverse front ≡ places_of outer
   pub in_range : i < length nodes
 
-innermost_at : (opens : List Open) (nodes : List Node) (places front : List ℕ) (i : ℕ) → places ≡ front ++ i ∷ [] → held nodes places ≡ opens → slots nodes ≡ slots_of opens → reverse places ≡ places_of opens → Innermost nodes places front i
-innermost_at [] nodes places front i at held-are ns ps = let e : i ∷ reverse front ≡ [] = sym (reverse-append front (i ∷ [])) ∙ sym (ap reverse at) ∙ ps in absurd cc
-innermost_at (o ∷ outer) nodes places front i at held-are ns ps =
+innermost_at : (source : List ℕ) (opens : List Open) (nodes : List Node) (places front : List ℕ) (i : ℕ) → places ≡ front ++ i ∷ [] → held source nodes places ≡ opens → slots source nodes ≡ slots_of opens → reverse places ≡ places_of opens → Innermost source nodes places front i
+innermost_at source [] nodes places front i at held-are ns ps = let e : i ∷ reverse front ≡ [] = sym (reverse-append front (i ∷ [])) ∙ sym (ap reverse at) ∙ ps in absurd cc
+innermost_at source (o ∷ outer) nodes places front i at held-are ns ps =
     let e : i ∷ reverse front ≡ length (slots_of outer) ∷ places_of outer = sym (reverse-append front (i ∷ [])) ∙ sym (ap reverse at) ∙ ps in
     let place : i ≡ length (slots_of outer) = cc in
     record {
@@ -78,86 +81,124 @@ innermost_at (o ∷ outer) nodes places front i at held-are ns ps =
       slots_are = ns;
       place_is = place;
       others_are = cc;
-      in_range = omega (arith, sym (length-slots nodes), ap length ns, length-append (slots_of outer) (open_slot o ∷ flat o.done), place);
+      in_range = omega (arith, sym (length-slots source nodes), ap length ns, length-append (slots_of outer) (open_slot o ∷ flat o.done), place);
     }
 
-pub innermost : (nodes : List Node) (places front : List ℕ) (i : ℕ) → places ≡ front ++ i ∷ [] → IsHeld nodes places → Innermost nodes places front i
-innermost nodes places front i at h = innermost_at (held nodes places) nodes places front i at refl h.nodes_are h.places_are
+pub innermost : (source : List ℕ) (nodes : List Node) (places front : List ℕ) (i : ℕ) → places ≡ front ++ i ∷ [] → IsHeld source nodes places → Innermost source nodes places front i
+innermost source nodes places front i at h = innermost_at source (held source nodes places) nodes places front i at refl h.nodes_are h.places_are
 
 -- the node there is that of the open element
-node_is : (nodes : List Node) (places front : List ℕ) (i : ℕ) (m : Innermost nodes places front i) (n : Node) → n ≡ get_or nodes i n → slot n ≡ open_slot m.o
-node_is nodes places front i m n is =
-    ap slot is ∙ sym (get_or-map slot nodes i n (slot n) m.in_range) ∙ ap (λ (l : List Slot). get_or l i (slot n)) m.slots_are ∙ get_or_at (slots_of m.outer) (open_slot m.o) (flat m.o.done) (slot n) i (sym m.place_is)
+node_is : (source : List ℕ) (nodes : List Node) (places front : List ℕ) (i : ℕ) (m : Innermost source nodes places front i) (n : Node) → n ≡ get_or nodes i n → slot source n ≡ open_slot m.o
+node_is source nodes places front i m n is =
+    ap (slot source) is ∙ sym (get_or-map (slot source) nodes i n (slot source n) m.in_range) ∙ ap (λ (l : List Slot). get_or l i (slot source n)) m.slots_are ∙ get_or_at (slots_of m.outer) (open_slot m.o) (flat m.o.done) (slot source n) i (sym m.place_is)
 
 -- the place that was pushed last stays
-places_stay : (nodes : List Node) (places front : List ℕ) (i : ℕ) (m : Innermost nodes places front i) → places ≡ front ++ i ∷ [] → reverse places ≡ length (slots_of m.outer) ∷ places_of m.outer
-places_stay nodes places front i m at = ap reverse at ∙ reverse-append front (i ∷ []) ∙ ap (λ (k : ℕ). k ∷ reverse front) m.place_is ∙ ap (λ (l : List ℕ). length (slots_of m.outer) ∷ l) m.others_are
+places_stay : (source : List ℕ) (nodes : List Node) (places front : List ℕ) (i : ℕ) (m : Innermost source nodes places front i) → places ≡ front ++ i ∷ [] → reverse places ≡ length (slots_of m.outer) ∷ places_of m.outer
+places_stay source nodes places front i m at = ap reverse at ∙ reverse-append front (i ∷ []) ∙ ap (λ (k : ℕ). k ∷ reverse front) m.place_is ∙ ap (λ (l : List ℕ). length (slots_of m.outer) ∷ l) m.others_are
 
 -- the list with another node in that place
-set_there : (nodes : List Node) (places front : List ℕ) (i : ℕ) (m : Innermost nodes places front i) (n : Node) → slots (set nodes i n) ≡ slots_of m.outer ++ slot n ∷ flat m.o.done
-set_there nodes places front i m n = slots-set nodes i n ∙ ap (λ (l : List Slot). set l i (slot n)) m.slots_are ∙ set_at (slots_of m.outer) (open_slot m.o) (flat m.o.done) (slot n) i (sym m.place_is)
+set_there : (source : List ℕ) (nodes : List Node) (places front : List ℕ) (i : ℕ) (m : Innermost source nodes places front i) (n : Node) → slots source (set nodes i n) ≡ slots_of m.outer ++ slot source n ∷ flat m.o.done
+set_there source nodes places front i m n = slots-set source nodes i n ∙ ap (λ (l : List Slot). set l i (slot source n)) m.slots_are ∙ set_at (slots_of m.outer) (open_slot m.o) (flat m.o.done) (slot source n) i (sym m.place_is)
 
 -- ---- a run
 
 some_same : (a b : List ℕ) → Some a ≡ Some b → a ≡ b
 some_same a b e = cc
 
--- a node whose text was taken and put back with one more run
-pub with_run : (n : Node) (so_far run text : List ℕ) → so_far ≡ n.text → Some (so_far ++ run) ≡ Some text → head_of (record n { text = text }) ≡ with_text ((head_of n).text ++ run) (head_of n)
-with_run n so_far run text is more = ap (λ (t : List ℕ). with_text t (head_of n)) (sym (some_same (so_far ++ run) text more) ∙ ap (λ (s : List ℕ). s ++ run) is)
+pub same_number : (a b : ℕ) → Some a ≡ Some b → a ≡ b
+same_number a b e = cc
 
-pub run_added : (nodes : List Node) (places front : List ℕ) (i : ℕ) (text : List ℕ) (n n' : Node) → places ≡ front ++ i ∷ [] → IsHeld nodes places → n ≡ get_or nodes i n
-    → head_of n' ≡ with_text ((head_of n).text ++ text) (head_of n) → n'.below ≡ n.below
-    → (add_run text (held nodes places) ≡ Some (held (set nodes i n') places)) × IsHeld (set nodes i n') places
+-- a node whose text, namespace and attributes were taken, and put back with another text
+abbrev head_with : List ℕ → Parts → Head
+head_with name p = record {
+  name = name;
+  namespace = p.namespace;
+  attributes = p.attributes;
+  text = p.text;
+}
+
+same_parts : (a b : Parts) → Some a ≡ Some b → a ≡ b
+same_parts a b e = cc
+
+pub with_run : (source : List ℕ) (n : Node) (so_far new : Rest) (run : List ℕ) → so_far ≡ n.rest → Some (with_more_text run (parts_in source so_far)) ≡ Some (parts_in source new) → head_of source (record n { rest = new }) ≡ with_text ((head_of source n).text ++ run) (head_of source n)
+with_run source n so_far new run is more =
+    ap (head_with (name_from source n.name)) (sym (same_parts (with_more_text run (parts_in source so_far)) (parts_in source new) more) ∙ ap (λ (r : Rest). with_more_text run (parts_in source r)) is)
+
+-- the same at the end of an element
+settled_as : (x : Option (List ℕ)) (p q : Parts) → (x >>= λ text. Some (with_part text p)) ≡ Some q → (x ≡ Some q.text) × (with_part q.text p ≡ q)
+unfolding ◌>>=◌
+settled_as (Some text) p q e = let same = same_parts (with_part text p) q e in (ap (λ (r : Parts). Some r.text) same, ap (λ (r : Parts). with_part r.text p) (sym same) ∙ same)
+settled_as None p q e = absurd cc
+
+pub at_end : (source : List ℕ) (n : Node) (so_far new : Rest) (below : ℕ) → so_far ≡ n.rest → settled_parts below (parts_in source so_far) ≡ Some (parts_in source new)
+    → (settled below (head_of source n).text ≡ Some (text_in source new)) × (head_of source (record n { rest = new; below = below }) ≡ with_text (text_in source new) (head_of source n))
+unfolding settled_parts
+at_end source n so_far new below is done =
+    let s = settled_as (settled below (text_in source n.rest)) (parts_in source n.rest) (parts_in source new) (ap (λ (r : Rest). settled below (text_in source r) >>= λ text. Some (with_part text (parts_in source r))) (sym is) ∙ done) in
+    (s.0, ap (head_with (name_from source n.name)) (sym s.1))
+
+none_settled : (x : Option (List ℕ)) (p : Parts) → (x >>= λ text. Some (with_part text p)) ≡ None → x ≡ None
+unfolding ◌>>=◌
+none_settled (Some text) p e = absurd cc
+none_settled None p e = refl
+
+pub fails_at_end : (e : XmlError) (source : List ℕ) (n : Node) (so_far : Rest) (below : ℕ) → so_far ≡ n.rest → Fails e (settled_parts below (parts_in source so_far)) → Fails e (settled below (head_of source n).text)
+unfolding settled_parts
+fails_at_end errors.OutOfMemory source n so_far below is fails = tt
+fails_at_end errors.Malformed source n so_far below is fails = none_settled (settled below (text_in source n.rest)) (parts_in source n.rest) (ap (λ (r : Rest). settled below (text_in source r) >>= λ text. Some (with_part text (parts_in source r))) (sym is) ∙ fails)
+
+pub run_added : (source : List ℕ) (nodes : List Node) (places front : List ℕ) (i : ℕ) (text : List ℕ) (n n' : Node) → places ≡ front ++ i ∷ [] → IsHeld source nodes places → n ≡ get_or nodes i n
+    → head_of source n' ≡ with_text ((head_of source n).text ++ text) (head_of source n) → n'.below ≡ n.below
+    → (add_run text (held source nodes places) ≡ Some (held source (set nodes i n') places)) × IsHeld source (set nodes i n') places
 unfolding add_run
-run_added nodes places front i text n n' at h is head-is below-is =
-    let m = innermost nodes places front i at h in
-    let there = node_is nodes places front i m n is in
+run_added source nodes places front i text n n' at h is head-is below-is =
+    let m = innermost source nodes places front i at h in
+    let there = node_is source nodes places front i m n is in
     let new = and_more text none m.o in
-    let slot-is : slot n' ≡ open_slot new = ap (λ (x : Head). slot_with x n'.below) head-is ∙ ap (λ (k : ℕ). slot_with (with_text ((head_of n).text ++ text) (head_of n)) k) below-is ∙ ap (λ (s : Slot). slot_with (with_text (s.head.text ++ text) s.head) s.below) there in
-    let holds : Holds (set nodes i n') places (new ∷ m.outer) = record {
-      nodes_are = set_there nodes places front i m n' ∙ ap (λ (s : Slot). slots_of m.outer ++ s ∷ flat m.o.done) slot-is ∙ ap (λ (e : Elements). slots_of m.outer ++ open_slot new ∷ flat e) (sym (joined-none m.o.done));
-      places_are = places_stay nodes places front i m at;
+    let slot-is : slot source n' ≡ open_slot new = ap (λ (x : Head). slot_with x n'.below) head-is ∙ ap (λ (k : ℕ). slot_with (with_text ((head_of source n).text ++ text) (head_of source n)) k) below-is ∙ ap (λ (s : Slot). slot_with (with_text (s.head.text ++ text) s.head) s.below) there in
+    let holds : Holds source (set nodes i n') places (new ∷ m.outer) = record {
+      nodes_are = set_there source nodes places front i m n' ∙ ap (λ (s : Slot). slots_of m.outer ++ s ∷ flat m.o.done) slot-is ∙ ap (λ (e : Elements). slots_of m.outer ++ open_slot new ∷ flat e) (sym (joined-none m.o.done));
+      places_are = places_stay source nodes places front i m at;
     } in
-    let new-is = held_is (set nodes i n') places (new ∷ m.outer) holds in
+    let new-is = held_is source (set nodes i n') places (new ∷ m.outer) holds in
     (ap (add_run text) m.held_are ∙ ap (λ (l : List Open). Some l) (sym new-is.0), new-is.1)
 
-pub nothing_held : (nodes : List Node) (places : List ℕ) → length places ≡ 0 → held nodes places ≡ []
+pub nothing_held : (source : List ℕ) (nodes : List Node) (places : List ℕ) → length places ≡ 0 → held source nodes places ≡ []
 unfolding held
-nothing_held nodes [] e = refl
-nothing_held nodes (i ∷ places) e = absurd (omega arith)
+nothing_held source nodes [] e = refl
+nothing_held source nodes (i ∷ places) e = absurd (omega arith)
 
 -- ---- an element without children, and the start of one
 
-pub element_added : (nodes : List Node) (places front : List ℕ) (i : ℕ) (n : Node) → places ≡ front ++ i ∷ [] → IsHeld nodes places → n.below ≡ 0
-    → (add_element (head_of n) (held nodes places) ≡ Some (held (nodes ++ n ∷ []) places)) × IsHeld (nodes ++ n ∷ []) places
+pub element_added : (source : List ℕ) (nodes : List Node) (places front : List ℕ) (i : ℕ) (n : Node) → places ≡ front ++ i ∷ [] → IsHeld source nodes places → n.below ≡ 0
+    → (add_element (head_of source n) (held source nodes places) ≡ Some (held source (nodes ++ n ∷ []) places)) × IsHeld source (nodes ++ n ∷ []) places
 unfolding add_element
-element_added nodes places front i n at h zero-is =
-    let m = innermost nodes places front i at h in
-    let one = alone (record { head = head_of n; children = none }) in
+element_added source nodes places front i n at h zero-is =
+    let m = innermost source nodes places front i at h in
+    let one = alone (record { head = head_of source n; children = none }) in
     let new = and_more [] one m.o in
-    let more : flat m.o.done ++ slot n ∷ [] ≡ flat new.done = ap (λ (k : ℕ). flat m.o.done ++ slot_with (head_of n) k ∷ []) zero-is ∙ sym (flat-joined m.o.done one) in
-    let holds : Holds (nodes ++ n ∷ []) places (new ∷ m.outer) = record {
-      nodes_are = slots-push nodes n ∙ ap (λ (l : List Slot). l ++ slot n ∷ []) m.slots_are ∙ append_assoc (slots_of m.outer) (open_slot m.o ∷ flat m.o.done) (slot n ∷ []) ∙ ap (λ (l : List Slot). slots_of m.outer ++ open_slot m.o ∷ l) more
+    let more : flat m.o.done ++ slot source n ∷ [] ≡ flat new.done = ap (λ (k : ℕ). flat m.o.done ++ slot_with (head_of source n) k ∷ []) zero-is ∙ sym (flat-joined m.o.done one) in
+    let holds : Holds source (nodes ++ n ∷ []) places (new ∷ m.outer) = record {
+      nodes_are = slots-push source nodes n ∙ ap (λ (l : List Slot). l ++ slot source n ∷ []) m.slots_are ∙ append_assoc (slots_of m.outer) (open_slot m.o ∷ flat m.o.done) (slot source n ∷ []) ∙ ap (λ (l : List Slot). slots_of m.outer ++ open_slot m.o ∷ l) more
           ∙ ap (λ (t : List ℕ). slots_of m.outer ++ slot_with (with_text t m.o.head) 0 ∷ flat new.done) (sym (append-nil m.o.head.text));
-      places_are = places_stay nodes places front i m at;
+      places_are = places_stay source nodes places front i m at;
     } in
-    let new-is = held_is (nodes ++ n ∷ []) places (new ∷ m.outer) holds in
-    (ap (add_element (head_of n)) m.held_are ∙ ap (λ (l : List Open). Some l) (sym new-is.0), new-is.1)
+    let new-is = held_is source (nodes ++ n ∷ []) places (new ∷ m.outer) holds in
+    (ap (add_element (head_of source n)) m.held_are ∙ ap (λ (l : List Open). Some l) (sym new-is.0), new-is.1)
 
-pub element_begun : (nodes : List Node) (places front : List ℕ) (i j : ℕ) (n : Node) → places ≡ front ++ i ∷ [] → IsHeld nodes places → n.below ≡ 0 → j ≡ length nodes
-    → (begin_element (head_of n) (held nodes places) ≡ Some (held (nodes ++ n ∷ []) (places ++ j ∷ []))) × IsHeld (nodes ++ n ∷ []) (places ++ j ∷ [])
+pub element_begun : (source : List ℕ) (nodes : List Node) (places front : List ℕ) (i j : ℕ) (n : Node) → places ≡ front ++ i ∷ [] → IsHeld source nodes places → n.below ≡ 0 → j ≡ length nodes
+    → (begin_element (head_of source n) (held source nodes places) ≡ Some (held source (nodes ++ n ∷ []) (places ++ j ∷ []))) × IsHeld source (nodes ++ n ∷ []) (places ++ j ∷ [])
 unfolding begin_element
-element_begun nodes places front i j n at h zero-is j-is =
-    let m = innermost nodes places front i at h in
-    let new = opened (head_of n) in
-    let count : length (slots_of (m.o ∷ m.outer)) ≡ j = ap length (sym m.slots_are) ∙ length-slots nodes ∙ sym j-is in
-    let holds : Holds (nodes ++ n ∷ []) (places ++ j ∷ []) (new ∷ m.o ∷ m.outer) = record {
-      nodes_are = slots-push nodes n ∙ ap (λ (l : List Slot). l ++ slot n ∷ []) m.slots_are ∙ ap (λ (k : ℕ). slots_of (m.o ∷ m.outer) ++ slot_with (head_of n) k ∷ []) zero-is;
-      places_are = reverse-append places (j ∷ []) ∙ ap (λ (k : ℕ). k ∷ reverse places) (sym count) ∙ ap (λ (l : List ℕ). length (slots_of (m.o ∷ m.outer)) ∷ l) (places_stay nodes places front i m at);
+element_begun source nodes places front i j n at h zero-is j-is =
+    let m = innermost source nodes places front i at h in
+    let new = opened (head_of source n) in
+    let count : length (slots_of (m.o ∷ m.outer)) ≡ j = ap length (sym m.slots_are) ∙ length-slots source nodes ∙ sym j-is in
+    let holds : Holds source (nodes ++ n ∷ []) (places ++ j ∷ []) (new ∷ m.o ∷ m.outer) = record {
+      nodes_are = slots-push source nodes n ∙ ap (λ (l : List Slot). l ++ slot source n ∷ []) m.slots_are ∙ ap (λ (k : ℕ). slots_of (m.o ∷ m.outer) ++ slot_with (head_of source n) k ∷ []) zero-is;
+      places_are = reverse-append places (j ∷ []) ∙ ap (λ (k : ℕ). k ∷ reverse places) (sym count) ∙ ap (λ (l : List ℕ). length (slots_of (m.o ∷ m.outer)) ∷ l) (places_stay source nodes places front i m at);
     } in
-    let new-is = held_is (nodes ++ n ∷ []) (places ++ j ∷ []) (new ∷ m.o ∷ m.outer) holds in
-    (ap (begin_element (head_of n)) m.held_are ∙ ap (λ (l : List Open). Some l) (sym new-is.0), new-is.1)
+    let new-is = held_is source (nodes ++ n ∷ []) (places ++ j ∷ []) (new ∷ m.o ∷ m.outer) holds in
+    (ap (begin_element (head_of source n)) m.held_are ∙ ap (λ (l : List Open). Some l) (sym new-is.0), new-is.1)
 
 -- a list that isn't empty has a last item
 last_of : (places : List ℕ) → 0 < length places → (front : List ℕ) × (i : ℕ) × (places ≡ front ++ i ∷ [])
@@ -167,13 +208,13 @@ last_of places more = go (reverse places) refl
     go [] e = let nil : places ≡ [] = sym (reverse-reverse places) ∙ ap reverse e in absurd (omega (arith, ap length nil))
     go (i ∷ r) e = (reverse r, i, sym (reverse-reverse places) ∙ ap reverse e ∙ reverse-append (i ∷ []) r)
 
-pub element_added_in : (nodes : List Node) (places : List ℕ) (n : Node) → 0 < length places → IsHeld nodes places → n.below ≡ 0
-    → (add_element (head_of n) (held nodes places) ≡ Some (held (nodes ++ n ∷ []) places)) × IsHeld (nodes ++ n ∷ []) places
-element_added_in nodes places n more h zero-is = let s = last_of places more in element_added nodes places s.0 s.1 n s.2 h zero-is
+pub element_added_in : (source : List ℕ) (nodes : List Node) (places : List ℕ) (n : Node) → 0 < length places → IsHeld source nodes places → n.below ≡ 0
+    → (add_element (head_of source n) (held source nodes places) ≡ Some (held source (nodes ++ n ∷ []) places)) × IsHeld source (nodes ++ n ∷ []) places
+element_added_in source nodes places n more h zero-is = let s = last_of places more in element_added source nodes places s.0 s.1 n s.2 h zero-is
 
-pub element_begun_in : (nodes : List Node) (places : List ℕ) (j : ℕ) (n : Node) → 0 < length places → IsHeld nodes places → n.below ≡ 0 → j ≡ length nodes
-    → (begin_element (head_of n) (held nodes places) ≡ Some (held (nodes ++ n ∷ []) (places ++ j ∷ []))) × IsHeld (nodes ++ n ∷ []) (places ++ j ∷ [])
-element_begun_in nodes places j n more h zero-is j-is = let s = last_of places more in element_begun nodes places s.0 s.1 j n s.2 h zero-is j-is
+pub element_begun_in : (source : List ℕ) (nodes : List Node) (places : List ℕ) (j : ℕ) (n : Node) → 0 < length places → IsHeld source nodes places → n.below ≡ 0 → j ≡ length nodes
+    → (begin_element (head_of source n) (held source nodes places) ≡ Some (held source (nodes ++ n ∷ []) (places ++ j ∷ []))) × IsHeld source (nodes ++ n ∷ []) (places ++ j ∷ [])
+element_begun_in source nodes places j n more h zero-is j-is = let s = last_of places more in element_begun source nodes places s.0 s.1 j n s.2 h zero-is j-is
 
 -- ---- the end of an element
 
@@ -201,36 +242,36 @@ an_outer : (outer : List Open) (front : List ℕ) → reverse front ≡ places_o
 an_outer (p ∷ outer) front e more = (p, outer, refl)
 an_outer [] front e more = let nil : front ≡ [] = sym (reverse-reverse front) ∙ ap reverse e in absurd (omega (arith, ap length nil))
 
-pub nothing_to_end : (nodes : List Node) (places front : List ℕ) (i : ℕ) (name : List ℕ) → places ≡ front ++ i ∷ [] → IsHeld nodes places → length front ≡ 0 → end_element name (held nodes places) ≡ None
+pub nothing_to_end : (source : List ℕ) (nodes : List Node) (places front : List ℕ) (i : ℕ) (name : List ℕ) → places ≡ front ++ i ∷ [] → IsHeld source nodes places → length front ≡ 0 → end_element name (held source nodes places) ≡ None
 unfolding end_element
-nothing_to_end nodes places front i name at h zero =
-    let m = innermost nodes places front i at h in
+nothing_to_end source nodes places front i name at h zero =
+    let m = innermost source nodes places front i at h in
     rw (m.held_are, no_outer m.outer front m.others_are zero) refl
 
 -- what the end of an element asks, by the node
-asked : (nodes : List Node) (places front : List ℕ) (i below : ℕ) (n : Node) (name : List ℕ) (m : Innermost nodes places front i) → n ≡ get_or nodes i n → below ≡ length nodes - i - 1
-    → (settled below n.text ≡ cond (fits m.o.done m.o.head.text) (Some (text_of m.o.done m.o.head.text)) None) × (n.name ≡ m.o.head.name)
-asked nodes places front i below n name m is below-is =
-    let there = ap (λ (s : Slot). s.head) (node_is nodes places front i m n is) in
-    let count : below ≡ length (flat m.o.done) = omega (arith, below-is, sym (length-slots nodes), ap length m.slots_are, length-append (slots_of m.outer) (open_slot m.o ∷ flat m.o.done), m.place_is) in
-    (ap (λ (k : ℕ). settled k n.text) count ∙ ap (λ (h : Head). settled (length (flat m.o.done)) h.text) there ∙ settled_is m.o.done m.o.head.text, ap (λ (h : Head). h.name) there)
+asked : (source : List ℕ) (nodes : List Node) (places front : List ℕ) (i below : ℕ) (n : Node) (name : List ℕ) (m : Innermost source nodes places front i) → n ≡ get_or nodes i n → below ≡ length nodes - i - 1
+    → (settled below (head_of source n).text ≡ cond (fits m.o.done m.o.head.text) (Some (text_of m.o.done m.o.head.text)) None) × ((head_of source n).name ≡ m.o.head.name)
+asked source nodes places front i below n name m is below-is =
+    let there = ap (λ (s : Slot). s.head) (node_is source nodes places front i m n is) in
+    let count : below ≡ length (flat m.o.done) = omega (arith, below-is, sym (length-slots source nodes), ap length m.slots_are, length-append (slots_of m.outer) (open_slot m.o ∷ flat m.o.done), m.place_is) in
+    (ap (λ (k : ℕ). settled k (head_of source n).text) count ∙ ap (λ (h : Head). settled (length (flat m.o.done)) h.text) there ∙ settled_is m.o.done m.o.head.text, ap (λ (h : Head). h.name) there)
 
-pub other_name : (nodes : List Node) (places front : List ℕ) (i : ℕ) (n : Node) (name : List ℕ) → places ≡ front ++ i ∷ [] → IsHeld nodes places → 0 < length front → n ≡ get_or nodes i n → bytes_eq n.name name ≡ false → end_element name (held nodes places) ≡ None
+pub other_name : (source : List ℕ) (nodes : List Node) (places front : List ℕ) (i : ℕ) (n : Node) (name : List ℕ) → places ≡ front ++ i ∷ [] → IsHeld source nodes places → 0 < length front → n ≡ get_or nodes i n → bytes_eq (head_of source n).name name ≡ false → end_element name (held source nodes places) ≡ None
 unfolding end_element
-other_name nodes places front i n name at h more is ne =
-    let m = innermost nodes places front i at h in
+other_name source nodes places front i n name at h more is ne =
+    let m = innermost source nodes places front i at h in
     let a = an_outer m.outer front m.others_are more in
-    let there = ap (λ (s : Slot). s.head.name) (node_is nodes places front i m n is) in
+    let there = ap (λ (s : Slot). s.head.name) (node_is source nodes places front i m n is) in
     let test : bytes_eq m.o.head.name name ≡ false = ap (λ (x : List ℕ). bytes_eq x name) (sym there) ∙ ne in
     rw (m.held_are, a.2, test) refl
 
-pub unsettled : (nodes : List Node) (places front : List ℕ) (i below : ℕ) (n : Node) (name : List ℕ) → places ≡ front ++ i ∷ [] → IsHeld nodes places → 0 < length front → n ≡ get_or nodes i n → below ≡ length nodes - i - 1
-    → settled below n.text ≡ None → end_element name (held nodes places) ≡ None
+pub unsettled : (source : List ℕ) (nodes : List Node) (places front : List ℕ) (i below : ℕ) (n : Node) (name : List ℕ) → places ≡ front ++ i ∷ [] → IsHeld source nodes places → 0 < length front → n ≡ get_or nodes i n → below ≡ length nodes - i - 1
+    → settled below (head_of source n).text ≡ None → end_element name (held source nodes places) ≡ None
 unfolding end_element
-unsettled nodes places front i below n name at h more is below-is none-is =
-    let m = innermost nodes places front i at h in
+unsettled source nodes places front i below n name at h more is below-is none-is =
+    let m = innermost source nodes places front i at h in
     let a = an_outer m.outer front m.others_are more in
-    let q = asked nodes places front i below n name m is below-is in
+    let q = asked source nodes places front i below n name m is below-is in
     let test = settled_none (fits m.o.done m.o.head.text) (text_of m.o.done m.o.head.text) (sym q.0 ∙ none-is) in
     rw (m.held_are, a.2, test) (no_matter (bytes_eq m.o.head.name name) (and_more [] (alone (closed m.o)) a.0 ∷ a.1))
   where
@@ -238,37 +279,37 @@ unsettled nodes places front i below n name at h more is below-is none-is =
     no_matter true x = refl
     no_matter false x = refl
 
-pub element_ended : (nodes : List Node) (places front : List ℕ) (i below : ℕ) (n n' : Node) (name text : List ℕ) → places ≡ front ++ i ∷ [] → IsHeld nodes places → 0 < length front → n ≡ get_or nodes i n → below ≡ length nodes - i - 1
-    → bytes_eq n.name name ≡ true → settled below n.text ≡ Some text → head_of n' ≡ with_text text (head_of n) → n'.below ≡ below
-    → (end_element name (held nodes places) ≡ Some (held (set nodes i n') front)) × IsHeld (set nodes i n') front
+pub element_ended : (source : List ℕ) (nodes : List Node) (places front : List ℕ) (i below : ℕ) (n n' : Node) (name text : List ℕ) → places ≡ front ++ i ∷ [] → IsHeld source nodes places → 0 < length front → n ≡ get_or nodes i n → below ≡ length nodes - i - 1
+    → bytes_eq (head_of source n).name name ≡ true → settled below (head_of source n).text ≡ Some text → head_of source n' ≡ with_text text (head_of source n) → n'.below ≡ below
+    → (end_element name (held source nodes places) ≡ Some (held source (set nodes i n') front)) × IsHeld source (set nodes i n') front
 unfolding end_element
-element_ended nodes places front i below n n' name text at h more is below-is name-is text-is head-is below'-is =
-    let m = innermost nodes places front i at h in
+element_ended source nodes places front i below n n' name text at h more is below-is name-is text-is head-is below'-is =
+    let m = innermost source nodes places front i at h in
     let a = an_outer m.outer front m.others_are more in
     let p = a.0 in
-    let there = ap (λ (s : Slot). s.head) (node_is nodes places front i m n is) in
-    let q = asked nodes places front i below n name m is below-is in
+    let there = ap (λ (s : Slot). s.head) (node_is source nodes places front i m n is) in
+    let q = asked source nodes places front i below n name m is below-is in
     let g = settled_ok (fits m.o.done m.o.head.text) (text_of m.o.done m.o.head.text) text (sym q.0 ∙ text-is) in
-    let count : n'.below ≡ length (flat m.o.done) = omega (arith, below'-is, below-is, sym (length-slots nodes), ap length m.slots_are, length-append (slots_of m.outer) (open_slot m.o ∷ flat m.o.done), m.place_is) in
-    let head'-is : head_of n' ≡ (closed m.o).head = head-is ∙ ap (with_text text) there ∙ ap (λ (t : List ℕ). with_text t m.o.head) (sym g.1) in
-    let slot-is : slot n' ≡ slot_with (closed m.o).head (length (flat m.o.done)) = ap (λ (x : Head). slot_with x n'.below) head'-is ∙ ap (slot_with (closed m.o).head) count in
+    let count : n'.below ≡ length (flat m.o.done) = omega (arith, below'-is, below-is, sym (length-slots source nodes), ap length m.slots_are, length-append (slots_of m.outer) (open_slot m.o ∷ flat m.o.done), m.place_is) in
+    let head'-is : head_of source n' ≡ (closed m.o).head = head-is ∙ ap (with_text text) there ∙ ap (λ (t : List ℕ). with_text t m.o.head) (sym g.1) in
+    let slot-is : slot source n' ≡ slot_with (closed m.o).head (length (flat m.o.done)) = ap (λ (x : Head). slot_with x n'.below) head'-is ∙ ap (slot_with (closed m.o).head) count in
     let new = and_more [] (alone (closed m.o)) p in
     let front-is : slots_of m.outer ≡ slots_of a.1 ++ open_slot p ∷ flat p.done = ap slots_of a.2 in
-    let back : flat p.done ++ slot n' ∷ flat m.o.done ≡ flat new.done =
+    let back : flat p.done ++ slot source n' ∷ flat m.o.done ≡ flat new.done =
     ap (λ (s : Slot). flat p.done ++ s ∷ flat m.o.done) slot-is ∙ ap (λ (l : List Slot). flat p.done ++ slot_with (closed m.o).head (length (flat m.o.done)) ∷ l) (sym (append-nil (flat m.o.done))) ∙ sym (flat-joined p.done (alone (closed m.o))) in
-    let holds : Holds (set nodes i n') front (new ∷ a.1) = record {
-      nodes_are = set_there nodes places front i m n' ∙ ap (λ (l : List Slot). l ++ slot n' ∷ flat m.o.done) front-is ∙ append_assoc (slots_of a.1) (open_slot p ∷ flat p.done) (slot n' ∷ flat m.o.done)
+    let holds : Holds source (set nodes i n') front (new ∷ a.1) = record {
+      nodes_are = set_there source nodes places front i m n' ∙ ap (λ (l : List Slot). l ++ slot source n' ∷ flat m.o.done) front-is ∙ append_assoc (slots_of a.1) (open_slot p ∷ flat p.done) (slot source n' ∷ flat m.o.done)
           ∙ ap (λ (l : List Slot). slots_of a.1 ++ open_slot p ∷ l) back ∙ ap (λ (t : List ℕ). slots_of a.1 ++ slot_with (with_text t p.head) 0 ∷ flat new.done) (sym (append-nil p.head.text));
       places_are = m.others_are ∙ ap places_of a.2;
     } in
-    let new-is = held_is (set nodes i n') front (new ∷ a.1) holds in
+    let new-is = held_is source (set nodes i n') front (new ∷ a.1) holds in
     let name'-is : bytes_eq m.o.head.name name ≡ true = ap (λ (x : List ℕ). bytes_eq x name) (sym q.1) ∙ name-is in
     (rw (m.held_are, a.2, name'-is, g.0) (ap (λ (l : List Open). Some l) (sym new-is.0)), new-is.1)
 
-pub unsettled_fails : (e : XmlError) (nodes : List Node) (places front : List ℕ) (i below : ℕ) (n : Node) (name : List ℕ) → places ≡ front ++ i ∷ [] → IsHeld nodes places → 0 < length front → n ≡ get_or nodes i n → below ≡ length nodes - i - 1
-    → Fails e (settled below n.text) → Fails e (end_element name (held nodes places))
-unsettled_fails errors.OutOfMemory nodes places front i below n name at h more is below-is fails = tt
-unsettled_fails errors.Malformed nodes places front i below n name at h more is below-is fails = unsettled nodes places front i below n name at h more is below-is fails
+pub unsettled_fails : (source : List ℕ) (e : XmlError) (nodes : List Node) (places front : List ℕ) (i below : ℕ) (n : Node) (name : List ℕ) → places ≡ front ++ i ∷ [] → IsHeld source nodes places → 0 < length front → n ≡ get_or nodes i n → below ≡ length nodes - i - 1
+    → Fails e (settled below (head_of source n).text) → Fails e (end_element name (held source nodes places))
+unsettled_fails source errors.OutOfMemory nodes places front i below n name at h more is below-is fails = tt
+unsettled_fails source errors.Malformed nodes places front i below n name at h more is below-is fails = unsettled source nodes places front i below n name at h more is below-is fails
 
 pub is_false : (b : Bool) → true ≡ not b → b ≡ false
 is_false true e = absurd cc

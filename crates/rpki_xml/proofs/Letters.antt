@@ -8,6 +8,7 @@ use Rattle.std.specs.Prelude.{codes, unwrap_or}
 use Rattle.std.specs.Str.{IsUtf8, IsAscii}
 use Rattle.std.specs.List.{list_all, AllByRecursion}
 use Rattle.rpki_common.specs.Chaining.{◌>>=◌}
+use Rattle.rpki_common.proofs.Truths.{both}
 use Rattle.rpki_xml.specs.Element.{Attribute, Elements, none, first, Element, alone}
 use Rattle.rpki_xml.specs.Content.{Tag, Piece, run, passed_over, leaf, start, end, Content, nothing, and_run, and_passed_over, and_leaf, and_element, pieces, behind, is_declaration, declares, declared, not_empty, namespace_of, handed_on, is_white, without_white, trimmed, characters, text_of, head_of, elements_in}
 use Rattle.rpki_xml.specs.Lettered.{AreOctets, IsLetteredAttribute, IsLetteredHead, AreLettered}
@@ -15,11 +16,6 @@ use Rattle.rpki_xml.specs.Lexing.{front_of, back_of, or_else, entity_at, any_ent
 use Rattle.rpki_xml.specs.Name.{is_name, is_name_octet, behind_colon, prefix_of, local_name}
 
 -- ---- text
-
-both : (a b : Bool) → (a && b) ≡ true → (a ≡ true) × (b ≡ true)
-both true true e = (refl, refl)
-both true false e = absurd cc
-both false b e = absurd cc
 
 either : {X : Type 0} (P : X → Type 0) (b : Bool) (x y : X) → P x → P y → P (cond b x y)
 either P true x y h k = h

@@ -1,3 +1,4 @@
+pub mod Apart
 pub mod AttributeSpellings
 pub mod Contents
 pub mod Documents
@@ -10,6 +11,7 @@ pub mod Letters
 pub mod Listed
 pub mod NameSets
 pub mod Octets
+pub mod Places
 pub mod Plains
 pub mod Repetitions
 pub mod Roots

@@ -4,6 +4,7 @@ use Rattle.std.proofs.lemmas.List.Folds.{list_all-append}
 use Rattle.std.proofs.lemmas.Bool.Decides.{nat_tests}
 use Rattle.std.specs.Prelude.{codes}
 use Rattle.std.specs.List.{list_all, flat_map, AllByRecursion}
+use Rattle.rpki_common.proofs.Truths.{both}
 use Rattle.rpki_xml.specs.Element.{Attribute, Elements, none, first, Element, alone, is_none, is_nil}
 use Rattle.rpki_xml.specs.Lexing.{is_octet, IsDocument}
 use Rattle.rpki_xml.specs.Lettered.{AreOctets}
@@ -18,11 +19,6 @@ joined a b h k = list_all-append is_octet a b ∙ rw (h, k) refl
 
 name_octet : (c : ℕ) → is_name_octet c ≡ true → is_octet c ≡ true
 name_octet c h = grind (arith, nat_tests)
-
-both : (a b : Bool) → (a && b) ≡ true → (a ≡ true) × (b ≡ true)
-both true true e = (refl, refl)
-both true false e = absurd cc
-both false b e = absurd cc
 
 name_octets : (n : List ℕ) → list_all is_name_octet n ≡ true → AreOctets n
 name_octets [] h = refl

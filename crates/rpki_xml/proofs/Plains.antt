@@ -3,14 +3,10 @@ use Rattle.std.proofs.Common.{◌≡◌, ℕ, ◌<◌, ◌≤◌, ◌+◌, List,
 use Rattle.std.proofs.lemmas.List.{append-nil, length-append}
 use Rattle.std.proofs.lemmas.Bool.{eqb-true, eqb-false}
 use Rattle.std.specs.List.{list_all}
+use Rattle.rpki_common.proofs.Truths.{both}
 use Rattle.rpki_xml.specs.Lexing.{character_at, ends_at, front_of, back_of, until}
 use Rattle.rpki_xml.specs.PlainCharacter.{is_plain}
 use Rattle.rpki_xml.proofs.Until.{Until, until_starts, until_more, until_done}
-
-both : (a b : Bool) → (a && b) ≡ true → (a ≡ true) × (b ≡ true)
-both true true e = (refl, refl)
-both true false e = absurd cc
-both false b e = absurd cc
 
 not_true : (a : Bool) → not a ≡ true → a ≡ false
 not_true true e = absurd cc

@@ -2,6 +2,7 @@
 use Rattle.std.proofs.Common.{◌≡◌, ℕ, zero, suc, ◌<◌, Bool, ◌||◌, true, false, cond, eqb, List, [], ◌∷◌, length, Option, Some, None, refl, sym, ap, subst, ◌∙◌, arith}
 use Rattle.std.specs.Prelude.{codes}
 use Rattle.rpki_common.specs.Chaining.{◌>>=◌}
+use Rattle.rpki_common.proofs.Truths.{none_some}
 use Rattle.rpki_xml.specs.Content.{behind, is_white}
 use Rattle.rpki_xml.specs.Element.{Attribute}
 use Rattle.rpki_xml.specs.Lexing.{front_of, back_of, or_else, entity_at, any_entity_at, character_at, name_at, past_white, repeated, until, ends_at, value_in, quoted_at, attribute_at, no_attribute}
@@ -108,9 +109,6 @@ attribute_less b =
     (λ d l. then_less (length b) (length b) (quoted_at (past_white d)) (λ value. Some (record { name = n; value = value.0 }, value.1)) (quoted_less (past_white d) (length b) (back_less is_white d k l)) (λ v e m. m)))
 
 -- ---- the same both ways
-
-none_some : {X : Type 0} (x : X) → None ≡ Some x → ⊥
-none_some {X} x e = cc
 
 pair_of : {X Y : Type 0} (p q : X × Y) → Some p ≡ Some q → p ≡ q
 pair_of p q e = cc

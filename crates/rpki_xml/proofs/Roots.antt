@@ -28,28 +28,28 @@ length-places_of : (opens : List Open) → length (places_of opens) ≡ length o
 length-places_of [] = refl
 length-places_of (o ∷ outer) = ap suc (length-places_of outer)
 
-pub not_one_open : (nodes : List Node) (places : List ℕ) → IsHeld nodes places → length places ≢ 1 → root_element (held nodes places) ≡ None
+pub not_one_open : (source : List ℕ) (nodes : List Node) (places : List ℕ) → IsHeld source nodes places → length places ≢ 1 → root_element (held source nodes places) ≡ None
 unfolding root_element
-not_one_open nodes places h many =
-    let count : length (held nodes places) ≡ length places = sym (length-places_of (held nodes places)) ∙ ap length (sym h.places_are) ∙ length-reverse places in
-    go (held nodes places) count
+not_one_open source nodes places h many =
+    let count : length (held source nodes places) ≡ length places = sym (length-places_of (held source nodes places)) ∙ ap length (sym h.places_are) ∙ length-reverse places in
+    go (held source nodes places) count
   where
     go : (opens : List Open) → length opens ≡ length places → root_element opens ≡ None
     go [] e = refl
     go (d ∷ []) e = absurd (many (sym e))
     go (d ∷ o ∷ outer) e = refl
 
-pub record OneOpen (nodes : List Node) (places : List ℕ) : Type 0 where
+pub record OneOpen (source : List ℕ) (nodes : List Node) (places : List ℕ) : Type 0 where
   pub d : Open
-  pub held_are : held nodes places ≡ d ∷ []
-  pub slots_are : slots nodes ≡ open_slot d ∷ flat d.done
+  pub held_are : held source nodes places ≡ d ∷ []
+  pub slots_are : slots source nodes ≡ open_slot d ∷ flat d.done
 
-pub one_open : (nodes : List Node) (places : List ℕ) → IsHeld nodes places → length places ≡ 1 → OneOpen nodes places
-one_open nodes places h one =
-    let count : length (held nodes places) ≡ 1 = sym (length-places_of (held nodes places)) ∙ ap length (sym h.places_are) ∙ length-reverse places ∙ one in
-    go (held nodes places) refl count
+pub one_open : (source : List ℕ) (nodes : List Node) (places : List ℕ) → IsHeld source nodes places → length places ≡ 1 → OneOpen source nodes places
+one_open source nodes places h one =
+    let count : length (held source nodes places) ≡ 1 = sym (length-places_of (held source nodes places)) ∙ ap length (sym h.places_are) ∙ length-reverse places ∙ one in
+    go (held source nodes places) refl count
   where
-    go : (opens : List Open) → held nodes places ≡ opens → length opens ≡ 1 → OneOpen nodes places
+    go : (opens : List Open) → held source nodes places ≡ opens → length opens ≡ 1 → OneOpen source nodes places
     go [] is e = absurd (omega (arith, e))
     go (d ∷ []) is e = record { d = d; held_are = is; slots_are = h.nodes_are ∙ ap slots_of is }
     go (d ∷ o ∷ outer) is e = absurd (omega (arith, e))
@@ -58,18 +58,18 @@ heads : (x y : Slot) (xs ys : List Slot) → x ∷ xs ≡ y ∷ ys → (x ≡ y)
 heads x y xs ys e = (cc, cc)
 
 -- the document's own node, and the elements below it
-pub record Parts (nodes : List Node) (places : List ℕ) (n : Node) (rest : List Node) : Type 0 where
+pub record Parts (source : List ℕ) (nodes : List Node) (places : List ℕ) (n : Node) (rest : List Node) : Type 0 where
   pub d : Open
-  pub held_are : held nodes places ≡ d ∷ []
-  pub text_is : n.text ≡ d.head.text
-  pub tree_is : tree_of (slots rest) ≡ d.done
-  pub flat_is : IsFlat (slots rest)
+  pub held_are : held source nodes places ≡ d ∷ []
+  pub text_is : (head_of source n).text ≡ d.head.text
+  pub tree_is : tree_of (slots source rest) ≡ d.done
+  pub flat_is : IsFlat (slots source rest)
 
-pub parts : (nodes : List Node) (places : List ℕ) (n : Node) (rest : List Node) → IsHeld nodes places → length places ≡ 1 → nodes ≡ n ∷ rest → Parts nodes places n rest
-parts nodes places n rest h one e =
-    let o = one_open nodes places h one in
-    let s = heads (record { head = head_of n; below = n.below }) (open_slot o.d) (slots rest) (flat o.d.done) (sym (ap slots e) ∙ o.slots_are) in
-    let t : tree_of (slots rest) ≡ o.d.done = ap tree_of s.1 ∙ tree_of-flat o.d.done in
+pub parts : (source : List ℕ) (nodes : List Node) (places : List ℕ) (n : Node) (rest : List Node) → IsHeld source nodes places → length places ≡ 1 → nodes ≡ n ∷ rest → Parts source nodes places n rest
+parts source nodes places n rest h one e =
+    let o = one_open source nodes places h one in
+    let s = heads (record { head = head_of source n; below = n.below }) (open_slot o.d) (slots source rest) (flat o.d.done) (sym (ap (slots source) e) ∙ o.slots_are) in
+    let t : tree_of (slots source rest) ≡ o.d.done = ap tree_of s.1 ∙ tree_of-flat o.d.done in
     record {
       d = o.d;
       held_are = o.held_are;
@@ -78,9 +78,9 @@ parts nodes places n rest h one e =
       flat_is = ap flat t ∙ sym s.1;
     }
 
-pub not_white : (nodes : List Node) (places : List ℕ) (n : Node) (rest : List Node) (p : Parts nodes places n rest) → list_all is_white n.text ≡ false → root_element (held nodes places) ≡ None
+pub not_white : (source : List ℕ) (nodes : List Node) (places : List ℕ) (n : Node) (rest : List Node) (p : Parts source nodes places n rest) → list_all is_white (head_of source n).text ≡ false → root_element (held source nodes places) ≡ None
 unfolding root_element
-not_white nodes places n rest p black =
+not_white source nodes places n rest p black =
     let b : list_all is_white p.d.head.text ≡ false = ap (list_all is_white) (sym p.text_is) ∙ black in
     rw (p.held_are, b) refl
 
@@ -93,9 +93,9 @@ no_matter : (b : Bool) → cond b no_element no_element ≡ None
 no_matter true = refl
 no_matter false = refl
 
-pub not_one : (nodes : List Node) (places : List ℕ) (n : Node) (rest : List Node) (p : Parts nodes places n rest) → is_some (the_child (tree_of (slots rest))) ≡ false → root_element (held nodes places) ≡ None
+pub not_one : (source : List ℕ) (nodes : List Node) (places : List ℕ) (n : Node) (rest : List Node) (p : Parts source nodes places n rest) → is_some (the_child (tree_of (slots source rest))) ≡ false → root_element (held source nodes places) ≡ None
 unfolding root_element
-not_one nodes places n rest p many =
+not_one source nodes places n rest p many =
     let m : the_child p.d.done ≡ None = only_none p.d.done (ap (λ (es : Elements). is_some (the_child es)) (sym p.tree_is) ∙ many) in
     rw (p.held_are, m) (no_matter (list_all is_white p.d.head.text))
 
@@ -104,14 +104,14 @@ only_some none e = absurd cc
 only_some (first h cs none) e = (record { head = h; children = cs }, refl, refl)
 only_some (first h cs (first h' cs' rest)) e = absurd cc
 
-pub root_is : (nodes : List Node) (places : List ℕ) (n : Node) (rest : List Node) (p : Parts nodes places n rest) → nodes ≡ n ∷ rest → list_all is_white n.text ≡ true → is_some (the_child (tree_of (slots rest))) ≡ true → (root_element (held nodes places) ≡ Some (root_of nodes)) × IsWhole nodes
+pub root_is : (source : List ℕ) (nodes : List Node) (places : List ℕ) (n : Node) (rest : List Node) (p : Parts source nodes places n rest) → nodes ≡ n ∷ rest → list_all is_white (head_of source n).text ≡ true → is_some (the_child (tree_of (slots source rest))) ≡ true → (root_element (held source nodes places) ≡ Some (root_of source nodes)) × IsWhole source nodes
 unfolding root_element root_of
-root_is nodes places n rest p e white one =
+root_is source nodes places n rest p e white one =
     let b : list_all is_white p.d.head.text ≡ true = ap (list_all is_white) (sym p.text_is) ∙ white in
     let x = only_some p.d.done (ap (λ (es : Elements). is_some (the_child es)) (sym p.tree_is) ∙ one) in
-    let tree : tree_of (slots (drop 1 nodes)) ≡ alone x.0 = ap (λ (l : List Node). tree_of (slots (drop 1 l))) e ∙ p.tree_is ∙ x.1 in
-    let root : root_of nodes ≡ x.0 = rw tree refl in
-    (rw (p.held_are, b) (x.2 ∙ ap (λ (y : Element). Some y) (sym root)), ap (λ (l : List Node). slots (drop 1 l)) e ∙ sym p.flat_is ∙ ap flat (p.tree_is ∙ x.1) ∙ ap (λ (y : Element). flat (alone y)) (sym root))
+    let tree : tree_of (slots source (drop 1 nodes)) ≡ alone x.0 = ap (λ (l : List Node). tree_of (slots source (drop 1 l))) e ∙ p.tree_is ∙ x.1 in
+    let root : root_of source nodes ≡ x.0 = rw tree refl in
+    (rw (p.held_are, b) (x.2 ∙ ap (λ (y : Element). Some y) (sym root)), ap (λ (l : List Node). slots source (drop 1 l)) e ∙ sym p.flat_is ∙ ap flat (p.tree_is ∙ x.1) ∙ ap (λ (y : Element). flat (alone y)) (sym root))
 
 -- ---- what the answer says of the octets
 
@@ -150,15 +150,15 @@ read_fails errors.Malformed b opens h fails = λ x doc.
 
 -- ---- the root of a document
 
-pub whole_parts : (nodes : List Node) (n : Node) (rest : List Node) → nodes ≡ n ∷ rest → IsWhole nodes → IsFlat (slots rest) × (tree_of (slots rest) ≡ alone (root_of nodes))
-whole_parts nodes n rest e h =
-    let s : slots rest ≡ flat (alone (root_of nodes)) = sym (ap (λ (l : List Node). slots (drop 1 l)) e) ∙ h in
-    let t : tree_of (slots rest) ≡ alone (root_of nodes) = ap tree_of s ∙ tree_of-flat (alone (root_of nodes)) in
+pub whole_parts : (source : List ℕ) (nodes : List Node) (n : Node) (rest : List Node) → nodes ≡ n ∷ rest → IsWhole source nodes → IsFlat (slots source rest) × (tree_of (slots source rest) ≡ alone (root_of source nodes))
+whole_parts source nodes n rest e h =
+    let s : slots source rest ≡ flat (alone (root_of source nodes)) = sym (ap (λ (l : List Node). slots source (drop 1 l)) e) ∙ h in
+    let t : tree_of (slots source rest) ≡ alone (root_of source nodes) = ap tree_of s ∙ tree_of-flat (alone (root_of source nodes)) in
     (ap flat t ∙ sym s, t)
 
-pub whole_some : (nodes : List Node) → IsWhole nodes → length nodes ≡ 0 → ⊥
-whole_some [] h e = absurd cc
-whole_some (n ∷ nodes) h e = absurd (omega (arith, e))
+pub whole_some : (source : List ℕ) (nodes : List Node) → IsWhole source nodes → length nodes ≡ 0 → ⊥
+whole_some source [] h e = absurd cc
+whole_some source (n ∷ nodes) h e = absurd (omega (arith, e))
 
 pub none_alone : (x : Element) → none ≡ alone x → ⊥
 none_alone x e = cc
@@ -172,24 +172,28 @@ first_alone e x rest h =
     let h2 : e.children ≡ x.children = cc in
     ap (λ (h : Head). element_with h e.children) h1 ∙ ap (element_with x.head) h2
 
-pub no_nodes_open : (nodes : List Node) (places : List ℕ) → IsHeld nodes places → length places ≡ 1 → length nodes ≡ 0 → ⊥
-no_nodes_open [] places h one e = let o = one_open [] places h one in absurd (nothing_slot (open_slot o.d) (flat o.d.done) o.slots_are)
+pub no_nodes_open : (source : List ℕ) (nodes : List Node) (places : List ℕ) → IsHeld source nodes places → length places ≡ 1 → length nodes ≡ 0 → ⊥
+no_nodes_open source [] places h one e = let o = one_open source [] places h one in absurd (nothing_slot (open_slot o.d) (flat o.d.done) o.slots_are)
   where
     nothing_slot : (s : Slot) (l : List Slot) → [] ≡ s ∷ l → ⊥
     nothing_slot s l e = cc
-no_nodes_open (n ∷ nodes) places h one e = absurd (omega (arith, e))
+no_nodes_open source (n ∷ nodes) places h one e = absurd (omega (arith, e))
 
 -- ---- the loop over the pieces
 
-pub whole_held : (n : Node) → head_of n ≡ bare_head [] → n.below ≡ 0 → (held (n ∷ []) (0 ∷ []) ≡ whole ∷ []) × IsHeld (n ∷ []) (0 ∷ [])
-whole_held n e zero =
-    held_is (n ∷ []) (0 ∷ []) (whole ∷ []) (record {
+-- the head of the document's own node
+pub own_head : (source : List ℕ) (n : Node) → Some (bare_head []) ≡ Some (head_of source n) → head_of source n ≡ bare_head []
+own_head source n e = cc
+
+pub whole_held : (source : List ℕ) (n : Node) → head_of source n ≡ bare_head [] → n.below ≡ 0 → (held source (n ∷ []) (0 ∷ []) ≡ whole ∷ []) × IsHeld source (n ∷ []) (0 ∷ [])
+whole_held source n e zero =
+    held_is source (n ∷ []) (0 ∷ []) (whole ∷ []) (record {
       nodes_are = ap (λ (h : Head). slot_with h n.below ∷ []) e ∙ ap (λ (k : ℕ). slot_with (bare_head []) k ∷ []) zero;
       places_are = refl;
     })
 
-pub starts : (b : List ℕ) (n : Node) → head_of n ≡ bare_head [] → n.below ≡ 0 → Reached b b (held (n ∷ []) (0 ∷ []))
-starts b n e zero = subst (λ (l : List Open). Reached b b l) (sym (whole_held n e zero).0) (at_start b)
+pub starts : (source : List ℕ) (b : List ℕ) (n : Node) → head_of source n ≡ bare_head [] → n.below ≡ 0 → Reached b b (held source (n ∷ []) (0 ∷ []))
+starts source b n e zero = subst (λ (l : List Open). Reached b b l) (sym (whole_held source n e zero).0) (at_start b)
 
 not_nil : (b : List ℕ) → false ≡ eqb (length b) 0 → b ≡ [] → ⊥
 not_nil [] e f = cc

@@ -5,6 +5,7 @@ use Rattle.std.proofs.lemmas.List.{length-append}
 use Rattle.std.specs.List.{list_all, flat_map, AllByRecursion}
 use Rattle.rpki_xml.specs.Element.{Attribute}
 use Rattle.rpki_common.specs.Chaining.{◌>>=◌}
+use Rattle.rpki_common.proofs.Truths.{both}
 use Rattle.rpki_xml.specs.Content.{run, leaf, start, end, is_white}
 use Rattle.rpki_xml.specs.Lexing.{any_entity_at, character_at, ends_at, repeated, until, value_in, quoted_at, front_of, back_of, past_white, name_at, attribute_at, begins_close, no_attribute, tag_at, end_at, run_at, markup_at, piece_at}
 use Rattle.rpki_xml.specs.Name.{is_letter, is_name_octet, ends_name, is_name}
@@ -107,11 +108,6 @@ value_in_again v rest = rw (values_again v rest (suc (length (flat_map value_cha
 
 abbrev pub Stops : (ℕ → Bool) → List ℕ → Type 0
 Stops passes rest = (front_of passes rest ≡ []) × (back_of passes rest ≡ rest)
-
-both : (a b : Bool) → (a && b) ≡ true → (a ≡ true) × (b ≡ true)
-both true true e = (refl, refl)
-both true false e = absurd cc
-both false b e = absurd cc
 
 pub front_again : (passes : ℕ → Bool) (n rest : List ℕ) → list_all passes n ≡ true → Stops passes rest → (front_of passes (n ++ rest) ≡ n) × (back_of passes (n ++ rest) ≡ rest)
 front_again passes [] rest h s = s

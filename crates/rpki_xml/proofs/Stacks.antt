@@ -6,6 +6,7 @@ use Rattle.std.specs.List.{list_all}
 use Rattle.std.specs.Str.{bytes_eq}
 use Rattle.rpki_xml.specs.Element.{Head, Elements, none, first, Element, alone, joined}
 use Rattle.rpki_common.specs.Chaining.{◌>>=◌}
+use Rattle.rpki_common.proofs.Truths.{both}
 use Rattle.rpki_xml.specs.Content.{Tag, Piece, run, passed_over, leaf, start, end, Content, nothing, and_run, and_passed_over, and_leaf, and_element, pieces, characters, elements_in, head_of, fits, is_distinct, IsLawful, IsElement, is_white}
 use Rattle.rpki_xml.specs.Stack.{Open, whole, opened, and_more, closed, with_text, add_run, add_element, begin_element, end_element, step, steps}
 
@@ -95,11 +96,6 @@ step_some piece o outer more d e = go (step piece (o ∷ outer)) refl e
 guarded : (b : Bool) (x s : List Open) → cond b (Some x) None ≡ Some s → (b ≡ true) × (x ≡ s)
 guarded true x s e = (refl, cc)
 guarded false x s e = absurd cc
-
-both : (a b : Bool) → (a && b) ≡ true → (a ≡ true) × (b ≡ true)
-both true true e = (refl, refl)
-both true false e = absurd cc
-both false b e = absurd cc
 
 with_run : (t : List ℕ) → Extends (and_run t) (run t ∷ []) t none
 with_run t = record {

@@ -5,6 +5,7 @@ use Rattle.std.proofs.lemmas.Slice.Eq.{bytes_eq-Decides}
 use Rattle.std.specs.List.{list_all, flat_map, AllByRecursion}
 use Rattle.std.specs.Str.{bytes_eq}
 use Rattle.std.specs.Prelude.{codes, IfSome}
+use Rattle.rpki_common.proofs.Truths.{both}
 use Rattle.rpki_xml.specs.Element.{Attribute, Head, Elements, none, first, Element, alone, is_none, is_nil}
 use Rattle.rpki_xml.specs.Content.{Tag, Piece, run, end, Content, pieces, characters, elements_in, text_of, head_of, fits, is_distinct, is_declaration, handed_on, namespace_of, declares, declared, trimmed, is_white, IsLawful}
 use Rattle.rpki_xml.specs.Lexing.{piece_at, Repeats, is_octet, IsDocument}
@@ -79,11 +80,6 @@ pieces_read (first h cs rest) y p =
     )
 
 -- ---- the element that it is
-
-both : (a b : Bool) → (a && b) ≡ true → (a ≡ true) × (b ≡ true)
-both true true e = (refl, refl)
-both true false e = absurd cc
-both false b e = absurd cc
 
 neither : (a b : Bool) → (a || b) ≡ false → (a ≡ false) × (b ≡ false)
 neither true b e = absurd cc

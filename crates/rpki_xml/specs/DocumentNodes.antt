@@ -1,7 +1,8 @@
 -- The one element of a document, as it lies in the list of nodes: a means for the document in memory.
-use Rattle.std.specs.Prelude.{◌≡◌, List, [], ◌∷◌, Option, Some, None, drop, if◌then◌else◌}
+use Rattle.std.specs.Prelude.{◌≡◌, ℕ, List, [], ◌∷◌, Option, Some, None, drop, if◌then◌else◌}
 use Rattle.std.specs.List.{list_all}
 use Rattle.rpki_xml.specs.declared.element.Node.{Node}
+use Rattle.rpki_xml.specs.declared.document.Document.{Document}
 use Rattle.rpki_xml.specs.Element.{Elements, none, first, Element, alone}
 use Rattle.rpki_xml.specs.Content.{is_white}
 use Rattle.rpki_xml.specs.Tables.{the_child}
@@ -15,12 +16,19 @@ first_of none = record { head = bare_head []; children = none }
 first_of (first head children rest) = record { head = head; children = children }
 
 -- the element behind the document's own node
-unfoldable pub root_of : List Node → Element
-root_of nodes = first_of (tree_of (slots (drop 1 nodes)))
+unfoldable pub root_of : List ℕ → List Node → Element
+root_of source nodes = first_of (tree_of (slots source (drop 1 nodes)))
 
 -- behind it there is one element, and nothing else
-abbrev pub IsWhole : List Node → Type 0
-IsWhole nodes = slots (drop 1 nodes) ≡ flat (alone (root_of nodes))
+abbrev pub IsWhole : List ℕ → List Node → Type 0
+IsWhole source nodes = slots source (drop 1 nodes) ≡ flat (alone (root_of source nodes))
+
+-- the same, of a document in memory
+abbrev pub root_in : Document → Element
+root_in d = root_of d.source.items d.nodes.items
+
+abbrev pub IsWholeIn : Document → Type 0
+IsWholeIn d = IsWhole d.source.items d.nodes.items
 
 -- the element of a document whose pieces were all read
 unfoldable pub root_element : List Open → Option Element

@@ -1,8 +1,11 @@
 -- Elements as values: what a document holds, apart from its spelling.
--- An attribute is its whole name and its value, as the code has it (`Attribute` in src/element.rt). Declarations of
--- namespaces are not among the attributes of an element.
+-- Declarations of namespaces are not among the attributes of an element.
 use Rattle.std.specs.Prelude.{ℕ, List, [], ◌∷◌, Bool, true, false, Option}
-pub use Rattle.rpki_xml.specs.declared.element.Attribute.{Attribute}
+
+-- an attribute: its whole name and its value
+pub record Attribute : Type 0 where
+  pub name : List ℕ
+  pub value : List ℕ
 
 -- an element without its children: its whole name, its namespace if it has one, its attributes in their order, its text
 pub record Head : Type 0 where

@@ -2,14 +2,14 @@
 -- documents and elements: Name, Lexing, Runs, Content, Element, Lettered, Texts, Trimmed, AttributeSpelling;
 -- what is asked of an element, and answered: Tables, Answers;
 -- what is written: Spelling, Draft, PlainElement.
--- Means for loops, proofs and the element in memory: PlainCharacter, Joined, Pieces, Stack, Nodes, DocumentNodes, Views.
+-- Means for loops, proofs and the element in memory: PlainCharacter, Kept, Pieces, Stack, Nodes, DocumentNodes, Views.
 pub mod Answers
 pub mod AttributeSpelling
 pub mod Content
 pub mod DocumentNodes
 pub mod Draft
 pub mod Element
-pub mod Joined
+pub mod Kept
 pub mod Lettered
 pub mod Lexing
 pub mod Name

@@ -46,6 +46,9 @@ tree_of-flat es = tree_at-flat es (length (flat es)) (omega arith)
 abbrev attribute_code : Coded Attribute
 attribute_code = code_by (List ℕ × List ℕ) (coded× (coded_list coded_ℕ) (coded_list coded_ℕ)) (λ a. (a.name, a.value)) (λ p. record { name = p.0; value = p.1 }) (λ _. refl)
 
+abbrev pub attributes_code : Coded (List Attribute)
+attributes_code = coded_list attribute_code
+
 abbrev pub HeadParts : Type 0
 HeadParts = (List ℕ × Option (List ℕ)) × (List Attribute × List ℕ)
 

@@ -1,15 +1,20 @@
--- What the code's pieces are as values: a means for the reader.
+-- What the code's pieces of a document are as values: a means for the reader.
+use Rattle.std.specs.Prelude.{ℕ, List}
 use Rattle.rpki_xml.specs.declared.lexing.Tag as declared_tag
 use Rattle.rpki_xml.specs.declared.lexing.Piece.{Piece as Found}
 use Rattle.rpki_xml.specs.declared.lexing.Piece.TheVariants as code
 use Rattle.rpki_xml.specs.Content.{Tag, Piece, run, passed_over, leaf, start, end}
+use Rattle.rpki_xml.specs.Kept.{name_from, text_of, attributes_of}
 
-abbrev pub tag : declared_tag.Tag → Tag
-tag t = record { name = t.name; attributes = t.attributes.items }
+abbrev pub tag : List ℕ → declared_tag.Tag → Tag
+tag source t = record {
+  name = name_from source t.name;
+  attributes = attributes_of source t.attributes.items;
+}
 
-abbrev pub piece : Found → Piece
-piece (code.Run text) = run text
-piece code.PassedOver = passed_over
-piece (code.Leaf t) = leaf (tag t)
-piece (code.Start t) = start (tag t)
-piece (code.End name) = end name.now
+abbrev pub piece : List ℕ → Found → Piece
+piece source (code.Run text) = run (text_of source text)
+piece source code.PassedOver = passed_over
+piece source (code.Leaf t) = leaf (tag source t)
+piece source (code.Start t) = start (tag source t)
+piece source (code.End name) = end name.now

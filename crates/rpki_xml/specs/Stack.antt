@@ -5,7 +5,7 @@ use Rattle.std.specs.List.{list_all}
 use Rattle.std.specs.Str.{bytes_eq}
 use Rattle.rpki_xml.specs.Element.{Head, Elements, none, Element, alone, joined}
 use Rattle.rpki_xml.specs.Nodes.{Slot, flat, tree_of}
-use Rattle.rpki_xml.specs.Views.{slots}
+use Rattle.rpki_xml.specs.Views.{slots, Parts}
 use Rattle.rpki_xml.specs.declared.element.Node.{Node}
 use Rattle.rpki_common.specs.Chaining.{◌>>=◌}
 use Rattle.rpki_xml.specs.Content.{Piece, run, passed_over, leaf, start, end, head_of, text_of, fits, is_distinct, is_white, trimmed}
@@ -104,14 +104,14 @@ abbrev pub opens_of : List Slot → List ℕ → List Open
 opens_of list [] = []
 opens_of list (i ∷ places) = open_at (drop i list) ++ opens_of (take i list) places
 
--- the open elements that the code holds
-unfoldable pub held : List Node → List ℕ → List Open
-held nodes places = opens_of (slots nodes) (reverse places)
+-- the open elements that the code holds of a document
+unfoldable pub held : List ℕ → List Node → List ℕ → List Open
+held source nodes places = opens_of (slots source nodes) (reverse places)
 
 -- what the code holds is open elements, and nothing else
-pub record IsHeld (nodes : List Node) (places : List ℕ) : Type 0 where
-  pub nodes_are : slots nodes ≡ slots_of (held nodes places)
-  pub places_are : reverse places ≡ places_of (held nodes places)
+pub record IsHeld (source : List ℕ) (nodes : List Node) (places : List ℕ) : Type 0 where
+  pub nodes_are : slots source nodes ≡ slots_of (held source nodes places)
+  pub places_are : reverse places ≡ places_of (held source nodes places)
 
 -- the text of an element with so many elements below it, if it may have one
 abbrev pub settled : ℕ → List ℕ → Option (List ℕ)
@@ -119,3 +119,17 @@ settled below text =
     if nat_eq below 0 then Some (trimmed text)
     else if list_all is_white text then Some []
     else None
+
+-- text, namespace and attributes of an element after one more run, and at its end
+abbrev pub with_part : List ℕ → Parts → Parts
+with_part text parts = record {
+  text = text;
+  namespace = parts.namespace;
+  attributes = parts.attributes;
+}
+
+abbrev pub with_more_text : List ℕ → Parts → Parts
+with_more_text text parts = with_part (parts.text ++ text) parts
+
+unfoldable pub settled_parts : ℕ → Parts → Option Parts
+settled_parts below parts = settled below parts.text >>= λ text. Some (with_part text parts)

@@ -1,20 +1,65 @@
 -- What the code holds, as values: the nodes of the document in memory, and the names of a writer's open elements.
-use Rattle.std.specs.Prelude.{ℕ, List, map, reverse}
+use Rattle.std.specs.Prelude.{ℕ, List, [], map, reverse, Option, None}
 use Rattle.std.specs.Global.{Vec}
+use Rattle.std.specs.Option.{option_map}
 use Rattle.rpki_xml.specs.declared.element.Node as declared_node
-use Rattle.rpki_xml.specs.Element.{Head}
+use Rattle.rpki_xml.specs.declared.element.Attribute.{Attribute as Lent}
+use Rattle.rpki_xml.specs.declared.element.Rest.{Rest}
+use Rattle.rpki_xml.specs.declared.element.Rest.TheVariants as rest
+use Rattle.rpki_xml.specs.declared.kept.Named.{Named}
+use Rattle.rpki_xml.specs.declared.kept.Text.{Text}
+use Rattle.rpki_xml.specs.Element.{Attribute, Head}
+use Rattle.rpki_xml.specs.Kept.{name_from, part_of, text_of, attributes_of}
 use Rattle.rpki_xml.specs.Nodes.{Slot}
 
-abbrev pub head_of : declared_node.Node → Head
-head_of n = record {
-  name = n.name;
-  namespace = n.namespace;
-  attributes = n.attributes.items;
-  text = n.text;
+-- the text of a node, its namespace and its attributes
+abbrev pub text_in : List ℕ → Rest → List ℕ
+text_in source (rest.Plain start end) = part_of start end source
+text_in source (rest.Full more) = text_of source more.value.text
+
+abbrev pub namespace_in : List ℕ → Rest → Option (List ℕ)
+namespace_in source (rest.Plain start end) = None
+namespace_in source (rest.Full more) = option_map (text_of source) more.value.namespace
+
+abbrev pub attributes_in : List ℕ → Rest → List Attribute
+attributes_in source (rest.Plain start end) = []
+attributes_in source (rest.Full more) = attributes_of source more.value.attributes.items
+
+-- the same together
+pub record Parts : Type 0 where
+  pub text : List ℕ
+  pub namespace : Option (List ℕ)
+  pub attributes : List Attribute
+
+abbrev pub parts_of : List ℕ → Text → Option Text → List Named → Parts
+parts_of source text namespace attributes = record {
+  text = text_of source text;
+  namespace = option_map (text_of source) namespace;
+  attributes = attributes_of source attributes;
 }
 
-abbrev pub slots : List declared_node.Node → List Slot
-slots nodes = map (λ n. record { head = head_of n; below = n.below }) nodes
+abbrev pub parts_in : List ℕ → Rest → Parts
+parts_in source r = record {
+  text = text_in source r;
+  namespace = namespace_in source r;
+  attributes = attributes_in source r;
+}
+
+-- an attribute that is lent
+abbrev pub lent : Lent → Attribute
+lent a = record { name = a.name.now; value = a.value.now }
+
+-- what a node of a document means
+abbrev pub head_of : List ℕ → declared_node.Node → Head
+head_of source n = record {
+  name = name_from source n.name;
+  namespace = namespace_in source n.rest;
+  attributes = attributes_in source n.rest;
+  text = text_in source n.rest;
+}
+
+abbrev pub slots : List ℕ → List declared_node.Node → List Slot
+slots source nodes = map (λ n. record { head = head_of source n; below = n.below }) nodes
 
 -- the names that a writer holds, the innermost last
 abbrev pub names_of : List (Vec ℕ) → List (List ℕ)

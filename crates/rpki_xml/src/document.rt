@@ -11,18 +11,17 @@ ghost use Rattle.rpki_xml.specs.Nodes.{IsFlat, tree_of};
 ghost use Rattle.rpki_xml.specs.Pieces.{piece as piece_of};
 ghost use Rattle.rpki_xml.specs.Answers.{Gives};
 ghost use Rattle.rpki_xml.specs.Tables.{the_child};
-ghost use Rattle.rpki_xml.specs.DocumentNodes.{root_element, root_of, IsWhole};
+ghost use Rattle.rpki_xml.specs.DocumentNodes.{root_element, root_of, root_in, IsWhole, IsWholeIn};
 ghost use Rattle.rpki_xml.specs.Stack.{held, IsHeld, step};
 ghost use Rattle.rpki_xml.specs.Views.{head_of, slots};
 
 use crate::distinct::is_distinct;
-use crate::element::{Attribute, Children, ElementRef, Node};
+use crate::element::{Attributes, Children, ElementRef, Node, Rest};
 use crate::error::XmlError;
-use crate::joined::Joined;
-use crate::lexing::{Piece, are_octets, piece_at};
+use crate::kept::name_place;
+use crate::lexing::{Piece, are_octets, is_letter, piece_at};
 use crate::stack::{add_element, add_run, begin_element, end_element, is_all_white};
 use crate::tag::node_of;
-use bytes::Bytes;
 use rpki_common::OutOfMemory;
 use std::alloc::Global;
 use std::marker::Model;
@@ -32,23 +31,31 @@ use std::rc::Rc;
 /// namespace, attributes and text, and of its children.
 #[derive(Drop)]
 pub struct Element {
+    document: Rc<Document>,
+}
+
+// A document that was read.
+#[derive(Drop)]
+struct Document {
+    // Its octets, in which the nodes have their places.
+    source: Vec<u8>,
     // A node for the document itself, and the elements in the order of their starts.
-    nodes: Rc<Vec<Node>>,
+    nodes: Vec<Node>,
 }
 
 impl Model for Element {
     ghost use Rattle.rpki_xml.specs.Element.{Element as Tree, alone};
     ghost use Rattle.rpki_xml.specs.Lettered.{AreLettered};
     ghost use Rattle.rpki_xml.specs.Nodes.{element_code};
-    ghost use Rattle.rpki_xml.specs.DocumentNodes.{root_of, IsWhole};
+    ghost use Rattle.rpki_xml.specs.DocumentNodes.{root_in, IsWholeIn};
 
     ghost Value = { Tree };
 
     ghost coded = { element_code };
 
-    ghost view = { λ e. root_of e.nodes.value.items };
+    ghost view = { λ e. root_in e.document.value };
 
-    ghost invariant = { λ e. IsWhole e.nodes.value.items × AreLettered (alone (root_of e.nodes.value.items)) };
+    ghost invariant = { λ e. IsWholeIn e.document.value × AreLettered (alone (root_in e.document.value)) };
 }
 
 /// Reads a document: the element that the octets are a document of. Malformed exactly where they are no document.
@@ -58,85 +65,110 @@ pub fn read_document(alloc: Global, octets: &[u8]) -> Result<Element, XmlError>
     if !are_octets(octets) {
         return Err(XmlError::Malformed);
     }
-    let nodes = nodes_of(alloc, octets)?;
+    let document = document_of(alloc, octets)?;
     Ok(Element {
-        nodes: Rc::new(alloc, nodes)?,
+        document: Rc::new(alloc, document)?,
     })
+}
+
+// The document, with its nodes.
+fn document_of(alloc: Global, octets: &[u8]) -> Result<Document, XmlError>
+    requires { list_all is_octet octets.now ≡ true }
+    ensures value { MatchResult result (λ d. IsDocument octets.now (root_in d)) (λ e. IsRefused e octets.now) }
+    ensures whole { IfOk result IsWholeIn }
+{
+    let source = Vec::from_slice(alloc, octets)?;
+    let nodes = nodes_of(alloc, octets)?;
+    Ok(Document { source, nodes })
 }
 
 // The nodes of a document.
 fn nodes_of(alloc: Global, octets: &[u8]) -> Result<Vec<Node>, XmlError>
     requires { list_all is_octet octets.now ≡ true }
-    ensures value { MatchResult result (λ v. IsDocument octets.now (root_of v.items))
+    ensures value { MatchResult result (λ v. IsDocument octets.now (root_of octets.now v.items))
         (λ e. IsRefused e octets.now) }
-    ensures whole { IfOk result (λ v. IsWhole v.items) }
+    ensures whole { IfOk result (λ v. IsWhole octets.now v.items) }
 {
-    let source = Bytes::copy_from_slice(alloc, octets)?;
-    let mut nodes = Vec::new(alloc);
-    nodes.push(own_node(alloc))?;
-    let mut places: Vec<usize> = Vec::new(alloc);
+    let mut nodes = Vec::with_capacity(alloc, starts_in(octets).saturating_add(1))?;
+    let own = own_node(octets)?;
+    nodes.push(own)?;
+    let mut places: Vec<u32> = Vec::new(alloc);
     places.push(0)?;
     let mut rest = octets;
     while !rest.is_empty() {
-        let (piece, after) = piece_at(alloc, &source, rest)?;
-        take(alloc, &mut nodes, &mut places, piece)?;
+        let (piece, after) = piece_at(alloc, octets, rest)?;
+        take(alloc, octets, &mut nodes, &mut places, piece)?;
         rest = after;
     }
-    finished(nodes, &places)
+    finished(octets, nodes, &places)
 }
 
-// The document itself, as an element.
-fn own_node(alloc: Global) -> Node
-    ensures head { head_of result ≡ bare_head [] }
-    ensures below { result.below ≡ 0 }
-{
-    Node {
-        name: Bytes::new(),
-        namespace: None,
-        attributes: Vec::new(alloc),
-        text: Joined::empty(),
-        below: 0,
+// How many starts of elements there may be at most: each is a `<` before the first octet of a name. A list of the nodes with
+// so much room never grows.
+fn starts_in(octets: &[u8]) -> usize {
+    let mut count = 0usize;
+    let mut before = 0u8;
+    for c in octets {
+        if before == b'<' && (is_letter(*c) || *c == b'_') {
+            count = count.saturating_add(1);
+        }
+        before = *c;
     }
+    count
+}
+
+// The document itself, as an element. Its name is the empty one behind the last octet.
+fn own_node(source: &[u8]) -> Result<Node, XmlError>
+    ensures head { Gives (Some (bare_head [])) (head_of source.now) result }
+    ensures below { IfOk result (λ n. n.below ≡ 0) }
+{
+    Ok(Node {
+        name: name_place(source, &[], 0)?,
+        below: 0,
+        rest: Rest::Plain { start: 0, end: 0 },
+    })
 }
 
 // One more piece.
 fn take(
     alloc: Global,
+    source: &[u8],
     nodes: &mut Vec<Node>,
-    places: &mut Vec<usize>,
+    places: &mut Vec<u32>,
     piece: Piece<'_>,
 ) -> Result<(), XmlError>
-    requires { IsHeld nodes.old.items places.old.items }
-    ensures given { Gives (step (piece_of piece.entry) (held nodes.old.items places.old.items))
-        (λ _. held nodes.new.items places.new.items) result }
-    ensures kept { OnOk result (IsHeld nodes.new.items places.new.items) }
+    requires { IsHeld source.now nodes.old.items places.old.items }
+    ensures given { Gives (step (piece_of source.now piece.entry) (held source.now nodes.old.items places.old.items))
+        (λ _. held source.now nodes.new.items places.new.items) result }
+    ensures kept { OnOk result (IsHeld source.now nodes.new.items places.new.items) }
 {
     match piece {
-        Piece::Run(text) => add_run(alloc, nodes, places, text),
+        Piece::Run(text) => add_run(alloc, source, nodes, places, text),
         Piece::PassedOver => Ok(()),
         Piece::Leaf(tag) => {
-            if !is_distinct(alloc, tag.attributes.as_slice())? {
+            if !is_distinct(alloc, source, tag.attributes.as_slice())? {
                 return Err(XmlError::Malformed);
             }
-            let node = node_of(tag)?;
-            add_element(nodes, places, node)
+            let node = node_of(alloc, source, tag)?;
+            add_element(source, nodes, places, node)
         }
         Piece::Start(tag) => {
-            if !is_distinct(alloc, tag.attributes.as_slice())? {
+            if !is_distinct(alloc, source, tag.attributes.as_slice())? {
                 return Err(XmlError::Malformed);
             }
-            let node = node_of(tag)?;
-            begin_element(nodes, places, node)
+            let node = node_of(alloc, source, tag)?;
+            begin_element(source, nodes, places, node)
         }
-        Piece::End(name) => end_element(alloc, nodes, places, name),
+        Piece::End(name) => end_element(alloc, source, nodes, places, name),
     }
 }
 
 // The nodes, where no element but the document itself is open, which holds one element and white space.
-fn finished(nodes: Vec<Node>, places: &[usize]) -> Result<Vec<Node>, XmlError>
-    requires { IsHeld nodes.items places.now }
-    ensures value { Gives (root_element (held nodes.items places.now)) (λ v. root_of v.items) result }
-    ensures whole { IfOk result (λ v. IsWhole v.items) }
+fn finished(source: &[u8], nodes: Vec<Node>, places: &[u32]) -> Result<Vec<Node>, XmlError>
+    requires { IsHeld source.now nodes.items places.now }
+    ensures value { Gives (root_element (held source.now nodes.items places.now))
+        (λ v. root_of source.now v.items) result }
+    ensures whole { IfOk result (λ v. IsWhole source.now v.items) }
 {
     if places.len() != 1 {
         return Err(XmlError::Malformed);
@@ -144,23 +176,23 @@ fn finished(nodes: Vec<Node>, places: &[usize]) -> Result<Vec<Node>, XmlError>
     let Some((document, below)) = nodes.split_first() else {
         return Err(XmlError::Malformed);
     };
-    if !is_all_white(document.text.as_slice()) {
+    if !is_all_white(document.rest.text(source)) {
         return Err(XmlError::Malformed);
     }
-    if !is_one(below) {
+    if !is_one(source, below) {
         return Err(XmlError::Malformed);
     }
     Ok(nodes)
 }
 
 // Whether there is one element that is no other's child: the first one, with all others below it.
-fn is_one(nodes: &[Node]) -> bool
-    requires { IsFlat (slots nodes.now) }
-    ensures { result ≡ is_some (the_child (tree_of (slots nodes.now))) }
+fn is_one(source: &[u8], nodes: &[Node]) -> bool
+    requires { IsFlat (slots source.now nodes.now) }
+    ensures { result ≡ is_some (the_child (tree_of (slots source.now nodes.now))) }
 {
     match nodes.split_first() {
         None => false,
-        Some((root, rest)) => root.below == rest.len(),
+        Some((root, rest)) => root.below as usize == rest.len(),
     }
 }
 
@@ -169,10 +201,11 @@ impl Element {
     pub fn as_ref(&self) -> ElementRef<'_>
         ensures { result ≡ self.now }
     {
-        let Some((_, below)) = self.nodes.split_first() else {
+        let document = self.document.as_ref();
+        let Some((_, below)) = document.nodes.split_first() else {
             unreachable!()
         };
-        let mut children = Children::over(below);
+        let mut children = Children::over(document.source.as_slice(), below);
         let Some(root) = children.next() else {
             unreachable!()
         };
@@ -184,7 +217,7 @@ impl Element {
         ensures { IfOk result (λ e. e ≡ self.now) }
     {
         Ok(Element {
-            nodes: self.nodes.clone()?,
+            document: self.document.clone()?,
         })
     }
 
@@ -210,8 +243,8 @@ impl Element {
     }
 
     /// The attributes in their order, without declarations of namespaces.
-    pub fn attributes(&self) -> &[Attribute]
-        ensures { result.now ≡ self.now.head.attributes }
+    pub fn attributes(&self) -> Attributes<'_>
+        ensures { result ≡ self.now.head.attributes }
     {
         self.as_ref().attributes()
     }

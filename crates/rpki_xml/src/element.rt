@@ -1,47 +1,198 @@
 //! An element inside a document, and its children.
 
 ghost use Rattle.std.specs.Fn.{FnOnceReturnsAt};
-ghost use Rattle.std.specs.Option.{option_copied};
-ghost use Rattle.std.specs.Prelude.{◌≡◌, ℕ, List, Option};
-ghost use Rattle.rpki_xml.specs.Answers.{Matches};
+ghost use Rattle.std.specs.Option.{option_copied, option_map};
+ghost use Rattle.std.specs.Prelude.{◌≡◌, ℕ, List, Option, Some};
+ghost use Rattle.rpki_xml.specs.Answers.{Gives, Matches};
 ghost use Rattle.rpki_xml.specs.Element.{is_none, is_nil};
+ghost use Rattle.rpki_xml.specs.Kept.{text_of, attributes_of};
 ghost use Rattle.rpki_xml.specs.Lettered.{AreLettered, AreOctets};
 ghost use Rattle.rpki_xml.specs.Name.{local_name};
 ghost use Rattle.rpki_xml.specs.Nodes.{IsFlat, tree_of};
 ghost use Rattle.rpki_xml.specs.Tables.{is_named, is_first_named, is_empty, optional, required, only, optional_by, given_or_absent, is_or_absent, the_child, at_most_one_child, no_child};
 ghost use Rattle.rpki_xml.specs.Texts.{texts};
-ghost use Rattle.rpki_xml.specs.Views.{slots};
+ghost use Rattle.rpki_xml.specs.Views.{slots, text_in, namespace_in, attributes_in, parts_of, parts_in};
 
-use crate::error::Mismatch;
-use crate::joined::Joined;
+use crate::error::{Mismatch, XmlError};
+use crate::kept::{Named, Text, name_from, part_of};
 use crate::lookup::{local_of, only_among, optional_among, require, required_among};
-use bytes::Bytes;
+use std::alloc::Global;
 use std::marker::Model;
 use std::str;
 
-/// An attribute of an element.
-#[derive(Debug, Drop)]
-pub struct Attribute {
+/// An attribute of an element, lent. In a clause it is a record of name and value.
+#[derive(Clone, Copy, Debug)]
+pub struct Attribute<'a> {
     /// The whole name.
-    pub name: Bytes,
+    pub name: &'a str,
     /// The value, its entities resolved.
-    pub value: Bytes,
+    pub value: &'a str,
+}
+
+/// The attributes of an element, or those that are left of them. In a clause it is the list of them.
+#[derive(Drop)]
+pub struct Attributes<'a> {
+    source: &'a [u8],
+    left: &'a [Named],
+}
+
+impl<'a> Model for Attributes<'a> {
+    ghost use Rattle.std.specs.Prelude.{List};
+    ghost use Rattle.std.specs.List.{AllByRecursion};
+    ghost use Rattle.rpki_xml.specs.Element.{Attribute as Named};
+    ghost use Rattle.rpki_xml.specs.Kept.{attributes_of};
+    ghost use Rattle.rpki_xml.specs.Lettered.{IsLetteredAttribute};
+    ghost use Rattle.rpki_xml.specs.Nodes.{attributes_code};
+
+    ghost Value = { List Named };
+
+    ghost coded = { attributes_code };
+
+    ghost view = { λ a. attributes_of a.source.now a.left.now };
+
+    ghost invariant = { λ a. AllByRecursion IsLetteredAttribute (attributes_of a.source.now a.left.now) };
+}
+
+impl<'a> Iterator for Attributes<'a> {
+    ghost use Rattle.std.specs.Iterator.{YieldsFirstBy, item_count};
+    ghost use Rattle.rpki_xml.specs.Views.{lent};
+
+    type Item = Attribute<'a>;
+
+    ghost next_gives = { YieldsFirstBy lent (λ list. list) };
+
+    ghost remaining = { item_count (λ list. list) };
+
+    fn next(&mut self) -> Option<Attribute<'a>> {
+        let (first, left) = self.left.split_first()?;
+        self.left = left;
+        Some(Attribute {
+            name: as_text(name_from(self.source, first.name)),
+            value: as_text(first.value.octets(self.source)),
+        })
+    }
 }
 
 /// An element without its children, and how many elements are below it.
-#[derive(Debug, Drop)]
+#[derive(Drop)]
 pub(crate) struct Node {
-    pub(crate) name: Bytes,
-    pub(crate) namespace: Option<Bytes>,
-    pub(crate) attributes: Vec<Attribute>,
-    pub(crate) text: Joined,
-    pub(crate) below: usize,
+    /// Where its name begins in the document.
+    pub(crate) name: u32,
+    pub(crate) below: u32,
+    pub(crate) rest: Rest,
+}
+
+/// What an element has beside its name.
+#[derive(Drop)]
+pub(crate) enum Rest {
+    /// A text that stands in the document, and nothing else.
+    Plain { start: u32, end: u32 },
+    Full(Box<More>),
+}
+
+/// Text, namespace and attributes of an element.
+#[derive(Drop)]
+pub(crate) struct More {
+    pub(crate) text: Text,
+    pub(crate) namespace: Option<Text>,
+    pub(crate) attributes: Vec<Named>,
+}
+
+impl Rest {
+    /// The text.
+    pub(crate) fn text<'a>(&'a self, source: &'a [u8]) -> &'a [u8]
+        ensures { result.now ≡ text_in source.now self.now }
+    {
+        match self {
+            Rest::Plain { start, end } => part_of(source, *start, *end),
+            Rest::Full(more) => more.text.octets(source),
+        }
+    }
+
+    /// The namespace, where there is one.
+    fn namespace(&self) -> Option<&Text>
+        ensures { (source : List ℕ)
+            → option_map (λ t. text_of source t.now) result ≡ namespace_in source self.now }
+    {
+        match self {
+            Rest::Plain { start: _, end: _ } => None,
+            Rest::Full(more) => more.namespace.as_ref(),
+        }
+    }
+
+    /// The attributes.
+    fn attributes(&self) -> &[Named]
+        ensures { (source : List ℕ) → attributes_of source result.now ≡ attributes_in source self.now }
+    {
+        match self {
+            Rest::Plain { start: _, end: _ } => &[],
+            Rest::Full(more) => more.attributes.as_slice(),
+        }
+    }
+}
+
+/// A text, a namespace and attributes together. Malformed never comes.
+pub(crate) fn rest_of(
+    alloc: Global,
+    text: Text,
+    namespace: Option<Text>,
+    attributes: Vec<Named>,
+) -> Result<Rest, XmlError>
+    ensures { (source : List ℕ)
+        → Gives (Some (parts_of source text namespace attributes.items)) (parts_in source) result }
+{
+    if let Text::At { start, end } = &text
+        && namespace.is_none()
+        && attributes.is_empty()
+    {
+        return Ok(Rest::Plain {
+            start: *start,
+            end: *end,
+        });
+    }
+    full(alloc, text, namespace, attributes)
+}
+
+fn full(
+    alloc: Global,
+    text: Text,
+    namespace: Option<Text>,
+    attributes: Vec<Named>,
+) -> Result<Rest, XmlError>
+    ensures { (source : List ℕ)
+        → Gives (Some (parts_of source text namespace attributes.items)) (parts_in source) result }
+{
+    let more = More {
+        text,
+        namespace,
+        attributes,
+    };
+    Ok(Rest::Full(Box::new(alloc, more)?))
+}
+
+/// Text, namespace and attributes, taken apart.
+pub(crate) fn taken_apart(alloc: Global, rest: Rest) -> (Text, Option<Text>, Vec<Named>)
+    ensures { (source : List ℕ)
+        → parts_of source result.0 result.1 result.2.items ≡ parts_in source rest }
+{
+    match rest {
+        Rest::Plain { start, end } => (Text::At { start, end }, None, Vec::new(alloc)),
+        Rest::Full(more) => {
+            let More {
+                text,
+                namespace,
+                attributes,
+            } = Box::into_inner(more);
+            (text, namespace, attributes)
+        }
+    }
 }
 
 /// Elements that follow each other: the children of one, or those that are left of them. In a clause it is these elements, as
 /// `Elements` of specs/Element.antt has them.
 #[derive(Drop)]
 pub struct Children<'a> {
+    source: &'a [u8],
     nodes: &'a [Node],
 }
 
@@ -55,15 +206,16 @@ impl<'a> Model for Children<'a> {
 
     ghost coded = { elements_code };
 
-    ghost view = { λ c. tree_of (slots c.nodes.now) };
+    ghost view = { λ c. tree_of (slots c.source.now c.nodes.now) };
 
-    ghost invariant = { λ c. IsFlat (slots c.nodes.now) × AreLettered (tree_of (slots c.nodes.now)) };
+    ghost invariant = { λ c. IsFlat (slots c.source.now c.nodes.now) × AreLettered (tree_of (slots c.source.now c.nodes.now)) };
 }
 
 /// An element of a document. In a clause it is a record of its head, which has name, namespace, attributes and text, and of
 /// its children.
 #[derive(Drop)]
 pub struct ElementRef<'a> {
+    source: &'a [u8],
     head: &'a Node,
     below: &'a [Node],
 }
@@ -78,10 +230,10 @@ impl<'a> Model for ElementRef<'a> {
 
     ghost coded = { element_code };
 
-    ghost view = { λ e. record { head = head_of e.head.now; children = tree_of (slots e.below.now) } };
+    ghost view = { λ e. record { head = head_of e.source.now e.head.now; children = tree_of (slots e.source.now e.below.now) } };
 
-    ghost invariant = { λ e. IsLetteredHead (head_of e.head.now)
-        × (IsFlat (slots e.below.now) × AreLettered (tree_of (slots e.below.now))) };
+    ghost invariant = { λ e. IsLetteredHead (head_of e.source.now e.head.now)
+        × (IsFlat (slots e.source.now e.below.now) × AreLettered (tree_of (slots e.source.now e.below.now))) };
 }
 
 impl<'a> Iterator for Children<'a> {
@@ -96,20 +248,24 @@ impl<'a> Iterator for Children<'a> {
 
     fn next(&mut self) -> Option<ElementRef<'a>> {
         let (node, rest) = self.nodes.split_first()?;
-        let (below, after) = rest.split_at(node.below);
+        let (below, after) = rest.split_at(node.below as usize);
         self.nodes = after;
-        Some(ElementRef { head: node, below })
+        Some(ElementRef {
+            source: self.source,
+            head: node,
+            below,
+        })
     }
 }
 
 impl<'a> Children<'a> {
-    /// The elements that a flat list holds.
-    pub(crate) fn over(nodes: &'a [Node]) -> Children<'a>
-        requires flat { IsFlat (slots nodes.now) }
-        requires lettered { AreLettered (tree_of (slots nodes.now)) }
-        ensures { result ≡ tree_of (slots nodes.now) }
+    /// The elements that a flat list holds, of a document.
+    pub(crate) fn over(source: &'a [u8], nodes: &'a [Node]) -> Children<'a>
+        requires flat { IsFlat (slots source.now nodes.now) }
+        requires lettered { AreLettered (tree_of (slots source.now nodes.now)) }
+        ensures { result ≡ tree_of (slots source.now nodes.now) }
     {
-        Children { nodes }
+        Children { source, nodes }
     }
 
     /// Whether there is no element.
@@ -125,7 +281,7 @@ impl<'a> Children<'a> {
     {
         match self.nodes.split_first() {
             None => false,
-            Some((node, _)) => local_of(node.name.as_slice()) == local.as_bytes(),
+            Some((node, _)) => local_of(name_from(self.source, node.name)) == local.as_bytes(),
         }
     }
 
@@ -175,52 +331,58 @@ impl<'a> ElementRef<'a> {
     pub fn name(&self) -> &'a str
         ensures { result.now ≡ self.now.head.name }
     {
-        as_text(self.head.name.as_slice())
+        as_text(name_from(self.source, self.head.name))
     }
 
     /// The part of the name behind its colon, or the whole.
     pub fn local(&self) -> &'a str
         ensures { result.now ≡ local_name self.now.head.name }
     {
-        as_text(local_of(self.head.name.as_slice()))
+        as_text(local_of(name_from(self.source, self.head.name)))
     }
 
     /// The namespace that its own declaration gives, where there is one and it is not empty.
     pub fn namespace(&self) -> Option<&'a str>
         ensures { option_copied result ≡ self.now.head.namespace }
     {
-        match &self.head.namespace {
+        match self.head.rest.namespace() {
             None => None,
-            Some(uri) => Some(as_text(uri.as_slice())),
+            Some(uri) => Some(as_text(uri.octets(self.source))),
         }
     }
 
     /// The attributes in their order, without declarations of namespaces.
-    pub fn attributes(&self) -> &'a [Attribute]
-        ensures { result.now ≡ self.now.head.attributes }
+    pub fn attributes(&self) -> Attributes<'a>
+        ensures { result ≡ self.now.head.attributes }
     {
-        self.head.attributes.as_slice()
+        Attributes {
+            source: self.source,
+            left: self.head.rest.attributes(),
+        }
     }
 
     /// Its children, from the first one on.
     pub fn children(&self) -> Children<'a>
         ensures { result ≡ self.now.children }
     {
-        Children { nodes: self.below }
+        Children {
+            source: self.source,
+            nodes: self.below,
+        }
     }
 
     /// The text without outer white space, empty where there is a child.
     pub fn text(&self) -> &'a str
         ensures { result.now ≡ self.now.head.text }
     {
-        as_text(self.head.text.as_slice())
+        as_text(self.head.rest.text(self.source))
     }
 
     /// Whether it has this local name.
     pub fn is_named(&self, local: &str) -> bool
         ensures { result ≡ is_named local.now self.now.head }
     {
-        local_of(self.head.name.as_slice()) == local.as_bytes()
+        local_of(name_from(self.source, self.head.name)) == local.as_bytes()
     }
 
     /// Whether it has neither child nor text.
@@ -241,7 +403,7 @@ impl<'a> ElementRef<'a> {
     pub fn is_textless(&self) -> bool
         ensures { result ≡ is_nil self.now.head.text }
     {
-        self.head.text.as_slice().is_empty()
+        self.head.rest.text(self.source).is_empty()
     }
 
     /// The value of the attribute with this local name, where it is there. Mismatch where there are two of them.
@@ -249,7 +411,7 @@ impl<'a> ElementRef<'a> {
     pub fn optional(&self, local: &str) -> Result<Option<&'a str>, Mismatch>
         ensures { Matches (optional local.now self.now.head) option_copied result }
     {
-        match optional_among(self.head.attributes.as_slice(), local.as_bytes())? {
+        match optional_among(self.source, self.head.rest.attributes(), local.as_bytes())? {
             None => Ok(None),
             Some(value) => Ok(Some(as_text(value))),
         }
@@ -260,7 +422,7 @@ impl<'a> ElementRef<'a> {
     pub fn required(&self, local: &str) -> Result<&'a str, Mismatch>
         ensures { Matches (required local.now self.now.head) (λ v. v.now) result }
     {
-        let value = required_among(self.head.attributes.as_slice(), local.as_bytes())?;
+        let value = required_among(self.source, self.head.rest.attributes(), local.as_bytes())?;
         Ok(as_text(value))
     }
 
@@ -269,7 +431,7 @@ impl<'a> ElementRef<'a> {
     pub fn only(&self, locals: &[&str]) -> Result<(), Mismatch>
         ensures { Matches (only (texts locals.now) self.now.head) (λ _. tt) result }
     {
-        only_among(self.head.attributes.as_slice(), locals)
+        only_among(self.source, self.head.rest.attributes(), locals)
     }
 
     /// Nothing. Mismatch where the attribute with this local name has another value, or where there are two of them.

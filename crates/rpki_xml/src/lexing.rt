@@ -3,32 +3,32 @@
 ghost use Rattle.std.specs.Prelude.{◌≡◌, ◌<◌, ◌≤◌, length, IfSome, IfOk, false, true};
 ghost use Rattle.std.specs.List.{list_all};
 ghost use Rattle.std.specs.Option.{option_copied, option_map};
-ghost use Rattle.rpki_xml.specs.Content.{behind};
+ghost use Rattle.rpki_xml.specs.Content.{behind, end, passed_over};
+ghost use Rattle.rpki_xml.specs.Kept.{text_of, attribute_of, attributes_of};
 ghost use Rattle.rpki_xml.specs.Lexing.{ends_at, until, value_in, quoted_at, attribute_at, begins_white, begins_close, no_attribute, past_next, passed_at, run_at, front_of, back_of, past_white, any_entity_at, character_at, name_at, end_at, tag_at, markup_at, piece_at, is_octet};
 ghost use Rattle.rpki_xml.specs.Name.{is_letter, is_name_octet, ends_name, is_name};
 ghost use Rattle.rpki_xml.specs.Pieces.{piece};
 ghost use Rattle.rpki_xml.specs.PlainCharacter.{is_plain};
 ghost use Rattle.rpki_xml.specs.Answers.{Gives};
 
-use crate::element::Attribute;
 use crate::error::XmlError;
-use crate::joined::shared;
+use crate::kept::{Named, Text, name_place, placed};
 use crate::stack::is_white;
-use bytes::Bytes;
 use std::alloc::Global;
 
 /// The start of an element: its whole name and all its attributes.
-#[derive(Debug, Drop)]
+#[derive(Drop)]
 pub(crate) struct Tag {
-    pub(crate) name: Bytes,
-    pub(crate) attributes: Vec<Attribute>,
+    /// Where its name begins in the document.
+    pub(crate) name: u32,
+    pub(crate) attributes: Vec<Named>,
 }
 
 /// A piece of a document.
-#[derive(Debug, Drop)]
+#[derive(Drop)]
 pub(crate) enum Piece<'a> {
     /// A text run, its entities resolved.
-    Run(Bytes),
+    Run(Text),
     /// A comment or an instruction.
     PassedOver,
     /// `<name attributes/>`
@@ -72,7 +72,8 @@ fn past_white(b: &[u8]) -> &[u8]
     &[]
 }
 
-fn is_letter(c: u8) -> bool
+/// A letter.
+pub(crate) fn is_letter(c: u8) -> bool
     ensures { result ≡ is_letter c }
 {
     (65 <= c && c <= 90) || (97 <= c && c <= 122)
@@ -111,8 +112,8 @@ fn is_name(name: &[u8]) -> bool
     }
 }
 
-// The longest run of name octets, and what follows it.
-fn split_name(b: &[u8]) -> (&[u8], &[u8])
+/// The longest run of name octets, and what follows it.
+pub(crate) fn split_name(b: &[u8]) -> (&[u8], &[u8])
     ensures front { result.0.now ≡ front_of is_name_octet b.now }
     ensures back { result.1.now ≡ back_of is_name_octet b.now }
     ensures shorter { length result.1.now ≤ length b.now }
@@ -170,8 +171,9 @@ fn character_at(b: &[u8]) -> Option<(u8, &[u8])>
     }
 }
 
-fn end_at(b: &[u8]) -> Result<(Piece<'_>, &[u8]), XmlError>
-    ensures value { Gives (end_at b.now) (λ x. (piece x.0, x.1.now)) result }
+// The name of an end.
+fn end_at(b: &[u8]) -> Result<(&[u8], &[u8]), XmlError>
+    ensures value { Gives (end_at b.now) (λ x. (end x.0.now, x.1.now)) result }
     ensures shorter { IfOk result (λ x. length x.1.now ≤ length b.now) }
 {
     let Some((name, rest)) = name_at(b) else {
@@ -179,7 +181,7 @@ fn end_at(b: &[u8]) -> Result<(Piece<'_>, &[u8]), XmlError>
     };
     match behind(b">", past_white(rest)) {
         None => Err(XmlError::Malformed),
-        Some(rest) => Ok((Piece::End(name), rest)),
+        Some(rest) => Ok((name, rest)),
     }
 }
 
@@ -215,20 +217,22 @@ fn split_plain(stop: u8, b: &[u8]) -> (&[u8], &[u8])
 // The characters up to `stop`, or to the end where `at_end` says so.
 fn characters_until<'a>(
     alloc: Global,
-    source: &Bytes,
+    source: &[u8],
     at_end: bool,
     stop: u8,
     b: &'a [u8],
-) -> Result<(Bytes, &'a [u8]), XmlError>
-    ensures value { Gives (until (ends_at at_end stop) character_at b.now) (λ x. (x.0, x.1.now)) result }
+) -> Result<(Text, &'a [u8]), XmlError>
+    ensures value { Gives (until (ends_at at_end stop) character_at b.now)
+        (λ x. (text_of source.now x.0, x.1.now)) result }
     ensures shorter { IfOk result (λ x. length x.1.now ≤ length b.now) }
     ensures moved { IfOk result (λ x. ends_at at_end stop b.now ≡ false → length x.1.now < length b.now) }
 {
     let (front, rest) = split_plain(stop, b);
     if ends_at(at_end, stop, rest) {
-        return Ok((shared(alloc, source, front, rest.len())?, rest));
+        return Ok((placed(source, front, rest.len())?, rest));
     }
-    resolved_until(alloc, at_end, stop, b)
+    let (value, rest) = resolved_until(alloc, at_end, stop, b)?;
+    Ok((Text::Own(Box::new(alloc, value)?), rest))
 }
 
 // The same, in octets of their own.
@@ -237,8 +241,9 @@ fn resolved_until<'a>(
     at_end: bool,
     stop: u8,
     b: &'a [u8],
-) -> Result<(Bytes, &'a [u8]), XmlError>
-    ensures value { Gives (until (ends_at at_end stop) character_at b.now) (λ x. (x.0, x.1.now)) result }
+) -> Result<(Vec<u8>, &'a [u8]), XmlError>
+    ensures value { Gives (until (ends_at at_end stop) character_at b.now)
+        (λ x. (x.0.items, x.1.now)) result }
     ensures shorter { IfOk result (λ x. length x.1.now ≤ length b.now) }
     ensures moved { IfOk result (λ x. ends_at at_end stop b.now ≡ false → length x.1.now < length b.now) }
 {
@@ -257,16 +262,16 @@ fn resolved_until<'a>(
             rest = after;
         }
     }
-    Ok((Bytes::from_vec(value)?, rest))
+    Ok((value, rest))
 }
 
 fn value_in<'a>(
     alloc: Global,
-    source: &Bytes,
+    source: &[u8],
     quote: u8,
     b: &'a [u8],
-) -> Result<(Bytes, &'a [u8]), XmlError>
-    ensures value { Gives (value_in quote b.now) (λ x. (x.0, x.1.now)) result }
+) -> Result<(Text, &'a [u8]), XmlError>
+    ensures value { Gives (value_in quote b.now) (λ x. (text_of source.now x.0, x.1.now)) result }
     ensures shorter { IfOk result (λ x. length x.1.now ≤ length b.now) }
 {
     let (value, rest) = characters_until(alloc, source, false, quote, b)?;
@@ -277,8 +282,8 @@ fn value_in<'a>(
 }
 
 #[tactic(auto, unfolding(crate::specs::Lexing::quoted_at))]
-fn quoted_at<'a>(alloc: Global, source: &Bytes, b: &'a [u8]) -> Result<(Bytes, &'a [u8]), XmlError>
-    ensures value { Gives (quoted_at b.now) (λ x. (x.0, x.1.now)) result }
+fn quoted_at<'a>(alloc: Global, source: &[u8], b: &'a [u8]) -> Result<(Text, &'a [u8]), XmlError>
+    ensures value { Gives (quoted_at b.now) (λ x. (text_of source.now x.0, x.1.now)) result }
     ensures shorter { IfOk result (λ x. length x.1.now < length b.now) }
 {
     match b {
@@ -295,10 +300,10 @@ fn quoted_at<'a>(alloc: Global, source: &Bytes, b: &'a [u8]) -> Result<(Bytes, &
 
 fn attribute_at<'a>(
     alloc: Global,
-    source: &Bytes,
+    source: &[u8],
     b: &'a [u8],
-) -> Result<(Attribute, &'a [u8]), XmlError>
-    ensures value { Gives (attribute_at b.now) (λ x. (x.0, x.1.now)) result }
+) -> Result<(Named, &'a [u8]), XmlError>
+    ensures value { Gives (attribute_at b.now) (λ x. (attribute_of source.now x.0, x.1.now)) result }
     ensures shorter { IfOk result (λ x. length x.1.now < length b.now) }
 {
     let Some((name, behind_name)) = name_at(past_white(b)) else {
@@ -308,8 +313,8 @@ fn attribute_at<'a>(
         return Err(XmlError::Malformed);
     };
     let (value, rest) = quoted_at(alloc, source, past_white(rest))?;
-    let name = shared(alloc, source, name, behind_name.len())?;
-    Ok((Attribute { name, value }, rest))
+    let name = name_place(source, name, behind_name.len())?;
+    Ok((Named { name, value }, rest))
 }
 
 fn no_attribute(b: &[u8]) -> bool
@@ -338,10 +343,11 @@ fn begins_close(b: &[u8]) -> bool
 
 fn attributes_at<'a>(
     alloc: Global,
-    source: &Bytes,
+    source: &[u8],
     b: &'a [u8],
-) -> Result<(Vec<Attribute>, &'a [u8]), XmlError>
-    ensures value { Gives (until no_attribute attribute_at b.now) (λ x. (x.0.items, x.1.now)) result }
+) -> Result<(Vec<Named>, &'a [u8]), XmlError>
+    ensures value { Gives (until no_attribute attribute_at b.now)
+        (λ x. (attributes_of source.now x.0.items, x.1.now)) result }
     ensures shorter { IfOk result (λ x. length x.1.now ≤ length b.now) }
 {
     let mut attributes = Vec::new(alloc);
@@ -354,14 +360,14 @@ fn attributes_at<'a>(
     Ok((attributes, rest))
 }
 
-fn tag_at<'a>(alloc: Global, source: &Bytes, b: &'a [u8]) -> Result<(Piece<'a>, &'a [u8]), XmlError>
-    ensures value { Gives (tag_at b.now) (λ x. (piece x.0, x.1.now)) result }
+fn tag_at<'a>(alloc: Global, source: &[u8], b: &'a [u8]) -> Result<(Piece<'a>, &'a [u8]), XmlError>
+    ensures value { Gives (tag_at b.now) (λ x. (piece source.now x.0, x.1.now)) result }
     ensures shorter { IfOk result (λ x. length x.1.now ≤ length b.now) }
 {
     let Some((name, rest)) = name_at(b) else {
         return Err(XmlError::Malformed);
     };
-    let name = shared(alloc, source, name, rest.len())?;
+    let name = name_place(source, name, rest.len())?;
     let (attributes, rest) = attributes_at(alloc, source, rest)?;
     let rest = past_white(rest);
     let tag = Tag { name, attributes };
@@ -388,18 +394,19 @@ fn past_next<'a>(close: &[u8], b: &'a [u8]) -> Option<&'a [u8]>
     None
 }
 
-fn passed_at<'a>(close: &[u8], b: &'a [u8]) -> Result<(Piece<'a>, &'a [u8]), XmlError>
-    ensures value { Gives (passed_at close.now b.now) (λ x. (piece x.0, x.1.now)) result }
-    ensures shorter { IfOk result (λ x. length x.1.now ≤ length b.now) }
+// What follows a comment or an instruction.
+fn passed_at<'a>(close: &[u8], b: &'a [u8]) -> Result<&'a [u8], XmlError>
+    ensures value { Gives (passed_at close.now b.now) (λ rest. (passed_over, rest.now)) result }
+    ensures shorter { IfOk result (λ rest. length rest.now ≤ length b.now) }
 {
     match past_next(close, b) {
         None => Err(XmlError::Malformed),
-        Some(rest) => Ok((Piece::PassedOver, rest)),
+        Some(rest) => Ok(rest),
     }
 }
 
-fn run_at<'a>(alloc: Global, source: &Bytes, b: &'a [u8]) -> Result<(Piece<'a>, &'a [u8]), XmlError>
-    ensures value { Gives (run_at b.now) (λ x. (piece x.0, x.1.now)) result }
+fn run_at<'a>(alloc: Global, source: &[u8], b: &'a [u8]) -> Result<(Piece<'a>, &'a [u8]), XmlError>
+    ensures value { Gives (run_at b.now) (λ x. (piece source.now x.0, x.1.now)) result }
     ensures moved { IfOk result (λ x. ends_at true 60 b.now ≡ false → length x.1.now < length b.now) }
 {
     let (text, rest) = characters_until(alloc, source, true, b'<', b)?;
@@ -409,32 +416,33 @@ fn run_at<'a>(alloc: Global, source: &Bytes, b: &'a [u8]) -> Result<(Piece<'a>, 
 #[tactic(auto, unfolding(crate::specs::Lexing::markup_at))]
 fn markup_at<'a>(
     alloc: Global,
-    source: &Bytes,
+    source: &[u8],
     b: &'a [u8],
 ) -> Result<(Piece<'a>, &'a [u8]), XmlError>
-    ensures value { Gives (markup_at b.now) (λ x. (piece x.0, x.1.now)) result }
+    ensures value { Gives (markup_at b.now) (λ x. (piece source.now x.0, x.1.now)) result }
     ensures shorter { IfOk result (λ x. length x.1.now ≤ length b.now) }
 {
     if let Some(rest) = behind(b"/", b) {
-        return end_at(rest);
+        let (name, rest) = end_at(rest)?;
+        return Ok((Piece::End(name), rest));
     }
     if let Some(rest) = behind(b"!--", b) {
-        return passed_at(b"-->", rest);
+        return Ok((Piece::PassedOver, passed_at(b"-->", rest)?));
     }
     if let Some(rest) = behind(b"?", b) {
-        return passed_at(b"?>", rest);
+        return Ok((Piece::PassedOver, passed_at(b"?>", rest)?));
     }
     tag_at(alloc, source, b)
 }
 
-/// The piece at the front of `b`, and what follows it. Its texts share the octets of `source` where they stand in it.
+/// The piece at the front of `b`, and what follows it. Its texts are places in `source` where they stand in it.
 #[tactic(auto, unfolding(crate::specs::Lexing::piece_at))]
 pub(crate) fn piece_at<'a>(
     alloc: Global,
-    source: &Bytes,
+    source: &[u8],
     b: &'a [u8],
 ) -> Result<(Piece<'a>, &'a [u8]), XmlError>
-    ensures value { Gives (piece_at b.now) (λ x. (piece x.0, x.1.now)) result }
+    ensures value { Gives (piece_at b.now) (λ x. (piece source.now x.0, x.1.now)) result }
     ensures shorter { IfOk result (λ x. length x.1.now < length b.now) }
 {
     match b {

@@ -20,7 +20,7 @@ mod distinct;
 mod document;
 mod element;
 mod error;
-mod joined;
+mod kept;
 mod law;
 mod lexing;
 mod lookup;
@@ -29,7 +29,7 @@ mod tag;
 mod writer;
 
 pub use document::{Element, read_document};
-pub use element::{Attribute, Children, ElementRef};
+pub use element::{Attribute, Attributes, Children, ElementRef};
 pub use error::{Mismatch, XmlError};
 pub use law::{
     at_most_one, calls_follow, calls_spell, documents_are_lettered, done_is_spelled,

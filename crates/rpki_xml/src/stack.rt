@@ -1,52 +1,54 @@
-//! The open elements, as they lie in the list of nodes.
+//! The open elements, as they lie in the list of nodes. `source` is the document, in which the nodes have their places.
 
 ghost use Rattle.std.specs.Prelude.{◌≡◌, ◌≤◌, OnOk, length, reverse, Some};
 ghost use Rattle.std.specs.List.{list_all};
 ghost use Rattle.rpki_xml.specs.Content.{is_white, trimmed, without_white};
 ghost use Rattle.rpki_xml.specs.Answers.{Gives};
-ghost use Rattle.rpki_xml.specs.Stack.{held, IsHeld, settled, add_element, begin_element, end_element, add_run};
-ghost use Rattle.rpki_xml.specs.Views.{head_of};
+ghost use Rattle.rpki_xml.specs.Kept.{text_of};
+ghost use Rattle.rpki_xml.specs.Stack.{held, IsHeld, settled, settled_parts, with_more_text, add_element, begin_element, end_element, add_run};
+ghost use Rattle.rpki_xml.specs.Views.{head_of, parts_in};
 
-use crate::element::Node;
+use crate::element::{Node, Rest, rest_of, taken_apart};
 use crate::error::XmlError;
-use crate::joined::Joined;
-use bytes::Bytes;
+use crate::kept::{Text, name_from, narrow};
 use std::alloc::Global;
 use std::mem;
 
 /// One more run in the innermost open element.
 pub(crate) fn add_run(
     alloc: Global,
+    source: &[u8],
     nodes: &mut Vec<Node>,
-    places: &[usize],
-    run: Bytes,
+    places: &[u32],
+    run: Text,
 ) -> Result<(), XmlError>
-    requires { IsHeld nodes.old.items places.now }
-    ensures given { Gives (add_run run (held nodes.old.items places.now))
-        (λ _. held nodes.new.items places.now) result }
-    ensures kept { OnOk result (IsHeld nodes.new.items places.now) }
+    requires { IsHeld source.now nodes.old.items places.now }
+    ensures given { Gives (add_run (text_of source.now run) (held source.now nodes.old.items places.now))
+        (λ _. held source.now nodes.new.items places.now) result }
+    ensures kept { OnOk result (IsHeld source.now nodes.new.items places.now) }
 {
     let Some((place, _)) = places.split_last() else {
         return Err(XmlError::Malformed);
     };
-    let node = &mut nodes[*place];
-    let so_far = mem::replace(&mut node.text, Joined::empty());
-    let text = so_far.with(alloc, run)?;
-    node.text = text;
+    let node = &mut nodes[*place as usize];
+    let so_far = mem::replace(&mut node.rest, Rest::Plain { start: 0, end: 0 });
+    let rest = with_run(alloc, source, so_far, run)?;
+    node.rest = rest;
     Ok(())
 }
 
 /// An element without children, in the innermost open element.
 pub(crate) fn add_element(
+    source: &[u8],
     nodes: &mut Vec<Node>,
-    places: &[usize],
+    places: &[u32],
     node: Node,
 ) -> Result<(), XmlError>
-    requires held { IsHeld nodes.old.items places.now }
+    requires held { IsHeld source.now nodes.old.items places.now }
     requires below { node.below ≡ 0 }
-    ensures given { Gives (add_element (head_of node) (held nodes.old.items places.now))
-        (λ _. held nodes.new.items places.now) result }
-    ensures kept { OnOk result (IsHeld nodes.new.items places.now) }
+    ensures given { Gives (add_element (head_of source.now node) (held source.now nodes.old.items places.now))
+        (λ _. held source.now nodes.new.items places.now) result }
+    ensures kept { OnOk result (IsHeld source.now nodes.new.items places.now) }
 {
     if places.is_empty() {
         return Err(XmlError::Malformed);
@@ -57,20 +59,22 @@ pub(crate) fn add_element(
 
 /// The start of an element.
 pub(crate) fn begin_element(
+    source: &[u8],
     nodes: &mut Vec<Node>,
-    places: &mut Vec<usize>,
+    places: &mut Vec<u32>,
     node: Node,
 ) -> Result<(), XmlError>
-    requires held { IsHeld nodes.old.items places.old.items }
+    requires held { IsHeld source.now nodes.old.items places.old.items }
     requires below { node.below ≡ 0 }
-    ensures given { Gives (begin_element (head_of node) (held nodes.old.items places.old.items))
-        (λ _. held nodes.new.items places.new.items) result }
-    ensures kept { OnOk result (IsHeld nodes.new.items places.new.items) }
+    ensures given { Gives (begin_element (head_of source.now node) (held source.now nodes.old.items places.old.items))
+        (λ _. held source.now nodes.new.items places.new.items) result }
+    ensures kept { OnOk result (IsHeld source.now nodes.new.items places.new.items) }
 {
     if places.is_empty() {
         return Err(XmlError::Malformed);
     }
-    places.push(nodes.len())?;
+    let place = narrow(nodes.len())?;
+    places.push(place)?;
     nodes.push(node)?;
     Ok(())
 }
@@ -78,14 +82,15 @@ pub(crate) fn begin_element(
 /// The end of the innermost open element, which must have the name.
 pub(crate) fn end_element(
     alloc: Global,
+    source: &[u8],
     nodes: &mut Vec<Node>,
-    places: &mut Vec<usize>,
+    places: &mut Vec<u32>,
     name: &[u8],
 ) -> Result<(), XmlError>
-    requires { IsHeld nodes.old.items places.old.items }
-    ensures given { Gives (end_element name.now (held nodes.old.items places.old.items))
-        (λ _. held nodes.new.items places.new.items) result }
-    ensures kept { OnOk result (IsHeld nodes.new.items places.new.items) }
+    requires { IsHeld source.now nodes.old.items places.old.items }
+    ensures given { Gives (end_element name.now (held source.now nodes.old.items places.old.items))
+        (λ _. held source.now nodes.new.items places.new.items) result }
+    ensures kept { OnOk result (IsHeld source.now nodes.new.items places.new.items) }
 {
     let Some(place) = places.pop() else {
         return Err(XmlError::Malformed);
@@ -93,38 +98,57 @@ pub(crate) fn end_element(
     if places.is_empty() {
         return Err(XmlError::Malformed);
     }
-    let below = nodes.len() - place - 1;
-    let node = &mut nodes[place];
-    if node.name.as_slice() != name {
+    let below = narrow(nodes.len() - place as usize - 1)?;
+    let node = &mut nodes[place as usize];
+    if name_from(source, node.name) != name {
         return Err(XmlError::Malformed);
     }
-    let so_far = mem::replace(&mut node.text, Joined::empty());
-    let text = settled(alloc, below, so_far)?;
-    node.text = text;
+    let so_far = mem::replace(&mut node.rest, Rest::Plain { start: 0, end: 0 });
+    let rest = with_settled(alloc, source, below, so_far)?;
+    node.rest = rest;
     node.below = below;
     Ok(())
 }
 
+// What an element has beside its name, after one more run.
+fn with_run(alloc: Global, source: &[u8], rest: Rest, run: Text) -> Result<Rest, XmlError>
+    ensures { Gives (Some (with_more_text (text_of source.now run) (parts_in source.now rest)))
+        (parts_in source.now) result }
+{
+    let (text, namespace, attributes) = taken_apart(alloc, rest);
+    let joined = text.with(alloc, source, run)?;
+    rest_of(alloc, joined, namespace, attributes)
+}
+
+// The same, of an element with so many elements below it, at its end.
+fn with_settled(alloc: Global, source: &[u8], below: u32, rest: Rest) -> Result<Rest, XmlError>
+    ensures { Gives (settled_parts below (parts_in source.now rest)) (parts_in source.now) result }
+{
+    let (text, namespace, attributes) = taken_apart(alloc, rest);
+    let settled = settled(alloc, source, below, text)?;
+    rest_of(alloc, settled, namespace, attributes)
+}
+
 // The text of an element with so many elements below it.
-fn settled(alloc: Global, below: usize, text: Joined) -> Result<Joined, XmlError>
-    ensures { Gives (settled below text) (λ t. t) result }
+fn settled(alloc: Global, source: &[u8], below: u32, text: Text) -> Result<Text, XmlError>
+    ensures { Gives (settled below (text_of source.now text)) (text_of source.now) result }
 {
     if below == 0 {
-        return trimmed_of(alloc, text);
+        return trimmed_of(alloc, source, &text);
     }
-    if !is_all_white(text.as_slice()) {
+    if !is_all_white(text.octets(source)) {
         return Err(XmlError::Malformed);
     }
-    Ok(Joined::empty())
+    Ok(Text::At { start: 0, end: 0 })
 }
 
 #[tactic(auto, unfolding(crate::specs::Content::trimmed))]
-fn trimmed_of(alloc: Global, text: Joined) -> Result<Joined, XmlError>
-    ensures { Gives (Some (trimmed text)) (λ t. t) result }
+fn trimmed_of(alloc: Global, source: &[u8], text: &Text) -> Result<Text, XmlError>
+    ensures { Gives (Some (trimmed (text_of source.now text.now))) (text_of source.now) result }
 {
-    let begun = without_leading(text.as_slice());
+    let begun = without_leading(text.octets(source));
     let trimmed = without_trailing(begun);
-    text.part(alloc, trimmed, begun.len() - trimmed.len())
+    text.part(alloc, source, trimmed, begun.len() - trimmed.len())
 }
 
 /// Whether a text is white space alone.

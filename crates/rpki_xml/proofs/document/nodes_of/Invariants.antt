@@ -5,8 +5,8 @@ use Rattle.rpki_xml.proofs.document.nodes_of.Given as goal
 
 abbrev pub invariant-loop-rest : goal.invariant-loop-rest
 invariant-loop-rest l = record {
-  reached : Reached l.octets l.rest (held l.nodes.items l.places.items);
-  kept : IsHeld l.nodes.items l.places.items;
+  reached : Reached l.octets l.rest (held l.octets l.nodes.items l.places.items);
+  kept : IsHeld l.octets l.nodes.items l.places.items;
 }
 
 abbrev pub decreases-loop-rest : goal.decreases-loop-rest

@@ -1,6 +1,8 @@
 use Rattle.std.proofs.Common.{sym, arith}
+use Rattle.rpki_xml.specs.Kept.{attribute_of, attributes_of}
 use Rattle.rpki_xml.specs.Lexing.{no_attribute, attribute_at}
 use Rattle.std.proofs.lemmas.Result.{err_from_is_err_and}
+use Rattle.rpki_xml.proofs.Places.{attributes-push}
 use Rattle.rpki_xml.proofs.Until.{until_starts, until_more, until_fails, until_done}
 use Rattle.rpki_xml.proofs.lexing.attributes_at.Goals as goal
 
@@ -12,14 +14,14 @@ attributes-init c = record {
 
 pub attributes-preserved : goal.attributes-preserved
 attributes-preserved c = record {
-  read = rw c.in_ok-push.ensures.items (until_more no_attribute attribute_at c.args.b.now c.attributes.attributes.items c.attributes.rest.now c.in_ok-attribute.attribute c.in_ok-attribute.after.now c.attributes.invariant.read (sym c.attributes-test.ensures) c.in_ok-attribute.ensures.value c.in_ok-attribute.ensures.shorter);
+  read = rw (c.in_ok-push.ensures.items, attributes-push c.args.source.now c.attributes.attributes.items c.in_ok-attribute.attribute) (until_more no_attribute attribute_at c.args.b.now (attributes_of c.args.source.now c.attributes.attributes.items) c.attributes.rest.now (attribute_of c.args.source.now c.in_ok-attribute.attribute) c.in_ok-attribute.after.now c.attributes.invariant.read (sym c.attributes-test.ensures) c.in_ok-attribute.ensures.value c.in_ok-attribute.ensures.shorter);
   shorter = omega (arith, c.in_ok-attribute.ensures.shorter, c.attributes.invariant.shorter);
 }
 
 pub returns-in_err-attribute-clause-value : goal.returns-in_err-attribute-clause-value
 returns-in_err-attribute-clause-value c =
     let p = err_from_is_err_and c.from_residual.result c.from_residual.ensures.1 in
-    rw (p.1, p.2) (until_fails no_attribute attribute_at c.args.b.now c.attributes.attributes.items c.attributes.rest.now c.in_err-attribute.field-0.0 c.attributes.invariant.read (sym c.attributes-test.ensures) c.in_err-attribute.ensures.value)
+    rw (p.1, p.2) (until_fails no_attribute attribute_at c.args.b.now (attributes_of c.args.source.now c.attributes.attributes.items) c.attributes.rest.now c.in_err-attribute.field-0.0 c.attributes.invariant.read (sym c.attributes-test.ensures) c.in_err-attribute.ensures.value)
 
 pub returns-clause-value : goal.returns-clause-value
-returns-clause-value c = until_done no_attribute attribute_at c.args.b.now c.attributes.attributes.items c.attributes.rest.now c.attributes.invariant.read (sym c.attributes-test.ensures)
+returns-clause-value c = until_done no_attribute attribute_at c.args.b.now (attributes_of c.args.source.now c.attributes.attributes.items) c.attributes.rest.now c.attributes.invariant.read (sym c.attributes-test.ensures)

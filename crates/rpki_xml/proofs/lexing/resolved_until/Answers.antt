@@ -39,4 +39,4 @@ pub returns-in_default-clause-value : goal.returns-in_default-clause-value
 returns-in_default-clause-value c = until_fails (ends_at c.args.at_end c.args.stop) character_at c.args.b.now c.characters.value.items c.characters.rest.now errors.Malformed c.characters.invariant.read (sym c.characters-test.ensures) (sym c.in_default.ensures.value)
 
 pub returns-clause-value : goal.returns-clause-value
-returns-clause-value c = rw c.in_ok-from_vec.ensures.ok (until_done (ends_at c.args.at_end c.args.stop) character_at c.args.b.now c.characters.value.items c.characters.rest.now c.characters.invariant.read (sym c.characters-test.ensures))
+returns-clause-value c = until_done (ends_at c.args.at_end c.args.stop) character_at c.args.b.now c.characters.value.items c.characters.rest.now c.characters.invariant.read (sym c.characters-test.ensures)
