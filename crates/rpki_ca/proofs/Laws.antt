@@ -8,10 +8,9 @@ use Rattle.rpki_base.specs.PublicKey.{KeyFields}
 use Rattle.rpki_der.specs.declared.mode.Mode.TheVariants.{Ber}
 use Rattle.rpki_der.proofs.Decoding.{decoded_ok}
 use Rattle.rpki_base.specs.Checks.{first_failure, failing}
-use Rattle.rpki_idcert.specs.Checks.{IsSigned}
+use Rattle.rpki_base.specs.Checks.{IsSigned}
 use Rattle.rpki_base.specs.declared.validation.ValidationError.{ValidationError}
 use Rattle.rpki_sigmsg.specs.Checks.{checks, kind_of, AreAttributesSigned, Asked, AreSigned, IsBelieved, SameAnswers}
-use Rattle.rpki_sigmsg.specs.CrlChecks.{IsListSigned}
 use Rattle.rpki_sigmsg.specs.Message.{MessageFields, signed_message}
 use Rattle.rpki_publication.specs.Cms.{BeginsSigned}
 use Rattle.rpki_publication.proofs.Refused.{one_message}
@@ -81,7 +80,7 @@ one_check scheme m key when d e f g =
     number : err_of d ≡ err_of e → d.check ≡ e.check
     number p = cc
 
-    asked : (x y z : Bool) → Decides x (AreAttributesSigned scheme m) → Decides y (IsSigned scheme m.certificate key) → Decides z (IsListSigned scheme m.crl key) → Asked scheme m key
+    asked : (x y z : Bool) → Decides x (AreAttributesSigned scheme m) → Decides y (IsSigned scheme m.certificate key) → Decides z (IsSigned scheme m.crl key) → Asked scheme m key
     asked x y z a b c = record { q3 = x; q8 = y; q10 = z; attributes = a; certificate = b; crl = c }
 
 -- ---- one answer

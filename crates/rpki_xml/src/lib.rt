@@ -38,6 +38,3 @@ pub use law::{
 };
 pub use lookup::require;
 pub use writer::ElementWriter;
-
-#[cfg(test)]
-mod tests;

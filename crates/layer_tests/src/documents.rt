@@ -1,4 +1,4 @@
-use super::*;
+use rpki_xml::*;
 use std::test::Fail;
 
 #[test]
