@@ -3,8 +3,7 @@
 use Rattle.std.specs.Prelude.{◌≡◌, ℕ, List, [], ◌∷◌, Option, None, Some, if◌then◌else◌, codes}
 use Rattle.std.specs.Str.{bytes_eq}
 use Rattle.rpki_common.specs.Chaining.{◌>>=◌}
-use Rattle.rpki_xml.specs.declared.element.Attribute.{Attribute}
-use Rattle.rpki_xml.specs.Element.{Elements, none, Element, alone, is_nil}
+use Rattle.rpki_xml.specs.Element.{Attribute, Elements, none, Element, alone, is_nil}
 use Rattle.rpki_xml.specs.Lexing.{IsDocument}
 use Rattle.rpki_xml.specs.Tables.{require, is_named, only, required, given_or_absent, is_empty, the_child}
 use Rattle.rpki_xml.specs.Spelling.{spelled}
