@@ -5,8 +5,6 @@
 //! rules of the toy scheme alone, and says what the calls are.
 #![tactic(auto)]
 
-ghost use Rattle.std.specs.Prelude.{◌≡◌, ◌<◌};
-
 mod checking;
 mod reading;
 mod shown;
@@ -14,9 +12,8 @@ mod shown;
 use rpki_der::{Cursor, DecodeError, Steps};
 use std::alloc::Global;
 use std::io;
-use std::marker::Brand;
-use std::sync::ledger::{Blank, Ledger};
-use stored_cases::{Calls, Cases, Fields, Step, is_walked, is_walked_counted, run, text_of};
+use std::sync::ledger::Ledger;
+use stored_cases::{Calls, Fields, Step, Walks, run};
 
 struct Certificates;
 
@@ -52,30 +49,11 @@ impl Calls for Certificates {
     }
 }
 
-// Whether a line's case is answered as expected by the counted calls.
-fn holds_counted<L: Ledger>(alloc: Global, line: &[u8], blank: Blank) -> io::Result<bool>
-    requires name { blank.name ≡ L.name }
-    requires parts { blank.parts ≡ L.parts }
-    requires some { 0 < blank.parts }
-{
-    let mut steps = Steps::<L>::new(blank);
-    is_walked_counted(alloc, &Certificates, text_of(line)?, &mut steps)
-}
-
-// Whether a line's case is answered as expected, first by the calls that aren't counted.
-fn holds(alloc: Global, line: &str) -> io::Result<bool> {
-    Ok(
-        is_walked(alloc, &Certificates, line)?
-            && holds_counted::<Brand>(alloc, line.as_bytes(), Blank::new(1))?,
-    )
-}
-
-impl Cases for Certificates {
-    fn holds(&self, alloc: Global, line: &str) -> io::Result<bool> {
-        holds(alloc, line)
-    }
-}
-
 fn main(rt: HostRuntime) -> io::Result<()> {
-    run(&rt, &Certificates)
+    run(
+        &rt,
+        &Walks {
+            calls: Certificates,
+        },
+    )
 }

@@ -4,8 +4,6 @@
 //! file, by the formats and the rules of the toy scheme alone, and says what the calls are.
 #![tactic(auto)]
 
-ghost use Rattle.std.specs.Prelude.{◌≡◌, ◌<◌};
-
 mod signed;
 
 use crate::signed::{checked, message_shown, signed_shown, whole_shown};
@@ -13,9 +11,8 @@ use rpki_der::{Cursor, DecodeError, Steps};
 use rpki_publication::PublicationCms;
 use std::alloc::Global;
 use std::io;
-use std::marker::Brand;
-use std::sync::ledger::{Blank, Ledger};
-use stored_cases::{Calls, Cases, Fields, Step, is_walked, is_walked_counted, run, text_of};
+use std::sync::ledger::Ledger;
+use stored_cases::{Calls, Fields, Step, Walks, run};
 
 struct Publications;
 
@@ -53,30 +50,11 @@ impl Calls for Publications {
     }
 }
 
-// Whether a line's case is answered as expected by the counted call.
-fn holds_counted<L: Ledger>(alloc: Global, line: &[u8], blank: Blank) -> io::Result<bool>
-    requires name { blank.name ≡ L.name }
-    requires parts { blank.parts ≡ L.parts }
-    requires some { 0 < blank.parts }
-{
-    let mut steps = Steps::<L>::new(blank);
-    is_walked_counted(alloc, &Publications, text_of(line)?, &mut steps)
-}
-
-// Whether a line's case is answered as expected, first by the calls that aren't counted.
-fn holds(alloc: Global, line: &str) -> io::Result<bool> {
-    Ok(
-        is_walked(alloc, &Publications, line)?
-            && holds_counted::<Brand>(alloc, line.as_bytes(), Blank::new(1))?,
-    )
-}
-
-impl Cases for Publications {
-    fn holds(&self, alloc: Global, line: &str) -> io::Result<bool> {
-        holds(alloc, line)
-    }
-}
-
 fn main(rt: HostRuntime) -> io::Result<()> {
-    run(&rt, &Publications)
+    run(
+        &rt,
+        &Walks {
+            calls: Publications,
+        },
+    )
 }

@@ -11,8 +11,8 @@ mod running;
 mod step;
 mod walk;
 
-pub use fields::{Fields, is_answered};
-pub use octets::{invalid, octets_of, text_of};
+pub use fields::Fields;
+pub use octets::{invalid, octets_of};
 pub use running::{Cases, run};
-pub use step::{Step, step_of};
-pub use walk::{Calls, is_walked, is_walked_counted};
+pub use step::Step;
+pub use walk::{Calls, Walks};

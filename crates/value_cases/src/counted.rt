@@ -1,7 +1,10 @@
 //! Counted calls: levels, whole values and leaves.
 
 use crate::leaves::small;
-use crate::shown::{bits_shown, item_shown, optional_item, tag_of};
+use crate::shown::{
+    bits_shown, done_shown, item_shown, number_shown, octets_shown, optional_item, optional_truth,
+    tag_of, truth_shown,
+};
 use rpki_der::{
     Cursor, DecodeError, Steps, pass_rest_counted, take_bits_counted, take_boolean_counted,
     take_integer_counted, take_integer_if_counted, take_octets_counted, take_oid_counted,
@@ -18,8 +21,8 @@ fn enter<L: Ledger>(
     tag: &[u8],
     steps: &mut Steps<L>,
 ) -> Result<Fields, DecodeError> {
-    cursor.enter_counted(tag_of(tag)?, steps)?;
-    Ok(Fields::done(alloc)?)
+    let tag = tag_of(tag)?;
+    done_shown(alloc, cursor.enter_counted(tag, steps))
 }
 
 fn leave<L: Ledger>(
@@ -30,8 +33,7 @@ fn leave<L: Ledger>(
     if cursor.depth() == 0 {
         return Err(DecodeError::Malformed);
     }
-    cursor.leave_counted(steps)?;
-    Ok(Fields::done(alloc)?)
+    done_shown(alloc, cursor.leave_counted(steps))
 }
 
 fn descend<L: Ledger>(
@@ -91,7 +93,7 @@ fn rest<L: Ledger>(
     if cursor.depth() == 0 {
         return Err(DecodeError::Malformed);
     }
-    Ok(Fields::one(alloc, take_rest_counted(cursor, steps)?)?)
+    octets_shown(alloc, take_rest_counted(cursor, steps))
 }
 
 fn pass<L: Ledger>(
@@ -102,8 +104,7 @@ fn pass<L: Ledger>(
     if cursor.depth() == 0 {
         return Err(DecodeError::Malformed);
     }
-    pass_rest_counted(cursor, steps)?;
-    Ok(Fields::done(alloc)?)
+    done_shown(alloc, pass_rest_counted(cursor, steps))
 }
 
 /// What a counted call that goes through levels answers; None where the step is none.
@@ -131,24 +132,8 @@ fn primitive<L: Ledger>(
     tag: &[u8],
     steps: &mut Steps<L>,
 ) -> Result<Fields, DecodeError> {
-    let contents = cursor.take_primitive_counted(tag_of(tag)?, steps)?;
-    Ok(Fields::one(alloc, contents)?)
-}
-
-fn capture<L: Ledger>(
-    alloc: Global,
-    cursor: &mut Cursor<'_>,
-    steps: &mut Steps<L>,
-) -> Result<Fields, DecodeError> {
-    Ok(Fields::one(alloc, cursor.capture_counted(steps)?)?)
-}
-
-fn next<L: Ledger>(
-    alloc: Global,
-    cursor: &mut Cursor<'_>,
-    steps: &mut Steps<L>,
-) -> Result<Fields, DecodeError> {
-    optional_item(alloc, cursor.next_value_counted(steps)?)
+    let tag = tag_of(tag)?;
+    octets_shown(alloc, cursor.take_primitive_counted(tag, steps))
 }
 
 fn item<L: Ledger>(
@@ -157,7 +142,8 @@ fn item<L: Ledger>(
     tag: &[u8],
     steps: &mut Steps<L>,
 ) -> Result<Fields, DecodeError> {
-    item_shown(alloc, &cursor.take_if_counted(tag_of(tag)?, steps)?)
+    let tag = tag_of(tag)?;
+    item_shown(alloc, cursor.take_if_counted(tag, steps))
 }
 
 fn optional<L: Ledger>(
@@ -166,7 +152,8 @@ fn optional<L: Ledger>(
     tag: &[u8],
     steps: &mut Steps<L>,
 ) -> Result<Fields, DecodeError> {
-    optional_item(alloc, cursor.take_opt_if_counted(tag_of(tag)?, steps)?)
+    let tag = tag_of(tag)?;
+    optional_item(alloc, cursor.take_opt_if_counted(tag, steps))
 }
 
 /// What a counted call that takes a whole value answers; None where the step is none.
@@ -178,8 +165,8 @@ pub fn value_answer<L: Ledger>(
 ) -> Option<Result<Fields, DecodeError>> {
     match step.call {
         "primitive" => Some(primitive(alloc, cursor, &step.argument, steps)),
-        "capture" => Some(capture(alloc, cursor, steps)),
-        "next" => Some(next(alloc, cursor, steps)),
+        "capture" => Some(octets_shown(alloc, cursor.capture_counted(steps))),
+        "next" => Some(optional_item(alloc, cursor.next_value_counted(steps))),
         "item" => Some(item(alloc, cursor, &step.argument, steps)),
         "optional" => Some(optional(alloc, cursor, &step.argument, steps)),
         _ => None,
@@ -196,84 +183,30 @@ fn octets<L: Ledger>(
     Ok(Fields::one(alloc, &octets)?)
 }
 
-fn oid<L: Ledger>(
-    alloc: Global,
-    cursor: &mut Cursor<'_>,
-    steps: &mut Steps<L>,
-) -> Result<Fields, DecodeError> {
-    Ok(Fields::one(alloc, take_oid_counted(cursor, steps)?)?)
-}
-
-fn oid_if<L: Ledger>(
-    alloc: Global,
-    cursor: &mut Cursor<'_>,
-    wanted: &[u8],
-    steps: &mut Steps<L>,
-) -> Result<Fields, DecodeError> {
-    take_oid_if_counted(cursor, wanted, steps)?;
-    Ok(Fields::done(alloc)?)
-}
-
-fn bits<L: Ledger>(
-    alloc: Global,
-    cursor: &mut Cursor<'_>,
-    steps: &mut Steps<L>,
-) -> Result<Fields, DecodeError> {
-    let (unused, octets) = take_bits_counted(cursor, steps)?;
-    bits_shown(alloc, unused, octets)
-}
-
-fn boolean<L: Ledger>(
-    alloc: Global,
-    cursor: &mut Cursor<'_>,
-    steps: &mut Steps<L>,
-) -> Result<Fields, DecodeError> {
-    Ok(Fields::truth(alloc, take_boolean_counted(cursor, steps)?)?)
-}
-
-fn optional_boolean<L: Ledger>(
-    alloc: Global,
-    cursor: &mut Cursor<'_>,
-    steps: &mut Steps<L>,
-) -> Result<Fields, DecodeError> {
-    match take_opt_boolean_counted(cursor, steps)? {
-        Some(holds) => Ok(Fields::truth(alloc, holds)?),
-        None => Ok(Fields::new(alloc)),
-    }
-}
-
-fn integer<L: Ledger>(
-    alloc: Global,
-    cursor: &mut Cursor<'_>,
-    steps: &mut Steps<L>,
-) -> Result<Fields, DecodeError> {
-    Ok(Fields::one(alloc, take_integer_counted(cursor, steps)?)?)
-}
-
 fn integer_if<L: Ledger>(
     alloc: Global,
     cursor: &mut Cursor<'_>,
     wanted: &[u8],
     steps: &mut Steps<L>,
 ) -> Result<Fields, DecodeError> {
-    take_integer_if_counted(cursor, small(wanted)?, steps)?;
-    Ok(Fields::done(alloc)?)
+    let wanted = small(wanted)?;
+    done_shown(alloc, take_integer_if_counted(cursor, wanted, steps))
 }
 
-fn number<L: Ledger>(
+// What a counted call answers that takes a truth value, a number or a NULL; None where the step is none.
+fn plain_answer<L: Ledger>(
     alloc: Global,
     cursor: &mut Cursor<'_>,
+    call: &str,
     steps: &mut Steps<L>,
-) -> Result<Fields, DecodeError> {
-    Ok(Fields::number(alloc, take_u64_counted(cursor, steps)?)?)
-}
-
-fn null<L: Ledger>(
-    alloc: Global,
-    cursor: &mut Cursor<'_>,
-    steps: &mut Steps<L>,
-) -> Result<Fields, DecodeError> {
-    Ok(Fields::truth(alloc, take_opt_null_counted(cursor, steps)?)?)
+) -> Option<Result<Fields, DecodeError>> {
+    match call {
+        "boolean" => Some(truth_shown(alloc, take_boolean_counted(cursor, steps))),
+        "optional_boolean" => Some(optional_truth(alloc, take_opt_boolean_counted(cursor, steps))),
+        "u64" => Some(number_shown(alloc, take_u64_counted(cursor, steps))),
+        "null" => Some(truth_shown(alloc, take_opt_null_counted(cursor, steps))),
+        _ => None,
+    }
 }
 
 /// What a counted call that takes a leaf answers; None where the step is none.
@@ -285,69 +218,11 @@ pub fn leaf_answer<L: Ledger>(
 ) -> Option<Result<Fields, DecodeError>> {
     match step.call {
         "octets" => Some(octets(alloc, cursor, &step.argument, steps)),
-        "oid" => Some(oid(alloc, cursor, steps)),
-        "oid_if" => Some(oid_if(alloc, cursor, &step.argument, steps)),
-        "bits" => Some(bits(alloc, cursor, steps)),
-        "boolean" => Some(boolean(alloc, cursor, steps)),
-        "optional_boolean" => Some(optional_boolean(alloc, cursor, steps)),
-        "integer" => Some(integer(alloc, cursor, steps)),
+        "oid" => Some(octets_shown(alloc, take_oid_counted(cursor, steps))),
+        "oid_if" => Some(done_shown(alloc, take_oid_if_counted(cursor, &step.argument, steps))),
+        "bits" => Some(bits_shown(alloc, take_bits_counted(cursor, steps))),
+        "integer" => Some(octets_shown(alloc, take_integer_counted(cursor, steps))),
         "integer_if" => Some(integer_if(alloc, cursor, &step.argument, steps)),
-        "u64" => Some(number(alloc, cursor, steps)),
-        "null" => Some(null(alloc, cursor, steps)),
-        _ => None,
-    }
-}
-
-/// The calls that have a counted form alone.
-#[derive(Clone, Copy)]
-pub enum CountedCall {
-    LeaveSince,
-    Rest,
-    Pass,
-    OidIf,
-    Boolean,
-    OptionalBoolean,
-    Integer,
-    IntegerIf,
-    Number,
-    Null,
-}
-
-/// The call of this name, if it has a counted form alone.
-pub fn counted_call(name: &str) -> Option<CountedCall> {
-    match name {
-        "leave_since" => Some(CountedCall::LeaveSince),
-        "rest" => Some(CountedCall::Rest),
-        "pass" => Some(CountedCall::Pass),
-        "oid_if" => Some(CountedCall::OidIf),
-        "boolean" => Some(CountedCall::Boolean),
-        "optional_boolean" => Some(CountedCall::OptionalBoolean),
-        "integer" => Some(CountedCall::Integer),
-        "integer_if" => Some(CountedCall::IntegerIf),
-        "u64" => Some(CountedCall::Number),
-        "null" => Some(CountedCall::Null),
-        _ => None,
-    }
-}
-
-/// What such a call answers.
-pub fn answer_alone<L: Ledger>(
-    alloc: Global,
-    cursor: &mut Cursor<'_>,
-    call: CountedCall,
-    argument: &[u8],
-    steps: &mut Steps<L>,
-) -> Result<Fields, DecodeError> {
-    match call {
-        CountedCall::LeaveSince => leave_since(alloc, cursor, argument, steps),
-        CountedCall::Rest => rest(alloc, cursor, steps),
-        CountedCall::Pass => pass(alloc, cursor, steps),
-        CountedCall::OidIf => oid_if(alloc, cursor, argument, steps),
-        CountedCall::Boolean => boolean(alloc, cursor, steps),
-        CountedCall::OptionalBoolean => optional_boolean(alloc, cursor, steps),
-        CountedCall::Integer => integer(alloc, cursor, steps),
-        CountedCall::IntegerIf => integer_if(alloc, cursor, argument, steps),
-        CountedCall::Number => number(alloc, cursor, steps),
-        CountedCall::Null => null(alloc, cursor, steps),
+        call => plain_answer(alloc, cursor, call, steps),
     }
 }

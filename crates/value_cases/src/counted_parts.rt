@@ -13,41 +13,6 @@ use std::alloc::Global;
 use std::sync::ledger::Ledger;
 use stored_cases::{Fields, Step};
 
-fn time<L: Ledger>(
-    alloc: Global,
-    cursor: &mut Cursor<'_>,
-    steps: &mut Steps<L>,
-) -> Result<Fields, DecodeError> {
-    time_shown(alloc, Time::take_from_counted(cursor, steps)?)
-}
-
-fn validity<L: Ledger>(
-    alloc: Global,
-    cursor: &mut Cursor<'_>,
-    steps: &mut Steps<L>,
-) -> Result<Fields, DecodeError> {
-    validity_shown(alloc, Validity::take_from_counted(cursor, steps)?)
-}
-
-fn serial<L: Ledger>(
-    alloc: Global,
-    cursor: &mut Cursor<'_>,
-    steps: &mut Steps<L>,
-) -> Result<Fields, DecodeError> {
-    serial_shown(alloc, Serial::take_from_counted(cursor, steps)?)
-}
-
-fn identifier<L: Ledger>(
-    alloc: Global,
-    cursor: &mut Cursor<'_>,
-    steps: &mut Steps<L>,
-) -> Result<Fields, DecodeError> {
-    identifier_shown(
-        alloc,
-        KeyIdentifier::take_from_counted(alloc, cursor, steps)?,
-    )
-}
-
 fn identifier_under<L: Ledger>(
     alloc: Global,
     cursor: &mut Cursor<'_>,
@@ -57,24 +22,8 @@ fn identifier_under<L: Ledger>(
     let tag = tag_of(tag)?;
     identifier_shown(
         alloc,
-        KeyIdentifier::take_under_counted(alloc, cursor, tag, steps)?,
+        KeyIdentifier::take_under_counted(alloc, cursor, tag, steps),
     )
-}
-
-fn name<L: Ledger>(
-    alloc: Global,
-    cursor: &mut Cursor<'_>,
-    steps: &mut Steps<L>,
-) -> Result<Fields, DecodeError> {
-    name_shown(alloc, &Name::take_from_counted(alloc, cursor, steps)?)
-}
-
-fn key<L: Ledger>(
-    alloc: Global,
-    cursor: &mut Cursor<'_>,
-    steps: &mut Steps<L>,
-) -> Result<Fields, DecodeError> {
-    key_shown(alloc, &PublicKey::take_from_counted(alloc, cursor, steps)?)
 }
 
 fn data<L: Ledger>(
@@ -82,25 +31,29 @@ fn data<L: Ledger>(
     cursor: &mut Cursor<'_>,
     steps: &mut Steps<L>,
 ) -> Result<Fields, DecodeError> {
-    let data = SignedData::<RpkiSignatureAlgorithm>::take_from_counted(alloc, cursor, steps)?;
-    data_shown(alloc, &data)
+    data_shown(
+        alloc,
+        SignedData::<RpkiSignatureAlgorithm>::take_from_counted(alloc, cursor, steps),
+    )
 }
 
-fn extension<L: Ledger>(
+// What a counted call that takes a small part answers; None where the step is none.
+fn small_answer<L: Ledger>(
     alloc: Global,
     cursor: &mut Cursor<'_>,
+    call: &str,
     steps: &mut Steps<L>,
-) -> Result<Fields, DecodeError> {
-    extension_shown(alloc, &take_extension_counted(alloc, cursor, steps)?)
-}
-
-fn algorithm<L: Ledger>(
-    alloc: Global,
-    cursor: &mut Cursor<'_>,
-    steps: &mut Steps<L>,
-) -> Result<Fields, DecodeError> {
-    let algorithm = take_algorithm::<RpkiSignatureAlgorithm, L>(cursor, steps)?;
-    algorithm_shown(alloc, algorithm)
+) -> Option<Result<Fields, DecodeError>> {
+    match call {
+        "time" => Some(time_shown(alloc, Time::take_from_counted(cursor, steps))),
+        "validity" => Some(validity_shown(alloc, Validity::take_from_counted(cursor, steps))),
+        "serial" => Some(serial_shown(alloc, Serial::take_from_counted(cursor, steps))),
+        "algorithm" => Some(algorithm_shown(
+            alloc,
+            take_algorithm::<RpkiSignatureAlgorithm, L>(cursor, steps),
+        )),
+        _ => None,
+    }
 }
 
 /// What a call of this module answers; None where the step is none.
@@ -111,16 +64,15 @@ pub fn answer<L: Ledger>(
     steps: &mut Steps<L>,
 ) -> Option<Result<Fields, DecodeError>> {
     match step.call {
-        "time" => Some(time(alloc, cursor, steps)),
-        "validity" => Some(validity(alloc, cursor, steps)),
-        "serial" => Some(serial(alloc, cursor, steps)),
-        "identifier" => Some(identifier(alloc, cursor, steps)),
+        "identifier" => Some(identifier_shown(
+            alloc,
+            KeyIdentifier::take_from_counted(alloc, cursor, steps),
+        )),
         "identifier_under" => Some(identifier_under(alloc, cursor, &step.argument, steps)),
-        "name" => Some(name(alloc, cursor, steps)),
-        "key" => Some(key(alloc, cursor, steps)),
+        "name" => Some(name_shown(alloc, Name::take_from_counted(alloc, cursor, steps))),
+        "key" => Some(key_shown(alloc, PublicKey::take_from_counted(alloc, cursor, steps))),
         "data" => Some(data(alloc, cursor, steps)),
-        "extension" => Some(extension(alloc, cursor, steps)),
-        "algorithm" => Some(algorithm(alloc, cursor, steps)),
-        _ => None,
+        "extension" => Some(extension_shown(alloc, take_extension_counted(alloc, cursor, steps))),
+        call => small_answer(alloc, cursor, call, steps),
     }
 }

@@ -2,7 +2,7 @@
 
 ghost use Rattle.std.specs.Prelude.{◌<◌, IfOk};
 
-use crate::shown::{bits_shown, tag_of};
+use crate::shown::{bits_shown, octets_shown, tag_of};
 use rpki_der::{Cursor, DecodeError, take_bits, take_octets, take_oid};
 use std::alloc::Global;
 use stored_cases::{Fields, Step};
@@ -10,15 +10,6 @@ use stored_cases::{Fields, Step};
 fn octets(alloc: Global, cursor: &mut Cursor<'_>, tag: &[u8]) -> Result<Fields, DecodeError> {
     let octets = take_octets(alloc, cursor, tag_of(tag)?)?;
     Ok(Fields::one(alloc, &octets)?)
-}
-
-fn oid(alloc: Global, cursor: &mut Cursor<'_>) -> Result<Fields, DecodeError> {
-    Ok(Fields::one(alloc, take_oid(cursor)?)?)
-}
-
-fn bits(alloc: Global, cursor: &mut Cursor<'_>) -> Result<Fields, DecodeError> {
-    let (unused, octets) = take_bits(cursor)?;
-    bits_shown(alloc, unused, octets)
 }
 
 /// The number that the argument is; it has one octet, below 128.
@@ -39,8 +30,8 @@ pub fn answer(
 ) -> Option<Result<Fields, DecodeError>> {
     match step.call {
         "octets" => Some(octets(alloc, cursor, &step.argument)),
-        "oid" => Some(oid(alloc, cursor)),
-        "bits" => Some(bits(alloc, cursor)),
+        "oid" => Some(octets_shown(alloc, take_oid(cursor))),
+        "bits" => Some(bits_shown(alloc, take_bits(cursor))),
         _ => None,
     }
 }

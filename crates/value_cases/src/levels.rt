@@ -1,21 +1,20 @@
 //! Calls of a cursor: levels, and whole values.
 
-use crate::shown::{item_shown, optional_item, tag_of};
+use crate::shown::{done_shown, item_shown, octets_shown, optional_item, tag_of, truth_shown};
 use rpki_der::{Cursor, DecodeError};
 use std::alloc::Global;
 use stored_cases::{Fields, Step};
 
 fn enter(alloc: Global, cursor: &mut Cursor<'_>, tag: &[u8]) -> Result<Fields, DecodeError> {
-    cursor.enter(tag_of(tag)?)?;
-    Ok(Fields::done(alloc)?)
+    let tag = tag_of(tag)?;
+    done_shown(alloc, cursor.enter(tag))
 }
 
 fn leave(alloc: Global, cursor: &mut Cursor<'_>) -> Result<Fields, DecodeError> {
     if cursor.depth() == 0 {
         return Err(DecodeError::Malformed);
     }
-    cursor.leave()?;
-    Ok(Fields::done(alloc)?)
+    done_shown(alloc, cursor.leave())
 }
 
 // Goes in as often as it can: how often that was.
@@ -43,37 +42,24 @@ fn ascend(alloc: Global, cursor: &mut Cursor<'_>) -> Result<Fields, DecodeError>
 }
 
 fn primitive(alloc: Global, cursor: &mut Cursor<'_>, tag: &[u8]) -> Result<Fields, DecodeError> {
-    Ok(Fields::one(alloc, cursor.take_primitive(tag_of(tag)?)?)?)
-}
-
-fn capture(alloc: Global, cursor: &mut Cursor<'_>) -> Result<Fields, DecodeError> {
-    Ok(Fields::one(alloc, cursor.capture()?)?)
-}
-
-fn next(alloc: Global, cursor: &mut Cursor<'_>) -> Result<Fields, DecodeError> {
-    optional_item(alloc, cursor.next_value()?)
+    let tag = tag_of(tag)?;
+    octets_shown(alloc, cursor.take_primitive(tag))
 }
 
 fn item(alloc: Global, cursor: &mut Cursor<'_>, tag: &[u8]) -> Result<Fields, DecodeError> {
-    item_shown(alloc, &cursor.take_if(tag_of(tag)?)?)
+    let tag = tag_of(tag)?;
+    item_shown(alloc, cursor.take_if(tag))
 }
 
 fn optional(alloc: Global, cursor: &mut Cursor<'_>, tag: &[u8]) -> Result<Fields, DecodeError> {
-    optional_item(alloc, cursor.take_opt_if(tag_of(tag)?)?)
+    let tag = tag_of(tag)?;
+    optional_item(alloc, cursor.take_opt_if(tag))
 }
 
 fn depth(alloc: Global, cursor: &Cursor<'_>) -> Result<Fields, DecodeError> {
     let mut fields = Fields::new(alloc);
     fields.print(alloc, cursor.depth())?;
     Ok(fields)
-}
-
-fn end(alloc: Global, cursor: &Cursor<'_>) -> Result<Fields, DecodeError> {
-    Ok(Fields::truth(alloc, cursor.end())?)
-}
-
-fn here(alloc: Global, cursor: &Cursor<'_>) -> Result<Fields, DecodeError> {
-    Ok(Fields::one(alloc, cursor.here())?)
 }
 
 /// What a call of this module answers; None where the step is none.
@@ -88,13 +74,13 @@ pub fn answer(
         "descend" => Some(descend(alloc, cursor, &step.argument)),
         "ascend" => Some(ascend(alloc, cursor)),
         "primitive" => Some(primitive(alloc, cursor, &step.argument)),
-        "capture" => Some(capture(alloc, cursor)),
-        "next" => Some(next(alloc, cursor)),
+        "capture" => Some(octets_shown(alloc, cursor.capture())),
+        "next" => Some(optional_item(alloc, cursor.next_value())),
         "item" => Some(item(alloc, cursor, &step.argument)),
         "optional" => Some(optional(alloc, cursor, &step.argument)),
         "depth" => Some(depth(alloc, cursor)),
-        "end" => Some(end(alloc, cursor)),
-        "here" => Some(here(alloc, cursor)),
+        "end" => Some(truth_shown(alloc, Ok(cursor.end()))),
+        "here" => Some(octets_shown(alloc, Ok(cursor.here()))),
         _ => None,
     }
 }

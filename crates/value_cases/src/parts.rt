@@ -11,44 +11,20 @@ use rpki_der::{Cursor, DecodeError};
 use std::alloc::Global;
 use stored_cases::{Fields, Step};
 
-fn time(alloc: Global, cursor: &mut Cursor<'_>) -> Result<Fields, DecodeError> {
-    time_shown(alloc, Time::take_from(cursor)?)
-}
-
-fn validity(alloc: Global, cursor: &mut Cursor<'_>) -> Result<Fields, DecodeError> {
-    validity_shown(alloc, Validity::take_from(cursor)?)
-}
-
-fn serial(alloc: Global, cursor: &mut Cursor<'_>) -> Result<Fields, DecodeError> {
-    serial_shown(alloc, Serial::take_from(cursor)?)
-}
-
-fn identifier(alloc: Global, cursor: &mut Cursor<'_>) -> Result<Fields, DecodeError> {
-    identifier_shown(alloc, KeyIdentifier::take_from(alloc, cursor)?)
-}
-
 fn identifier_under(
     alloc: Global,
     cursor: &mut Cursor<'_>,
     tag: &[u8],
 ) -> Result<Fields, DecodeError> {
-    identifier_shown(
-        alloc,
-        KeyIdentifier::take_under(alloc, cursor, tag_of(tag)?)?,
-    )
-}
-
-fn name(alloc: Global, cursor: &mut Cursor<'_>) -> Result<Fields, DecodeError> {
-    name_shown(alloc, &Name::take_from(alloc, cursor)?)
-}
-
-fn key(alloc: Global, cursor: &mut Cursor<'_>) -> Result<Fields, DecodeError> {
-    key_shown(alloc, &PublicKey::take_from(alloc, cursor)?)
+    let tag = tag_of(tag)?;
+    identifier_shown(alloc, KeyIdentifier::take_under(alloc, cursor, tag))
 }
 
 fn data(alloc: Global, cursor: &mut Cursor<'_>) -> Result<Fields, DecodeError> {
-    let data = SignedData::<RpkiSignatureAlgorithm>::take_from(alloc, cursor)?;
-    data_shown(alloc, &data)
+    data_shown(
+        alloc,
+        SignedData::<RpkiSignatureAlgorithm>::take_from(alloc, cursor),
+    )
 }
 
 /// What a call of this module answers; None where the step is none.
@@ -58,13 +34,13 @@ pub fn answer(
     step: &Step<'_>,
 ) -> Option<Result<Fields, DecodeError>> {
     match step.call {
-        "time" => Some(time(alloc, cursor)),
-        "validity" => Some(validity(alloc, cursor)),
-        "serial" => Some(serial(alloc, cursor)),
-        "identifier" => Some(identifier(alloc, cursor)),
+        "time" => Some(time_shown(alloc, Time::take_from(cursor))),
+        "validity" => Some(validity_shown(alloc, Validity::take_from(cursor))),
+        "serial" => Some(serial_shown(alloc, Serial::take_from(cursor))),
+        "identifier" => Some(identifier_shown(alloc, KeyIdentifier::take_from(alloc, cursor))),
         "identifier_under" => Some(identifier_under(alloc, cursor, &step.argument)),
-        "name" => Some(name(alloc, cursor)),
-        "key" => Some(key(alloc, cursor)),
+        "name" => Some(name_shown(alloc, Name::take_from(alloc, cursor))),
+        "key" => Some(key_shown(alloc, PublicKey::take_from(alloc, cursor))),
         "data" => Some(data(alloc, cursor)),
         _ => None,
     }

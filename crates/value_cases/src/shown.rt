@@ -10,14 +10,45 @@ use stored_cases::Fields;
 
 /// The tag whose identifier octets these are.
 pub fn tag_of(octets: &[u8]) -> Result<Tag, DecodeError> {
-    match Tag::new(octets) {
-        Some(tag) => Ok(tag),
-        None => Err(DecodeError::Malformed),
+    Tag::new(octets).ok_or(DecodeError::Malformed)
+}
+
+/// That the call succeeded.
+pub fn done_shown(alloc: Global, taken: Result<(), DecodeError>) -> Result<Fields, DecodeError> {
+    taken?;
+    Ok(Fields::done(alloc)?)
+}
+
+/// The octets.
+pub fn octets_shown(
+    alloc: Global,
+    taken: Result<&[u8], DecodeError>,
+) -> Result<Fields, DecodeError> {
+    Ok(Fields::one(alloc, taken?)?)
+}
+
+/// The truth value.
+pub fn truth_shown(alloc: Global, taken: Result<bool, DecodeError>) -> Result<Fields, DecodeError> {
+    Ok(Fields::truth(alloc, taken?)?)
+}
+
+/// What is answered to an optional truth value.
+pub fn optional_truth(
+    alloc: Global,
+    taken: Result<Option<bool>, DecodeError>,
+) -> Result<Fields, DecodeError> {
+    match taken? {
+        Some(holds) => Ok(Fields::truth(alloc, holds)?),
+        None => Ok(Fields::new(alloc)),
     }
 }
 
-/// Tag, form, contents and octets.
-pub fn item_shown(alloc: Global, item: &Item<'_>) -> Result<Fields, DecodeError> {
+/// The number.
+pub fn number_shown(alloc: Global, taken: Result<u64, DecodeError>) -> Result<Fields, DecodeError> {
+    Ok(Fields::number(alloc, taken?)?)
+}
+
+fn item_fields(alloc: Global, item: &Item<'_>) -> Result<Fields, DecodeError> {
     let mut fields = Fields::one(alloc, item.tag.as_slice())?;
     fields.octets(&[u8::from(item.constructed)])?;
     fields.octets(item.content)?;
@@ -25,10 +56,21 @@ pub fn item_shown(alloc: Global, item: &Item<'_>) -> Result<Fields, DecodeError>
     Ok(fields)
 }
 
+/// Tag, form, contents and octets.
+pub fn item_shown(
+    alloc: Global,
+    taken: Result<Item<'_>, DecodeError>,
+) -> Result<Fields, DecodeError> {
+    item_fields(alloc, &taken?)
+}
+
 /// What is answered to an optional value.
-pub fn optional_item(alloc: Global, item: Option<Item<'_>>) -> Result<Fields, DecodeError> {
-    match item {
-        Some(item) => item_shown(alloc, &item),
+pub fn optional_item(
+    alloc: Global,
+    taken: Result<Option<Item<'_>>, DecodeError>,
+) -> Result<Fields, DecodeError> {
+    match taken? {
+        Some(item) => item_fields(alloc, &item),
         None => Ok(Fields::new(alloc)),
     }
 }
@@ -58,14 +100,19 @@ pub fn pair_shown(
 }
 
 /// The count of unused bits, and the octets.
-pub fn bits_shown(alloc: Global, unused: u8, octets: &[u8]) -> Result<Fields, DecodeError> {
+pub fn bits_shown(
+    alloc: Global,
+    taken: Result<(u8, &[u8]), DecodeError>,
+) -> Result<Fields, DecodeError> {
+    let (unused, octets) = taken?;
     let mut fields = Fields::one(alloc, &[unused])?;
     fields.octets(octets)?;
     Ok(fields)
 }
 
 /// The seconds, what is written in DER, and the text of RFC 3339.
-pub fn time_shown(alloc: Global, time: Time) -> Result<Fields, DecodeError> {
+pub fn time_shown(alloc: Global, taken: Result<Time, DecodeError>) -> Result<Fields, DecodeError> {
+    let time = taken?;
     let mut out = Writer::new(alloc);
     time.to_der_varied(&mut out)?;
     let mut fields = Fields::new(alloc);
@@ -76,7 +123,11 @@ pub fn time_shown(alloc: Global, time: Time) -> Result<Fields, DecodeError> {
 }
 
 /// The seconds of both times.
-pub fn validity_shown(alloc: Global, validity: Validity) -> Result<Fields, DecodeError> {
+pub fn validity_shown(
+    alloc: Global,
+    taken: Result<Validity, DecodeError>,
+) -> Result<Fields, DecodeError> {
+    let validity = taken?;
     let mut fields = Fields::new(alloc);
     fields.print(alloc, validity.not_before().seconds())?;
     fields.print(alloc, validity.not_after().seconds())?;
@@ -84,7 +135,11 @@ pub fn validity_shown(alloc: Global, validity: Validity) -> Result<Fields, Decod
 }
 
 /// The twenty octets, and what is written.
-pub fn serial_shown(alloc: Global, serial: Serial) -> Result<Fields, DecodeError> {
+pub fn serial_shown(
+    alloc: Global,
+    taken: Result<Serial, DecodeError>,
+) -> Result<Fields, DecodeError> {
+    let serial = taken?;
     let mut out = Writer::new(alloc);
     serial.encode(&mut out)?;
     let mut fields = Fields::one(alloc, serial.as_slice())?;
@@ -93,14 +148,19 @@ pub fn serial_shown(alloc: Global, serial: Serial) -> Result<Fields, DecodeError
 }
 
 /// The octets, and what is printed.
-pub fn identifier_shown(alloc: Global, identifier: KeyIdentifier) -> Result<Fields, DecodeError> {
+pub fn identifier_shown(
+    alloc: Global,
+    taken: Result<KeyIdentifier, DecodeError>,
+) -> Result<Fields, DecodeError> {
+    let identifier = taken?;
     let mut fields = Fields::one(alloc, identifier.as_slice())?;
     fields.print(alloc, identifier)?;
     Ok(fields)
 }
 
 /// What a copy of the name writes.
-pub fn name_shown(alloc: Global, name: &Name) -> Result<Fields, DecodeError> {
+pub fn name_shown(alloc: Global, taken: Result<Name, DecodeError>) -> Result<Fields, DecodeError> {
+    let name = taken?;
     let mut out = Writer::new(alloc);
     name.clone(alloc)?.encode_ref(&mut out)?;
     if out.as_slice() != name.as_slice() {
@@ -116,8 +176,8 @@ pub fn written_key(alloc: Global, key: &PublicKey) -> Result<Writer, OutOfMemory
     Ok(out)
 }
 
-/// The word for a format.
-pub fn format_name(format: PublicKeyFormat) -> &'static str {
+// The word for a format.
+fn format_name(format: PublicKeyFormat) -> &'static str {
     match format {
         PublicKeyFormat::Rsa => "rsa",
         PublicKeyFormat::EcdsaP256 => "ec",
@@ -125,7 +185,7 @@ pub fn format_name(format: PublicKeyFormat) -> &'static str {
 }
 
 /// The format, the bits, the key identifier, and what a copy of the key writes.
-pub fn key_shown(alloc: Global, key: &PublicKey) -> Result<Fields, DecodeError> {
+pub fn key_fields(alloc: Global, key: &PublicKey) -> Result<Fields, DecodeError> {
     let copy = key.clone(alloc)?;
     let mut fields = Fields::one(alloc, format_name(key.format()).as_bytes())?;
     fields.octets(key.bits_bytes().as_slice())?;
@@ -134,8 +194,20 @@ pub fn key_shown(alloc: Global, key: &PublicKey) -> Result<Fields, DecodeError> 
     Ok(fields)
 }
 
+/// The same of a key that was taken.
+pub fn key_shown(
+    alloc: Global,
+    taken: Result<PublicKey, DecodeError>,
+) -> Result<Fields, DecodeError> {
+    key_fields(alloc, &taken?)
+}
+
 /// The object identifier, whether it is critical, and what it holds.
-pub fn extension_shown(alloc: Global, extension: &Extension<'_>) -> Result<Fields, DecodeError> {
+pub fn extension_shown(
+    alloc: Global,
+    taken: Result<Extension<'_>, DecodeError>,
+) -> Result<Fields, DecodeError> {
+    let extension = taken?;
     let mut fields = Fields::one(alloc, extension.identifier)?;
     fields.octets(&[u8::from(extension.critical)])?;
     fields.octets(&extension.value)?;
@@ -145,8 +217,9 @@ pub fn extension_shown(alloc: Global, extension: &Extension<'_>) -> Result<Field
 /// What a certificate writes of the algorithm, and what a signer's information does.
 pub fn algorithm_shown(
     alloc: Global,
-    algorithm: RpkiSignatureAlgorithm,
+    taken: Result<RpkiSignatureAlgorithm, DecodeError>,
 ) -> Result<Fields, DecodeError> {
+    let algorithm = taken?;
     let mut x509 = Writer::new(alloc);
     algorithm.x509_encode(&mut x509)?;
     let mut cms = Writer::new(alloc);
@@ -169,8 +242,9 @@ pub fn written_data<Alg: SignatureAlgorithm>(
 /// The signed octets, the signature, and what a copy of the signed data writes.
 pub fn data_shown<Alg: SignatureAlgorithm>(
     alloc: Global,
-    data: &SignedData<Alg>,
+    taken: Result<SignedData<Alg>, DecodeError>,
 ) -> Result<Fields, DecodeError> {
+    let data = taken?;
     let copy = data.clone(alloc)?;
     let mut fields = Fields::one(alloc, data.slice().as_slice())?;
     fields.octets(data.signature().value().as_slice())?;

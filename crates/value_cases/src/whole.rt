@@ -1,6 +1,6 @@
 //! Calls over octets that have no cursor: leaves that are kept, trees, tags.
 
-use crate::shown::{append_node, bits_shown, pair_shown, tag_of};
+use crate::shown::{append_node, bits_shown, octets_shown, pair_shown, tag_of};
 use rpki_der::{
     BitString, Children, DecodeError, Mode, Node, OctetString, Oid, Tag, read_tree,
     take_whole_pair, take_whole_primitive,
@@ -13,10 +13,11 @@ fn tag(alloc: Global, octets: &[u8]) -> Result<Fields, DecodeError> {
 }
 
 fn primitive(alloc: Global, mode: Mode, octets: &[u8], tag: &[u8]) -> Result<Fields, DecodeError> {
-    match take_whole_primitive(mode, octets, tag_of(tag)?) {
-        Some(contents) => Ok(Fields::one(alloc, contents)?),
-        None => Err(DecodeError::Malformed),
-    }
+    let tag = tag_of(tag)?;
+    octets_shown(
+        alloc,
+        take_whole_primitive(mode, octets, tag).ok_or(DecodeError::Malformed),
+    )
 }
 
 fn pair(alloc: Global, mode: Mode, octets: &[u8]) -> Result<Fields, DecodeError> {
@@ -36,7 +37,7 @@ fn octet_string(alloc: Global, mode: Mode, octets: &[u8]) -> Result<Fields, Deco
 
 fn bit_string(alloc: Global, mode: Mode, octets: &[u8]) -> Result<Fields, DecodeError> {
     let string = BitString::take(alloc, mode, octets)?;
-    bits_shown(alloc, string.unused(), string.octets())
+    bits_shown(alloc, Ok((string.unused(), string.octets())))
 }
 
 fn oid(alloc: Global, mode: Mode, octets: &[u8]) -> Result<Fields, DecodeError> {

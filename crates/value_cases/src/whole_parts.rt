@@ -1,7 +1,8 @@
 //! Calls over octets that have no cursor: parts of certificates, and texts.
 
 use crate::shown::{
-    algorithm_shown, data_shown, key_shown, name_shown, serial_shown, time_shown, validity_shown,
+    algorithm_shown, data_shown, key_fields, key_shown, name_shown, serial_shown, time_shown,
+    validity_shown,
 };
 use rpki_base::{
     BgpsecSignatureAlgorithm, KeyIdentifier, Name, PublicKey, RpkiSignatureAlgorithm, Serial,
@@ -11,22 +12,15 @@ use rpki_der::{DecodeError, Mode, Writer};
 use std::alloc::Global;
 use stored_cases::{Fields, Step};
 
-fn time(alloc: Global, mode: Mode, octets: &[u8]) -> Result<Fields, DecodeError> {
-    match Time::take(mode, octets) {
-        Some(time) => time_shown(alloc, time),
-        None => Err(DecodeError::Malformed),
-    }
-}
-
 // The time that a text says.
 fn time_text(alloc: Global, octets: &[u8]) -> Result<Fields, DecodeError> {
     let Ok(text) = std::str::from_utf8(octets) else {
         return Err(DecodeError::Malformed);
     };
-    match Time::from_rfc3339(text) {
-        Some(time) => time_shown(alloc, time),
-        None => Err(DecodeError::Malformed),
-    }
+    time_shown(
+        alloc,
+        Time::from_rfc3339(text).ok_or(DecodeError::Malformed),
+    )
 }
 
 fn number_of(octets: &[u8]) -> Option<i64> {
@@ -38,21 +32,7 @@ fn moment(octets: &[u8]) -> Result<Time, DecodeError> {
     let Some(seconds) = number_of(octets) else {
         return Err(DecodeError::Malformed);
     };
-    match Time::new(seconds) {
-        Some(time) => Ok(time),
-        None => Err(DecodeError::Malformed),
-    }
-}
-
-fn moment_shown(alloc: Global, octets: &[u8]) -> Result<Fields, DecodeError> {
-    time_shown(alloc, moment(octets)?)
-}
-
-fn validity(alloc: Global, mode: Mode, octets: &[u8]) -> Result<Fields, DecodeError> {
-    match Validity::take(mode, octets) {
-        Some(validity) => validity_shown(alloc, validity),
-        None => Err(DecodeError::Malformed),
-    }
+    Time::new(seconds).ok_or(DecodeError::Malformed)
 }
 
 // Whether a validity holds at the moment of the argument.
@@ -69,20 +49,13 @@ fn holds_at(
     }
 }
 
-fn serial(alloc: Global, mode: Mode, octets: &[u8]) -> Result<Fields, DecodeError> {
-    match Serial::take(mode, octets) {
-        Some(serial) => serial_shown(alloc, serial),
-        None => Err(DecodeError::Malformed),
-    }
-}
-
 // The serial number that a text says in decimal digits.
 fn number(alloc: Global, octets: &[u8]) -> Result<Fields, DecodeError> {
     let Ok(text) = std::str::from_utf8(octets) else {
         return Err(DecodeError::Malformed);
     };
     match text.parse::<u64>() {
-        Ok(number) => serial_shown(alloc, Serial::from(number)),
+        Ok(number) => serial_shown(alloc, Ok(Serial::from(number))),
         Err(_) => Err(DecodeError::Malformed),
     }
 }
@@ -94,34 +67,12 @@ fn identifier(alloc: Global, octets: &[u8]) -> Result<Fields, DecodeError> {
     }
 }
 
-fn name(alloc: Global, mode: Mode, octets: &[u8]) -> Result<Fields, DecodeError> {
-    name_shown(alloc, &Name::take(alloc, mode, octets)?)
-}
-
-fn key(alloc: Global, mode: Mode, octets: &[u8]) -> Result<Fields, DecodeError> {
-    key_shown(alloc, &PublicKey::take(alloc, mode, octets)?)
-}
-
 // The key with which the octets begin, and the name that is made of it.
 fn decoded_key(alloc: Global, octets: &[u8]) -> Result<Fields, DecodeError> {
     let key = PublicKey::decode(alloc, octets)?;
-    let mut fields = key_shown(alloc, &key)?;
+    let mut fields = key_fields(alloc, &key)?;
     fields.octets(Name::from_pub_key(alloc, &key)?.as_slice())?;
     Ok(fields)
-}
-
-fn x509(alloc: Global, mode: Mode, octets: &[u8]) -> Result<Fields, DecodeError> {
-    match RpkiSignatureAlgorithm::x509_take_from(mode, octets) {
-        Some(algorithm) => algorithm_shown(alloc, algorithm),
-        None => Err(DecodeError::Malformed),
-    }
-}
-
-fn cms(alloc: Global, mode: Mode, octets: &[u8]) -> Result<Fields, DecodeError> {
-    match RpkiSignatureAlgorithm::cms_take_from(mode, octets) {
-        Some(algorithm) => algorithm_shown(alloc, algorithm),
-        None => Err(DecodeError::Malformed),
-    }
 }
 
 fn router(alloc: Global, mode: Mode, octets: &[u8]) -> Result<Fields, DecodeError> {
@@ -133,15 +84,33 @@ fn router(alloc: Global, mode: Mode, octets: &[u8]) -> Result<Fields, DecodeErro
     Ok(Fields::one(alloc, out.as_slice())?)
 }
 
-fn data(alloc: Global, mode: Mode, octets: &[u8]) -> Result<Fields, DecodeError> {
-    let data = SignedData::<RpkiSignatureAlgorithm>::take(alloc, mode, octets)?;
-    data_shown(alloc, &data)
-}
-
-// Signed data under the algorithm of routers.
-fn router_data(alloc: Global, mode: Mode, octets: &[u8]) -> Result<Fields, DecodeError> {
-    let data = SignedData::<BgpsecSignatureAlgorithm>::take(alloc, mode, octets)?;
-    data_shown(alloc, &data)
+// What a call that takes an algorithm or signed data answers; None where the step is none.
+fn signing_answer(
+    alloc: Global,
+    mode: Mode,
+    octets: &[u8],
+    call: &str,
+) -> Option<Result<Fields, DecodeError>> {
+    match call {
+        "x509" => Some(algorithm_shown(
+            alloc,
+            RpkiSignatureAlgorithm::x509_take_from(mode, octets).ok_or(DecodeError::Malformed),
+        )),
+        "cms" => Some(algorithm_shown(
+            alloc,
+            RpkiSignatureAlgorithm::cms_take_from(mode, octets).ok_or(DecodeError::Malformed),
+        )),
+        "router" => Some(router(alloc, mode, octets)),
+        "whole_data" => Some(data_shown(
+            alloc,
+            SignedData::<RpkiSignatureAlgorithm>::take(alloc, mode, octets),
+        )),
+        "router_data" => Some(data_shown(
+            alloc,
+            SignedData::<BgpsecSignatureAlgorithm>::take(alloc, mode, octets),
+        )),
+        _ => None,
+    }
 }
 
 /// What a call over octets of a mode answers; None where the step is none.
@@ -152,18 +121,22 @@ pub fn answer(
     step: &Step<'_>,
 ) -> Option<Result<Fields, DecodeError>> {
     match step.call {
-        "whole_time" => Some(time(alloc, mode, octets)),
-        "whole_validity" => Some(validity(alloc, mode, octets)),
+        "whole_time" => Some(time_shown(
+            alloc,
+            Time::take(mode, octets).ok_or(DecodeError::Malformed),
+        )),
+        "whole_validity" => Some(validity_shown(
+            alloc,
+            Validity::take(mode, octets).ok_or(DecodeError::Malformed),
+        )),
         "holds_at" => Some(holds_at(alloc, mode, octets, &step.argument)),
-        "whole_serial" => Some(serial(alloc, mode, octets)),
-        "whole_name" => Some(name(alloc, mode, octets)),
-        "whole_key" => Some(key(alloc, mode, octets)),
-        "x509" => Some(x509(alloc, mode, octets)),
-        "cms" => Some(cms(alloc, mode, octets)),
-        "router" => Some(router(alloc, mode, octets)),
-        "whole_data" => Some(data(alloc, mode, octets)),
-        "router_data" => Some(router_data(alloc, mode, octets)),
-        _ => None,
+        "whole_serial" => Some(serial_shown(
+            alloc,
+            Serial::take(mode, octets).ok_or(DecodeError::Malformed),
+        )),
+        "whole_name" => Some(name_shown(alloc, Name::take(alloc, mode, octets))),
+        "whole_key" => Some(key_shown(alloc, PublicKey::take(alloc, mode, octets))),
+        call => signing_answer(alloc, mode, octets, call),
     }
 }
 
@@ -175,7 +148,7 @@ pub fn plain_answer(
 ) -> Option<Result<Fields, DecodeError>> {
     match step.call {
         "time_text" => Some(time_text(alloc, octets)),
-        "moment" => Some(moment_shown(alloc, octets)),
+        "moment" => Some(time_shown(alloc, moment(octets))),
         "number" => Some(number(alloc, octets)),
         "identifier_of" => Some(identifier(alloc, octets)),
         "decoded_key" => Some(decoded_key(alloc, octets)),
