@@ -16,7 +16,11 @@ use std::collections::BTreeSet;
 const FEW: usize = 8;
 
 /// Whether no two attributes have one whole name. Malformed never comes.
-pub(crate) fn is_distinct(alloc: Global, source: &[u8], attributes: &[Named]) -> Result<bool, XmlError>
+pub(crate) fn is_distinct(
+    alloc: Global,
+    source: &[u8],
+    attributes: &[Named],
+) -> Result<bool, XmlError>
     ensures { Gives (Some (is_distinct (attributes_of source.now attributes.now))) (λ b. b) result }
 {
     if attributes.len() <= FEW {

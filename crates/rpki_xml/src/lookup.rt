@@ -79,7 +79,11 @@ pub(crate) fn required_among<'a>(
 }
 
 /// No attributes but those with these local names.
-pub(crate) fn only_among(source: &[u8], attributes: &[Named], locals: &[&str]) -> Result<(), Mismatch>
+pub(crate) fn only_among(
+    source: &[u8],
+    attributes: &[Named],
+    locals: &[&str],
+) -> Result<(), Mismatch>
     ensures { Matches (items.only (is_listed (texts locals.now)) (attributes_of source.now attributes.now)) (λ _. tt) result }
 {
     for attribute in attributes {
