@@ -57,7 +57,7 @@ def cite(kind, s, clause=None):
 def mode_at(i):
     """that the mode before field i is the mode where the reading began"""
     before = [cite("ok", enter, "place") + ".mode"]
-    before += [cite("ok", f) + ".mode" for f in fields[:i] if f["kind"] != "!"]
+    before += [cite("ok", f) + ".takes.mode" for f in fields[:i] if f["kind"] != "!"]
     term = before[0]
     for b in before[1:]:
         term = f"{b} ∙ {term}"
