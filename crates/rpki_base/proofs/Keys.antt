@@ -13,7 +13,7 @@ use Rattle.rpki_der.proofs.Written.{spells_followed, spells_primitive, spells_co
 use Rattle.rpki_base.specs.declared.algorithm.PublicKeyFormat.{PublicKeyFormat}
 use Rattle.rpki_base.specs.declared.algorithm.PublicKeyFormat.TheVariants.{Rsa, EcdsaP256}
 use Rattle.rpki_base.specs.Bits.{spelled_bits}
-use Rattle.rpki_base.specs.Names.{rsa_encryption, ec_public_key, prime256v1}
+use Rattle.rpki_base.specs.ObjectIdentifiers.{rsa_encryption, ec_public_key, prime256v1}
 use Rattle.rpki_base.specs.PublicKey.{KeyFields, parameters, named_format, key_algorithm, public_key, spelled_algorithm, spelled_key, CanBeSpelled}
 use Rattle.rpki_base.specs.WritingLaws.{is_sequence, is_oid, is_null, is_bits}
 

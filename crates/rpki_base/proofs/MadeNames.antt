@@ -11,7 +11,7 @@ use Rattle.rpki_der.specs.Held.{octets_of}
 use Rattle.rpki_der.specs.Oid.{oid}
 use Rattle.rpki_der.specs.Writing.{der_length, with_bit_6, primitive_value, der_primitive, constructed_value, der_constructed, Spells}
 use Rattle.rpki_der.proofs.Written.{spells_followed, spells_primitive, spells_constructed, begins_constructed}
-use Rattle.rpki_base.specs.Names.{common_name}
+use Rattle.rpki_base.specs.ObjectIdentifiers.{common_name}
 use Rattle.rpki_base.specs.Name.{each, name_attribute, relative_name, name, printable_string_tag, name_of_text}
 use Rattle.rpki_base.specs.WritingLaws.{is_sequence, is_oid}
 

@@ -11,7 +11,7 @@ use Rattle.rpki_der.specs.Null.{null}
 use Rattle.rpki_der.specs.Whole.{whole_of}
 use Rattle.rpki_der.specs.Writing.{primitive_value, der_primitive, constructed_value, der_length}
 use Rattle.rpki_der.proofs.Written.{spells_followed, spells_primitive, begins_constructed}
-use Rattle.rpki_base.specs.Names.{sha256_with_rsa, ecdsa_with_sha256}
+use Rattle.rpki_base.specs.ObjectIdentifiers.{sha256_with_rsa, ecdsa_with_sha256}
 use Rattle.rpki_base.specs.AlgorithmIdentifier.{algorithm_identifier, spelled_identifier}
 use Rattle.rpki_base.specs.declared.rpki_algorithm.RsaIdentifier.{RsaIdentifier}
 use Rattle.rpki_base.specs.declared.rpki_algorithm.RsaIdentifier.TheVariants.{RsaEncryption, Sha256WithRsaEncryption}

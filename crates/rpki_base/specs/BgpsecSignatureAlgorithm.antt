@@ -2,7 +2,7 @@
 use Rattle.std.specs.Prelude.{ℕ, Bool, true, false, Option, None, List}
 use Rattle.rpki_der.specs.Value.{Value}
 use Rattle.rpki_der.specs.Grammar.{so, exactly}
-use Rattle.rpki_base.specs.Names.{ecdsa_with_sha256}
+use Rattle.rpki_base.specs.ObjectIdentifiers.{ecdsa_with_sha256}
 use Rattle.rpki_base.specs.AlgorithmIdentifier.{algorithm_identifier, spelled_identifier}
 
 -- without NULL

@@ -1,4 +1,4 @@
--- Said in contracts, and to be believed: Names, Digits, Civil, Time, TimeText, Rfc3339, Validity, Serial, KeyIdentifier, Name, Extension,
+-- Said in contracts, and to be believed: ObjectIdentifiers, Digits, Civil, Time, TimeText, Rfc3339, Validity, Serial, KeyIdentifier, Name, Extension,
 -- Bits, Algorithm, AlgorithmIdentifier, RpkiSignatureAlgorithm, BgpsecSignatureAlgorithm, PublicKey, Signature, SignedData, Scheme, Checks.
 -- Means for readers without memory, and proofs of laws: Leaves, WritingLaws, AlgorithmLaws.
 pub mod Name
@@ -10,7 +10,7 @@ pub mod Rfc3339
 pub mod Validity
 pub mod Serial
 pub mod KeyIdentifier
-pub mod Names
+pub mod ObjectIdentifiers
 pub mod Algorithm
 pub mod Bits
 pub mod PublicKey

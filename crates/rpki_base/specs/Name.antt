@@ -7,7 +7,7 @@ use Rattle.rpki_der.specs.Grammar.{within, first, every, done, any}
 use Rattle.rpki_der.specs.Held.{octets_of}
 use Rattle.rpki_der.specs.Oid.{oid}
 use Rattle.rpki_der.specs.Writing.{der_primitive, der_constructed}
-use Rattle.rpki_base.specs.Names.{common_name}
+use Rattle.rpki_base.specs.ObjectIdentifiers.{common_name}
 
 -- the values are all of this kind
 abbrev pub unread : {X : Type 0} → List X → Option (Unit {0})

@@ -12,7 +12,7 @@ use Rattle.rpki_der.specs.Writing.{der_primitive, der_constructed}
 use Rattle.rpki_base.specs.declared.algorithm.PublicKeyFormat.{PublicKeyFormat}
 use Rattle.rpki_base.specs.declared.algorithm.PublicKeyFormat.TheVariants.{Rsa, EcdsaP256}
 use Rattle.rpki_base.specs.Bits.{spelled_bits}
-use Rattle.rpki_base.specs.Names.{rsa_encryption, ec_public_key, prime256v1}
+use Rattle.rpki_base.specs.ObjectIdentifiers.{rsa_encryption, ec_public_key, prime256v1}
 
 -- a format, and the octets of the key's bits
 pub record KeyFields : Type 0 where

@@ -6,7 +6,7 @@ use Rattle.rpki_der.specs.Grammar.{so}
 use Rattle.rpki_der.specs.Whole.{whole_of}
 use Rattle.rpki_base.specs.declared.rpki_algorithm.RsaIdentifier.{RsaIdentifier}
 use Rattle.rpki_base.specs.declared.rpki_algorithm.RsaIdentifier.TheVariants.{RsaEncryption, Sha256WithRsaEncryption}
-use Rattle.rpki_base.specs.Names.{rsa_encryption, sha256_with_rsa}
+use Rattle.rpki_base.specs.ObjectIdentifiers.{rsa_encryption, sha256_with_rsa}
 use Rattle.rpki_base.specs.SignedData.{algorithm_in}
 use Rattle.rpki_base.specs.AlgorithmIdentifier.{algorithm_identifier, spelled_identifier}
 

@@ -4,8 +4,8 @@ ghost use Rattle.std.specs.Prelude.{◌≡◌};
 ghost use Rattle.rpki_base.specs.BgpsecSignatureAlgorithm.{router_meaning};
 
 use crate::algorithm::SigningAlgorithm;
-use crate::identifier::take_identifier;
-use crate::names::{ECDSA_ALGORITHM, ECDSA_WITH_SHA256};
+use crate::algorithm_identifier::take_identifier;
+use crate::object_identifiers::{ECDSA_ALGORITHM, ECDSA_WITH_SHA256};
 use crate::signature::SignatureAlgorithm;
 use rpki_common::OutOfMemory;
 use rpki_der::{Mode, Writer};

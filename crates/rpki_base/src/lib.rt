@@ -8,17 +8,17 @@
 #![tactic(auto)]
 
 mod algorithm;
+mod algorithm_identifier;
 mod bgpsec_algorithm;
 mod bits;
 mod civil;
 mod digits;
 mod errors;
 mod extension;
-mod identifier;
 mod key_identifier;
 mod law;
 mod name;
-mod names;
+mod object_identifiers;
 mod public_key;
 mod rfc3339;
 mod rpki_algorithm;
@@ -26,8 +26,8 @@ mod scheme;
 mod serial;
 mod signature;
 mod signed_data;
-mod text;
 mod time;
+mod time_text;
 mod validation;
 mod validity;
 
@@ -44,7 +44,7 @@ pub use law::{
     equal_values_are_the_same, printed_time_is_read_again, serial_is_read_again, time_is_read_again,
 };
 pub use name::{Name, made_name_is_read, read_name_is_read_again};
-pub use names::{
+pub use object_identifiers::{
     AUTHORITY_KEY_IDENTIFIER, BASIC_CONSTRAINTS, CRL_NUMBER, SUBJECT_KEY_IDENTIFIER,
     extensions_are_named, identifiers_have_texts,
 };

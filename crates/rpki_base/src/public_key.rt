@@ -14,7 +14,9 @@ ghost use Rattle.rpki_base.specs.PublicKey as spec;
 use crate::algorithm::PublicKeyFormat;
 use crate::bits::{write_bits, write_constructed};
 use crate::key_identifier::KeyIdentifier;
-use crate::names::{EC_ALGORITHM, EC_PUBLIC_KEY, PRIME256V1, RSA_ALGORITHM, RSA_ENCRYPTION};
+use crate::object_identifiers::{
+    EC_ALGORITHM, EC_PUBLIC_KEY, PRIME256V1, RSA_ALGORITHM, RSA_ENCRYPTION,
+};
 use bytes::Bytes;
 use rpki_common::OutOfMemory;
 use rpki_der::{
@@ -174,7 +176,8 @@ fn write_algorithm(format: PublicKeyFormat, out: &mut Writer) -> Result<(), OutO
 pub fn written_key_is_taken()
     ensures { (mode : Mode) (key : spec.KeyFields) (rest : List ℕ) →
         spec.CanBeSpelled key →
-        (v : Value) × Begins mode (spec.spelled_key key ++ rest) v rest × (spec.public_key v ≡ Some key) }
+        (v : Value) × Begins mode (spec.spelled_key key ++ rest) v rest ×
+        (spec.public_key v ≡ Some key) }
 {}
 
 fn take_from_within<L: Ledger>(

@@ -8,8 +8,8 @@ ghost use Rattle.rpki_base.specs.declared.rpki_algorithm.RsaIdentifier.TheVarian
 ghost use Rattle.rpki_base.specs.RpkiSignatureAlgorithm.{RpkiAlgorithm, x509_meaning, cms_meaning, cms_algorithm, spelled_cms};
 
 use crate::algorithm::SigningAlgorithm;
-use crate::identifier::take_identifier;
-use crate::names::{
+use crate::algorithm_identifier::take_identifier;
+use crate::object_identifiers::{
     RSA_ALGORITHM, RSA_ALGORITHM_ALONE, RSA_ENCRYPTION, SHA256_RSA_ALGORITHM,
     SHA256_RSA_ALGORITHM_ALONE, SHA256_WITH_RSA,
 };

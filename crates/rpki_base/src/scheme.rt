@@ -17,7 +17,8 @@ pub trait Scheme {
     ghost checks: { Relation };
 
     /// A signature holds only under a key of its kind's format.
-    ghost fits: { (kind : SigningAlgorithm) (key : KeyFields) (message signature : List ℕ) → checks kind key message signature → key.format ≡ format_of kind };
+    ghost fits: { (kind : SigningAlgorithm) (key : KeyFields) (message signature : List ℕ) →
+        checks kind key message signature → key.format ≡ format_of kind };
 }
 
 /// Decides the signatures of a scheme.

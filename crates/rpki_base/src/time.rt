@@ -12,7 +12,7 @@ ghost use Rattle.rpki_base.specs.Rfc3339.{rfc3339_time};
 use crate::civil::Civil;
 use crate::digits::{ended, four_digits, past, two_digits};
 use crate::rfc3339::rfc3339_time;
-use crate::text::{generalized_text, is_utc_year, rfc3339_text};
+use crate::time_text::{generalized_text, is_utc_year, rfc3339_text};
 use rpki_der::{
     Cursor, DecodeError, Leaf, Mode, OutOfMemory, Steps, Tag, Writer, take_whole_primitive,
 };

@@ -12,7 +12,7 @@ use Rattle.rpki_der.specs.Grammar.{wrapped, every, gather, so}
 use Rattle.rpki_der.specs.InDer.{in_der}
 use Rattle.rpki_der.proofs.Leftovers.{gather_every, gather_same, within_then, within_same, wrapped_so, wrapped_same}
 use Rattle.rpki_base.specs.KeyIdentifier.{key_identifier}
-use Rattle.rpki_base.specs.Names.{subject_key_identifier, basic_constraints as basic_name, authority_key_identifier}
+use Rattle.rpki_base.specs.ObjectIdentifiers.{subject_key_identifier, basic_constraints as basic_name, authority_key_identifier}
 use Rattle.rpki_base.specs.Extension.{ExtensionFields, extension, gathered, is}
 use Rattle.rpki_idcert.specs.Extensions.{KnownExtensions, basic_constraints, authority_key, ca_in, subject_in, authority_in, known_extensions, extension_list}
 use Rattle.rpki_idcert.specs.Gathered.{FoundSoFar, add, complete}

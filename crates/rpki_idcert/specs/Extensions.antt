@@ -11,7 +11,7 @@ use Rattle.rpki_der.specs.Boolean.{boolean}
 use Rattle.rpki_der.specs.Number.{u64}
 use Rattle.rpki_der.specs.InDer.{in_der}
 use Rattle.rpki_base.specs.KeyIdentifier.{key_identifier, key_identifier_under}
-use Rattle.rpki_base.specs.Names as names
+use Rattle.rpki_base.specs.ObjectIdentifiers as names
 use Rattle.rpki_base.specs.Extension.{ExtensionFields, extension, is}
 
 -- ---- what the known ones hold

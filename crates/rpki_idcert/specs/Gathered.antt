@@ -2,7 +2,7 @@
 use Rattle.std.specs.Prelude.{ℕ, Bool, Option, Some, List}
 use Rattle.rpki_common.specs.Chaining.{◌>>=◌}
 use Rattle.rpki_common.specs.Collecting.{slot, last_slot, both}
-use Rattle.rpki_base.specs.Names as names
+use Rattle.rpki_base.specs.ObjectIdentifiers as names
 use Rattle.rpki_base.specs.Extension.{ExtensionFields, is}
 use Rattle.rpki_idcert.specs.Extensions.{ca_in, subject_in, authority_in, KnownExtensions}
 

@@ -2,7 +2,7 @@
 use Rattle.std.specs.Prelude.{ℕ, ◌^◌, ◌<◌, Bool, true, false, Option, None, Some, List, [], ◌∷◌, ◌++◌, length}
 use Rattle.rpki_der.specs.Tags.{sequence, context, oid_tag, boolean_tag, integer_tag, octet_string_tag}
 use Rattle.rpki_der.specs.Writing.{der_primitive, der_constructed}
-use Rattle.rpki_base.specs.Names as names
+use Rattle.rpki_base.specs.ObjectIdentifiers as names
 use Rattle.rpki_base.specs.PublicKey.{spelled_key}
 use Rattle.rpki_base.specs.AlgorithmIdentifier.{spelled_identifier}
 use Rattle.rpki_base.specs.Serial.{der_serial}

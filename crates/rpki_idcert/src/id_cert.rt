@@ -185,7 +185,8 @@ impl IdCert {
     /// Refused exactly where the moment is before the first second of the validity or after the last.
     pub fn verify_validity(&self, when: Time) -> Result<(), VerificationError>
         ensures { IsOk result ↔
-            ((self.now.tbs.validity.not_before ≤ℤ when) × (when ≤ℤ self.now.tbs.validity.not_after)) }
+            ((self.now.tbs.validity.not_before ≤ℤ when) ×
+            (when ≤ℤ self.now.tbs.validity.not_after)) }
     {
         self.tbs.validity().verify_at(when)
     }

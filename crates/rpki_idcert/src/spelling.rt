@@ -114,8 +114,8 @@ impl TbsIdCert {
     // Appends the extensions under their tags.
     fn write_tagged_extensions(&self, out: &mut Writer) -> Result<(), OutOfMemory>
         ensures ok { OnOk result
-            (out.new ≡ out.old ++
-            der_constructed (context 3) (der_constructed sequence (spec.spelled_extensions self.now))) }
+            (out.new ≡ out.old ++ der_constructed (context 3)
+            (der_constructed sequence (spec.spelled_extensions self.now))) }
     {
         let mut extensions = out.inner();
         self.write_extensions(&mut extensions)?;

@@ -110,8 +110,8 @@ impl IdCert {
         when: Time,
     ) -> Result<(), ValidationError>
         // Ok exactly where the signature and all the other checks hold.
-        ensures believed { (result ≡ Ok tt) ↔ spec.IsEeBelieved P.checks self.now issuer_key.now
-            when }
+        ensures believed { (result ≡ Ok tt) ↔
+            spec.IsEeBelieved P.checks self.now issuer_key.now when }
 
         // The first check that fails decides, whatever the scheme answers.
         ensures first_failing { (q : Bool) → Decides q (IsSigned P.checks self.now issuer_key.now) →
@@ -143,8 +143,8 @@ impl IdCert {
     }
 
     fn ta_failure<P: Scheme, V: Verifier<P>>(&self, verifier: &V, when: Time) -> Result<(), u8>
-        ensures first_failing { (q : Bool) → Decides q (IsSigned P.checks self.now self.now.tbs.key)
-            →
+        ensures first_failing { (q : Bool) →
+            Decides q (IsSigned P.checks self.now self.now.tbs.key) →
             result ≡ first_failure 1 (spec.ta_checks self.now when q) }
         ensures signed { OnOk result
             (spec.names_itself self.now.tbs ≡ true → IsSigned P.checks self.now self.now.tbs.key) }
@@ -171,8 +171,8 @@ impl IdCert {
         ensures believed { (result ≡ Ok tt) ↔ spec.IsTaBelieved P.checks self.now when }
 
         // The first check that fails decides, whatever the scheme answers.
-        ensures first_failing { (q : Bool) → Decides q (IsSigned P.checks self.now self.now.tbs.key)
-            →
+        ensures first_failing { (q : Bool) →
+            Decides q (IsSigned P.checks self.now self.now.tbs.key) →
             result ≡ failing spec.ta_kind (first_failure 1 (spec.ta_checks self.now when q)) }
     {
         match self.ta_failure(verifier, when) {

@@ -14,7 +14,7 @@ use Rattle.rpki_der.specs.OctetString.{octet_string}
 use Rattle.rpki_der.specs.Entry.{entry, is, set_of}
 use Rattle.rpki_der.proofs.Leftovers.{gather_every, gather_same, within_then}
 use Rattle.rpki_base.specs.Time.{time}
-use Rattle.rpki_sigmsg.specs.Names.{content_type, message_digest, signing_time, binary_signing_time, xml_content}
+use Rattle.rpki_sigmsg.specs.ObjectIdentifiers.{content_type, message_digest, signing_time, binary_signing_time, xml_content}
 use Rattle.rpki_sigmsg.specs.Attributes.{AttributeFields, type_in, digest_in, time_in, binary_in, attributes}
 use Rattle.rpki_sigmsg.specs.Gathered.{TimesFound, FoundSoFar, add_times, add, add_value, complete}
 use Rattle.rpki_common.proofs.Truths.{same_octets}

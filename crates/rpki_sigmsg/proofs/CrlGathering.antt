@@ -11,7 +11,7 @@ use Rattle.rpki_der.specs.Value.{Value, Values}
 use Rattle.rpki_der.specs.Grammar.{wrapped, every, gather, so}
 use Rattle.rpki_der.specs.InDer.{in_der}
 use Rattle.rpki_der.proofs.Leftovers.{gather_every, gather_same, within_same, wrapped_same}
-use Rattle.rpki_base.specs.Names.{authority_key_identifier, crl_number}
+use Rattle.rpki_base.specs.ObjectIdentifiers.{authority_key_identifier, crl_number}
 use Rattle.rpki_base.specs.Serial.{serial}
 use Rattle.rpki_base.specs.Extension.{ExtensionFields, extension, gathered, is}
 use Rattle.rpki_sigmsg.specs.CrlExtensions.{issuer_key, authority_in, number_in, KnownExtensions, known_extensions, extension_list}

@@ -10,7 +10,7 @@ use Rattle.rpki_der.specs.Null.{null}
 use Rattle.rpki_der.specs.Whole.{whole_of}
 use Rattle.rpki_base.specs.SignedData.{algorithm_in}
 use Rattle.rpki_base.specs.RpkiSignatureAlgorithm.{RpkiAlgorithm, cms_algorithm}
-use Rattle.rpki_sigmsg.specs.Names.{sha256_name}
+use Rattle.rpki_sigmsg.specs.ObjectIdentifiers.{sha256_name}
 
 --     DigestAlgorithmIdentifier ::= AlgorithmIdentifier
 --

@@ -13,7 +13,7 @@ use Rattle.rpki_der.specs.OctetString.{octet_string}
 use Rattle.rpki_der.specs.Entry.{entry, is, set_of}
 use Rattle.rpki_der.specs.Writing.{der_constructed}
 use Rattle.rpki_base.specs.Time.{time}
-use Rattle.rpki_sigmsg.specs.Names.{content_type, message_digest, signing_time, binary_signing_time, xml_content}
+use Rattle.rpki_sigmsg.specs.ObjectIdentifiers.{content_type, message_digest, signing_time, binary_signing_time, xml_content}
 
 -- the signed digest, and the time of signing, if it is said
 pub record AttributeFields : Type 0 where

@@ -10,7 +10,7 @@ use Rattle.rpki_der.specs.Grammar.{within, wrapped, every}
 use Rattle.rpki_der.specs.InDer.{in_der}
 use Rattle.rpki_base.specs.KeyIdentifier.{key_identifier_under}
 use Rattle.rpki_base.specs.Serial.{serial}
-use Rattle.rpki_base.specs.Names as names
+use Rattle.rpki_base.specs.ObjectIdentifiers as names
 use Rattle.rpki_base.specs.Extension.{ExtensionFields, extension, is}
 
 --     AuthorityKeyIdentifier ::= SEQUENCE {

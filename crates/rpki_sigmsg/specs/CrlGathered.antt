@@ -2,7 +2,7 @@
 -- proofs/CrlGathering.antt.
 use Rattle.std.specs.Prelude.{Option}
 use Rattle.rpki_common.specs.Collecting.{slot, both}
-use Rattle.rpki_base.specs.Names as names
+use Rattle.rpki_base.specs.ObjectIdentifiers as names
 use Rattle.rpki_base.specs.Extension.{ExtensionFields, is}
 use Rattle.rpki_sigmsg.specs.CrlExtensions.{authority_in, number_in, KnownExtensions}
 

@@ -8,7 +8,7 @@ use Rattle.rpki_der.specs.Value.{Value, Values}
 use Rattle.rpki_der.specs.Grammar.{within, first}
 use Rattle.rpki_der.specs.Oid.{oid}
 use Rattle.rpki_der.specs.Entry.{is}
-use Rattle.rpki_sigmsg.specs.Names.{content_type, message_digest, signing_time, binary_signing_time}
+use Rattle.rpki_sigmsg.specs.ObjectIdentifiers.{content_type, message_digest, signing_time, binary_signing_time}
 use Rattle.rpki_sigmsg.specs.declared.attributes.Found.{Found}
 use Rattle.rpki_sigmsg.specs.Attributes.{AttributeFields, type_in, digest_in, time_in, binary_in}
 

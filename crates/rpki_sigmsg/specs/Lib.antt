@@ -1,7 +1,7 @@
--- Said in contracts, and to be believed: Names, Algorithm, Attributes, CrlExtensions, Signer, RevokedCertificates, TbsCrl, Crl, Message,
+-- Said in contracts, and to be believed: ObjectIdentifiers, Algorithm, Attributes, CrlExtensions, Signer, RevokedCertificates, TbsCrl, Crl, Message,
 -- Places, CrlChecks, Checks.
 -- Means for readers: Ahead, Gathered, CrlGathered.
-pub mod Names
+pub mod ObjectIdentifiers
 pub mod Algorithm
 pub mod Attributes
 pub mod Gathered

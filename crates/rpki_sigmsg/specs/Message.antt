@@ -14,7 +14,7 @@ use Rattle.rpki_der.specs.OctetString.{octet_string}
 use Rattle.rpki_base.specs.Signature.{SignatureParts}
 use Rattle.rpki_base.specs.RpkiSignatureAlgorithm.{RpkiAlgorithm}
 use Rattle.rpki_idcert.specs.IdCert.{CertificateFields, identity_certificate}
-use Rattle.rpki_sigmsg.specs.Names.{signed_data_type, xml_content}
+use Rattle.rpki_sigmsg.specs.ObjectIdentifiers.{signed_data_type, xml_content}
 use Rattle.rpki_sigmsg.specs.Algorithm.{digest_algorithm}
 use Rattle.rpki_sigmsg.specs.Attributes.{covered}
 use Rattle.rpki_sigmsg.specs.Crl.{CrlFields, revocation_list}

@@ -4,7 +4,7 @@ ghost use Rattle.std.specs.Prelude.{◌≡◌, ◌<◌};
 ghost use Rattle.rpki_der.specs.Ticks.{TakesCounted};
 ghost use Rattle.rpki_sigmsg.specs.Algorithm.{digest_algorithm, signature_algorithm, any_sequence};
 
-use crate::names::SHA256;
+use crate::object_identifiers::SHA256;
 use rpki_base::RpkiSignatureAlgorithm;
 use rpki_der::{
     Cursor, DecodeError, Steps, Tag, pass_rest_counted, take_oid_if_counted, take_opt_null_counted,

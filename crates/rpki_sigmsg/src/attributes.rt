@@ -8,11 +8,13 @@ ghost use Rattle.rpki_der.specs.Oid.{oid_is};
 ghost use Rattle.rpki_der.specs.Ticks.{TakesCounted, TakesRestCounted};
 ghost use Rattle.rpki_common.specs.Collecting.{once};
 ghost use Rattle.rpki_base.specs.Time.{time};
-ghost use Rattle.rpki_sigmsg.specs.Names.{xml_content};
+ghost use Rattle.rpki_sigmsg.specs.ObjectIdentifiers.{xml_content};
 ghost use Rattle.rpki_sigmsg.specs.Attributes.{signed_attributes, covered};
 ghost use Rattle.rpki_sigmsg.specs.Gathered.{add, add_times, add_value, complete, shown};
 
-use crate::names::{BINARY_SIGNING_TIME, CONTENT_TYPE, CT_XML, MESSAGE_DIGEST, SIGNING_TIME};
+use crate::object_identifiers::{
+    BINARY_SIGNING_TIME, CONTENT_TYPE, CT_XML, MESSAGE_DIGEST, SIGNING_TIME,
+};
 use crate::octets::take_shared_octets;
 use bytes::Bytes;
 use rpki_base::{Time, write_constructed};

@@ -10,7 +10,7 @@ ghost use Rattle.rpki_sigmsg.specs.Algorithm.{digest_algorithm};
 ghost use Rattle.rpki_sigmsg.specs.Message.{encapsulated_content};
 
 use crate::algorithm::pass_digest_algorithm;
-use crate::names::CT_XML;
+use crate::object_identifiers::CT_XML;
 use crate::octets::take_held_octets;
 use bytes::Bytes;
 use rpki_der::{Cursor, DecodeError, Steps, Tag, take_oid_if_counted};

@@ -5,11 +5,11 @@ ghost use Rattle.sha2.specs.Sha256.{sha256};
 ghost use Rattle.rpki_der.specs.Takes.{Takes, Decodes};
 ghost use Rattle.rpki_der.specs.Ticks.{TakesCounted, DecodesCounted};
 ghost use Rattle.rpki_der.specs.Whole.{HoldsOne};
-ghost use Rattle.rpki_sigmsg.specs.Names.{xml_content};
+ghost use Rattle.rpki_sigmsg.specs.ObjectIdentifiers.{xml_content};
 ghost use Rattle.rpki_sigmsg.specs.Message.{signed_message, mode_of};
 
 use crate::crl::SignedMessageCrl;
-use crate::names::CT_XML;
+use crate::object_identifiers::CT_XML;
 use crate::reference::SignedMessageRef;
 use bytes::Bytes;
 use rpki_base::{KeyIdentifier, RpkiSignatureAlgorithm, Signature, Time};

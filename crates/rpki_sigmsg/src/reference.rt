@@ -12,7 +12,7 @@ use crate::attributes::covered_octets;
 use crate::content::{pass_digest_algorithms, take_encapsulated_content};
 use crate::crl::SignedMessageCrl;
 use crate::message::{SignedMessage, mode_of};
-use crate::names::SIGNED_DATA;
+use crate::object_identifiers::SIGNED_DATA;
 use crate::parts::{take_certificates, take_crls};
 use crate::signer::{SignerInfo, take_signer_infos};
 use bytes::Bytes;

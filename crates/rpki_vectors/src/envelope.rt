@@ -3,7 +3,7 @@
 use crate::certificate::write_certificate;
 use crate::crl::write_crl;
 use crate::error::BuildError;
-use crate::names::{CT_XML, SIGNED_DATA};
+use crate::object_identifiers::{CT_XML, SIGNED_DATA};
 use crate::parts::{Parts, Setting};
 use crate::signer::{write_digest_algorithm, write_signer};
 use crate::writing::{write_constructed, write_number, write_primitive};

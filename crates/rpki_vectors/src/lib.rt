@@ -8,7 +8,7 @@ mod certificate;
 mod crl;
 mod envelope;
 mod error;
-mod names;
+mod object_identifiers;
 mod parts;
 mod signer;
 mod writing;

@@ -1,6 +1,6 @@
 //! The signer's information and its attributes (RFC 5652, 5.3 and 11).
 
-use crate::names::{CONTENT_TYPE, CT_XML, MESSAGE_DIGEST, SHA256, SIGNING_TIME};
+use crate::object_identifiers::{CONTENT_TYPE, CT_XML, MESSAGE_DIGEST, SHA256, SIGNING_TIME};
 use crate::parts::Setting;
 use crate::writing::{write_constructed, write_number, write_primitive};
 use bytes::Bytes;

@@ -1,6 +1,6 @@
 use Rattle.std.proofs.Common.{rules, ◌≡◌, true, false, refl}
 use Rattle.std.specs.Prelude.{bytes_eq}
-use Rattle.rpki_sigmsg.specs.Names.{content_type, message_digest}
+use Rattle.rpki_sigmsg.specs.ObjectIdentifiers.{content_type, message_digest}
 use Rattle.rpki_sigmsg.specs.Gathered.{shown}
 use Rattle.rpki_der.proofs.Leftovers.{takes_rest_err, reads_as, stops_as, reads_bind, stops_bind}
 use Rattle.rpki_sigmsg.proofs.Adding.{add_content_type, add_digest, add_times_found}

@@ -1,6 +1,6 @@
 use Rattle.std.proofs.Common.{rules, ◌≡◌, true, false, refl}
 use Rattle.std.specs.Prelude.{bytes_eq}
-use Rattle.rpki_sigmsg.specs.Names.{signing_time, binary_signing_time}
+use Rattle.rpki_sigmsg.specs.ObjectIdentifiers.{signing_time, binary_signing_time}
 use Rattle.rpki_der.proofs.Leftovers.{takes_rest_err, reads_as, stops_as, reads_bind, stops_bind}
 use Rattle.rpki_sigmsg.proofs.Adding.{add_signing_time, add_binary_time, add_no_time}
 use Rattle.rpki_sigmsg.proofs.attributes.finish_time.Goals as goal

@@ -1,6 +1,6 @@
 use Rattle.std.proofs.Common.{rules, ◌≡◌, true, false, refl}
 use Rattle.std.specs.Prelude.{bytes_eq}
-use Rattle.rpki_base.specs.Names.{subject_key_identifier, basic_constraints as basic_name, authority_key_identifier}
+use Rattle.rpki_base.specs.ObjectIdentifiers.{subject_key_identifier, basic_constraints as basic_name, authority_key_identifier}
 use Rattle.rpki_der.proofs.Insides.{gives_counted_err}
 use Rattle.rpki_der.proofs.Giving.{given_as, lacks_as, given_bind, lacks_bind, given_at_once}
 use Rattle.rpki_idcert.proofs.Gathering.{add_subject, add_ca, add_authority, add_other}

@@ -1,6 +1,6 @@
 use Rattle.std.proofs.Common.{rules, ◌≡◌, true, false, refl}
 use Rattle.std.specs.Prelude.{bytes_eq}
-use Rattle.rpki_base.specs.Names.{authority_key_identifier, crl_number}
+use Rattle.rpki_base.specs.ObjectIdentifiers.{authority_key_identifier, crl_number}
 use Rattle.rpki_der.proofs.Insides.{gives_counted_err}
 use Rattle.rpki_der.proofs.Giving.{given_as, lacks_as, given_bind, lacks_bind, given_at_once}
 use Rattle.rpki_sigmsg.proofs.CrlGathering.{add_authority, add_number, add_other}

@@ -1,7 +1,7 @@
 use Rattle.std.proofs.Common.{refl}
 use Rattle.std.specs.Fmt.{digits}
 use Rattle.rpki_der.specs.Arcs.{oid_text}
-use Rattle.rpki_base.proofs.names.identifiers_have_texts.Goals as goal
+use Rattle.rpki_base.proofs.object_identifiers.identifiers_have_texts.Goals as goal
 
 pub returns-clause-rsa_encryption : goal.returns-clause-rsa_encryption
 unfolding oid_text digits

@@ -1,7 +1,7 @@
 use Rattle.std.proofs.Common.{refl}
 use Rattle.std.specs.Fmt.{digits}
 use Rattle.rpki_der.specs.Arcs.{oid_text}
-use Rattle.rpki_sigmsg.proofs.names.message_identifiers_have_texts.Goals as goal
+use Rattle.rpki_sigmsg.proofs.object_identifiers.message_identifiers_have_texts.Goals as goal
 
 pub returns-clause-signed_data_type : goal.returns-clause-signed_data_type
 unfolding oid_text digits

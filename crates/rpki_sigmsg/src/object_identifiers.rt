@@ -2,7 +2,7 @@
 
 ghost use Rattle.std.specs.Prelude.{◌≡◌, codes};
 ghost use Rattle.rpki_der.specs.Arcs.{oid_text};
-ghost use Rattle.rpki_sigmsg.specs.Names as spec;
+ghost use Rattle.rpki_sigmsg.specs.ObjectIdentifiers as spec;
 
 /// signedData, 1.2.840.113549.1.7.2.
 pub(crate) const SIGNED_DATA: [u8; 9] = [42, 134, 72, 134, 247, 13, 1, 7, 2];
@@ -31,7 +31,8 @@ pub fn message_identifiers_have_texts()
     ensures content_type { oid_text spec.content_type ≡ codes "1.2.840.113549.1.9.3" }
     ensures message_digest { oid_text spec.message_digest ≡ codes "1.2.840.113549.1.9.4" }
     ensures signing_time { oid_text spec.signing_time ≡ codes "1.2.840.113549.1.9.5" }
-    ensures binary_signing_time { oid_text spec.binary_signing_time ≡ codes "1.2.840.113549.1.9.16.2.46" }
+    ensures binary_signing_time { oid_text spec.binary_signing_time ≡
+        codes "1.2.840.113549.1.9.16.2.46" }
     ensures xml_content { oid_text spec.xml_content ≡ codes "1.2.840.113549.1.9.16.1.28" }
     ensures sha256_name { oid_text spec.sha256_name ≡ codes "2.16.840.1.101.3.4.2.1" }
 {}

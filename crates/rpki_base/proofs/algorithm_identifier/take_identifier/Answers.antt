@@ -1,7 +1,7 @@
 use Rattle.std.proofs.Common.{ap, ◌∙◌}
 use Rattle.std.specs.Option.{option_map}
 use Rattle.rpki_base.proofs.Identifiers.{no_pair, no_name, no_null, all_found}
-use Rattle.rpki_base.proofs.identifier.take_identifier.Goals as goal
+use Rattle.rpki_base.proofs.algorithm_identifier.take_identifier.Goals as goal
 
 pub returns-in_err-name : goal.returns-in_err-name
 returns-in_err-name c = ap (option_map (λ r. (r.0.now, r.1))) c.from_residual.ensures ∙ no_pair _ _ c.in_err-name.ensures

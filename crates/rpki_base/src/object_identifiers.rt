@@ -2,7 +2,7 @@
 
 ghost use Rattle.std.specs.Prelude.{◌≡◌, codes};
 ghost use Rattle.rpki_der.specs.Arcs.{oid_text};
-ghost use Rattle.rpki_base.specs.Names as spec;
+ghost use Rattle.rpki_base.specs.ObjectIdentifiers as spec;
 
 /// rsaEncryption, 1.2.840.113549.1.1.1.
 pub(crate) const RSA_ENCRYPTION: [u8; 9] = [42, 134, 72, 134, 247, 13, 1, 1, 1];
