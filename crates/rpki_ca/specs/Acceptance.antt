@@ -2,9 +2,9 @@
 use Rattle.std.specs.Prelude.{◌≡◌, ℕ, ℤ, List, Result, Ok, Err, MatchResult, ⊤}
 use Rattle.rpki_base.specs.PublicKey.{KeyFields}
 use Rattle.rpki_base.specs.Scheme.{Relation}
-use Rattle.rpki_base.specs.Checks.{first_failure, failing}
+use Rattle.rpki_base.specs.Checks.{failing}
 use Rattle.rpki_base.specs.declared.validation.ValidationError.{ValidationError}
-use Rattle.rpki_sigmsg.specs.Checks.{checks, kind_of, Asked, IsBelieved}
+use Rattle.rpki_sigmsg.specs.Checks.{kind_of, IsBelievedUnder, IsUnbelieved, IsFirstBelieved, AreOutcomes, ranked}
 use Rattle.rpki_sigmsg.specs.Message.{MessageFields}
 use Rattle.rpki_publication.specs.Cms.{BeginsSigned}
 use Rattle.rpki_publication.specs.Message as publication
@@ -27,14 +27,22 @@ ReadsAs kinds.Publication octets (received.Publication m) = publication.Reads oc
 abbrev pub text_of : Received → List ℕ
 text_of (received.Publication m) = publication.text_of m
 
--- The octets begin with a signed message, in BER. The key issued its certificate and its CRL, the
--- certificate's key signed it, and all fourteen checks hold at the moment. Its content reads as the
--- message.
-pub record Accepted (scheme : Relation) (kind : Kind) (octets : List ℕ) (key : KeyFields) (when : ℤ)
-    (m : Received) : Type 0 where
+-- The octets begin with a signed message, in BER. One of the keys issued its certificate and its
+-- CRLs, the certificate's key signed it, and all fourteen checks hold under that key at the moment.
+-- Its content reads as the message.
+pub record Accepted (scheme : Relation) (kind : Kind) (octets : List ℕ) (keys : List KeyFields)
+    (when : ℤ) (m : Received) : Type 0 where
   pub signed : MessageFields
   pub begins : BeginsSigned octets signed
-  pub believed : IsBelieved scheme signed key when
+  pub believed : IsBelievedUnder scheme signed keys when
+  pub reads : ReadsAs kind signed.content m
+
+-- the same, where the first such key is the one at this place, from 0
+pub record AcceptedAt (scheme : Relation) (kind : Kind) (octets : List ℕ) (keys : List KeyFields)
+    (when : ℤ) (m : Received) (place : ℕ) : Type 0 where
+  pub signed : MessageFields
+  pub begins : BeginsSigned octets signed
+  pub believed : IsFirstBelieved scheme signed keys when place
   pub reads : ReadsAs kind signed.content m
 
 -- the octets begin with no signed message
@@ -47,31 +55,46 @@ pub record HoldsNoMessage (kind : Kind) (octets : List ℕ) : Type 0 where
   pub begins : BeginsSigned octets signed
   pub none : (m : Received) → ReadsAs kind signed.content m → ⊥
 
--- The octets begin with a signed message whose content is a message of the kind. The first check
--- that fails is that of the error, whatever the scheme answers to its three questions.
-pub record FailsCheck (scheme : Relation) (kind : Kind) (octets : List ℕ) (key : KeyFields)
+-- The octets begin with a signed message whose content is a message of the kind, and which is
+-- believed under none of the keys. The greatest of the first checks that fail, one under each key,
+-- is that of the error, whatever the scheme answers.
+pub record FailsCheck (scheme : Relation) (kind : Kind) (octets : List ℕ) (keys : List KeyFields)
     (when : ℤ) (error : ValidationError) : Type 0 where
   pub signed : MessageFields
   pub begins : BeginsSigned octets signed
   pub message : Received
   pub reads : ReadsAs kind signed.content message
-  pub first : (q : Asked scheme signed key)
-      → failing kind_of (first_failure 1 (checks signed key when q.q3 q.q8 q.q10)) ≡ Err error
+  pub none : IsUnbelieved scheme signed keys when
+  pub greatest : (outcomes : List (Result (Unit {0}) ℕ))
+      → AreOutcomes scheme signed keys when outcomes
+      → failing kind_of (ranked outcomes) ≡ Err error
 
 -- when each error comes; OutOfMemory says nothing
-abbrev pub RefusesReceipt : Relation → Kind → List ℕ → KeyFields → ℤ → ReceiveError → Type 0
-RefusesReceipt scheme kind octets key when errors.CmsDecode = HoldsNoSigned octets
-RefusesReceipt scheme kind octets key when errors.XmlError = HoldsNoMessage kind octets
-RefusesReceipt scheme kind octets key when (errors.Validation e) =
-    FailsCheck scheme kind octets key when e
-RefusesReceipt scheme kind octets key when errors.OutOfMemory = ⊤
+abbrev pub RefusesReceipt : Relation → Kind → List ℕ → List KeyFields → ℤ → ReceiveError → Type 0
+RefusesReceipt scheme kind octets keys when errors.CmsDecode = HoldsNoSigned octets
+RefusesReceipt scheme kind octets keys when errors.XmlError = HoldsNoMessage kind octets
+RefusesReceipt scheme kind octets keys when (errors.Validation e) =
+    FailsCheck scheme kind octets keys when e
+RefusesReceipt scheme kind octets keys when errors.OutOfMemory = ⊤
 
 -- what is received of octets: an accepted message, or why there is none
-abbrev pub IsReceived : Relation → Kind → List ℕ → KeyFields → ℤ → Result Received ReceiveError
-    → Type 0
-IsReceived scheme kind octets key when result =
-    MatchResult result (Accepted scheme kind octets key when)
-    (RefusesReceipt scheme kind octets key when)
+abbrev pub IsReceived : Relation → Kind → List ℕ → List KeyFields → ℤ
+    → Result Received ReceiveError → Type 0
+IsReceived scheme kind octets keys when result =
+    MatchResult result (Accepted scheme kind octets keys when)
+    (RefusesReceipt scheme kind octets keys when)
+
+-- the same, with the place of the first key under which it is accepted
+abbrev pub IsReceivedUnder : Relation → Kind → List ℕ → List KeyFields → ℤ
+    → Result (Received × ℕ) ReceiveError → Type 0
+IsReceivedUnder scheme kind octets keys when result =
+    MatchResult result (λ r. AcceptedAt scheme kind octets keys when r.0 r.1)
+    (RefusesReceipt scheme kind octets keys when)
+
+-- the answer without the place of the key
+abbrev pub without_place : Result (Received × ℕ) ReceiveError → Result Received ReceiveError
+without_place (Ok (message, place)) = Ok message
+without_place (Err error) = Err error
 
 -- the answer says that a signed message was found
 abbrev pub FindsSigned : {X : Type 0} → Result X ReceiveError → Type 0

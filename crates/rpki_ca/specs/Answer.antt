@@ -45,35 +45,35 @@ IsContentAnswer octets (Err (refusals.Validation n)) = (n ≡ 2) × FailsDigest 
 IsContentAnswer octets (Err other) = ⊥
 
 -- the first check that fails has this number
-pub record FailsAt (scheme : Relation) (kind : Kind) (octets : List ℕ) (key : KeyFields) (when : ℤ)
-    (n : ℕ) : Type 0 where
+pub record FailsAt (scheme : Relation) (kind : Kind) (octets : List ℕ) (keys : List KeyFields)
+    (when : ℤ) (n : ℕ) : Type 0 where
   pub error : ValidationError
-  pub fails : FailsCheck scheme kind octets key when error
+  pub fails : FailsCheck scheme kind octets keys when error
   pub number : n ≡ error.check
 
 -- the text is that of an accepted message
-pub record IsTextAccepted (scheme : Relation) (kind : Kind) (octets : List ℕ) (key : KeyFields)
-    (when : ℤ) (text : List ℕ) : Type 0 where
+pub record IsTextAccepted (scheme : Relation) (kind : Kind) (octets : List ℕ)
+    (keys : List KeyFields) (when : ℤ) (text : List ℕ) : Type 0 where
   pub message : Received
-  pub accepted : Accepted scheme kind octets key when message
+  pub accepted : Accepted scheme kind octets keys when message
   pub written : text ≡ text_of message
 
 -- `receive`: the text of the accepted message, or why there is none
-abbrev pub IsReceiveAnswer : Relation → Kind → List ℕ → KeyFields → ℤ → Result (List ℕ) Refusal
-    → Type 0
-IsReceiveAnswer scheme kind octets key when (Ok text) =
-    IsTextAccepted scheme kind octets key when text
-IsReceiveAnswer scheme kind octets key when (Err refusals.CmsDecode) = HoldsNoSigned octets
-IsReceiveAnswer scheme kind octets key when (Err refusals.XmlError) = HoldsNoMessage kind octets
-IsReceiveAnswer scheme kind octets key when (Err (refusals.Validation n)) =
-    FailsAt scheme kind octets key when n
-IsReceiveAnswer scheme kind octets key when (Err other) = ⊥
+abbrev pub IsReceiveAnswer : Relation → Kind → List ℕ → List KeyFields → ℤ
+    → Result (List ℕ) Refusal → Type 0
+IsReceiveAnswer scheme kind octets keys when (Ok text) =
+    IsTextAccepted scheme kind octets keys when text
+IsReceiveAnswer scheme kind octets keys when (Err refusals.CmsDecode) = HoldsNoSigned octets
+IsReceiveAnswer scheme kind octets keys when (Err refusals.XmlError) = HoldsNoMessage kind octets
+IsReceiveAnswer scheme kind octets keys when (Err (refusals.Validation n)) =
+    FailsAt scheme kind octets keys when n
+IsReceiveAnswer scheme kind octets keys when (Err other) = ⊥
 
 -- the answer of a command to octets
 abbrev pub Answers : Relation → Command → List ℕ → Result (List ℕ) Refusal → Type 0
 Answers scheme Content octets answer = IsContentAnswer octets answer
-Answers scheme (Receive kind when key) octets answer =
-    IsReceiveAnswer scheme kind octets key when answer
+Answers scheme (Receive kind when keys) octets answer =
+    IsReceiveAnswer scheme kind octets keys when answer
 
 -- the same, where the octets are given in hexadecimal
 abbrev pub AnswersSpelled : Relation → Command → Option (List ℕ) → Result (List ℕ) Refusal → Type 0
@@ -153,22 +153,22 @@ ReadsAll status =
 
 -- The input spells octets that begin with an accepted message, and its text and a line feed were
 -- written.
-pub record Delivers (scheme : Relation) (kind : Kind) (key : KeyFields) (when : ℤ) (input : List ℕ)
-    (sink : Seen) : Type 0 where
+pub record Delivers (scheme : Relation) (kind : Kind) (keys : List KeyFields) (when : ℤ)
+    (input : List ℕ) (sink : Seen) : Type 0 where
   pub octets : List ℕ
   pub spells : hexadecimal input ≡ Some octets
   pub message : Received
-  pub accepted : Accepted scheme kind octets key when message
+  pub accepted : Accepted scheme kind octets keys when message
   pub written : Appends sink.before sink.after (text_of message ++ 10 ∷ [])
 
 -- The input has at most 2^26 octets, and spells octets that begin with an accepted message.
-pub record Holds (scheme : Relation) (kind : Kind) (key : KeyFields) (when : ℤ) (input : List ℕ)
-    : Type 0 where
+pub record Holds (scheme : Relation) (kind : Kind) (keys : List KeyFields) (when : ℤ)
+    (input : List ℕ) : Type 0 where
   pub short : length input ≤ 2 ^ 26
   pub octets : List ℕ
   pub spells : hexadecimal input ≡ Some octets
   pub message : Received
-  pub accepted : Accepted scheme kind octets key when message
+  pub accepted : Accepted scheme kind octets keys when message
 
 -- The status is 0, but for want of memory, and for faults of source and sink, whose counts rose.
 abbrev pub Succeeds : ℕ → Seen → Seen → Type 0

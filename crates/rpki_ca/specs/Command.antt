@@ -1,9 +1,11 @@
 -- The commands.
-use Rattle.std.specs.Prelude.{◌≡◌, ℕ, ℤ, bytes_eq, if◌then◌else◌, Option, None, Some, List, [], ◌∷◌, codes, slice_get}
+use Rattle.std.specs.Prelude.{◌≡◌, ◌≤◌, ℕ, ℤ, bytes_eq, if◌then◌else◌, Option, None, Some, List, [], ◌∷◌, length, map, codes, slice_get, ⊤}
 use Rattle.rpki_common.specs.Chaining.{◌>>=◌}
 use Rattle.rpki_base.specs.PublicKey.{KeyFields}
 use Rattle.rpki_ca.specs.declared.receiving.Kind.{Kind}
 use Rattle.rpki_ca.specs.declared.receiving.Kind.TheVariants.{Publication}
+use Rattle.rpki_ca.specs.declared.command.Verb.{Verb}
+use Rattle.rpki_ca.specs.declared.command.Verb.TheVariants as verbs
 use Rattle.rpki_ca.specs.declared.command.Command.{Command}
 use Rattle.rpki_ca.specs.declared.command.Command.TheVariants.{Content, Receive}
 use Rattle.rpki_ca.specs.Words.{IsMoment, key_of}
@@ -19,20 +21,65 @@ kind_of word = if bytes_eq word (kind_word Publication) then Some Publication el
 abbrev pub kind_at : List (List ℕ) → ℕ → Option Kind
 kind_at words index = slice_get words index >>= kind_of
 
--- `receive`, the kind, a moment and a key
-pub record IsReceive (words : List (List ℕ)) (kind : Kind) (when : ℤ) (key : KeyFields)
+-- each word spells the key at its place
+abbrev pub AreKeys : List (List ℕ) → List KeyFields → Type 0
+AreKeys words keys = map key_of words ≡ map Some keys
+
+-- `receive`, the kind, a moment and one to eight keys
+pub record IsReceive (words : List (List ℕ)) (kind : Kind) (when : ℤ) (keys : List KeyFields)
     : Type 0 where
   pub moment_word : List ℕ
-  pub key_word : List ℕ
-  pub are : words ≡ codes "receive" ∷ kind_word kind ∷ moment_word ∷ key_word ∷ []
+  pub key_words : List (List ℕ)
+  pub are : words ≡ codes "receive" ∷ kind_word kind ∷ moment_word ∷ key_words
+  pub some : 1 ≤ length key_words
+  pub few : length key_words ≤ 8
   pub moment : IsMoment moment_word when
-  pub spells : key_of key_word ≡ Some key
+  pub spell : AreKeys key_words keys
+
+-- ---- all of them
+
+-- The first word says what is to be done. Each has one word, and a word says one of them or none.
+abbrev pub verb_word : Verb → List ℕ
+verb_word verbs.Content = codes "content"
+verb_word verbs.Receive = codes "receive"
+
+abbrev pub verb_of : List ℕ → Option Verb
+verb_of word =
+    if bytes_eq word (verb_word verbs.Content) then Some verbs.Content
+    else if bytes_eq word (verb_word verbs.Receive) then Some verbs.Receive
+    else None
+
+-- what the first word says, if it is one of these
+abbrev pub verb_in : List (List ℕ) → Option Verb
+verb_in words = slice_get words 0 >>= verb_of
+
+-- the words ask to receive, by this command
+pub record AskToReceive (words : List (List ℕ)) (command : Command) : Type 0 where
+  pub kind : Kind
+  pub when : ℤ
+  pub keys : List KeyFields
+  pub receive : IsReceive words kind when keys
+  pub is : command ≡ Receive kind when keys
+
+-- the words ask for what the verb says, by this command
+abbrev pub Ask : Verb → List (List ℕ) → Command → Type 0
+Ask verbs.Content words command =
+    (words ≡ verb_word verbs.Content ∷ []) × (command ≡ Content)
+Ask verbs.Receive words command = AskToReceive words command
 
 -- the words are those of the command
 abbrev pub IsCommand : List (List ℕ) → Command → Type 0
-IsCommand words Content = words ≡ codes "content" ∷ []
-IsCommand words (Receive kind when key) = IsReceive words kind when key
+IsCommand words command = (verb : Verb) × Ask verb words command
 
 -- the words are those of no command
 abbrev pub IsNoCommand : List (List ℕ) → Type 0
 IsNoCommand words = (c : Command) → IsCommand words c → ⊥
+
+-- it has one to eight keys, if it has any
+abbrev pub HasFewKeys : Command → Type 0
+HasFewKeys Content = ⊤
+HasFewKeys (Receive kind when keys) = (1 ≤ length keys) × (length keys ≤ 8)
+
+-- the words don't ask for what the verb says
+abbrev pub AskInVain : Verb → List (List ℕ) → Type 0
+AskInVain verb words = (c : Command) → Ask verb words c → ⊥

@@ -1,12 +1,15 @@
 //! What the words of a command line ask for.
 
-ghost use Rattle.std.specs.Prelude.{◌≡◌, Decides, IfOk, IfSome, IsNone, Some, slice_get, length, codes};
-ghost use Rattle.rpki_ca.specs.Command.{IsCommand, IsNoCommand, kind_of, kind_at};
+ghost use Rattle.std.specs.Prelude.{◌≡◌, IfOk, IfSome, IsNone, List, Some, drop};
+ghost use Rattle.rpki_base.specs.PublicKey.{KeyFields};
+ghost use Rattle.rpki_ca.specs.declared.command.Verb.TheVariants as verbs;
+ghost use Rattle.rpki_ca.specs.Command.{IsCommand, IsNoCommand, AreKeys, Ask, AskInVain};
+ghost use Rattle.rpki_ca.specs.Command.{kind_of, kind_at, verb_of, verb_in};
 
 use crate::receiving::Kind;
 use crate::words::Words;
 use rpki_base::{PublicKey, Time};
-use rpki_common::OutOfMemory;
+use rpki_common::{OutOfMemory, Sequence};
 use std::alloc::Global;
 
 /// What the words of a command line ask for.
@@ -14,15 +17,32 @@ use std::alloc::Global;
 pub enum Command {
     /// The content of a signed message.
     Content,
-    /// The message of this kind that a signed message is, under the issuer's key and at the moment.
+    /// The message of this kind that a signed message is, under an issuer's key and at the moment.
     Receive {
         /// The protocol.
         kind: Kind,
         /// The moment at which it is validated.
         when: Time,
-        /// The key under which its certificate has to be issued.
-        key: PublicKey,
+        /// The keys, one to eight, under one of which its certificate has to be issued.
+        keys: Sequence<PublicKey>,
     },
+}
+
+// What the first word says to do.
+#[derive(Clone, Copy)]
+enum Verb {
+    Content,
+    Receive,
+}
+
+fn verb_of(word: &str) -> Option<Verb>
+    ensures { result ≡ verb_of word.now }
+{
+    match word {
+        "content" => Some(Verb::Content),
+        "receive" => Some(Verb::Receive),
+        _ => None,
+    }
 }
 
 fn kind_of(word: &str) -> Option<Kind>
@@ -40,23 +60,20 @@ impl Words {
         ensures command { IfOk result (λ c. IfSome c (IsCommand self.now)) }
         ensures none { IfOk result (λ c. IsNone c → IsNoCommand self.now) }
     {
-        if self.begins_with("content", 1) {
-            return Ok(Some(Command::Content));
+        match self.verb() {
+            None => Ok(None),
+            Some(Verb::Content) => Ok(self.content()),
+            Some(Verb::Receive) => self.receive(alloc),
         }
-        if !self.begins_with("receive", 4) {
-            return Ok(None);
-        }
-        self.receive(alloc)
     }
 
-    // Whether there are so many words, and this is the first.
-    fn begins_with(&self, name: &str, count: usize) -> bool
-        ensures { Decides result
-            ((slice_get self.now 0 ≡ Some name.now) × (length self.now ≡ count)) }
+    // What the first word says to do.
+    fn verb(&self) -> Option<Verb>
+        ensures { result ≡ verb_in self.now }
     {
         match self.get(0) {
-            Some(word) => word == name && self.len() == count,
-            None => false,
+            Some(word) => verb_of(word),
+            None => None,
         }
     }
 
@@ -70,21 +87,56 @@ impl Words {
         }
     }
 
+    // The command `content`, if there is no other word.
+    fn content(&self) -> Option<Command>
+        requires { verb_in self.now ≡ Some verbs.Content }
+        ensures command { IfSome result (Ask verbs.Content self.now) }
+        ensures none { IsNone result → AskInVain verbs.Content self.now }
+    {
+        if self.len() == 1 {
+            Some(Command::Content)
+        } else {
+            None
+        }
+    }
+
+    // The keys that the words from the fourth on spell, if each spells one.
+    fn keys(&self, alloc: Global) -> Result<Option<Vec<PublicKey>>, OutOfMemory>
+        ensures some { IfOk result (λ o. IfSome o (λ keys. AreKeys (drop 3 self.now) keys.items)) }
+        ensures none { IfOk result (λ o. IsNone o →
+            (keys : List KeyFields) → AreKeys (drop 3 self.now) keys → ⊥) }
+    {
+        let mut keys = Vec::new(alloc);
+        for index in 3..self.len() {
+            match self.key(alloc, index)? {
+                Some(key) => keys.push(key)?,
+                None => return Ok(None),
+            }
+        }
+        Ok(Some(keys))
+    }
+
     // The command `receive`, if the words behind the first are of its form.
     fn receive(&self, alloc: Global) -> Result<Option<Command>, OutOfMemory>
-        requires first { slice_get self.now 0 ≡ Some (codes "receive") }
-        requires count { length self.now ≡ 4 }
-        ensures command { IfOk result (λ c. IfSome c (IsCommand self.now)) }
-        ensures none { IfOk result (λ c. IsNone c → IsNoCommand self.now) }
+        requires { verb_in self.now ≡ Some verbs.Receive }
+        ensures command { IfOk result (λ c. IfSome c (Ask verbs.Receive self.now)) }
+        ensures none { IfOk result (λ c. IsNone c → AskInVain verbs.Receive self.now) }
     {
+        if self.len() < 4 || self.len() > 11 {
+            return Ok(None);
+        }
         let Some(kind) = self.kind(1) else {
             return Ok(None);
         };
         let Some(when) = self.moment(2) else {
             return Ok(None);
         };
-        match self.key(alloc, 3)? {
-            Some(key) => Ok(Some(Command::Receive { kind, when, key })),
+        match self.keys(alloc)? {
+            Some(keys) => Ok(Some(Command::Receive {
+                kind,
+                when,
+                keys: Sequence::from_vec(keys),
+            })),
             None => Ok(None),
         }
     }

@@ -1,8 +1,8 @@
 //! What holds of every answer.
 
-ghost use Rattle.std.specs.Prelude.{◌≡◌, ℕ, ℤ, List, Option, Result};
+ghost use Rattle.std.specs.Prelude.{◌≡◌, ◌↔◌, ℕ, ℤ, List, Option, Result};
 ghost use Rattle.rpki_base.specs.PublicKey.{KeyFields};
-ghost use Rattle.rpki_sigmsg.specs.Checks.{SameAnswers};
+ghost use Rattle.rpki_sigmsg.specs.Checks.{SameAnswersUnder, AreAmong, IsInSpan};
 ghost use Rattle.rpki_sigmsg.specs.Message.{MessageFields};
 ghost use Rattle.rpki_publication.specs.Cms.{BeginsSigned};
 ghost use Rattle.rpki_ca.specs.declared.command.Command.{Command};
@@ -11,7 +11,7 @@ ghost use Rattle.rpki_ca.specs.declared.receiving.Received.{Received};
 ghost use Rattle.rpki_ca.specs.declared.receiving.ReceiveError.{ReceiveError};
 ghost use Rattle.rpki_ca.specs.declared.refusals.Refusal.{Refusal};
 ghost use Rattle.rpki_ca.specs.Answer.{AnswersSpelled, IsAnswer};
-ghost use Rattle.rpki_ca.specs.Acceptance.{IsReceived};
+ghost use Rattle.rpki_ca.specs.Acceptance.{Accepted, IsReceivedUnder};
 
 use rpki_base::Scheme;
 
@@ -28,12 +28,33 @@ pub fn one_answer_to_words<P: Scheme>()
         → IsAnswer P.checks words input a → IsAnswer P.checks words input b → a ≡ b }
 {}
 
-/// What is received depends on the scheme by its three questions alone: two schemes that answer
-/// them alike, of the message with which the octets begin, allow the same answers.
+/// What is received depends on the scheme by its questions alone, of the attributes and under each
+/// key of the certificate and the CRLs: two schemes that answer them alike, of the message with
+/// which the octets begin, allow the same answers.
 pub fn receipts_ask_three_questions<P: Scheme, Q: Scheme>()
-    ensures { (kind : Kind) (octets : List ℕ) (key : KeyFields) (when : ℤ)
-        (answer : Result Received ReceiveError)
-        → ((m : MessageFields) → BeginsSigned octets m → SameAnswers P.checks Q.checks m key)
-        → IsReceived P.checks kind octets key when answer
-        → IsReceived Q.checks kind octets key when answer }
+    ensures { (kind : Kind) (octets : List ℕ) (keys : List KeyFields) (when : ℤ)
+        (answer : Result (Received × ℕ) ReceiveError)
+        → ((m : MessageFields) → BeginsSigned octets m
+            → SameAnswersUnder P.checks Q.checks m keys)
+        → IsReceivedUnder P.checks kind octets keys when answer
+        → IsReceivedUnder Q.checks kind octets keys when answer }
+{}
+
+/// What is accepted under a list of keys is accepted under each list that holds these keys, in any
+/// order.
+pub fn more_keys_accept<P: Scheme>()
+    ensures { (kind : Kind) (octets : List ℕ) (keys more : List KeyFields) (when : ℤ)
+        (message : Received) → AreAmong keys more
+        → Accepted P.checks kind octets keys when message
+        → Accepted P.checks kind octets more when message }
+{}
+
+/// The moments at which a message is accepted of one input under one list of keys are none, or all
+/// from the latest of notBefore and each thisUpdate to the earliest of notAfter and each
+/// nextUpdate, both ends in: where one is such a moment, all of these are, and no other.
+pub fn accepted_moments_are_one_span<P: Scheme>()
+    ensures { (kind : Kind) (octets : List ℕ) (keys : List KeyFields) (one : ℤ)
+        (message : Received) → Accepted P.checks kind octets keys one message
+        → (m : MessageFields) × BeginsSigned octets m
+            × ((when : ℤ) → Accepted P.checks kind octets keys when message ↔ IsInSpan m when) }
 {}

@@ -1,11 +1,11 @@
 //! The command `receive`.
 
-ghost use Rattle.std.specs.Prelude.{◌≡◌, ◌≢◌, ◌++◌, ◌∷◌, [], List, ℕ, Ok, Err, IfOk, IfErr};
+ghost use Rattle.std.specs.Prelude.{◌≡◌, ◌≢◌, ◌++◌, ◌∷◌, ◌≤◌, [], List, ℕ, Ok, Err, IfOk, IfErr, length};
 ghost use Rattle.rpki_ca.specs.Answer.{IsReceiveAnswer, IsLineOf};
 ghost use Rattle.rpki_ca.specs.Acceptance.{text_of, refusal_of};
 
 use crate::line::line_of;
-use crate::receiving::{Kind, ReceiveError, Received, receive};
+use crate::receiving::{Kind, ReceiveError, Received, receive_any};
 use crate::refusals::Refusal;
 use bytes::Bytes;
 use rpki_base::{PublicKey, Scheme, Time, Verifier};
@@ -49,15 +49,17 @@ pub(crate) fn receive_line<P: Scheme, V: Verifier<P>>(
     alloc: Global,
     kind: Kind,
     octets: &[u8],
-    key: &PublicKey,
+    keys: &[PublicKey],
     when: Time,
     verifier: &V,
 ) -> Result<Vec<u8>, Refusal>
+    requires some { 1 ≤ length keys.now }
+    requires few { length keys.now ≤ 8 }
     ensures ok { IfOk result (λ line.
-        IsLineOf (IsReceiveAnswer P.checks kind octets.now key.now when) line.items) }
+        IsLineOf (IsReceiveAnswer P.checks kind octets.now keys.now when) line.items) }
     ensures err { IfErr result (λ e. e ≢ Refusal.OutOfMemory
-        → IsReceiveAnswer P.checks kind octets.now key.now when (Err e)) }
+        → IsReceiveAnswer P.checks kind octets.now keys.now when (Err e)) }
 {
-    let message = receive(alloc, kind, octets, key, when, verifier)?;
+    let (message, _) = receive_any(alloc, kind, octets, keys, when, verifier)?;
     Ok(text_line(alloc, &message)?)
 }

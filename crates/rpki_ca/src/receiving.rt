@@ -1,10 +1,10 @@
 //! What a receiver accepts.
 
-ghost use Rattle.std.specs.Prelude.{◌≡◌, ◌+◌, ◌*◌, ◌≤◌, ◌<◌, ℕ, List, length};
+ghost use Rattle.std.specs.Prelude.{◌≡◌, ◌+◌, ◌*◌, ◌≤◌, ◌<◌, ◌∷◌, [], ℕ, List, length};
 ghost use Rattle.rpki_der.specs.declared.mode.Mode.TheVariants.{Ber};
 ghost use Rattle.rpki_der.specs.Ticks.{nodes};
 ghost use Rattle.rpki_der.specs.Value.{Value, Begins};
-ghost use Rattle.rpki_ca.specs.Acceptance.{IsReceived, FindsSigned, of_publication};
+ghost use Rattle.rpki_ca.specs.Acceptance.{IsReceived, IsReceivedUnder, FindsSigned, without_place, of_publication};
 ghost use Rattle.rpki_ca.specs.declared.receiving.ReceiveError.TheVariants as variant;
 
 use rpki_base::{PublicKey, Scheme, Time, Verifier};
@@ -13,6 +13,7 @@ use rpki_idcert::ValidationError;
 use rpki_publication as publication;
 use rpki_publication::PublicationCms;
 use std::alloc::Global;
+use std::array;
 use std::marker::Brand;
 use std::sync::ledger::{Blank, Ledger};
 use thiserror::Error;
@@ -69,12 +70,105 @@ impl From<ValidationError> for ReceiveError {
     }
 }
 
-/// The message of this kind that is signed at the beginning of the octets, in BER, where the key
-/// issued its certificate for the moment; what stands behind isn't read.
+/// The message of this kind that is signed at the beginning of the octets, in BER, where one of the
+/// one to eight keys issued its certificate for the moment, and the place of the first such key,
+/// from 0; what stands behind isn't read.
 ///
 /// The first of these decides: CmsDecode where no beginning of the octets is a signed message,
 /// XmlError where its content is no message of the kind, Validation where one of the fourteen
-/// checks fails, the first one, as [`rpki_sigmsg::SignedMessage::validate_at`] numbers them.
+/// checks fails under each key: the greatest of the first that fail, as
+/// [`rpki_sigmsg::SignedMessage::validate_any_at`] answers.
+pub fn receive_any<P: Scheme, V: Verifier<P>>(
+    alloc: Global,
+    kind: Kind,
+    octets: &[u8],
+    keys: &[PublicKey],
+    when: Time,
+    verifier: &V,
+) -> Result<(Received, usize), ReceiveError>
+    requires some { 1 ≤ length keys.now }
+    requires few { length keys.now ≤ 8 }
+    ensures { IsReceivedUnder P.checks kind octets.now keys.now when result }
+{
+    receive_any_within::<P, V, Brand>(alloc, kind, octets, keys, when, verifier, Blank::new(1))
+}
+
+fn receive_any_within<P: Scheme, V: Verifier<P>, L: Ledger>(
+    alloc: Global,
+    kind: Kind,
+    octets: &[u8],
+    keys: &[PublicKey],
+    when: Time,
+    verifier: &V,
+    blank: Blank,
+) -> Result<(Received, usize), ReceiveError>
+    requires name { blank.name ≡ L.name }
+    requires parts { blank.parts ≡ L.parts }
+    requires here { 0 < blank.parts }
+    requires some { 1 ≤ length keys.now }
+    requires few { length keys.now ≤ 8 }
+    ensures { IsReceivedUnder P.checks kind octets.now keys.now when result }
+{
+    let mut steps = Steps::<L>::new(blank);
+    receive_any_counted(alloc, kind, octets, keys, when, verifier, &mut steps)
+}
+
+/// As [`receive_any`]. It ticks once for each header and each end mark that it reads, in the signed
+/// message alone, however many keys there are.
+pub fn receive_any_counted<P: Scheme, V: Verifier<P>, L: Ledger>(
+    alloc: Global,
+    kind: Kind,
+    octets: &[u8],
+    keys: &[PublicKey],
+    when: Time,
+    verifier: &V,
+    steps: &mut Steps<L>,
+) -> Result<(Received, usize), ReceiveError>
+    requires some { 1 ≤ length keys.now }
+    requires few { length keys.now ≤ 8 }
+    ensures answer { IsReceivedUnder P.checks kind octets.now keys.now when result }
+    ensures most { steps.new ≤ steps.old + 3 * length octets.now + 8 }
+
+    // Where a signed message was found, each value in it ticked.
+    ensures least { FindsSigned result → (v : Value) (rest : List ℕ)
+        → Begins Ber octets.now v rest → steps.old + nodes v ≤ steps.new }
+{
+    match kind {
+        Kind::Publication => receive_publication(alloc, octets, keys, when, verifier, steps),
+    }
+}
+
+fn receive_publication<P: Scheme, V: Verifier<P>, L: Ledger>(
+    alloc: Global,
+    octets: &[u8],
+    keys: &[PublicKey],
+    when: Time,
+    verifier: &V,
+    steps: &mut Steps<L>,
+) -> Result<(Received, usize), ReceiveError>
+    requires some { 1 ≤ length keys.now }
+    requires few { length keys.now ≤ 8 }
+    ensures answer { IsReceivedUnder P.checks Kind.Publication octets.now keys.now when result }
+    ensures most { steps.new ≤ steps.old + 3 * length octets.now + 8 }
+    ensures least { FindsSigned result → (v : Value) (rest : List ℕ)
+        → Begins Ber octets.now v rest → steps.old + nodes v ≤ steps.new }
+{
+    let cms = PublicationCms::decode_counted(alloc, octets, steps)?;
+    let place = cms.signed_message().validate_any_at(verifier, keys, when)?;
+    Ok((Received::Publication(cms.into_message()), place))
+}
+
+// The answer without the place of the key.
+fn without_place(answer: Result<(Received, usize), ReceiveError>) -> Result<Received, ReceiveError>
+    ensures { result ≡ without_place answer }
+{
+    match answer {
+        Ok((message, _)) => Ok(message),
+        Err(error) => Err(error),
+    }
+}
+
+/// As [`receive_any`] for one key, without the place.
 pub fn receive<P: Scheme, V: Verifier<P>>(
     alloc: Global,
     kind: Kind,
@@ -83,27 +177,10 @@ pub fn receive<P: Scheme, V: Verifier<P>>(
     when: Time,
     verifier: &V,
 ) -> Result<Received, ReceiveError>
-    ensures { IsReceived P.checks kind octets.now key.now when result }
+    ensures { IsReceived P.checks kind octets.now (key.now ∷ []) when result }
 {
-    receive_within::<P, V, Brand>(alloc, kind, octets, key, when, verifier, Blank::new(1))
-}
-
-fn receive_within<P: Scheme, V: Verifier<P>, L: Ledger>(
-    alloc: Global,
-    kind: Kind,
-    octets: &[u8],
-    key: &PublicKey,
-    when: Time,
-    verifier: &V,
-    blank: Blank,
-) -> Result<Received, ReceiveError>
-    requires name { blank.name ≡ L.name }
-    requires parts { blank.parts ≡ L.parts }
-    requires some { 0 < blank.parts }
-    ensures { IsReceived P.checks kind octets.now key.now when result }
-{
-    let mut steps = Steps::<L>::new(blank);
-    receive_counted(alloc, kind, octets, key, when, verifier, &mut steps)
+    let keys = array::from_ref(key);
+    without_place(receive_any(alloc, kind, octets, keys, when, verifier))
 }
 
 /// As [`receive`]. It ticks once for each header and each end mark that it reads, in the signed
@@ -117,32 +194,13 @@ pub fn receive_counted<P: Scheme, V: Verifier<P>, L: Ledger>(
     verifier: &V,
     steps: &mut Steps<L>,
 ) -> Result<Received, ReceiveError>
-    ensures answer { IsReceived P.checks kind octets.now key.now when result }
+    ensures answer { IsReceived P.checks kind octets.now (key.now ∷ []) when result }
     ensures most { steps.new ≤ steps.old + 3 * length octets.now + 8 }
 
     // Where a signed message was found, each value in it ticked.
     ensures least { FindsSigned result → (v : Value) (rest : List ℕ)
         → Begins Ber octets.now v rest → steps.old + nodes v ≤ steps.new }
 {
-    match kind {
-        Kind::Publication => receive_publication(alloc, octets, key, when, verifier, steps),
-    }
-}
-
-fn receive_publication<P: Scheme, V: Verifier<P>, L: Ledger>(
-    alloc: Global,
-    octets: &[u8],
-    key: &PublicKey,
-    when: Time,
-    verifier: &V,
-    steps: &mut Steps<L>,
-) -> Result<Received, ReceiveError>
-    ensures answer { IsReceived P.checks Kind.Publication octets.now key.now when result }
-    ensures most { steps.new ≤ steps.old + 3 * length octets.now + 8 }
-    ensures least { FindsSigned result → (v : Value) (rest : List ℕ)
-        → Begins Ber octets.now v rest → steps.old + nodes v ≤ steps.new }
-{
-    let cms = PublicationCms::decode_counted(alloc, octets, steps)?;
-    cms.signed_message().validate_at(verifier, key, when)?;
-    Ok(Received::Publication(cms.into_message()))
+    let keys = array::from_ref(key);
+    without_place(receive_any_counted(alloc, kind, octets, keys, when, verifier, steps))
 }

@@ -9,7 +9,7 @@ ghost use Rattle.rpki_text.specs.Source.{TakesAtMost};
 ghost use Rattle.rpki_ca.specs.declared.receiving.Kind.{Kind};
 ghost use Rattle.rpki_ca.specs.declared.refusals.Refusal.{Refusal};
 ghost use Rattle.rpki_ca.specs.Refusal.{status_of};
-ghost use Rattle.rpki_ca.specs.Command.{IsNoCommand, IsReceive};
+ghost use Rattle.rpki_ca.specs.Command.{IsNoCommand, IsReceive, HasFewKeys};
 ghost use Rattle.rpki_ca.specs.Seen.{seen, HasFailed, IsSteady};
 ghost use Rattle.rpki_ca.specs.Answer.{Answers, AnswersSpelled, IsAnswer, IsShown, IsAdmitted, IsUnread};
 ghost use Rattle.rpki_ca.specs.Answer.{IsLineOf, Ends, EndsAs, ReadsAll, Delivers, Holds, Succeeds};
@@ -39,6 +39,7 @@ fn perform<P: Scheme, V: Verifier<P>>(
     octets: &[u8],
     verifier: &V,
 ) -> Result<Vec<u8>, Refusal>
+    requires { HasFewKeys command.now }
     ensures ok { IfOk result (λ line.
         IsLineOf (Answers P.checks command.now octets.now) line.items) }
     ensures err { IfErr result (λ e.
@@ -46,8 +47,8 @@ fn perform<P: Scheme, V: Verifier<P>>(
 {
     match command {
         Command::Content => content_line(alloc, octets),
-        Command::Receive { kind, when, key } => {
-            receive_line(alloc, *kind, octets, key, *when, verifier)
+        Command::Receive { kind, when, keys } => {
+            receive_line(alloc, *kind, octets, keys.as_slice(), *when, verifier)
         }
     }
 }
@@ -59,6 +60,7 @@ fn perform_spelled<P: Scheme, V: Verifier<P>>(
     input: &[u8],
     verifier: &V,
 ) -> Result<Vec<u8>, Refusal>
+    requires { HasFewKeys command.now }
     ensures ok { IfOk result (λ line.
         IsLineOf (AnswersSpelled P.checks command.now (hexadecimal input.now)) line.items) }
     ensures err { IfErr result (λ e. e ≢ Refusal.OutOfMemory
@@ -160,10 +162,10 @@ fn finish<O: Sink>(output: &mut O, answer: Result<Vec<u8>, Refusal>) -> Status
 ///
 /// Both commands read a signed message in hexadecimal, an even number of digits of either case and
 /// at most one line feed behind them; octets behind the message are allowed, and reading stops
-/// behind 2^26 octets and one more. `content` writes its content. `receive publication MOMENT KEY`
-/// writes the message that it is, where the key issued its certificate for the moment and all
-/// fourteen checks hold: MOMENT in seconds since 1970, KEY in DER and hexadecimal. The whole line
-/// is made before the first write.
+/// behind 2^26 octets and one more. `content` writes its content. `receive publication MOMENT KEY..`
+/// writes the message that it is, where one of the one to eight keys issued its certificate for the
+/// moment and all fourteen checks hold under it: MOMENT in seconds since 1970, each KEY in DER and
+/// hexadecimal. The whole line is made before the first write.
 pub fn run<P: Scheme, I: Source, O: Sink, V: Verifier<P>>(
     alloc: Global,
     words: &Words,
@@ -173,16 +175,16 @@ pub fn run<P: Scheme, I: Source, O: Sink, V: Verifier<P>>(
 ) -> Status
     // `receive` ends with 0 only where a message was accepted, whose text is the line that was
     // written.
-    ensures received { (kind : Kind) (when : ℤ) (key : KeyFields)
-        → IsReceive words.now kind when key → result.0 ≡ 0
+    ensures received { (kind : Kind) (when : ℤ) (keys : List KeyFields)
+        → IsReceive words.now kind when keys → result.0 ≡ 0
         → IfSome (I.rest input.old) (λ rest.
-        Delivers P.checks kind key when rest (seen O.written O.faults output.old output.new)) }
+        Delivers P.checks kind keys when rest (seen O.written O.faults output.old output.new)) }
 
     // And where a message is accepted it ends with 0, but for want of memory and for faults of
     // source and sink.
-    ensures accepted { (kind : Kind) (when : ℤ) (key : KeyFields)
-        → IsReceive words.now kind when key
-        → IfSome (I.rest input.old) (λ rest. Holds P.checks kind key when rest → Succeeds result.0
+    ensures accepted { (kind : Kind) (when : ℤ) (keys : List KeyFields)
+        → IsReceive words.now kind when keys
+        → IfSome (I.rest input.old) (λ rest. Holds P.checks kind keys when rest → Succeeds result.0
         (seen I.rest I.faults input.old input.new)
         (seen O.written O.faults output.old output.new)) }
 

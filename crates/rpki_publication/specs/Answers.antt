@@ -32,6 +32,6 @@ RefusesMessage octets (errors.Validation e) = ⊥
 RefusesMessage octets errors.OutOfMemory = Unit {0}
 
 -- the answer of the checks, as this crate's error
-abbrev pub validated : Result (Unit {0}) ValidationError → Result (Unit {0}) Error
-validated (Ok u) = Ok u
+abbrev pub validated : {X : Type 0} → Result X ValidationError → Result X Error
+validated (Ok x) = Ok x
 validated (Err e) = Err (errors.Validation e)

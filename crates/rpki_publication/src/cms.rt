@@ -1,11 +1,12 @@
 //! Signed messages of the publication protocol.
 
-ghost use Rattle.std.specs.Prelude.{◌≡◌, ◌↔◌, ◌<◌, ◌≤◌, ◌+◌, ◌*◌, ℕ, List, length, Ok, IfOk, MatchResult};
+ghost use Rattle.std.specs.Prelude.{◌≡◌, ◌↔◌, ◌<◌, ◌≤◌, ◌+◌, ◌*◌, ℕ, List, length, Result, Ok, Err, IfOk, MatchResult};
 ghost use Rattle.rpki_base.specs.Checks.{first_failure, failing};
 ghost use Rattle.rpki_sigmsg.specs.Checks as checks;
 ghost use Rattle.rpki_der.specs.declared.mode.Mode.TheVariants.{Ber};
 ghost use Rattle.rpki_der.specs.Ticks.{nodes};
 ghost use Rattle.rpki_der.specs.Value.{Value, Begins};
+ghost use Rattle.rpki_publication.specs.declared.error.Error.{Error as CmsError};
 ghost use Rattle.rpki_publication.specs.Answers.{validated};
 ghost use Rattle.rpki_publication.specs.Cms.{BeginsCms, RefusesCms, FindsSigned};
 ghost use Rattle.rpki_publication.specs.Message.{Reads};
@@ -42,11 +43,11 @@ impl Model for PublicationCms {
 }
 
 // The answer of the checks, as this crate's error.
-fn passed_on(answer: Result<(), ValidationError>) -> Result<(), Error>
+fn passed_on<T>(answer: Result<T, ValidationError>) -> Result<T, Error>
     ensures { result ≡ validated answer }
 {
     match answer {
-        Ok(()) => Ok(()),
+        Ok(value) => Ok(value),
         Err(error) => Err(Error::Validation(error)),
     }
 }
@@ -147,11 +148,11 @@ impl PublicationCms {
         issuer_key: &PublicKey,
         when: Time,
     ) -> Result<(), Error>
-        // Ok exactly where the three signatures and all the other checks hold.
-        ensures believed { (result ≡ Ok tt) ↔ checks.IsBelieved P.checks self.now.signed
-            issuer_key.now when }
+        // Ok exactly where the signatures and all the other checks hold.
+        ensures believed { (result ≡ Ok tt) ↔
+            checks.IsBelieved P.checks self.now.signed issuer_key.now when }
 
-        // The first check that fails decides, whatever the scheme answers to the three questions.
+        // The first check that fails decides, whatever the scheme answers.
         ensures first_failing { (q : checks.Asked P.checks self.now.signed issuer_key.now) →
             result ≡ validated (failing checks.kind_of
             (first_failure 1 (checks.checks self.now.signed issuer_key.now when q.q3 q.q8 q.q10))) }
@@ -159,6 +160,36 @@ impl PublicationCms {
         passed_on(
             self.signed_message()
                 .validate_at(verifier, issuer_key, when),
+        )
+    }
+
+    /// The place, from 0, of the first of these one to eight keys under which the message is believed; if under none, Validation
+    /// with the greatest of the first checks that fail, as [`SignedMessage::validate_any_at`] answers. It takes no memory.
+    pub fn validate_any_at<P: Scheme, V: Verifier<P>>(
+        &self,
+        verifier: &V,
+        keys: &[PublicKey],
+        when: Time,
+    ) -> Result<usize, Error>
+        requires some { 1 ≤ length keys.now }
+        requires few { length keys.now ≤ 8 }
+
+        // Ok exactly where the signatures and all the other checks hold under the key at this place, and under none before it.
+        ensures believed { (place : ℕ) → (result ≡ Ok place) ↔
+            checks.IsFirstBelieved P.checks self.now.signed keys.now when place }
+
+        // An error only where they hold under no key.
+        ensures none { (error : CmsError) → result ≡ Err error →
+            checks.IsUnbelieved P.checks self.now.signed keys.now when }
+
+        // The greatest of the first checks that fail decides, whatever the scheme answers.
+        ensures first_failing { (outcomes : List (Result (Unit {0}) ℕ)) →
+            checks.AreOutcomes P.checks self.now.signed keys.now when outcomes →
+            result ≡ validated (failing checks.kind_of (checks.ranked outcomes)) }
+    {
+        passed_on(
+            self.signed_message()
+                .validate_any_at(verifier, keys, when),
         )
     }
 }

@@ -1,5 +1,5 @@
--- The five parts of a view stand in the octets of the message, in their order.
-use Rattle.std.proofs.Common.{◌≡◌, ℕ, Option, Some, List, [], ◌∷◌, ◌++◌, sym, ap, subst, ◌∙◌, append_assoc}
+-- The parts of a view stand in the octets of the message, in their order.
+use Rattle.std.proofs.Common.{◌≡◌, ℕ, Option, None, Some, List, [], ◌∷◌, ◌++◌, sym, ap, subst, ◌∙◌, append_assoc}
 use Rattle.std.specs.Prelude.{if◌then◌else◌}
 use Rattle.std.proofs.lemmas.List.{append-nil}
 use Rattle.rpki_common.specs.Chaining.{◌>>=◌}
@@ -8,15 +8,16 @@ use Rattle.rpki_common.proofs.Truths.{none_some, same_some}
 use Rattle.rpki_der.specs.declared.mode.Mode.{Mode}
 use Rattle.rpki_der.specs.Identifier.{has_tag}
 use Rattle.rpki_der.specs.Tags.{sequence, set, context}
-use Rattle.rpki_der.specs.Value.{Form, Value, Primitive, Constructed, Values, ◌▸◌, lengths_of, end_mark, spelling, spellings}
+use Rattle.rpki_der.specs.Value.{Form, Value, Primitive, Constructed, Values, End, ◌▸◌, lengths_of, end_mark, spelling, spellings}
 use Rattle.rpki_der.specs.Grammar.{within, first, wrapped}
 use Rattle.rpki_der.specs.Held.{held, with_octets}
 use Rattle.rpki_der.specs.OctetString.{octet_string}
 use Rattle.rpki_der.proofs.Firsts.{FirstIs, first_is, done_is}
 use Rattle.rpki_idcert.specs.IdCert.{identity_certificate}
 use Rattle.rpki_sigmsg.specs.Attributes.{signed_attributes}
-use Rattle.rpki_sigmsg.specs.Message.{ViewFields, encapsulated_content, crl_in_der, signed_parts, viewed_message}
-use Rattle.rpki_sigmsg.specs.Places.{StandInTurn, parts_of}
+use Rattle.rpki_sigmsg.specs.Crl.{CrlFields}
+use Rattle.rpki_sigmsg.specs.Message.{ViewFields, CrlSet, crl_set_of, encapsulated_content, crl_in_der, if_any, crl_set, signed_parts, viewed_message}
+use Rattle.rpki_sigmsg.specs.Places.{StandInTurn, crls_of, parts_of}
 use Rattle.rpki_sigmsg.specs.Signer.{SignerFields, signer_info}
 
 -- ---- parts in turn
@@ -105,6 +106,33 @@ shows_content mode = shows_within sequence _ front_of (λ vs y e.
     let is = done_is c.x.0 y c.x.1 c.then' in
     pass _ (front_of y) vs b.x f (subst (λ (z : List ℕ × List ℕ). StandInTurn (front_of z) (spellings b.x.1)) is (last _ front_of b.x.1 c.x (shows_wrapped (context 0) (with_octets (octet_string mode)) front_of (shows_octets (octet_string mode))) g)))
 
+abbrev crls_in : CrlSet → List (List ℕ)
+crls_in s = crls_of s.first s.second
+
+-- the second CRL
+shows_other : (vs : Values) (other : List ℕ × CrlFields) (rest : Values) → if_any (with_octets crl_in_der) vs ≡ Some (Some other, rest) → StandInTurn (front_of other) (spellings vs)
+unfolding if_any
+shows_other End other rest e = cc
+shows_other (v ▸ vs) other rest e =
+    let b = bound (with_octets crl_in_der v) _ (Some other, rest) e in
+    let is : (Some b.x, vs) ≡ (Some other, rest) = same_some _ _ b.then' in
+    let same : b.x ≡ other = same_some _ _ (ap (λ (p : Option (List ℕ × CrlFields) × Values). p.0) is) in
+    subst (λ (z : List ℕ × CrlFields). StandInTurn (front_of z) (spelling v ++ spellings vs)) same (before_more (front_of b.x) (spelling v) (spellings vs) (shows_octets crl_in_der v b.x b.found))
+
+shows_set : (vs : Values) (one : (List ℕ × CrlFields) × Values) (other : Option (List ℕ × CrlFields)) (rest : Values) → FirstIs (with_octets crl_in_der) vs one → if_any (with_octets crl_in_der) one.1 ≡ Some (other, rest)
+    → StandInTurn (crls_in (crl_set_of one.0 other)) (spellings vs)
+shows_set vs one None rest f e = last _ front_of vs one (shows_octets crl_in_der) f
+shows_set vs one (Some other) rest f e = step _ front_of (front_of other) vs one (shows_octets crl_in_der) f (shows_other one.1 other rest e)
+
+shows_crls : Shows crl_set crls_in
+unfolding crl_set
+shows_crls = shows_within (context 1) _ crls_in (λ vs y e.
+    let a = bound _ _ y e in
+    let f = first_is _ vs a.x a.found in
+    let b = bound _ _ y a.then' in
+    let is = done_is (crl_set_of a.x.0 b.x.0) y b.x.1 b.then' in
+    subst (λ (z : CrlSet). StandInTurn (crls_in z) (spellings vs)) is (shows_set vs a.x b.x.0 b.x.1 f b.found))
+
 shows_attributes : (mode : Mode) → Shows (signed_attributes mode) front_of
 unfolding signed_attributes
 shows_attributes mode = shows_within (context 0) _ front_of (shows_held _)
@@ -152,11 +180,11 @@ shows_parts mode = shows_within sequence _ parts_of (λ vs y e.
     let is = done_is _ y m.x.1 m.then' in
     let signer = last _ signed_parts_of k.x.1 m.x (shows_wrapped set (signer_info mode) signed_parts_of (shows_signer mode)) fm in
     let two = signed_parts_of m.x.0 in
-    let three = front_of k.x.0 ++ two in
+    let three = crls_in k.x.0 ++ two in
     let four = front_of d.x.0 ++ three in
     let five = front_of c.x.0 ++ four in
-    let crl = step _ front_of two d.x.1 k.x (shows_wrapped (context 1) (with_octets crl_in_der) front_of (shows_octets crl_in_der)) fk signer in
-    let certificate = step _ front_of three c.x.1 d.x (shows_wrapped (context 0) (with_octets (identity_certificate mode)) front_of (shows_octets (identity_certificate mode))) fd crl in
+    let crls = step _ crls_in two d.x.1 k.x shows_crls fk signer in
+    let certificate = step _ front_of three c.x.1 d.x (shows_wrapped (context 0) (with_octets (identity_certificate mode)) front_of (shows_octets (identity_certificate mode))) fd crls in
     let parts = pass _ five vs a.x fa (pass _ five a.x.1 b.x fb (step _ front_of four b.x.1 c.x (shows_content mode) fc certificate)) in
     subst (λ (z : ViewFields). StandInTurn (parts_of z) (spellings vs)) is parts)
 

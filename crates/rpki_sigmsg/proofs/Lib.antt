@@ -1,8 +1,10 @@
 pub mod Adding
 pub mod Ahead
+pub mod Further
 pub mod Entries
 pub mod CrlGathering
 pub mod Meaning
+pub mod AnyKey
 pub mod Loosening
 pub mod Bounds
 pub mod InTurn

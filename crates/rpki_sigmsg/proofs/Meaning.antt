@@ -3,7 +3,7 @@ use Rattle.std.proofs.Common.{◌≡◌, ℕ, ◌+◌, ℤ, ◌≤ℤ◌, ◌⊎
 use Rattle.std.specs.Int.Signed.{le_z_yes}
 use Rattle.std.proofs.lemmas.Float.{T_from_true}
 use Rattle.std.specs.Prelude.{T, ◌↔◌, int_le, ◌&&◌, not, bytes_eq, Decides, OnOk}
-use Rattle.std.specs.List.{AllByRecursion}
+use Rattle.std.specs.List.{list_all, AllByRecursion}
 use Rattle.std.proofs.Math.Logic.{⊎_map}
 use Rattle.std.proofs.lemmas.List.Elements.{All-from_recursion}
 use Rattle.sha2.specs.Sha256.{sha256}
@@ -15,7 +15,7 @@ use Rattle.rpki_base.specs.declared.validation.ValidationError.{ValidationError}
 use Rattle.rpki_base.proofs.Checking.{passes}
 use Rattle.rpki_base.proofs.Believing.{decides_yes, none_failing, held_where_ok, passes_where_ok, ok_where_passes}
 use Rattle.rpki_sigmsg.specs.Crl.{CrlFields}
-use Rattle.rpki_sigmsg.specs.CrlChecks.{same_algorithm, crl_checks, crl_kind, IsListBelieved}
+use Rattle.rpki_sigmsg.specs.CrlChecks.{same_algorithm, crl_checks, crl_kind, AreCrlsSigned, IsListBelieved}
 use Rattle.rpki_sigmsg.specs.Message.{MessageFields}
 use Rattle.rpki_sigmsg.specs.Checks.{checks, kind_of, is_not_revoked, Asked, AreSigned, IsBelieved, IsValidation, SameAnswers, Passes, IsInSpan}
 
@@ -27,7 +27,7 @@ on_ok_always (Err e) p = tt
 
 -- the three questions, where each is answered by yes
 abbrev all_signed : (scheme : Relation) (m : MessageFields) (issuer : KeyFields) → AreSigned scheme m issuer → Asked scheme m issuer
-all_signed scheme m issuer s = record { q3 = true; q8 = true; q10 = true; attributes = decides_yes s.attributes; certificate = decides_yes s.certificate; crl = decides_yes s.crl }
+all_signed scheme m issuer s = record { q3 = true; q8 = true; q10 = true; attributes = decides_yes s.attributes; certificate = decides_yes s.certificate; crls = decides_yes s.crls }
 
 pub believed : (scheme : Relation) (m : MessageFields) (issuer : KeyFields) (when : ℤ) (r : Result (Unit {0}) ValidationError) → OnOk r (AreSigned scheme m issuer)
     → ((q : Asked scheme m issuer) → r ≡ failing kind_of (first_failure 1 (checks m issuer when q.q3 q.q8 q.q10))) → (r ≡ Ok tt) ↔ IsBelieved scheme m issuer when
@@ -37,44 +37,61 @@ believed scheme m issuer when r signed first = (
   (λ b. first (all_signed scheme m issuer b.signatures) ∙ ap (failing kind_of) b.passes),
 )
 
-pub list_believed : (scheme : Relation) (c : CrlFields) (issuer : KeyFields) (when : ℤ) (r : Result (Unit {0}) ValidationError) → OnOk r (IsSigned scheme c issuer)
-    → ((q : Bool) → Decides q (IsSigned scheme c issuer) → r ≡ failing crl_kind (first_failure 9 (crl_checks c issuer when q))) → (r ≡ Ok tt) ↔ IsListBelieved scheme c issuer when
-list_believed scheme c issuer when r signed first = (
-  (λ e. let s = held_where_ok r signed e in
-      record { signed = s; passes = passes_where_ok crl_kind (IsSigned scheme c issuer) 9 (crl_checks c issuer when) r first s e }),
-  (λ b. ok_where_passes crl_kind (IsSigned scheme c issuer) 9 (crl_checks c issuer when) r first b.signed b.passes),
+-- the same of the number of the check alone
+pub number_believed : (scheme : Relation) (m : MessageFields) (issuer : KeyFields) (when : ℤ) (r : Result (Unit {0}) ℕ) → OnOk r (AreSigned scheme m issuer)
+    → ((q : Asked scheme m issuer) → r ≡ first_failure 1 (checks m issuer when q.q3 q.q8 q.q10)) → (r ≡ Ok tt) ↔ IsBelieved scheme m issuer when
+number_believed scheme m issuer when r signed first = (
+  (λ e. let s = held_where_ok r signed e in record { signatures = s; passes = sym (first (all_signed scheme m issuer s)) ∙ e }),
+  (λ b. first (all_signed scheme m issuer b.signatures) ∙ b.passes),
 )
+
+-- a list of one CRL
+pub decides_one : (scheme : Relation) (c : CrlFields) (issuer : KeyFields) (q : Bool) → Decides q (IsSigned scheme c issuer) → Decides q (AreCrlsSigned scheme (c ∷ []) issuer)
+decides_one scheme c issuer q d = (λ e. (d.0 e, tt), λ s. d.1 s.0)
+
+one_signed : {P : Type 0} (r : Result (Unit {0}) ValidationError) → OnOk r (P × Unit {0}) → OnOk r P
+one_signed (Ok x) s = s.0
+one_signed (Err e) s = tt
+
+pub list_believed : (scheme : Relation) (c : CrlFields) (issuer : KeyFields) (when : ℤ) (r : Result (Unit {0}) ValidationError) → OnOk r (AreCrlsSigned scheme (c ∷ []) issuer)
+    → ((q : Bool) → Decides q (AreCrlsSigned scheme (c ∷ []) issuer) → r ≡ failing crl_kind (first_failure 9 (crl_checks (c ∷ []) issuer when q))) → (r ≡ Ok tt) ↔ IsListBelieved scheme c issuer when
+list_believed scheme c issuer when r signed first =
+    let asked = λ q d. first q (decides_one scheme c issuer q d) in (
+      (λ e. let s = held_where_ok r (one_signed r signed) e in
+          record { signed = s; passes = passes_where_ok crl_kind (IsSigned scheme c issuer) 9 (crl_checks (c ∷ []) issuer when) r asked s e }),
+      (λ b. ok_where_passes crl_kind (IsSigned scheme c issuer) 9 (crl_checks (c ∷ []) issuer when) r asked b.signed b.passes),
+    )
 
 -- ---- two schemes
 
-moved : {P Q : Type 0} (b : Bool) → P ↔ Q → Decides b P → Decides b Q
+pub moved : {P Q : Type 0} (b : Bool) → P ↔ Q → Decides b P → Decides b Q
 moved b w d = (λ e. w.0 (d.0 e), λ q. d.1 (w.1 q))
 
-turned : {P Q : Type 0} → P ↔ Q → Q ↔ P
+pub turned : {P Q : Type 0} → P ↔ Q → Q ↔ P
 turned w = (w.1, w.0)
 
-asked_too : (s t : Relation) (m : MessageFields) (issuer : KeyFields) (r : Asked t m issuer) → SameAnswers s t m issuer → Asked s m issuer
+pub asked_too : (s t : Relation) (m : MessageFields) (issuer : KeyFields) (r : Asked t m issuer) → SameAnswers s t m issuer → Asked s m issuer
 asked_too s t m issuer r w = record {
   q3 = r.q3;
   q8 = r.q8;
   q10 = r.q10;
   attributes = moved _ (turned w.attributes) r.attributes;
   certificate = moved _ (turned w.certificate) r.certificate;
-  crl = moved _ (turned w.crl) r.crl;
+  crls = moved _ (turned w.crls) r.crls;
 }
 
-believed_too : (s t : Relation) (m : MessageFields) (issuer : KeyFields) (when : ℤ) → SameAnswers s t m issuer → IsBelieved s m issuer when → IsBelieved t m issuer when
+pub believed_too : (s t : Relation) (m : MessageFields) (issuer : KeyFields) (when : ℤ) → SameAnswers s t m issuer → IsBelieved s m issuer when → IsBelieved t m issuer when
 believed_too s t m issuer when w b = record {
   signatures = record {
     attributes = w.attributes.0 b.signatures.attributes;
     certificate = w.certificate.0 b.signatures.certificate;
-    crl = w.crl.0 b.signatures.crl;
+    crls = w.crls.0 b.signatures.crls;
   };
   passes = b.passes;
 }
 
-same_back : (s t : Relation) (m : MessageFields) (issuer : KeyFields) → SameAnswers s t m issuer → SameAnswers t s m issuer
-same_back s t m issuer w = record { attributes = turned w.attributes; certificate = turned w.certificate; crl = turned w.crl }
+pub same_back : (s t : Relation) (m : MessageFields) (issuer : KeyFields) → SameAnswers s t m issuer → SameAnswers t s m issuer
+same_back s t m issuer w = record { attributes = turned w.attributes; certificate = turned w.certificate; crls = turned w.crls }
 
 pub same_validation : (s t : Relation) (m : MessageFields) (issuer : KeyFields) (when : ℤ) (answer : Result (Unit {0}) ValidationError) → SameAnswers s t m issuer → IsValidation s m issuer when answer → IsValidation t m issuer when answer
 unfolding asked_too
@@ -109,6 +126,15 @@ right_true : (a b : Bool) → (a && b) ≡ true → b ≡ true
 right_true true b e = e
 right_true false b e = cc
 
+-- the same of each element
+each_from : {X : Type 0} (f : X → Bool) (P : X → Type 0) → ((x : X) → f x ≡ true → P x) → (xs : List X) → list_all f xs ≡ true → AllByRecursion P xs
+each_from f P h [] e = tt
+each_from f P h (x ∷ xs) e = (h x (left_true (f x) (list_all f xs) e), each_from f P h xs (right_true (f x) (list_all f xs) e))
+
+from_each : {X : Type 0} (f : X → Bool) (P : X → Type 0) → ((x : X) → P x → f x ≡ true) → (xs : List X) → AllByRecursion P xs → list_all f xs ≡ true
+from_each f P h [] a = refl
+from_each f P h (x ∷ xs) a = both_true (f x) (list_all f xs) (h x a.0) (from_each f P h xs a.1)
+
 abbrev IsSo : Bool → Type 0
 IsSo b = b ≡ true
 
@@ -138,9 +164,9 @@ others m k q3 q8 q10 =
     ∷ names_issuer m.certificate.tbs.authority_key_id k
     ∷ not (is_true m.certificate.tbs.basic_ca)
     ∷ q8
-    ∷ same_algorithm m.crl.tbs.algorithm m.crl.signed.signature.algorithm
+    ∷ list_all (λ c. same_algorithm c.tbs.algorithm c.signed.signature.algorithm) m.crls
     ∷ q10
-    ∷ names_issuer m.crl.tbs.authority_key_id k
+    ∷ list_all (λ c. names_issuer c.tbs.authority_key_id k) m.crls
     ∷ is_not_revoked m
     ∷ []
 
@@ -150,17 +176,27 @@ without_moment m k q3 q8 q10 when (a1, (a2, (a3, (a4, (a5, (a6, (a7, (a8, (a9, (
 span_of : (m : MessageFields) (k : KeyFields) (q3 q8 q10 : Bool) (when : ℤ) → AreSo (checks m k when q3 q8 q10) → IsInSpan m when
 span_of m k q3 q8 q10 when (a1, (a2, (a3, (a4, (a5, (a6, (a7, (a8, (a9, (a10, (a11, (a12, (a13, (a14, u)))))))))))))) = record {
   not_before = at_most _ _ (left_true _ _ a5);
-  this_update = at_most _ _ a11;
+  this_updates = each_from (λ c. int_le c.tbs.this_update when) _ (λ c e. at_most c.tbs.this_update when e) m.crls a11;
   not_after = at_most _ _ (right_true _ _ a5);
-  next_update = at_most _ _ a12;
+  next_updates = each_from (λ c. int_le when c.tbs.next_update) _ (λ c e. at_most when c.tbs.next_update e) m.crls a12;
 }
 
 in_span : (m : MessageFields) (k : KeyFields) (q3 q8 q10 : Bool) (when : ℤ) → AreSo (others m k q3 q8 q10) → IsInSpan m when → AreSo (checks m k when q3 q8 q10)
 in_span m k q3 q8 q10 when (a1, (a2, (a3, (a4, (a6, (a7, (a8, (a9, (a10, (a13, (a14, u))))))))))) s =
-    (a1, (a2, (a3, (a4, (both_true _ _ (is_at_most _ _ s.not_before) (is_at_most _ _ s.not_after), (a6, (a7, (a8, (a9, (a10, (is_at_most _ _ s.this_update, (is_at_most _ _ s.next_update, (a13, (a14, u))))))))))))))
+    (a1, (a2, (a3, (a4, (both_true _ _ (is_at_most _ _ s.not_before) (is_at_most _ _ s.not_after), (a6, (a7, (a8, (a9, (a10, (from_each (λ c. int_le c.tbs.this_update when) _ (λ c l. is_at_most c.tbs.this_update when l) m.crls s.this_updates, (from_each (λ c. int_le when c.tbs.next_update) _ (λ c l. is_at_most when c.tbs.next_update l) m.crls s.next_updates, (a13, (a14, u))))))))))))))
 
 pub one_span : (m : MessageFields) (k : KeyFields) (q3 q8 q10 : Bool) → ((when : ℤ) → Passes m k q3 q8 q10 when → ⊥) ⊎ ((when : ℤ) → Passes m k q3 q8 q10 when ↔ IsInSpan m when)
 one_span m k q3 q8 q10 = ⊎_map
     (λ no when p. no (without_moment m k q3 q8 q10 when (all_hold 1 (checks m k when q3 q8 q10) p)))
     (λ yes when. (λ p. span_of m k q3 q8 q10 when (all_hold 1 (checks m k when q3 q8 q10) p), λ s. none_fails 1 (checks m k when q3 q8 q10) (in_span m k q3 q8 q10 when yes s)))
     (decided (others m k q3 q8 q10))
+
+-- one moment at which a message is believed makes all of the span such ones
+pub believed_within : (scheme : Relation) (m : MessageFields) (k : KeyFields) (when : ℤ) → IsBelieved scheme m k when → IsInSpan m when
+believed_within scheme m k when b = span_of m k true true true when (all_hold 1 (checks m k when true true true) b.passes)
+
+pub believed_then : (scheme : Relation) (m : MessageFields) (k : KeyFields) (one when : ℤ) → IsBelieved scheme m k one → IsInSpan m when → IsBelieved scheme m k when
+believed_then scheme m k one when b s = record {
+  signatures = b.signatures;
+  passes = none_fails 1 (checks m k when true true true) (in_span m k true true true when (without_moment m k true true true one (all_hold 1 (checks m k one true true true) b.passes)) s);
+}

@@ -1,6 +1,8 @@
 -- The fourteen checks of a signed message under an issuer's key at a moment, and what they mean (RFC 5652, 5.4 and 5.6; RFC 6492, 3.1.2;
--- RFC 8181, 2).
-use Rattle.std.specs.Prelude.{◌≡◌, ◌↔◌, ◌≤ℤ◌, ℕ, ℤ, Bool, not, ◌||◌, ◌==◌, if◌then◌else◌, bytes_eq, true, Decides, Result, Ok, List, [], ◌∷◌, ◌++◌}
+-- RFC 8181, 2); and the same under a list of keys.
+use Rattle.std.specs.Prelude.{◌≡◌, ◌↔◌, ◌≤ℤ◌, ◌+◌, ℕ, ℤ, Bool, not, ◌||◌, ◌==◌, if◌then◌else◌, bytes_eq, true, Decides, Option, None, Some, Result, Ok, Err}
+use Rattle.std.specs.Prelude.{List, [], ◌∷◌, ◌++◌, length, max, ⊤}
+use Rattle.std.specs.List.{list_all, AllByRecursion}
 use Rattle.sha2.specs.Sha256.{sha256}
 use Rattle.rpki_base.specs.PublicKey.{KeyFields}
 use Rattle.rpki_base.specs.Scheme.{Relation}
@@ -11,7 +13,7 @@ use Rattle.rpki_base.specs.declared.validation.ValidationError.{ValidationError}
 use Rattle.rpki_base.specs.declared.validation.ValidationKind.{ValidationKind}
 use Rattle.rpki_base.specs.declared.validation.ValidationKind.TheVariants.{Inspection, Verification}
 use Rattle.rpki_sigmsg.specs.RevokedCertificates.{is_listed}
-use Rattle.rpki_sigmsg.specs.CrlChecks.{crl_checks}
+use Rattle.rpki_sigmsg.specs.CrlChecks.{crl_checks, AreCrlsSigned}
 use Rattle.rpki_sigmsg.specs.Message.{MessageFields}
 
 -- the question to the scheme: whether the signature of the attributes holds under the key of the certificate
@@ -27,39 +29,40 @@ message_checks m q3 =
     ∷ q3
     ∷ []
 
--- 14: the CRL doesn't list the certificate
+-- 14: no CRL lists the certificate
 abbrev pub is_not_revoked : MessageFields → Bool
-is_not_revoked m = not (is_listed m.certificate.tbs.serial m.crl.tbs.revoked.entries)
+is_not_revoked m =
+    list_all (λ c. not (is_listed m.certificate.tbs.serial c.tbs.revoked.entries)) m.crls
 
--- all fourteen; 4 to 8 are those of the end entity's certificate, 9 to 13 those of the CRL
+-- all fourteen; 4 to 8 are those of the end entity's certificate, 9 to 13 those of the CRLs
 abbrev pub checks : MessageFields → KeyFields → ℤ → Bool → Bool → Bool → List Bool
 checks m issuer when q3 q8 q10 =
     message_checks m q3
     ++ (ee_checks m.certificate issuer when q8
-    ++ (crl_checks m.crl issuer when q10
+    ++ (crl_checks m.crls issuer when q10
     ++ (is_not_revoked m ∷ [])))
 
 -- checks 1 and 4 are inspections
 abbrev pub kind_of : ℕ → ValidationKind
 kind_of n = if n == 1 || n == 4 then Inspection else Verification
 
--- the three questions to the scheme, with their answers
+-- the questions to the scheme, with their answers: of the attributes, of the certificate, and of all CRLs
 pub record Asked (scheme : Relation) (m : MessageFields) (issuer : KeyFields) : Type 0 where
   pub q3 : Bool
   pub q8 : Bool
   pub q10 : Bool
   pub attributes : Decides q3 (AreAttributesSigned scheme m)
   pub certificate : Decides q8 (IsSigned scheme m.certificate issuer)
-  pub crl : Decides q10 (IsSigned scheme m.crl issuer)
+  pub crls : Decides q10 (AreCrlsSigned scheme m.crls issuer)
 
--- the three signatures hold: that of the attributes under the key of the certificate, and those of certificate and CRL under the
--- issuer's key
+-- the signatures hold: that of the attributes under the key of the certificate, and those of the certificate and of each CRL under
+-- the issuer's key
 pub record AreSigned (scheme : Relation) (m : MessageFields) (issuer : KeyFields) : Type 0 where
   pub attributes : AreAttributesSigned scheme m
   pub certificate : IsSigned scheme m.certificate issuer
-  pub crl : IsSigned scheme m.crl issuer
+  pub crls : AreCrlsSigned scheme m.crls issuer
 
--- the three signatures hold, and with them all fourteen checks
+-- the signatures hold, and with them all fourteen checks
 pub record IsBelieved (scheme : Relation) (m : MessageFields) (issuer : KeyFields) (when : ℤ) : Type
     0 where
   pub signatures : AreSigned scheme m issuer
@@ -72,13 +75,102 @@ pub record IsValidation (scheme : Relation) (m : MessageFields) (issuer : KeyFie
   pub first_failing : (q : Asked scheme m issuer)
       → answer ≡ failing kind_of (first_failure 1 (checks m issuer when q.q3 q.q8 q.q10))
 
+-- ---- a list of keys
+
+-- the key is one of the list
+pub record IsAmong (keys : List KeyFields) (key : KeyFields) : Type 0 where
+  pub before : List KeyFields
+  pub behind : List KeyFields
+  pub parts : keys ≡ before ++ key ∷ behind
+
+-- believed under a key of the list
+pub record IsBelievedUnder (scheme : Relation) (m : MessageFields) (keys : List KeyFields)
+    (when : ℤ) : Type 0 where
+  pub key : KeyFields
+  pub among : IsAmong keys key
+  pub believed : IsBelieved scheme m key when
+
+-- believed under no key of the list
+abbrev pub IsUnbelieved : Relation → MessageFields → List KeyFields → ℤ → Type 0
+IsUnbelieved scheme m keys when = AllByRecursion (λ k. IsBelieved scheme m k when → ⊥) keys
+
+-- believed under the key at this place, from 0, and under none before it
+pub record IsFirstBelieved (scheme : Relation) (m : MessageFields) (keys : List KeyFields)
+    (when : ℤ) (place : ℕ) : Type 0 where
+  pub before : List KeyFields
+  pub key : KeyFields
+  pub behind : List KeyFields
+  pub parts : keys ≡ before ++ key ∷ behind
+  pub number : place ≡ length before
+  pub believed : IsBelieved scheme m key when
+  pub none_before : IsUnbelieved scheme m before when
+
+-- what comes of the checks under the key, by answers to the questions: the first that fails, if one does
+pub record HasOutcome (scheme : Relation) (m : MessageFields) (key : KeyFields) (when : ℤ)
+    (outcome : Result (Unit {0}) ℕ) : Type 0 where
+  pub asked : Asked scheme m key
+  pub is : outcome ≡ first_failure 1 (checks m key when asked.q3 asked.q8 asked.q10)
+
+-- the same under each key, in their order
+abbrev pub AreOutcomes : Relation → MessageFields → List KeyFields → ℤ
+    → List (Result (Unit {0}) ℕ) → Type 0
+AreOutcomes scheme m [] when [] = ⊤
+AreOutcomes scheme m [] when (o ∷ os) = ⊥
+AreOutcomes scheme m (k ∷ ks) when [] = ⊥
+AreOutcomes scheme m (k ∷ ks) when (o ∷ os) =
+    HasOutcome scheme m k when o × AreOutcomes scheme m ks when os
+
+-- the place of the first key, from n on, under which none fails
+abbrev pub first_passing : ℕ → List (Result (Unit {0}) ℕ) → Option ℕ
+first_passing n [] = None
+first_passing n (Ok u ∷ more) = Some n
+first_passing n (Err check ∷ more) = first_passing (n + 1) more
+
+-- the greatest of the checks that fail, 0 where none does
+abbrev pub greatest : List (Result (Unit {0}) ℕ) → ℕ
+greatest [] = 0
+greatest (Ok u ∷ more) = greatest more
+greatest (Err check ∷ more) = max check (greatest more)
+
+-- the place, or the check where there is none
+abbrev pub ranked_by : Option ℕ → ℕ → Result ℕ ℕ
+ranked_by (Some place) check = Ok place
+ranked_by None check = Err check
+
+-- the place of the first key under which none fails; else the greatest of the checks that fail
+abbrev pub ranked : List (Result (Unit {0}) ℕ) → Result ℕ ℕ
+ranked list = ranked_by (first_passing 0 list) (greatest list)
+
+-- What the checks answer under a list of keys: the place of the first key under which the message is believed; an error only where it
+-- is believed under none, and then the greatest of the first checks that fail under each key, whatever the scheme answers.
+pub record IsAnyValidation (scheme : Relation) (m : MessageFields) (keys : List KeyFields)
+    (when : ℤ) (answer : Result ℕ ValidationError) : Type 0 where
+  pub believed : (place : ℕ)
+      → (answer ≡ Ok place) ↔ IsFirstBelieved scheme m keys when place
+  pub none : (error : ValidationError) → answer ≡ Err error → IsUnbelieved scheme m keys when
+  pub first_failing : (outcomes : List (Result (Unit {0}) ℕ))
+      → AreOutcomes scheme m keys when outcomes → answer ≡ failing kind_of (ranked outcomes)
+
+-- the answer without the place
+abbrev pub without_place : Result ℕ ValidationError → Result (Unit {0}) ValidationError
+without_place (Ok place) = Ok tt
+without_place (Err error) = Err error
+
+-- each key of the first list is one of the second
+abbrev pub AreAmong : List KeyFields → List KeyFields → Type 0
+AreAmong keys more = AllByRecursion (IsAmong more) keys
+
 -- ---- what the checks ask of a scheme
 
--- two schemes answer the three questions alike
+-- two schemes answer the questions alike
 pub record SameAnswers (s t : Relation) (m : MessageFields) (issuer : KeyFields) : Type 0 where
   pub attributes : AreAttributesSigned s m ↔ AreAttributesSigned t m
   pub certificate : IsSigned s m.certificate issuer ↔ IsSigned t m.certificate issuer
-  pub crl : IsSigned s m.crl issuer ↔ IsSigned t m.crl issuer
+  pub crls : AreCrlsSigned s m.crls issuer ↔ AreCrlsSigned t m.crls issuer
+
+-- the same under each key of a list
+abbrev pub SameAnswersUnder : Relation → Relation → MessageFields → List KeyFields → Type 0
+SameAnswersUnder s t m keys = AllByRecursion (SameAnswers s t m) keys
 
 -- ---- at which moments a message is accepted
 
@@ -86,9 +178,9 @@ pub record SameAnswers (s t : Relation) (m : MessageFields) (issuer : KeyFields)
 abbrev pub Passes : MessageFields → KeyFields → Bool → Bool → Bool → ℤ → Type 0
 Passes m issuer q3 q8 q10 when = first_failure 1 (checks m issuer when q3 q8 q10) ≡ Ok tt
 
--- from the later of notBefore and thisUpdate to the earlier of notAfter and nextUpdate, both ends in
+-- from the latest of notBefore and each thisUpdate to the earliest of notAfter and each nextUpdate, both ends in
 pub record IsInSpan (m : MessageFields) (when : ℤ) : Type 0 where
   pub not_before : m.certificate.tbs.validity.not_before ≤ℤ when
-  pub this_update : m.crl.tbs.this_update ≤ℤ when
+  pub this_updates : AllByRecursion (λ c. c.tbs.this_update ≤ℤ when) m.crls
   pub not_after : when ≤ℤ m.certificate.tbs.validity.not_after
-  pub next_update : when ≤ℤ m.crl.tbs.next_update
+  pub next_updates : AllByRecursion (λ c. when ≤ℤ c.tbs.next_update) m.crls

@@ -1,6 +1,7 @@
--- The checks of a signed message's CRL in their order (RFC 5280, 6.3.3; RFC 6492, 3.1.2).
+-- The checks of a signed message's CRLs in their order (RFC 5280, 6.3.3; RFC 6492, 3.1.2).
 use Rattle.std.specs.Prelude.{◌≡◌, ℕ, ℤ, int_le, Bool, true, false, ◌&&◌, Ok, List, [], ◌∷◌}
 use Rattle.std.specs.Bool.{beq}
+use Rattle.std.specs.List.{list_all, AllByRecursion}
 use Rattle.rpki_base.specs.PublicKey.{KeyFields, names_issuer}
 use Rattle.rpki_base.specs.Scheme.{Relation}
 use Rattle.rpki_base.specs.declared.rpki_algorithm.RsaIdentifier.{RsaIdentifier}
@@ -20,22 +21,27 @@ same_name a b = false
 abbrev pub same_algorithm : RpkiAlgorithm → RpkiAlgorithm → Bool
 same_algorithm a b = same_name a.identifier b.identifier && beq a.null b.null
 
--- Under the issuer's key, at a moment; q: the CRL is signed under that key. 1 signatureAlgorithm is signature (5.1.1.2); 2 q (6.3.3);
--- 3 thisUpdate (5.1.2.4); 4 nextUpdate (5.1.2.5); 5 authorityKeyIdentifier, if it is there, is the SHA-1 of the issuer's key (5.2.1)
-abbrev pub crl_checks : CrlFields → KeyFields → ℤ → Bool → List Bool
-crl_checks c issuer when q =
-    same_algorithm c.tbs.algorithm c.signed.signature.algorithm
+-- the question to the scheme: whether the signature of each CRL holds under the key
+abbrev pub AreCrlsSigned : Relation → List CrlFields → KeyFields → Type 0
+AreCrlsSigned scheme crls key = AllByRecursion (λ c. IsSigned scheme c key) crls
+
+-- Of all CRLs under the issuer's key, at a moment; q: each CRL is signed under that key. Each time it has to hold of each CRL:
+-- 1 signatureAlgorithm is signature (5.1.1.2); 2 q (6.3.3); 3 thisUpdate (5.1.2.4); 4 nextUpdate (5.1.2.5);
+-- 5 authorityKeyIdentifier, if it is there, is the SHA-1 of the issuer's key (5.2.1)
+abbrev pub crl_checks : List CrlFields → KeyFields → ℤ → Bool → List Bool
+crl_checks crls issuer when q =
+    list_all (λ c. same_algorithm c.tbs.algorithm c.signed.signature.algorithm) crls
     ∷ q
-    ∷ int_le c.tbs.this_update when
-    ∷ int_le when c.tbs.next_update
-    ∷ names_issuer c.tbs.authority_key_id issuer
+    ∷ list_all (λ c. int_le c.tbs.this_update when) crls
+    ∷ list_all (λ c. int_le when c.tbs.next_update) crls
+    ∷ list_all (λ c. names_issuer c.tbs.authority_key_id issuer) crls
     ∷ []
 
--- the CRL is signed under the issuer's key, and with that all five checks hold
+-- the CRL is signed under the issuer's key, and with that all five checks hold of it
 pub record IsListBelieved (scheme : Relation) (c : CrlFields) (issuer : KeyFields) (when : ℤ) : Type
     0 where
   pub signed : IsSigned scheme c issuer
-  pub passes : first_failure 9 (crl_checks c issuer when true) ≡ Ok tt
+  pub passes : first_failure 9 (crl_checks (c ∷ []) issuer when true) ≡ Ok tt
 
 -- all are verifications
 abbrev pub crl_kind : ℕ → ValidationKind

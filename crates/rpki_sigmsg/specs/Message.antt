@@ -1,10 +1,11 @@
--- Signed messages: signed data with one certificate, one CRL and one signer (RFC 5652, 3, 5.1 and 5.2; RFC 6492, 3.1.1; RFC 8181, 2).
-use Rattle.std.specs.Prelude.{ℕ, ℤ, Bool, true, false, Option, Some, List}
+-- Signed messages: signed data with one certificate, one or two CRLs and one signer (RFC 5652, 3, 5.1 and 5.2; RFC 6492, 3.1.1;
+-- RFC 8181, 2).
+use Rattle.std.specs.Prelude.{◌≤◌, ℕ, ℤ, Bool, true, false, Option, None, Some, List, [], ◌∷◌, length}
 use Rattle.rpki_common.specs.Chaining.{◌>>=◌}
 use Rattle.rpki_der.specs.declared.mode.Mode.{Mode}
 use Rattle.rpki_der.specs.declared.mode.Mode.TheVariants.{Ber, Der}
 use Rattle.rpki_der.specs.Tags.{sequence, set, context}
-use Rattle.rpki_der.specs.Value.{Value}
+use Rattle.rpki_der.specs.Value.{Value, Values, End, ◌▸◌}
 use Rattle.rpki_der.specs.Grammar.{any, within, first, done, wrapped, so}
 use Rattle.rpki_der.specs.Held.{with_octets}
 use Rattle.rpki_der.specs.InDer.{in_der}
@@ -21,7 +22,7 @@ use Rattle.rpki_sigmsg.specs.Crl.{CrlFields, revocation_list}
 use Rattle.rpki_sigmsg.specs.Signer.{SignerFields, signer_info}
 
 -- what a message says: its content; the signer's key identifier, the digest and the time that were signed, the octets that the
--- signature covers, and the signature; the certificate of the signer's key; the CRL
+-- signature covers, and the signature; the certificate of the signer's key; the one or two CRLs in their order
 pub record MessageFields : Type 0 where
   pub content : List ℕ
   pub signer : List ℕ
@@ -30,15 +31,20 @@ pub record MessageFields : Type 0 where
   pub covered : List ℕ
   pub signature : SignatureParts RpkiAlgorithm
   pub certificate : CertificateFields
-  pub crl : CrlFields
+  pub crls : List CrlFields
 
--- the same, and the octets of five of its parts as they stand in the message: the OCTET STRING of the content, the certificate, the
--- CRL, the signed attributes without what is round them, and the OCTET STRING of the signature
+-- one or two
+abbrev pub AreOneOrTwo : {X : Type 0} → List X → Type 0
+AreOneOrTwo list = (1 ≤ length list) × (length list ≤ 2)
+
+-- the same, and the octets of its parts as they stand in the message: the OCTET STRING of the content, the certificate, the first CRL
+-- and, where there are two, the second, the signed attributes without what is round them, and the OCTET STRING of the signature
 pub record ViewFields : Type 0 where
   pub message : MessageFields
   pub content_value : List ℕ
   pub certificate : List ℕ
   pub crl : List ℕ
+  pub second_crl : Option (List ℕ)
   pub attributes : List ℕ
   pub signature_value : List ℕ
 
@@ -58,10 +64,36 @@ encapsulated_content mode = within sequence (λ vs. do
 abbrev pub crl_in_der : Value → Option CrlFields
 crl_in_der = so any (in_der (revocation_list Der))
 
+-- the CRLs in their order, the octets of the first, and those of the second, if there is one
+pub record CrlSet : Type 0 where
+  pub lists : List CrlFields
+  pub first : List ℕ
+  pub second : Option (List ℕ)
+
+abbrev pub crl_set_of : List ℕ × CrlFields → Option (List ℕ × CrlFields) → CrlSet
+crl_set_of one None = record { lists = one.1 ∷ []; first = one.0; second = None }
+crl_set_of one (Some other) = record {
+  lists = one.1 ∷ other.1 ∷ [];
+  first = one.0;
+  second = Some other.0;
+}
+
+-- the first value, if there is one, and the values behind it
+unfoldable pub if_any : {X : Type 0} → (Value → Option X) → Values → Option (Option X × Values)
+if_any field End = Some (None, End)
+if_any field (v ▸ vs) = field v >>= λ x. Some (Some x, vs)
+
+-- RevocationInfoChoices (RFC 5652, 5.1 and 10.2.1): one CRL, or two. Each is in DER whatever the mode round it.
+unfoldable pub crl_set : Value → Option CrlSet
+crl_set = within (context 1) (λ vs. do
+  one ← first (with_octets crl_in_der) vs
+  other ← if_any (with_octets crl_in_der) one.1
+  done (crl_set_of one.0 other.0) other.1)
+
 -- the parts of a message as a view of it
-abbrev pub view_of : List ℕ × List ℕ → List ℕ × CertificateFields → List ℕ × CrlFields
-    → SignerFields → ViewFields
-view_of content certificate crl signer = record {
+abbrev pub view_of : List ℕ × List ℕ → List ℕ × CertificateFields → CrlSet → SignerFields
+    → ViewFields
+view_of content certificate crls signer = record {
   message = record {
     content = content.1;
     signer = signer.identifier;
@@ -70,11 +102,12 @@ view_of content certificate crl signer = record {
     covered = covered signer.attributes;
     signature = signer.signature;
     certificate = certificate.1;
-    crl = crl.1;
+    crls = crls.lists;
   };
   content_value = content.0;
   certificate = certificate.0;
-  crl = crl.0;
+  crl = crls.first;
+  second_crl = crls.second;
   attributes = signer.attributes;
   signature_value = signer.signature_value;
 }
@@ -87,17 +120,17 @@ view_of content certificate crl signer = record {
 --       crls [1] IMPLICIT RevocationInfoChoices OPTIONAL,
 --       signerInfos SignerInfos }
 --
--- Each of the four sets has exactly one member: SHA-256, the EE certificate, its issuer's CRL, the signer.
--- Signed data of version 3 (RFC 5652, 5.1). The CRL is in DER whatever the mode round it.
+-- The first, second and last set have exactly one member each: SHA-256, the EE certificate, the signer. The third has its issuer's CRL,
+-- or two. Signed data of version 3 (RFC 5652, 5.1).
 unfoldable pub signed_parts : Mode → Value → Option ViewFields
 signed_parts mode = within sequence (λ vs. do
   version ← first (integer_is 3) vs
   algorithms ← first (wrapped set digest_algorithm) version.1
   content ← first (encapsulated_content mode) algorithms.1
   certificate ← first (wrapped (context 0) (with_octets (identity_certificate mode))) content.1
-  crl ← first (wrapped (context 1) (with_octets crl_in_der)) certificate.1
-  signer ← first (wrapped set (signer_info mode)) crl.1
-  done (view_of content.0 certificate.0 crl.0 signer.0) signer.1)
+  crls ← first crl_set certificate.1
+  signer ← first (wrapped set (signer_info mode)) crls.1
+  done (view_of content.0 certificate.0 crls.0 signer.0) signer.1)
 
 --     ContentInfo ::= SEQUENCE {
 --       contentType ContentType,

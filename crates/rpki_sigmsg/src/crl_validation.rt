@@ -1,6 +1,6 @@
-//! Whether the CRL of a signed message may be believed.
+//! Whether the CRLs of a signed message may be believed.
 
-ghost use Rattle.std.specs.Prelude.{◌≡◌, ◌↔◌, Bool, Decides, Ok, OnOk};
+ghost use Rattle.std.specs.Prelude.{◌≡◌, ◌↔◌, ◌∷◌, [], Bool, Decides, Ok, OnOk};
 ghost use Rattle.rpki_base.specs.Checks.{first_failure, failing, IsSigned};
 ghost use Rattle.rpki_sigmsg.specs.CrlChecks as spec;
 
@@ -9,6 +9,7 @@ use rpki_base::{
     PublicKey, RpkiSignatureAlgorithm, Scheme, Time, ValidationError, ValidationKind, Verifier,
     names_issuer, require,
 };
+use std::array;
 
 // Whether both have the same object identifier, and NULL is there in both or in neither.
 fn same_algorithm(a: RpkiSignatureAlgorithm, b: RpkiSignatureAlgorithm) -> bool
@@ -37,24 +38,6 @@ impl SignedMessageCrl {
         self.signed_data().verify_signature(verifier, key).is_ok()
     }
 
-    /// The number of the first of the checks of `validate` that fails.
-    pub(crate) fn failure<P: Scheme, V: Verifier<P>>(
-        &self,
-        verifier: &V,
-        issuer_key: &PublicKey,
-        when: Time,
-    ) -> Result<(), u8>
-        ensures first_failing { (q : Bool) → Decides q (IsSigned P.checks self.now issuer_key.now) →
-            result ≡ first_failure 9 (spec.crl_checks self.now issuer_key.now when q) }
-        ensures signed { OnOk result (IsSigned P.checks self.now issuer_key.now) }
-    {
-        require(9, self.names_one_algorithm())?;
-        require(10, self.is_signed(verifier, issuer_key))?;
-        require(11, self.tbs().this_update() <= when)?;
-        require(12, when <= self.tbs().next_update())?;
-        require(13, names_issuer(self.tbs().authority_key_id(), issuer_key))
-    }
-
     /// Whether the key issued the CRL and it holds at the moment; if not, the first of these checks that fails, all of them
     /// verifications: (9) the algorithm inside what is signed is that of the signature, NULL included, (10) the signature
     /// holds under the issuer's key, (11) thisUpdate isn't after the moment, (12) nextUpdate isn't before it, (13) the
@@ -67,15 +50,15 @@ impl SignedMessageCrl {
         when: Time,
     ) -> Result<(), ValidationError>
         // Ok exactly where the signature and all the other checks hold.
-        ensures believed { (result ≡ Ok tt) ↔ spec.IsListBelieved P.checks self.now issuer_key.now
-            when }
+        ensures believed { (result ≡ Ok tt) ↔
+            spec.IsListBelieved P.checks self.now issuer_key.now when }
 
         // The first check that fails decides, whatever the scheme answers.
         ensures first_failing { (q : Bool) → Decides q (IsSigned P.checks self.now issuer_key.now) →
             result ≡ failing spec.crl_kind
-            (first_failure 9 (spec.crl_checks self.now issuer_key.now when q)) }
+                (first_failure 9 (spec.crl_checks (self.now ∷ []) issuer_key.now when q)) }
     {
-        match self.failure(verifier, issuer_key, when) {
+        match crls_failure(array::from_ref(self), verifier, issuer_key, when) {
             Ok(()) => Ok(()),
             Err(check) => Err(ValidationError {
                 kind: ValidationKind::Verification,
@@ -83,4 +66,43 @@ impl SignedMessageCrl {
             }),
         }
     }
+}
+
+// Whether the signature of each CRL holds under the key.
+fn are_signed<P: Scheme, V: Verifier<P>>(
+    crls: &[SignedMessageCrl],
+    verifier: &V,
+    key: &PublicKey,
+) -> bool
+    ensures { Decides result (spec.AreCrlsSigned P.checks crls.now key.now) }
+{
+    for crl in crls {
+        if !crl.is_signed(verifier, key) {
+            return false;
+        }
+    }
+    true
+}
+
+/// The number, from 9, of the first of the five checks that doesn't hold of each of the CRLs. It takes no memory.
+pub(crate) fn crls_failure<P: Scheme, V: Verifier<P>>(
+    crls: &[SignedMessageCrl],
+    verifier: &V,
+    issuer_key: &PublicKey,
+    when: Time,
+) -> Result<(), u8>
+    ensures first_failing { (q : Bool) →
+        Decides q (spec.AreCrlsSigned P.checks crls.now issuer_key.now) →
+        result ≡ first_failure 9 (spec.crl_checks crls.now issuer_key.now when q) }
+    ensures signed { OnOk result (spec.AreCrlsSigned P.checks crls.now issuer_key.now) }
+{
+    require(9, crls.iter().all(|crl| crl.names_one_algorithm()))?;
+    require(10, are_signed(crls, verifier, issuer_key))?;
+    require(11, crls.iter().all(|crl| crl.tbs().this_update() <= when))?;
+    require(12, crls.iter().all(|crl| when <= crl.tbs().next_update()))?;
+    require(
+        13,
+        crls.iter()
+            .all(|crl| names_issuer(crl.tbs().authority_key_id(), issuer_key)),
+    )
 }

@@ -25,7 +25,7 @@ pub fn views_are_of_messages()
         → signed_message mode v ≡ None }
 {}
 
-/// The five parts of a view stand in the octets of its message, in the order in which they are read: each is a piece of these octets,
+/// The parts of a view, five with one CRL and six with two, stand in the octets of its message, in the order in which they are read: each is a piece of these octets,
 /// between what stands before it and what stands behind it.
 pub fn parts_stand_in_turn()
     ensures { (mode : Mode) (v : Value) (w : ViewFields) →

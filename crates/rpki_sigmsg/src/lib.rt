@@ -2,7 +2,7 @@
 //!
 //! - [`SignedMessage`] is a message: it is decoded in DER or BER, and keeps what its signatures cover.
 //! - [`SignedMessageRef`] is a view of one, with the places of its parts in the octets from which it was read.
-//! - [`SignedMessageCrl`] is the CRL that comes with it, and says which certificates are revoked.
+//! - [`SignedMessageCrl`] is a CRL that comes with it, and says which certificates are revoked.
 //!
 //! What a message is stands in specs/Message.antt, with specs/Attributes.antt, specs/Signer.antt and specs/Crl.antt, as
 //! grammars over the values of X.690.
@@ -33,4 +33,7 @@ pub use reference::SignedMessageRef;
 pub use revoked::{CrlEntry, RevokedCertificates, equal_entries_are_the_same};
 pub use rpki_der::{DecodeError, OutOfMemory};
 pub use tbs_crl::SignedMessageTbsCrl;
-pub use validation::{moments_are_one_span, three_questions_decide};
+pub use validation::{
+    believed_moments_are_one_span, moments_are_one_span, more_keys_believe, one_key_is_validated,
+    questions_of_each_key_decide, three_questions_decide,
+};

@@ -1,12 +1,13 @@
 //! Signed messages.
 
-ghost use Rattle.std.specs.Prelude.{◌≡◌, ◌↔◌, ◌<◌, ◌+◌, ◌*◌, ◌≤◌, length, IsTrue, IfOk};
+ghost use Rattle.std.specs.Prelude.{◌≡◌, ◌↔◌, ◌<◌, ◌+◌, ◌*◌, ◌≤◌, ◌∷◌, List, length, IsTrue, IfOk};
 ghost use Rattle.sha2.specs.Sha256.{sha256};
 ghost use Rattle.rpki_der.specs.Takes.{Takes, Decodes};
 ghost use Rattle.rpki_der.specs.Ticks.{TakesCounted, DecodesCounted};
 ghost use Rattle.rpki_der.specs.Whole.{HoldsOne};
 ghost use Rattle.rpki_sigmsg.specs.ObjectIdentifiers.{xml_content};
-ghost use Rattle.rpki_sigmsg.specs.Message.{signed_message, mode_of};
+ghost use Rattle.rpki_sigmsg.specs.Crl.{CrlFields};
+ghost use Rattle.rpki_sigmsg.specs.Message.{AreOneOrTwo, signed_message, mode_of};
 
 use crate::crl::SignedMessageCrl;
 use crate::object_identifiers::CT_XML;
@@ -20,8 +21,8 @@ use std::alloc::Global;
 use std::marker::{Brand, Model};
 use std::sync::ledger::{Blank, Ledger};
 
-/// A signed message: what it says, who signed it, and the certificate and the CRL that come with it (RFC 5652, 5.1; RFC 6492,
-/// 3.1.1; RFC 8181, 2).
+/// A signed message: what it says, who signed it, and the certificate and the one or two CRLs that come with it (RFC 5652, 5.1;
+/// RFC 6492, 3.1.1; RFC 8181, 2).
 ///
 /// In a clause it is the record of its fields.
 #[derive(Drop)]
@@ -33,11 +34,11 @@ pub struct SignedMessage {
     pub(crate) covered: Bytes,
     pub(crate) signature: Signature<RpkiSignatureAlgorithm>,
     pub(crate) certificate: IdCert,
-    pub(crate) crl: SignedMessageCrl,
+    pub(crate) crls: Vec<SignedMessageCrl>,
 }
 
 impl Model for SignedMessage {
-    ghost use Rattle.rpki_sigmsg.specs.Message.{MessageFields};
+    ghost use Rattle.rpki_sigmsg.specs.Message.{AreOneOrTwo, MessageFields};
 
     ghost Value = { MessageFields };
 
@@ -48,22 +49,11 @@ impl Model for SignedMessage {
       signing_time = m.signing_time;
       covered = m.covered;
       signature = m.signature;
-      certificate =
-          m.certificate;
-      crl = m.crl;
+      certificate = m.certificate;
+      crls = m.crls.items;
     } };
 
-    ghost inverse = { λ m. record {
-      content = m.content;
-      signer = m.signer;
-      digest = m.digest;
-      signing_time = m.signing_time;
-      covered = m.covered;
-      signature = m.signature;
-      certificate =
-          m.certificate;
-      crl = m.crl;
-    } };
+    ghost invariant = { λ m. AreOneOrTwo m.crls.items };
 }
 
 /// The mode of strict or loose reading: DER or BER.
@@ -76,7 +66,7 @@ pub(crate) fn mode_of(strict: bool) -> Mode
 /// # Decoding
 impl SignedMessage {
     /// The message at the beginning of the octets, in DER where `strict` is set and otherwise in BER; what stands behind it isn't
-    /// read. The CRL is in DER in both.
+    /// read. The CRLs are in DER in both.
     ///
     /// Malformed exactly where no beginning of the octets is a message.
     pub fn decode(alloc: Global, octets: &[u8], strict: bool) -> Result<SignedMessage, DecodeError>
@@ -201,11 +191,22 @@ impl SignedMessage {
         &self.certificate
     }
 
-    /// The CRL that comes with the message.
-    pub fn crl(&self) -> &SignedMessageCrl
-        ensures { result.now ≡ self.now.crl }
+    /// The CRLs that come with the message, one or two.
+    pub fn crls(&self) -> &[SignedMessageCrl]
+        ensures crls { result.now ≡ self.now.crls }
+        ensures few { AreOneOrTwo result.now }
     {
-        &self.crl
+        self.crls.as_slice()
+    }
+
+    /// The first of the CRLs.
+    pub fn crl(&self) -> &SignedMessageCrl
+        ensures { (more : List CrlFields) × (self.now.crls ≡ result.now ∷ more) }
+    {
+        match self.crls() {
+            [first, ..] => first,
+            [] => unreachable!(),
+        }
     }
 
     /// An equal message that shares its octets with this one.
@@ -217,7 +218,7 @@ impl SignedMessage {
         let covered = self.covered.clone()?;
         let signature = self.signature.clone(alloc)?;
         let certificate = self.certificate.clone(alloc)?;
-        let crl = self.crl.clone(alloc)?;
+        let crls = clones(alloc, self.crls())?;
         Ok(SignedMessage {
             content,
             signer: self.signer,
@@ -226,7 +227,18 @@ impl SignedMessage {
             covered,
             signature,
             certificate,
-            crl,
+            crls,
         })
     }
+}
+
+// Equal CRLs that share their octets with these.
+fn clones(alloc: Global, crls: &[SignedMessageCrl]) -> Result<Vec<SignedMessageCrl>, OutOfMemory>
+    ensures { IfOk result (λ list. list.items ≡ crls.now) }
+{
+    let mut list = Vec::with_capacity(alloc, crls.len())?;
+    for crl in crls {
+        list.push(crl.clone(alloc)?)?;
+    }
+    Ok(list)
 }

@@ -1,6 +1,7 @@
 //! Views of signed messages.
 
 ghost use Rattle.std.specs.Prelude.{◌≡◌, ◌<◌, IfOk};
+ghost use Rattle.std.specs.Option.{option_copied};
 ghost use Rattle.rpki_der.specs.Grammar.{wrapped};
 ghost use Rattle.rpki_der.specs.Tags.{context};
 ghost use Rattle.rpki_der.specs.Takes.{Takes, Decodes};
@@ -10,10 +11,9 @@ ghost use Rattle.rpki_sigmsg.specs.Message as spec;
 
 use crate::attributes::covered_octets;
 use crate::content::{pass_digest_algorithms, take_encapsulated_content};
-use crate::crl::SignedMessageCrl;
 use crate::message::{SignedMessage, mode_of};
 use crate::object_identifiers::SIGNED_DATA;
-use crate::parts::{take_certificates, take_crls};
+use crate::parts::{CrlSet, take_certificates, take_crls};
 use crate::signer::{SignerInfo, take_signer_infos};
 use bytes::Bytes;
 use rpki_der::{
@@ -24,7 +24,7 @@ use std::alloc::Global;
 use std::marker::{Brand, Model};
 use std::sync::ledger::{Blank, Ledger};
 
-/// A signed message as it stands in the octets from which it was read: what it says, and the places of five of its parts.
+/// A signed message as it stands in the octets from which it was read: what it says, and the places of its parts.
 ///
 /// In a clause it is the record of these, with the octets as lists.
 #[derive(Drop)]
@@ -33,11 +33,13 @@ pub struct SignedMessageRef<'a> {
     content_value: &'a [u8],
     certificate: &'a [u8],
     crl: &'a [u8],
+    second_crl: Option<&'a [u8]>,
     attributes: &'a [u8],
     signature_value: &'a [u8],
 }
 
 impl<'a> Model for SignedMessageRef<'a> {
+    ghost use Rattle.std.specs.Option.{option_copied};
     ghost use Rattle.rpki_sigmsg.specs.Message.{ViewFields};
 
     ghost Value = { ViewFields };
@@ -47,8 +49,8 @@ impl<'a> Model for SignedMessageRef<'a> {
       content_value = m.content_value.now;
       certificate = m.certificate.now;
       crl = m.crl.now;
-      attributes =
-          m.attributes.now;
+      second_crl = option_copied m.second_crl;
+      attributes = m.attributes.now;
       signature_value = m.signature_value.now;
     } };
 }
@@ -69,11 +71,18 @@ impl<'a> SignedMessageRef<'a> {
         self.certificate
     }
 
-    /// The CRL.
+    /// The first CRL.
     pub fn crl(&self) -> &'a [u8]
         ensures { result.now ≡ self.now.crl }
     {
         self.crl
+    }
+
+    /// The second CRL, where there are two.
+    pub fn second_crl(&self) -> Option<&'a [u8]>
+        ensures { option_copied result ≡ self.now.second_crl }
+    {
+        self.second_crl
     }
 
     /// The signed attributes, one behind the other, without the header and the end mark that are round them (RFC 5652, 5.3).
@@ -108,14 +117,13 @@ impl<'a> SignedMessageRef<'a> {
     fn new(
         content: (&'a [u8], Bytes),
         certificate: (&'a [u8], IdCert),
-        crl: (&'a [u8], SignedMessageCrl),
+        crls: CrlSet<'a>,
         signer: SignerInfo<'a>,
         signed: Bytes,
     ) -> SignedMessageRef<'a>
         requires { signed ≡ covered signer.attributes }
         ensures { result ≡ spec.view_of (content.entry.0.now, content.entry.1)
-            (certificate.entry.0.now, certificate.entry.1) (crl.entry.0.now, crl.entry.1)
-            signer.entry }
+            (certificate.entry.0.now, certificate.entry.1) crls.entry signer.entry }
     {
         SignedMessageRef {
             message: SignedMessage {
@@ -126,11 +134,12 @@ impl<'a> SignedMessageRef<'a> {
                 covered: signed,
                 signature: signer.signature,
                 certificate: certificate.1,
-                crl: crl.1,
+                crls: crls.lists,
             },
             content_value: content.0,
             certificate: certificate.0,
-            crl: crl.0,
+            crl: crls.first,
+            second_crl: crls.second,
             attributes: signer.attributes,
             signature_value: signer.signature_value,
         }
@@ -151,11 +160,11 @@ fn take_signed_parts<'a, L: Ledger>(
     pass_digest_algorithms(cursor, steps)?;
     let content = take_encapsulated_content(alloc, cursor, steps)?;
     let certificate = take_certificates(alloc, cursor, steps)?;
-    let crl = take_crls(alloc, cursor, steps)?;
+    let crls = take_crls(alloc, cursor, steps)?;
     let signer = take_signer_infos(alloc, cursor, steps)?;
     let signed = covered_octets(alloc, signer.attributes)?;
     cursor.leave_counted(steps)?;
-    Ok(SignedMessageRef::new(content, certificate, crl, signer, signed))
+    Ok(SignedMessageRef::new(content, certificate, crls, signer, signed))
 }
 
 fn take_explicit_parts<'a, L: Ledger>(
@@ -175,7 +184,7 @@ fn take_explicit_parts<'a, L: Ledger>(
 /// # Decoding
 impl<'a> SignedMessageRef<'a> {
     /// The view of the message at the beginning of the octets, in DER where `strict` is set and otherwise in BER; what stands
-    /// behind it isn't read. The CRL is in DER in both.
+    /// behind it isn't read. The CRLs are in DER in both.
     ///
     /// Malformed exactly where no beginning of the octets is a message.
     pub fn decode(

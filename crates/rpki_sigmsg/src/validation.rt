@@ -1,12 +1,13 @@
 //! Whether a signed message may be believed.
 
-ghost use Rattle.std.specs.Prelude.{◌≡◌, ◌↔◌, ◌⊎◌, Bool, ℤ, Decides, Result, Ok, OnOk, bytes_eq};
+ghost use Rattle.std.specs.Prelude.{◌≡◌, ◌↔◌, ◌⊎◌, ◌<◌, ◌≤◌, ◌∷◌, [], ℕ, Bool, ℤ, Decides, List, Result, Ok, Err, OnOk, bytes_eq, length};
 ghost use Rattle.rpki_base.specs.PublicKey.{KeyFields};
-ghost use Rattle.rpki_base.specs.declared.validation.ValidationError.{ValidationError};
+ghost use Rattle.rpki_base.specs.declared.validation.ValidationError.{ValidationError as FailedCheck};
 ghost use Rattle.rpki_base.specs.Checks.{first_failure, failing};
 ghost use Rattle.rpki_sigmsg.specs.Message.{MessageFields};
 ghost use Rattle.rpki_sigmsg.specs.Checks as spec;
 
+use crate::crl_validation::crls_failure;
 use crate::message::SignedMessage;
 use rpki_base::{PublicKey, Scheme, SigningAlgorithm, Time, Verifier};
 use rpki_idcert::{ValidationError, ValidationKind, require};
@@ -44,8 +45,8 @@ impl SignedMessage {
 
     // Checks 1 to 3.
     fn own_failure<P: Scheme, V: Verifier<P>>(&self, verifier: &V) -> Result<(), u8>
-        ensures first_failing { (q : Bool) → Decides q (spec.AreAttributesSigned P.checks self.now)
-            →
+        ensures first_failing { (q : Bool) →
+            Decides q (spec.AreAttributesSigned P.checks self.now) →
             result ≡ first_failure 1 (spec.message_checks self.now q) }
         ensures signed { OnOk result (spec.AreAttributesSigned P.checks self.now) }
     {
@@ -54,12 +55,14 @@ impl SignedMessage {
         require(3, self.are_attributes_signed(verifier))
     }
 
-    // Whether the CRL doesn't list the certificate.
+    // Whether no CRL lists the certificate.
     fn is_not_revoked(&self) -> bool
         ensures { result ≡ spec.is_not_revoked self.now }
     {
         let serial = self.ee_cert().tbs().serial_number();
-        !self.crl().tbs().revoked_certs().contains(serial)
+        self.crls()
+            .iter()
+            .all(|crl| !crl.tbs().revoked_certs().contains(serial))
     }
 
     fn failure<P: Scheme, V: Verifier<P>>(
@@ -74,7 +77,7 @@ impl SignedMessage {
     {
         self.own_failure(verifier)?;
         self.ee_cert().ee_failure(verifier, issuer_key, when, 4)?;
-        self.crl().failure(verifier, issuer_key, when)?;
+        crls_failure(self.crls(), verifier, issuer_key, when)?;
         require(14, self.is_not_revoked())
     }
 
@@ -83,9 +86,9 @@ impl SignedMessage {
     /// the signed digest, (3) the attributes are signed under the certificate's key, (4) the subject key identifier is that of
     /// the certificate's key, (5) the moment lies in the certificate's validity, both ends in, (6) the certificate's authority
     /// key identifier, if it is there, is that of the issuer's key, (7) cA isn't true, (8) the certificate is signed under the
-    /// issuer's key, (9) the CRL names one algorithm in both places, NULL included, (10) the CRL is signed under the issuer's
-    /// key, (11) thisUpdate isn't after the moment, (12) nextUpdate isn't before it, (13) the CRL's authority key identifier, if
-    /// it is there, is that of the issuer's key, (14) the CRL doesn't list the certificate. Checks 1 and 4 are inspections, the
+    /// issuer's key, (9) each CRL names one algorithm in both places, NULL included, (10) each CRL is signed under the issuer's
+    /// key, (11) no thisUpdate is after the moment, (12) no nextUpdate is before it, (13) the authority key identifier of each
+    /// CRL, if it is there, is that of the issuer's key, (14) no CRL lists the certificate. Checks 1 and 4 are inspections, the
     /// others are verifications. It takes no memory.
     pub fn validate_at<P: Scheme, V: Verifier<P>>(
         &self,
@@ -93,14 +96,14 @@ impl SignedMessage {
         issuer_key: &PublicKey,
         when: Time,
     ) -> Result<(), ValidationError>
-        // Ok exactly where the three signatures and all the other checks hold.
-        ensures believed { (result ≡ Ok tt) ↔ spec.IsBelieved P.checks self.now issuer_key.now
-            when }
+        // Ok exactly where the signatures and all the other checks hold.
+        ensures believed { (result ≡ Ok tt) ↔
+            spec.IsBelieved P.checks self.now issuer_key.now when }
 
-        // The first check that fails decides, whatever the scheme answers to the three questions.
+        // The first check that fails decides, whatever the scheme answers.
         ensures first_failing { (q : spec.Asked P.checks self.now issuer_key.now) →
             result ≡ failing spec.kind_of
-            (first_failure 1 (spec.checks self.now issuer_key.now when q.q3 q.q8 q.q10)) }
+                (first_failure 1 (spec.checks self.now issuer_key.now when q.q3 q.q8 q.q10)) }
     {
         match self.failure(verifier, issuer_key, when) {
             Ok(()) => Ok(()),
@@ -112,20 +115,114 @@ impl SignedMessage {
     }
 }
 
+/// # Validation under a list of keys
+impl SignedMessage {
+    // The place of the first key under which no check fails; else the greatest of the first checks that fail under each.
+    fn any_failure<P: Scheme, V: Verifier<P>>(
+        &self,
+        verifier: &V,
+        keys: &[PublicKey],
+        when: Time,
+    ) -> Result<usize, u8>
+        ensures ok { (place : ℕ) → result ≡ Ok place →
+            spec.IsFirstBelieved P.checks self.now keys.now when place }
+        ensures err { (check : ℕ) → result ≡ Err check →
+            spec.IsUnbelieved P.checks self.now keys.now when }
+        ensures first_failing { (outcomes : List (Result (Unit {0}) ℕ)) →
+            spec.AreOutcomes P.checks self.now keys.now when outcomes →
+            result ≡ spec.ranked outcomes }
+    {
+        let mut greatest = 0;
+        for (place, key) in keys.iter().enumerate() {
+            match self.failure(verifier, key, when) {
+                Ok(()) => return Ok(place),
+                Err(check) => greatest = greatest.max(check),
+            }
+        }
+        Err(greatest)
+    }
+
+    /// The place, from 0, of the first of these one to eight keys under which all checks of [`SignedMessage::validate_at`] hold. If
+    /// they hold under none, the greatest of the first checks that fail, one under each key. It takes no memory.
+    pub fn validate_any_at<P: Scheme, V: Verifier<P>>(
+        &self,
+        verifier: &V,
+        keys: &[PublicKey],
+        when: Time,
+    ) -> Result<usize, ValidationError>
+        requires some { 1 ≤ length keys.now }
+        requires few { length keys.now ≤ 8 }
+
+        // Ok exactly where the signatures and all the other checks hold under the key at this place, and under none before it.
+        ensures believed { (place : ℕ) → (result ≡ Ok place) ↔
+            spec.IsFirstBelieved P.checks self.now keys.now when place }
+
+        // An error only where they hold under no key.
+        ensures none { (error : FailedCheck) → result ≡ Err error →
+            spec.IsUnbelieved P.checks self.now keys.now when }
+
+        // The greatest of the first checks that fail decides, whatever the scheme answers.
+        ensures first_failing { (outcomes : List (Result (Unit {0}) ℕ)) →
+            spec.AreOutcomes P.checks self.now keys.now when outcomes →
+            result ≡ failing spec.kind_of (spec.ranked outcomes) }
+    {
+        match self.any_failure(verifier, keys, when) {
+            Ok(place) => Ok(place),
+            Err(check) => Err(ValidationError {
+                kind: kind_of(check),
+                check,
+            }),
+        }
+    }
+}
+
+/// What `validate_any_at` answers under one key is what `validate_at` answers, without the place.
+pub fn one_key_is_validated<P: Scheme>()
+    ensures { (m : MessageFields) (issuer : KeyFields) (when : ℤ)
+        (answer : Result ℕ FailedCheck) →
+        spec.IsAnyValidation P.checks m (issuer ∷ []) when answer →
+        spec.IsValidation P.checks m issuer when (spec.without_place answer) }
+{}
+
+/// What is believed under a key of a list is believed under a key of each list that holds these keys, in any order.
+pub fn more_keys_believe<P: Scheme>()
+    ensures { (m : MessageFields) (keys more : List KeyFields) (when : ℤ) →
+        spec.AreAmong keys more → spec.IsBelievedUnder P.checks m keys when →
+        spec.IsBelievedUnder P.checks m more when }
+{}
+
 /// What `validate_at` answers depends on the scheme by its three questions alone: two schemes that answer them alike have the same
 /// answer.
 pub fn three_questions_decide<P: Scheme, Q: Scheme>()
     ensures { (m : MessageFields) (issuer : KeyFields) (when : ℤ)
-        (answer : Result (Unit {0}) ValidationError) →
+        (answer : Result (Unit {0}) FailedCheck) →
         spec.SameAnswers P.checks Q.checks m issuer →
         spec.IsValidation P.checks m issuer when answer →
         spec.IsValidation Q.checks m issuer when answer }
 {}
 
-/// The moments at which a message passes under a key, whatever a scheme answers, are none, or all from the later of notBefore and
-/// thisUpdate to the earlier of notAfter and nextUpdate, both ends in.
+/// The moments at which a message passes under a key, whatever a scheme answers, are none, or all from the latest of notBefore and
+/// each thisUpdate to the earliest of notAfter and each nextUpdate, both ends in.
 pub fn moments_are_one_span()
     ensures { (m : MessageFields) (issuer : KeyFields) (q3 q8 q10 : Bool) →
         ((when : ℤ) → spec.Passes m issuer q3 q8 q10 when → ⊥) ⊎
         ((when : ℤ) → spec.Passes m issuer q3 q8 q10 when ↔ spec.IsInSpan m when) }
+{}
+
+/// The moments at which a message is believed under a list of keys are none, or all from the latest of notBefore and each thisUpdate
+/// to the earliest of notAfter and each nextUpdate, both ends in: one such moment makes all of these such ones, and no other.
+pub fn believed_moments_are_one_span<P: Scheme>()
+    ensures { (m : MessageFields) (keys : List KeyFields) (one when : ℤ) →
+        spec.IsBelievedUnder P.checks m keys one →
+        spec.IsBelievedUnder P.checks m keys when ↔ spec.IsInSpan m when }
+{}
+
+/// What `validate_any_at` answers depends on the scheme by its questions under each key alone: two schemes that answer them alike have
+/// the same answer.
+pub fn questions_of_each_key_decide<P: Scheme, Q: Scheme>()
+    ensures { (m : MessageFields) (keys : List KeyFields) (when : ℤ)
+        (answer : Result ℕ FailedCheck) →
+        spec.SameAnswersUnder P.checks Q.checks m keys →
+        spec.IsAnyValidation P.checks m keys when answer →
+        spec.IsAnyValidation Q.checks m keys when answer }
 {}

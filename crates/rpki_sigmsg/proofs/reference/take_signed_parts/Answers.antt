@@ -30,22 +30,22 @@ pub returns-in_err-certificate : goal.returns-in_err-certificate
 unfolding signed_parts
 returns-in_err-certificate g c = takes_err _ _ _ _ _ _ _ _ _ c.from_residual-in_err-certificate.ensures.1 (refuses_inside _ _ _ _ _ _ _ _ _ _ refl c.in_ok-enter_counted.ensures.place c.in_ok-enter_counted.ensures.ticks (stops_later _ _ _ _ _ _ _ _ _ _ _ _ refl c.in_ok-take_integer_if_counted.ensures (stops_later _ _ _ _ _ _ _ _ _ _ _ _ refl c.in_ok-pass_digest_algorithms.ensures (stops_later _ _ _ _ _ _ _ _ _ _ _ _ refl (takes_in _ encapsulated_content _ _ _ _ _ _ (c.in_ok-pass_digest_algorithms.ensures.takes.mode ∙ c.in_ok-take_integer_if_counted.ensures.takes.mode ∙ c.in_ok-enter_counted.ensures.place.mode) c.in_ok-content.ensures) (stops_first _ _ _ _ _ _ _ _ refl (refuses_in _ (λ m. wrapped (context 0) (with_octets (identity_certificate m))) _ _ _ _ _ (c.in_ok-content.ensures.takes.mode ∙ c.in_ok-pass_digest_algorithms.ensures.takes.mode ∙ c.in_ok-take_integer_if_counted.ensures.takes.mode ∙ c.in_ok-enter_counted.ensures.place.mode) c.in_err-certificate.ensures))))))
 
-pub returns-in_err-crl : goal.returns-in_err-crl
+pub returns-in_err-crls : goal.returns-in_err-crls
 unfolding signed_parts
-returns-in_err-crl g c = takes_err _ _ _ _ _ _ _ _ _ c.from_residual-in_err-crl.ensures.1 (refuses_inside _ _ _ _ _ _ _ _ _ _ refl c.in_ok-enter_counted.ensures.place c.in_ok-enter_counted.ensures.ticks (stops_later _ _ _ _ _ _ _ _ _ _ _ _ refl c.in_ok-take_integer_if_counted.ensures (stops_later _ _ _ _ _ _ _ _ _ _ _ _ refl c.in_ok-pass_digest_algorithms.ensures (stops_later _ _ _ _ _ _ _ _ _ _ _ _ refl (takes_in _ encapsulated_content _ _ _ _ _ _ (c.in_ok-pass_digest_algorithms.ensures.takes.mode ∙ c.in_ok-take_integer_if_counted.ensures.takes.mode ∙ c.in_ok-enter_counted.ensures.place.mode) c.in_ok-content.ensures) (stops_later _ _ _ _ _ _ _ _ _ _ _ _ refl (takes_in _ (λ m. wrapped (context 0) (with_octets (identity_certificate m))) _ _ _ _ _ _ (c.in_ok-content.ensures.takes.mode ∙ c.in_ok-pass_digest_algorithms.ensures.takes.mode ∙ c.in_ok-take_integer_if_counted.ensures.takes.mode ∙ c.in_ok-enter_counted.ensures.place.mode) c.in_ok-certificate.ensures) (stops_first _ _ _ _ _ _ _ _ refl c.in_err-crl.ensures))))))
+returns-in_err-crls g c = takes_err _ _ _ _ _ _ _ _ _ c.from_residual-in_err-crls.ensures.1 (refuses_inside _ _ _ _ _ _ _ _ _ _ refl c.in_ok-enter_counted.ensures.place c.in_ok-enter_counted.ensures.ticks (stops_later _ _ _ _ _ _ _ _ _ _ _ _ refl c.in_ok-take_integer_if_counted.ensures (stops_later _ _ _ _ _ _ _ _ _ _ _ _ refl c.in_ok-pass_digest_algorithms.ensures (stops_later _ _ _ _ _ _ _ _ _ _ _ _ refl (takes_in _ encapsulated_content _ _ _ _ _ _ (c.in_ok-pass_digest_algorithms.ensures.takes.mode ∙ c.in_ok-take_integer_if_counted.ensures.takes.mode ∙ c.in_ok-enter_counted.ensures.place.mode) c.in_ok-content.ensures) (stops_later _ _ _ _ _ _ _ _ _ _ _ _ refl (takes_in _ (λ m. wrapped (context 0) (with_octets (identity_certificate m))) _ _ _ _ _ _ (c.in_ok-content.ensures.takes.mode ∙ c.in_ok-pass_digest_algorithms.ensures.takes.mode ∙ c.in_ok-take_integer_if_counted.ensures.takes.mode ∙ c.in_ok-enter_counted.ensures.place.mode) c.in_ok-certificate.ensures) (stops_first _ _ _ _ _ _ _ _ refl c.in_err-crls.ensures))))))
 
 pub returns-in_err-signer : goal.returns-in_err-signer
 unfolding signed_parts
-returns-in_err-signer g c = takes_err _ _ _ _ _ _ _ _ _ c.from_residual-in_err-signer.ensures.1 (refuses_inside _ _ _ _ _ _ _ _ _ _ refl c.in_ok-enter_counted.ensures.place c.in_ok-enter_counted.ensures.ticks (stops_later _ _ _ _ _ _ _ _ _ _ _ _ refl c.in_ok-take_integer_if_counted.ensures (stops_later _ _ _ _ _ _ _ _ _ _ _ _ refl c.in_ok-pass_digest_algorithms.ensures (stops_later _ _ _ _ _ _ _ _ _ _ _ _ refl (takes_in _ encapsulated_content _ _ _ _ _ _ (c.in_ok-pass_digest_algorithms.ensures.takes.mode ∙ c.in_ok-take_integer_if_counted.ensures.takes.mode ∙ c.in_ok-enter_counted.ensures.place.mode) c.in_ok-content.ensures) (stops_later _ _ _ _ _ _ _ _ _ _ _ _ refl (takes_in _ (λ m. wrapped (context 0) (with_octets (identity_certificate m))) _ _ _ _ _ _ (c.in_ok-content.ensures.takes.mode ∙ c.in_ok-pass_digest_algorithms.ensures.takes.mode ∙ c.in_ok-take_integer_if_counted.ensures.takes.mode ∙ c.in_ok-enter_counted.ensures.place.mode) c.in_ok-certificate.ensures) (stops_later _ _ _ _ _ _ _ _ _ _ _ _ refl c.in_ok-crl.ensures (stops_first _ _ _ _ _ _ _ _ refl (refuses_in _ (λ m. wrapped set (signer_info m)) _ _ _ _ _ (c.in_ok-crl.ensures.takes.mode ∙ c.in_ok-certificate.ensures.takes.mode ∙ c.in_ok-content.ensures.takes.mode ∙ c.in_ok-pass_digest_algorithms.ensures.takes.mode ∙ c.in_ok-take_integer_if_counted.ensures.takes.mode ∙ c.in_ok-enter_counted.ensures.place.mode) c.in_err-signer.ensures))))))))
+returns-in_err-signer g c = takes_err _ _ _ _ _ _ _ _ _ c.from_residual-in_err-signer.ensures.1 (refuses_inside _ _ _ _ _ _ _ _ _ _ refl c.in_ok-enter_counted.ensures.place c.in_ok-enter_counted.ensures.ticks (stops_later _ _ _ _ _ _ _ _ _ _ _ _ refl c.in_ok-take_integer_if_counted.ensures (stops_later _ _ _ _ _ _ _ _ _ _ _ _ refl c.in_ok-pass_digest_algorithms.ensures (stops_later _ _ _ _ _ _ _ _ _ _ _ _ refl (takes_in _ encapsulated_content _ _ _ _ _ _ (c.in_ok-pass_digest_algorithms.ensures.takes.mode ∙ c.in_ok-take_integer_if_counted.ensures.takes.mode ∙ c.in_ok-enter_counted.ensures.place.mode) c.in_ok-content.ensures) (stops_later _ _ _ _ _ _ _ _ _ _ _ _ refl (takes_in _ (λ m. wrapped (context 0) (with_octets (identity_certificate m))) _ _ _ _ _ _ (c.in_ok-content.ensures.takes.mode ∙ c.in_ok-pass_digest_algorithms.ensures.takes.mode ∙ c.in_ok-take_integer_if_counted.ensures.takes.mode ∙ c.in_ok-enter_counted.ensures.place.mode) c.in_ok-certificate.ensures) (stops_later _ _ _ _ _ _ _ _ _ _ _ _ refl c.in_ok-crls.ensures (stops_first _ _ _ _ _ _ _ _ refl (refuses_in _ (λ m. wrapped set (signer_info m)) _ _ _ _ _ (c.in_ok-crls.ensures.takes.mode ∙ c.in_ok-certificate.ensures.takes.mode ∙ c.in_ok-content.ensures.takes.mode ∙ c.in_ok-pass_digest_algorithms.ensures.takes.mode ∙ c.in_ok-take_integer_if_counted.ensures.takes.mode ∙ c.in_ok-enter_counted.ensures.place.mode) c.in_err-signer.ensures))))))))
 
 pub returns-in_err-signed : goal.returns-in_err-signed
 unfolding signed_parts
-returns-in_err-signed g c = takes_err _ _ _ _ _ _ _ _ _ c.from_residual-in_err-signed.ensures.1 (refuses_inside _ _ _ _ _ _ _ _ _ _ refl c.in_ok-enter_counted.ensures.place c.in_ok-enter_counted.ensures.ticks (stops_later _ _ _ _ _ _ _ _ _ _ _ _ refl c.in_ok-take_integer_if_counted.ensures (stops_later _ _ _ _ _ _ _ _ _ _ _ _ refl c.in_ok-pass_digest_algorithms.ensures (stops_later _ _ _ _ _ _ _ _ _ _ _ _ refl (takes_in _ encapsulated_content _ _ _ _ _ _ (c.in_ok-pass_digest_algorithms.ensures.takes.mode ∙ c.in_ok-take_integer_if_counted.ensures.takes.mode ∙ c.in_ok-enter_counted.ensures.place.mode) c.in_ok-content.ensures) (stops_later _ _ _ _ _ _ _ _ _ _ _ _ refl (takes_in _ (λ m. wrapped (context 0) (with_octets (identity_certificate m))) _ _ _ _ _ _ (c.in_ok-content.ensures.takes.mode ∙ c.in_ok-pass_digest_algorithms.ensures.takes.mode ∙ c.in_ok-take_integer_if_counted.ensures.takes.mode ∙ c.in_ok-enter_counted.ensures.place.mode) c.in_ok-certificate.ensures) (stops_later _ _ _ _ _ _ _ _ _ _ _ _ refl c.in_ok-crl.ensures (stops_later _ _ _ _ _ _ _ _ _ _ _ _ refl (takes_in _ (λ m. wrapped set (signer_info m)) _ _ _ _ _ _ (c.in_ok-crl.ensures.takes.mode ∙ c.in_ok-certificate.ensures.takes.mode ∙ c.in_ok-content.ensures.takes.mode ∙ c.in_ok-pass_digest_algorithms.ensures.takes.mode ∙ c.in_ok-take_integer_if_counted.ensures.takes.mode ∙ c.in_ok-enter_counted.ensures.place.mode) c.in_ok-signer.ensures) (stops_memory _ _ _ _ _ refl))))))))
+returns-in_err-signed g c = takes_err _ _ _ _ _ _ _ _ _ c.from_residual-in_err-signed.ensures.1 (refuses_inside _ _ _ _ _ _ _ _ _ _ refl c.in_ok-enter_counted.ensures.place c.in_ok-enter_counted.ensures.ticks (stops_later _ _ _ _ _ _ _ _ _ _ _ _ refl c.in_ok-take_integer_if_counted.ensures (stops_later _ _ _ _ _ _ _ _ _ _ _ _ refl c.in_ok-pass_digest_algorithms.ensures (stops_later _ _ _ _ _ _ _ _ _ _ _ _ refl (takes_in _ encapsulated_content _ _ _ _ _ _ (c.in_ok-pass_digest_algorithms.ensures.takes.mode ∙ c.in_ok-take_integer_if_counted.ensures.takes.mode ∙ c.in_ok-enter_counted.ensures.place.mode) c.in_ok-content.ensures) (stops_later _ _ _ _ _ _ _ _ _ _ _ _ refl (takes_in _ (λ m. wrapped (context 0) (with_octets (identity_certificate m))) _ _ _ _ _ _ (c.in_ok-content.ensures.takes.mode ∙ c.in_ok-pass_digest_algorithms.ensures.takes.mode ∙ c.in_ok-take_integer_if_counted.ensures.takes.mode ∙ c.in_ok-enter_counted.ensures.place.mode) c.in_ok-certificate.ensures) (stops_later _ _ _ _ _ _ _ _ _ _ _ _ refl c.in_ok-crls.ensures (stops_later _ _ _ _ _ _ _ _ _ _ _ _ refl (takes_in _ (λ m. wrapped set (signer_info m)) _ _ _ _ _ _ (c.in_ok-crls.ensures.takes.mode ∙ c.in_ok-certificate.ensures.takes.mode ∙ c.in_ok-content.ensures.takes.mode ∙ c.in_ok-pass_digest_algorithms.ensures.takes.mode ∙ c.in_ok-take_integer_if_counted.ensures.takes.mode ∙ c.in_ok-enter_counted.ensures.place.mode) c.in_ok-signer.ensures) (stops_memory _ _ _ _ _ refl))))))))
 
 pub returns-in_err-leave_counted : goal.returns-in_err-leave_counted
 unfolding signed_parts
-returns-in_err-leave_counted g c = takes_err _ _ _ _ _ _ _ _ _ c.from_residual-in_err-leave_counted.ensures.1 (refuses_inside _ _ _ _ _ _ _ _ _ _ refl c.in_ok-enter_counted.ensures.place c.in_ok-enter_counted.ensures.ticks (stops_later _ _ _ _ _ _ _ _ _ _ _ _ refl c.in_ok-take_integer_if_counted.ensures (stops_later _ _ _ _ _ _ _ _ _ _ _ _ refl c.in_ok-pass_digest_algorithms.ensures (stops_later _ _ _ _ _ _ _ _ _ _ _ _ refl (takes_in _ encapsulated_content _ _ _ _ _ _ (c.in_ok-pass_digest_algorithms.ensures.takes.mode ∙ c.in_ok-take_integer_if_counted.ensures.takes.mode ∙ c.in_ok-enter_counted.ensures.place.mode) c.in_ok-content.ensures) (stops_later _ _ _ _ _ _ _ _ _ _ _ _ refl (takes_in _ (λ m. wrapped (context 0) (with_octets (identity_certificate m))) _ _ _ _ _ _ (c.in_ok-content.ensures.takes.mode ∙ c.in_ok-pass_digest_algorithms.ensures.takes.mode ∙ c.in_ok-take_integer_if_counted.ensures.takes.mode ∙ c.in_ok-enter_counted.ensures.place.mode) c.in_ok-certificate.ensures) (stops_later _ _ _ _ _ _ _ _ _ _ _ _ refl c.in_ok-crl.ensures (stops_later _ _ _ _ _ _ _ _ _ _ _ _ refl (takes_in _ (λ m. wrapped set (signer_info m)) _ _ _ _ _ _ (c.in_ok-crl.ensures.takes.mode ∙ c.in_ok-certificate.ensures.takes.mode ∙ c.in_ok-content.ensures.takes.mode ∙ c.in_ok-pass_digest_algorithms.ensures.takes.mode ∙ c.in_ok-take_integer_if_counted.ensures.takes.mode ∙ c.in_ok-enter_counted.ensures.place.mode) c.in_ok-signer.ensures) (stops_done _ _ _ _ _ _ c.in_err-leave_counted.ensures.place c.in_err-leave_counted.ensures.refused))))))))
+returns-in_err-leave_counted g c = takes_err _ _ _ _ _ _ _ _ _ c.from_residual-in_err-leave_counted.ensures.1 (refuses_inside _ _ _ _ _ _ _ _ _ _ refl c.in_ok-enter_counted.ensures.place c.in_ok-enter_counted.ensures.ticks (stops_later _ _ _ _ _ _ _ _ _ _ _ _ refl c.in_ok-take_integer_if_counted.ensures (stops_later _ _ _ _ _ _ _ _ _ _ _ _ refl c.in_ok-pass_digest_algorithms.ensures (stops_later _ _ _ _ _ _ _ _ _ _ _ _ refl (takes_in _ encapsulated_content _ _ _ _ _ _ (c.in_ok-pass_digest_algorithms.ensures.takes.mode ∙ c.in_ok-take_integer_if_counted.ensures.takes.mode ∙ c.in_ok-enter_counted.ensures.place.mode) c.in_ok-content.ensures) (stops_later _ _ _ _ _ _ _ _ _ _ _ _ refl (takes_in _ (λ m. wrapped (context 0) (with_octets (identity_certificate m))) _ _ _ _ _ _ (c.in_ok-content.ensures.takes.mode ∙ c.in_ok-pass_digest_algorithms.ensures.takes.mode ∙ c.in_ok-take_integer_if_counted.ensures.takes.mode ∙ c.in_ok-enter_counted.ensures.place.mode) c.in_ok-certificate.ensures) (stops_later _ _ _ _ _ _ _ _ _ _ _ _ refl c.in_ok-crls.ensures (stops_later _ _ _ _ _ _ _ _ _ _ _ _ refl (takes_in _ (λ m. wrapped set (signer_info m)) _ _ _ _ _ _ (c.in_ok-crls.ensures.takes.mode ∙ c.in_ok-certificate.ensures.takes.mode ∙ c.in_ok-content.ensures.takes.mode ∙ c.in_ok-pass_digest_algorithms.ensures.takes.mode ∙ c.in_ok-take_integer_if_counted.ensures.takes.mode ∙ c.in_ok-enter_counted.ensures.place.mode) c.in_ok-signer.ensures) (stops_done _ _ _ _ _ _ c.in_err-leave_counted.ensures.place c.in_err-leave_counted.ensures.refused))))))))
 
 pub returns : goal.returns
 unfolding signed_parts
-returns g c = rw c.new.ensures (takes_within _ _ _ _ _ _ _ _ _ _ _ refl c.in_ok-enter_counted.ensures.place c.in_ok-enter_counted.ensures.ticks (reads_first _ _ _ _ _ _ _ _ _ _ _ _ _ refl c.in_ok-take_integer_if_counted.ensures (reads_first _ _ _ _ _ _ _ _ _ _ _ _ _ refl c.in_ok-pass_digest_algorithms.ensures (reads_first _ _ _ _ _ _ _ _ _ _ _ _ _ refl (takes_in _ encapsulated_content _ _ _ _ _ _ (c.in_ok-pass_digest_algorithms.ensures.takes.mode ∙ c.in_ok-take_integer_if_counted.ensures.takes.mode ∙ c.in_ok-enter_counted.ensures.place.mode) c.in_ok-content.ensures) (reads_first _ _ _ _ _ _ _ _ _ _ _ _ _ refl (takes_in _ (λ m. wrapped (context 0) (with_octets (identity_certificate m))) _ _ _ _ _ _ (c.in_ok-content.ensures.takes.mode ∙ c.in_ok-pass_digest_algorithms.ensures.takes.mode ∙ c.in_ok-take_integer_if_counted.ensures.takes.mode ∙ c.in_ok-enter_counted.ensures.place.mode) c.in_ok-certificate.ensures) (reads_first _ _ _ _ _ _ _ _ _ _ _ _ _ refl c.in_ok-crl.ensures (reads_first _ _ _ _ _ _ _ _ _ _ _ _ _ refl (takes_in _ (λ m. wrapped set (signer_info m)) _ _ _ _ _ _ (c.in_ok-crl.ensures.takes.mode ∙ c.in_ok-certificate.ensures.takes.mode ∙ c.in_ok-content.ensures.takes.mode ∙ c.in_ok-pass_digest_algorithms.ensures.takes.mode ∙ c.in_ok-take_integer_if_counted.ensures.takes.mode ∙ c.in_ok-enter_counted.ensures.place.mode) c.in_ok-signer.ensures) (reads_done _ _ _ _ _ _ refl c.in_ok-leave_counted.ensures.place c.in_ok-leave_counted.ensures.ticks))))))))
+returns g c = rw c.new.ensures (takes_within _ _ _ _ _ _ _ _ _ _ _ refl c.in_ok-enter_counted.ensures.place c.in_ok-enter_counted.ensures.ticks (reads_first _ _ _ _ _ _ _ _ _ _ _ _ _ refl c.in_ok-take_integer_if_counted.ensures (reads_first _ _ _ _ _ _ _ _ _ _ _ _ _ refl c.in_ok-pass_digest_algorithms.ensures (reads_first _ _ _ _ _ _ _ _ _ _ _ _ _ refl (takes_in _ encapsulated_content _ _ _ _ _ _ (c.in_ok-pass_digest_algorithms.ensures.takes.mode ∙ c.in_ok-take_integer_if_counted.ensures.takes.mode ∙ c.in_ok-enter_counted.ensures.place.mode) c.in_ok-content.ensures) (reads_first _ _ _ _ _ _ _ _ _ _ _ _ _ refl (takes_in _ (λ m. wrapped (context 0) (with_octets (identity_certificate m))) _ _ _ _ _ _ (c.in_ok-content.ensures.takes.mode ∙ c.in_ok-pass_digest_algorithms.ensures.takes.mode ∙ c.in_ok-take_integer_if_counted.ensures.takes.mode ∙ c.in_ok-enter_counted.ensures.place.mode) c.in_ok-certificate.ensures) (reads_first _ _ _ _ _ _ _ _ _ _ _ _ _ refl c.in_ok-crls.ensures (reads_first _ _ _ _ _ _ _ _ _ _ _ _ _ refl (takes_in _ (λ m. wrapped set (signer_info m)) _ _ _ _ _ _ (c.in_ok-crls.ensures.takes.mode ∙ c.in_ok-certificate.ensures.takes.mode ∙ c.in_ok-content.ensures.takes.mode ∙ c.in_ok-pass_digest_algorithms.ensures.takes.mode ∙ c.in_ok-take_integer_if_counted.ensures.takes.mode ∙ c.in_ok-enter_counted.ensures.place.mode) c.in_ok-signer.ensures) (reads_done _ _ _ _ _ _ refl c.in_ok-leave_counted.ensures.place c.in_ok-leave_counted.ensures.ticks))))))))

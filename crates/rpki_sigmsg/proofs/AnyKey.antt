@@ -1,0 +1,181 @@
+-- A message under a list of keys.
+use Rattle.std.proofs.Common.{◌≡◌, ℕ, ◌+◌, ℤ, Bool, Option, None, Some, Result, Ok, Err, List, [], ◌∷◌, ◌++◌, length, drop, refl, sym, ap, subst, ◌∙◌, arith}
+use Rattle.std.specs.Prelude.{◌≤◌, ◌↔◌, max}
+use Rattle.std.specs.List.{AllByRecursion}
+use Rattle.std.proofs.Math.Nat.{max-zero, zero-max, max-le, le-max_left, le-max_right}
+use Rattle.rpki_base.specs.PublicKey.{KeyFields}
+use Rattle.rpki_base.specs.Scheme.{Relation}
+use Rattle.rpki_base.specs.Checks.{first_failure, failing}
+use Rattle.rpki_base.specs.declared.validation.ValidationError.{ValidationError}
+use Rattle.rpki_sigmsg.specs.Message.{MessageFields}
+use Rattle.rpki_sigmsg.specs.Checks.{checks, kind_of, Asked, IsBelieved, IsValidation, SameAnswers, SameAnswersUnder, IsInSpan, IsAmong, AreAmong, IsBelievedUnder, IsUnbelieved, IsFirstBelieved, HasOutcome, AreOutcomes, first_passing, greatest, ranked, ranked_by, IsAnyValidation, without_place}
+use Rattle.rpki_sigmsg.proofs.Meaning.{asked_too, believed_too, same_back, believed_within, believed_then}
+
+-- ---- lists
+
+-- what holds of each holds of one of them
+pub at_one : {X : Type 0} (P : X → Type 0) (before : List X) (x : X) (behind : List X) → AllByRecursion P (before ++ x ∷ behind) → P x
+at_one P [] x behind a = a.0
+at_one P (b ∷ before) x behind a = at_one P before x behind a.1
+
+-- and of those before it
+pub up_to : {X : Type 0} (P : X → Type 0) (before behind : List X) → AllByRecursion P (before ++ behind) → AllByRecursion P before
+up_to P [] behind a = tt
+up_to P (b ∷ before) behind a = (a.0, up_to P before behind a.1)
+
+-- one more
+pub one_more : {X : Type 0} (P : X → Type 0) (before : List X) (x : X) → AllByRecursion P before → P x → AllByRecursion P (before ++ x ∷ [])
+one_more P [] x a p = (p, tt)
+one_more P (b ∷ before) x a p = (a.0, one_more P before x a.1 p)
+
+each_to : {X : Type 0} (P Q R : X → Type 0) → ((x : X) → P x → Q x → R x) → (xs : List X) → AllByRecursion P xs → AllByRecursion Q xs → AllByRecursion R xs
+each_to P Q R h [] a b = tt
+each_to P Q R h (x ∷ xs) a b = (h x a.0 b.0, each_to P Q R h xs a.1 b.1)
+
+-- a list of one has no other
+pub only_one : {X : Type 0} (k key : X) (before behind : List X) → k ∷ [] ≡ before ++ key ∷ behind → key ≡ k
+only_one k key [] behind e = cc
+only_one k key (b ∷ []) behind e = cc
+only_one k key (b ∷ c ∷ before) behind e = cc
+
+-- ---- the rank
+
+-- the rank of what is left, where n keys failed so far, at worst with this check
+abbrev pub ranked_from : ℕ → ℕ → List (Result (Unit {0}) ℕ) → Result ℕ ℕ
+ranked_from n worst list = ranked_by (first_passing n list) (max worst (greatest list))
+
+max_three : (a b c : ℕ) → max (max a b) c ≡ max a (max b c)
+max_three a b c =
+    let p = le-max_left a (max b c) in
+    let q = le-max_right a (max b c) in
+    let r = le-max_left b c in
+    let s = le-max_right b c in
+    let t = le-max_left (max a b) c in
+    let u = le-max_right (max a b) c in
+    let v = le-max_left a b in
+    let w = le-max_right a b in
+    let one : max (max a b) c ≤ max a (max b c) = max-le (max-le p (omega (arith, q, r))) (omega (arith, q, s)) in
+    let other : max a (max b c) ≤ max (max a b) c = max-le (omega (arith, t, v)) (max-le (omega (arith, t, w)) u) in
+    omega (arith, one, other)
+
+pub ranked_all : (list : List (Result (Unit {0}) ℕ)) → ranked list ≡ ranked_from 0 0 list
+ranked_all list = ap (ranked_by (first_passing 0 list)) (sym (zero-max (greatest list)))
+
+pub ranked_step : (n worst check : ℕ) (more : List (Result (Unit {0}) ℕ)) → ranked_from n worst (Err check ∷ more) ≡ ranked_from (n + 1) (max worst check) more
+ranked_step n worst check more = ap (ranked_by (first_passing (n + 1) more)) (sym (max_three worst check (greatest more)))
+
+pub ranked_end : (n worst : ℕ) → ranked_from n worst [] ≡ Err worst
+ranked_end n worst = ap (λ (w : ℕ). Err w) (max-zero worst)
+
+-- ---- one key
+
+one_rank : (r : Result (Unit {0}) ℕ) → without_place (failing kind_of (ranked (r ∷ []))) ≡ failing kind_of r
+one_rank (Ok tt) = refl
+one_rank (Err n) = rw (max-zero n) refl
+
+first_is_believed : (scheme : Relation) (m : MessageFields) (issuer : KeyFields) (when : ℤ) (place : ℕ) → IsFirstBelieved scheme m (issuer ∷ []) when place → IsBelieved scheme m issuer when
+first_is_believed scheme m issuer when place f = subst (λ (k : KeyFields). IsBelieved scheme m k when) (only_one issuer f.key f.before f.behind f.parts) f.believed
+
+believed_at_first : (scheme : Relation) (m : MessageFields) (issuer : KeyFields) (when : ℤ) → IsBelieved scheme m issuer when → IsFirstBelieved scheme m (issuer ∷ []) when 0
+believed_at_first scheme m issuer when b = record { before = []; key = issuer; behind = []; parts = refl; number = refl; believed = b; none_before = tt }
+
+one_believed : (scheme : Relation) (m : MessageFields) (issuer : KeyFields) (when : ℤ) (answer : Result ℕ ValidationError) → ((place : ℕ) → (answer ≡ Ok place) ↔ IsFirstBelieved scheme m (issuer ∷ []) when place)
+    → (without_place answer ≡ Ok tt) ↔ IsBelieved scheme m issuer when
+one_believed scheme m issuer when (Ok place) h = (
+  (λ e. first_is_believed scheme m issuer when place ((h place).0 refl)),
+  (λ b. refl),
+)
+one_believed scheme m issuer when (Err error) h = (
+  (λ e. cc),
+  (λ b. ap without_place ((h 0).1 (believed_at_first scheme m issuer when b))),
+)
+
+pub one_key : (scheme : Relation) (m : MessageFields) (issuer : KeyFields) (when : ℤ) (answer : Result ℕ ValidationError) → IsAnyValidation scheme m (issuer ∷ []) when answer → IsValidation scheme m issuer when (without_place answer)
+one_key scheme m issuer when answer v = record {
+  believed = one_believed scheme m issuer when answer v.believed;
+  first_failing = λ q.
+      let o = first_failure 1 (checks m issuer when q.q3 q.q8 q.q10) in
+      ap without_place (v.first_failing (o ∷ []) (record { asked = q; is = refl }, tt)) ∙ one_rank o;
+}
+
+-- ---- more keys
+
+pub under_more : (scheme : Relation) (m : MessageFields) (keys more : List KeyFields) (when : ℤ) → AreAmong keys more → IsBelievedUnder scheme m keys when → IsBelievedUnder scheme m more when
+under_more scheme m keys more when a b = record {
+  key = b.key;
+  among = at_one (IsAmong more) b.among.before b.key b.among.behind (subst (AllByRecursion (IsAmong more)) b.among.parts a);
+  believed = b.believed;
+}
+
+-- ---- moments
+
+pub one_span_under : (scheme : Relation) (m : MessageFields) (keys : List KeyFields) (one when : ℤ) → IsBelievedUnder scheme m keys one → IsBelievedUnder scheme m keys when ↔ IsInSpan m when
+one_span_under scheme m keys one when b = (
+  (λ c. believed_within scheme m c.key when c.believed),
+  (λ s. record { key = b.key; among = b.among; believed = believed_then scheme m b.key one when b.believed s }),
+)
+
+-- ---- two schemes
+
+outcome_too : (s t : Relation) (m : MessageFields) (key : KeyFields) (when : ℤ) (o : Result (Unit {0}) ℕ) → SameAnswers s t m key → HasOutcome t m key when o → HasOutcome s m key when o
+unfolding asked_too
+outcome_too s t m key when o w h = record { asked = asked_too s t m key h.asked w; is = h.is }
+
+outcomes_too : (s t : Relation) (m : MessageFields) (keys : List KeyFields) (when : ℤ) (os : List (Result (Unit {0}) ℕ)) → SameAnswersUnder s t m keys → AreOutcomes t m keys when os → AreOutcomes s m keys when os
+outcomes_too s t m [] when [] w h = tt
+outcomes_too s t m [] when (o ∷ os) w h = absurd h
+outcomes_too s t m (k ∷ ks) when [] w h = absurd h
+outcomes_too s t m (k ∷ ks) when (o ∷ os) w h = (outcome_too s t m k when o w.0 h.0, outcomes_too s t m ks when os w.1 h.1)
+
+each_only : {X : Type 0} (P Q : X → Type 0) → ((x : X) → P x → Q x) → (xs : List X) → AllByRecursion P xs → AllByRecursion Q xs
+each_only P Q h [] a = tt
+each_only P Q h (x ∷ xs) a = (h x a.0, each_only P Q h xs a.1)
+
+backwards : (s t : Relation) (m : MessageFields) (keys : List KeyFields) → SameAnswersUnder s t m keys → SameAnswersUnder t s m keys
+backwards s t m keys w = each_only (SameAnswers s t m) (SameAnswers t s m) (λ k same. same_back s t m k same) keys w
+
+unbelieved_too : (s t : Relation) (m : MessageFields) (keys : List KeyFields) (when : ℤ) → SameAnswersUnder s t m keys → IsUnbelieved s m keys when → IsUnbelieved t m keys when
+unbelieved_too s t m keys when w no = each_to (SameAnswers s t m) (λ k. IsBelieved s m k when → ⊥) (λ k. IsBelieved t m k when → ⊥) (λ k same n b. n (believed_too t s m k when (same_back s t m k same) b)) keys w no
+
+first_too : (s t : Relation) (m : MessageFields) (keys : List KeyFields) (when : ℤ) (place : ℕ) → SameAnswersUnder s t m keys → IsFirstBelieved s m keys when place → IsFirstBelieved t m keys when place
+first_too s t m keys when place w f =
+    let all : SameAnswersUnder s t m (f.before ++ f.key ∷ f.behind) = subst (SameAnswersUnder s t m) f.parts w in
+    record {
+      before = f.before;
+      key = f.key;
+      behind = f.behind;
+      parts = f.parts;
+      number = f.number;
+      believed = believed_too s t m f.key when (at_one (SameAnswers s t m) f.before f.key f.behind all) f.believed;
+      none_before = unbelieved_too s t m f.before when (up_to (SameAnswers s t m) f.before (f.key ∷ f.behind) all) f.none_before;
+    }
+
+pub same_under : (s t : Relation) (m : MessageFields) (keys : List KeyFields) (when : ℤ) (answer : Result ℕ ValidationError) → SameAnswersUnder s t m keys → IsAnyValidation s m keys when answer → IsAnyValidation t m keys when answer
+same_under s t m keys when answer w v = record {
+  believed = λ place. (
+    (λ e. first_too s t m keys when place w ((v.believed place).0 e)),
+    (λ f. (v.believed place).1 (first_too t s m keys when place (backwards s t m keys w) f)),
+  );
+  none = λ error e. unbelieved_too s t m keys when w (v.none error e);
+  first_failing = λ os h. v.first_failing os (outcomes_too s t m keys when os w h);
+}
+
+-- ---- one key after the other
+
+-- the outcome at a place
+pub record OutcomeAt (scheme : Relation) (m : MessageFields) (key : KeyFields) (when : ℤ) (place : ℕ) (os : List (Result (Unit {0}) ℕ)) : Type 0 where
+  pub outcome : Result (Unit {0}) ℕ
+  pub parts : drop place os ≡ outcome ∷ drop (place + 1) os
+  pub has : HasOutcome scheme m key when outcome
+
+pub outcome_at : (scheme : Relation) (m : MessageFields) (before : List KeyFields) (key : KeyFields) (behind : List KeyFields) (when : ℤ) (os : List (Result (Unit {0}) ℕ)) → AreOutcomes scheme m (before ++ key ∷ behind) when os → OutcomeAt scheme m key when (length before) os
+outcome_at scheme m [] key behind when [] h = absurd h
+outcome_at scheme m [] key behind when (o ∷ os) h = record { outcome = o; parts = refl; has = h.0 }
+outcome_at scheme m (b ∷ before) key behind when [] h = absurd h
+outcome_at scheme m (b ∷ before) key behind when (o ∷ os) h = let a = outcome_at scheme m before key behind when os h.1 in record { outcome = a.outcome; parts = a.parts; has = a.has }
+
+pub none_left : (scheme : Relation) (m : MessageFields) (keys : List KeyFields) (when : ℤ) (os : List (Result (Unit {0}) ℕ)) → AreOutcomes scheme m keys when os → drop (length keys) os ≡ []
+none_left scheme m [] when [] h = refl
+none_left scheme m [] when (o ∷ os) h = absurd h
+none_left scheme m (k ∷ ks) when [] h = absurd h
+none_left scheme m (k ∷ ks) when (o ∷ os) h = none_left scheme m ks when os h.1
