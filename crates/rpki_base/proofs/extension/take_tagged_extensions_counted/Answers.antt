@@ -1,22 +1,32 @@
+-- written by tools/answers.py rpki_base extension take_tagged_extensions_counted - wrapped enter_counted 'found@rpki_base.specs.Extension.gathered=(λ m. gathered g.F.FindsExtensions.with m
+--     c.args.found)' leave_counted
 use Rattle.std.proofs.Common.{refl}
-use Rattle.rpki_der.specs.Grammar.{wrapped}
 use Rattle.rpki_base.specs.Extension.{gathered}
 use Rattle.rpki_der.proofs.Counting.{reads_done, reads_first, refuses_inside, refuses_within, stops_done, stops_first, stops_later, takes_err, takes_within}
 use Rattle.rpki_der.proofs.Modes.{refuses_in, takes_in}
+use Rattle.rpki_der.specs.Grammar.{wrapped}
 use Rattle.rpki_base.proofs.extension.take_tagged_extensions_counted.Goals as goal
 
 pub returns-in_err-enter_counted : goal.returns-in_err-enter_counted
 unfolding wrapped
-returns-in_err-enter_counted g c = takes_err _ _ _ _ _ _ _ _ _ c.from_residual.ensures.1 (refuses_within _ _ _ c.args.cursor.now _ _ _ c.in_err-enter_counted.ensures.place c.in_err-enter_counted.ensures.ticks)
+returns-in_err-enter_counted g c = takes_err _ _ _ _ _ _ _ _ _ c.from_residual.ensures.1
+    (refuses_within _ _ _ c.args.cursor.now _ _ _ c.in_err-enter_counted.ensures.place c.in_err-enter_counted.ensures.ticks)
 
 pub returns-in_err-found : goal.returns-in_err-found
 unfolding wrapped
-returns-in_err-found g c = takes_err _ _ _ _ _ _ _ _ _ c.from_residual-in_err-found.ensures.1 (refuses_inside _ _ _ _ _ _ _ _ _ _ refl c.in_ok-enter_counted.ensures.place c.in_ok-enter_counted.ensures.ticks (stops_first _ _ _ _ _ _ _ _ refl (refuses_in _ (λ m. gathered g.F.FindsExtensions.with m c.args.found) _ _ _ _ _ c.in_ok-enter_counted.ensures.place.mode c.in_err-found.ensures)))
+returns-in_err-found g c = takes_err _ _ _ _ _ _ _ _ _ c.from_residual-in_err-found.ensures.1
+    (refuses_inside _ _ _ _ _ _ _ _ _ _ refl c.in_ok-enter_counted.ensures.place c.in_ok-enter_counted.ensures.ticks
+    (stops_first _ _ _ _ _ _ _ _ refl (refuses_in _ (λ m. gathered g.F.FindsExtensions.with m c.args.found) _ _ _ _ _ c.in_ok-enter_counted.ensures.place.mode c.in_err-found.ensures)))
 
 pub returns-in_err-leave_counted : goal.returns-in_err-leave_counted
 unfolding wrapped
-returns-in_err-leave_counted g c = takes_err _ _ _ _ _ _ _ _ _ c.from_residual-in_err-leave_counted.ensures.1 (refuses_inside _ _ _ _ _ _ _ _ _ _ refl c.in_ok-enter_counted.ensures.place c.in_ok-enter_counted.ensures.ticks (stops_later _ _ _ _ _ _ _ _ _ _ _ _ refl (takes_in _ (λ m. gathered g.F.FindsExtensions.with m c.args.found) _ _ _ _ _ _ c.in_ok-enter_counted.ensures.place.mode c.in_ok-found.ensures) (stops_done _ _ _ _ _ _ c.in_err-leave_counted.ensures.place c.in_err-leave_counted.ensures.refused)))
+returns-in_err-leave_counted g c = takes_err _ _ _ _ _ _ _ _ _ c.from_residual-in_err-leave_counted.ensures.1
+    (refuses_inside _ _ _ _ _ _ _ _ _ _ refl c.in_ok-enter_counted.ensures.place c.in_ok-enter_counted.ensures.ticks
+    (stops_later _ _ _ _ _ _ _ _ _ _ _ _ refl (takes_in _ (λ m. gathered g.F.FindsExtensions.with m c.args.found) _ _ _ _ _ _ c.in_ok-enter_counted.ensures.place.mode c.in_ok-found.ensures)
+    (stops_done _ _ _ _ _ _ c.in_err-leave_counted.ensures.place c.in_err-leave_counted.ensures.refused)))
 
 pub returns : goal.returns
 unfolding wrapped
-returns g c = takes_within _ _ _ _ _ _ _ _ _ _ _ refl c.in_ok-enter_counted.ensures.place c.in_ok-enter_counted.ensures.ticks (reads_first _ _ _ _ _ _ _ _ _ _ _ _ _ refl (takes_in _ (λ m. gathered g.F.FindsExtensions.with m c.args.found) _ _ _ _ _ _ c.in_ok-enter_counted.ensures.place.mode c.in_ok-found.ensures) (reads_done _ _ _ _ _ _ refl c.in_ok-leave_counted.ensures.place c.in_ok-leave_counted.ensures.ticks))
+returns g c = takes_within _ _ _ _ _ _ _ _ _ _ _ refl c.in_ok-enter_counted.ensures.place c.in_ok-enter_counted.ensures.ticks
+    (reads_first _ _ _ _ _ _ _ _ _ _ _ _ _ refl (takes_in _ (λ m. gathered g.F.FindsExtensions.with m c.args.found) _ _ _ _ _ _ c.in_ok-enter_counted.ensures.place.mode c.in_ok-found.ensures)
+    (reads_done _ _ _ _ _ _ refl c.in_ok-leave_counted.ensures.place c.in_ok-leave_counted.ensures.ticks))

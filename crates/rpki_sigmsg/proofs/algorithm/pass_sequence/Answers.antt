@@ -1,12 +1,14 @@
+-- written by tools/answers.py rpki_sigmsg algorithm pass_sequence Algorithm any_sequence enter_counted '>pass_rest_counted'
 use Rattle.std.proofs.Common.{refl}
-use Rattle.rpki_sigmsg.specs.Algorithm.{any_sequence}
 use Rattle.rpki_der.proofs.Counting.{refuses_within, takes_err}
 use Rattle.rpki_der.proofs.Leftovers.{takes_all_rest}
+use Rattle.rpki_sigmsg.specs.Algorithm.{any_sequence}
 use Rattle.rpki_sigmsg.proofs.algorithm.pass_sequence.Goals as goal
 
 pub returns-in_err-enter_counted : goal.returns-in_err-enter_counted
 unfolding any_sequence
-returns-in_err-enter_counted g c = takes_err _ _ _ _ _ _ _ _ _ c.from_residual.ensures.1 (refuses_within _ _ _ c.args.cursor.now _ _ _ c.in_err-enter_counted.ensures.place c.in_err-enter_counted.ensures.ticks)
+returns-in_err-enter_counted g c = takes_err _ _ _ _ _ _ _ _ _ c.from_residual.ensures.1
+    (refuses_within _ _ _ c.args.cursor.now _ _ _ c.in_err-enter_counted.ensures.place c.in_err-enter_counted.ensures.ticks)
 
 pub returns : goal.returns
 unfolding any_sequence
