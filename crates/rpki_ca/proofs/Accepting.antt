@@ -1,9 +1,8 @@
 -- What is received.
-use Rattle.std.proofs.Common.{◌≡◌, ◌≢◌, ℕ, ℤ, Err, List, refl, sym, subst}
+use Rattle.std.proofs.Common.{◌≡◌, ◌≢◌, ℕ, ℤ, Result, Ok, Err, List, refl, sym, subst, ◌∙◌}
 use Rattle.rpki_base.specs.PublicKey.{KeyFields}
-use Rattle.rpki_base.specs.Checks.{first_failure, failing}
 use Rattle.rpki_base.specs.declared.validation.ValidationError.{ValidationError}
-use Rattle.rpki_sigmsg.specs.Checks.{checks, kind_of, Asked, IsBelieved}
+use Rattle.rpki_sigmsg.specs.Checks.{IsFirstBelieved, IsAnyValidation}
 use Rattle.rpki_sigmsg.specs.Message.{MessageFields}
 use Rattle.rpki_publication.specs.Cms as cms
 use Rattle.rpki_publication.specs.declared.error.Error.{Error}
@@ -17,7 +16,7 @@ use Rattle.rpki_ca.specs.declared.receiving.ReceiveError.TheVariants as errors
 use Rattle.rpki_ca.specs.declared.refusals.Refusal.TheVariants as refusals
 use Rattle.rpki_ca.specs.Answer.{IsReceiveAnswer}
 use Rattle.rpki_base.specs.Scheme.{Relation}
-use Rattle.rpki_ca.specs.Acceptance.{ReadsAs, Accepted, HoldsNoMessage, FailsCheck, RefusesReceipt, FindsSigned, of_publication, refusal_of}
+use Rattle.rpki_ca.specs.Acceptance.{ReadsAs, Accepted, AcceptedAt, HoldsNoMessage, FailsCheck, RefusesReceipt, IsReceived, IsReceivedUnder, FindsSigned, without_place, of_publication, refusal_of}
 
 -- ---- a message of the publication protocol
 
@@ -27,11 +26,11 @@ no_message octets h = record { signed = h.signed; begins = h.begins; none = none
     none : (m : Received) → ReadsAs kinds.Publication h.signed.content m → ⊥
     none (received.Publication m) r = h.none m r
 
-pub refused : (scheme : Relation) (octets : List ℕ) (key : KeyFields) (when : ℤ) (e : Error) → cms.RefusesCms octets e → RefusesReceipt scheme kinds.Publication octets key when (of_publication e)
-refused scheme octets key when publication_error.CmsDecode r = r
-refused scheme octets key when (publication_error.XmlError e) r = no_message octets r.1
-refused scheme octets key when (publication_error.Validation e) r = absurd r
-refused scheme octets key when publication_error.OutOfMemory r = tt
+pub refused : (scheme : Relation) (octets : List ℕ) (keys : List KeyFields) (when : ℤ) (e : Error) → cms.RefusesCms octets e → RefusesReceipt scheme kinds.Publication octets keys when (of_publication e)
+refused scheme octets keys when publication_error.CmsDecode r = r
+refused scheme octets keys when (publication_error.XmlError e) r = no_message octets r.1
+refused scheme octets keys when (publication_error.Validation e) r = absurd r
+refused scheme octets keys when publication_error.OutOfMemory r = tt
 
 pub none_found : (X Y : Type 0) (e : Error) → FindsSigned {X = X} (Err (of_publication e)) → cms.FindsSigned {X = Y} (Err e)
 none_found X Y publication_error.CmsDecode f = f
@@ -39,21 +38,53 @@ none_found X Y (publication_error.XmlError e) f = tt
 none_found X Y (publication_error.Validation e) f = tt
 none_found X Y publication_error.OutOfMemory f = f
 
-pub failed : (scheme : Relation) (octets : List ℕ) (key : KeyFields) (when : ℤ) (c : cms.CmsFields) (m : MessageFields) (e : ValidationError) → cms.BeginsCms octets c → m ≡ c.signed
-    → ((q : Asked scheme m key) → Err e ≡ failing kind_of (first_failure 1 (checks m key when q.q3 q.q8 q.q10))) → FailsCheck scheme kinds.Publication octets key when e
-failed scheme octets key when c m e b same first =
-    let here : (q : Asked scheme c.signed key) → Err e ≡ failing kind_of (first_failure 1 (checks c.signed key when q.q3 q.q8 q.q10)) =
-    subst (λ (n : MessageFields). (q : Asked scheme n key) → Err e ≡ failing kind_of (first_failure 1 (checks n key when q.q3 q.q8 q.q10))) same first in
-    record { signed = c.signed; begins = b.begins; message = received.Publication c.message; reads = b.reads; first = λ q. sym (here q) }
+pub failed : (scheme : Relation) (octets : List ℕ) (keys : List KeyFields) (when : ℤ) (c : cms.CmsFields) (m : MessageFields) (e : ValidationError) (r : Result ℕ ValidationError) → r ≡ Err e → cms.BeginsCms octets c → m ≡ c.signed
+    → IsAnyValidation scheme m keys when r → FailsCheck scheme kinds.Publication octets keys when e
+failed scheme octets keys when c m e r is b same v =
+    let here = subst (λ (n : MessageFields). IsAnyValidation scheme n keys when r) same v in
+    record {
+      signed = c.signed;
+      begins = b.begins;
+      message = received.Publication c.message;
+      reads = b.reads;
+      none = here.none e is;
+      greatest = λ os h. sym (here.first_failing os h) ∙ is;
+    }
 
-pub accepted : (scheme : Relation) (octets : List ℕ) (key : KeyFields) (when : ℤ) (c : cms.CmsFields) (m : MessageFields) → cms.BeginsCms octets c → m ≡ c.signed → IsBelieved scheme m key when → Accepted scheme kinds.Publication octets key when (received.Publication c.message)
-accepted scheme octets key when c m b same believed =
-    record { signed = c.signed; begins = b.begins; believed = subst (λ (n : MessageFields). IsBelieved scheme n key when) same believed; reads = b.reads }
+pub accepted : (scheme : Relation) (octets : List ℕ) (keys : List KeyFields) (when : ℤ) (c : cms.CmsFields) (m : MessageFields) (place : ℕ) → cms.BeginsCms octets c → m ≡ c.signed → IsFirstBelieved scheme m keys when place
+    → AcceptedAt scheme kinds.Publication octets keys when (received.Publication c.message) place
+accepted scheme octets keys when c m place b same believed =
+    record { signed = c.signed; begins = b.begins; believed = subst (λ (n : MessageFields). IsFirstBelieved scheme n keys when place) same believed; reads = b.reads }
+
+-- ---- without the place
+
+pub under_some : (scheme : Relation) (kind : Kind) (octets : List ℕ) (keys : List KeyFields) (when : ℤ) (m : Received) (place : ℕ) → AcceptedAt scheme kind octets keys when m place → Accepted scheme kind octets keys when m
+under_some scheme kind octets keys when m place a = record {
+  signed = a.signed;
+  begins = a.begins;
+  believed = record {
+    key = a.believed.key;
+    among = record { before = a.believed.before; behind = a.believed.behind; parts = a.believed.parts };
+    believed = a.believed.believed;
+  };
+  reads = a.reads;
+}
+
+pub received_under : (scheme : Relation) (kind : Kind) (octets : List ℕ) (keys : List KeyFields) (when : ℤ) (r : Result (Received × ℕ) ReceiveError) → IsReceivedUnder scheme kind octets keys when r → IsReceived scheme kind octets keys when (without_place r)
+received_under scheme kind octets keys when (Ok (m, place)) a = under_some scheme kind octets keys when m place a
+received_under scheme kind octets keys when (Err e) a = a
+
+pub found_under : (r : Result (Received × ℕ) ReceiveError) → FindsSigned (without_place r) → FindsSigned r
+found_under (Ok (m, place)) f = tt
+found_under (Err errors.CmsDecode) f = f
+found_under (Err errors.XmlError) f = tt
+found_under (Err (errors.Validation e)) f = tt
+found_under (Err errors.OutOfMemory) f = f
 
 -- ---- the answer of the command
 
-pub refusal : (scheme : Relation) (kind : Kind) (octets : List ℕ) (key : KeyFields) (when : ℤ) (e : ReceiveError) → RefusesReceipt scheme kind octets key when e → refusal_of e ≢ refusals.OutOfMemory → IsReceiveAnswer scheme kind octets key when (Err (refusal_of e))
-refusal scheme kind octets key when errors.CmsDecode r other = r
-refusal scheme kind octets key when errors.XmlError r other = r
-refusal scheme kind octets key when (errors.Validation e) r other = record { error = e; fails = r; number = refl }
-refusal scheme kind octets key when errors.OutOfMemory r other = absurd (other refl)
+pub refusal : (scheme : Relation) (kind : Kind) (octets : List ℕ) (keys : List KeyFields) (when : ℤ) (e : ReceiveError) → RefusesReceipt scheme kind octets keys when e → refusal_of e ≢ refusals.OutOfMemory → IsReceiveAnswer scheme kind octets keys when (Err (refusal_of e))
+refusal scheme kind octets keys when errors.CmsDecode r other = r
+refusal scheme kind octets keys when errors.XmlError r other = r
+refusal scheme kind octets keys when (errors.Validation e) r other = record { error = e; fails = r; number = refl }
+refusal scheme kind octets keys when errors.OutOfMemory r other = absurd (other refl)

@@ -1,7 +1,6 @@
 -- One command, and one answer to it.
 use Rattle.std.proofs.Common.{◌≡◌, ◌≢◌, ◌<◌, ◌≤◌, ◌^◌, ◌⊎◌, ℕ, ℤ, pos, negsuc, inl, inr, Option, Some, None, Result, Ok, Err, List, [], ◌∷◌, length, refl, sym, ap, subst, ◌∙◌, arith}
 use Rattle.std.specs.Prelude.{codes, slice_get, IfSome, IfOk, IfErr, IsErrOf}
-use Rattle.std.proofs.lemmas.Fmt.{signed_decimal_injective}
 use Rattle.rpki_base.specs.PublicKey.{KeyFields}
 use Rattle.rpki_ca.specs.declared.command.Command.{Command}
 use Rattle.rpki_ca.specs.declared.command.Command.TheVariants.{Content, Receive}
@@ -9,60 +8,13 @@ use Rattle.rpki_ca.specs.declared.receiving.Kind.{Kind}
 use Rattle.rpki_ca.specs.declared.receiving.Kind.TheVariants.{Publication}
 use Rattle.rpki_ca.specs.declared.refusals.Refusal.{Refusal}
 use Rattle.rpki_ca.specs.declared.refusals.Refusal.TheVariants as refusals
-use Rattle.rpki_ca.specs.Words.{IsMoment, key_of}
-use Rattle.rpki_ca.specs.Command.{IsReceive, IsCommand, IsNoCommand}
+use Rattle.rpki_ca.specs.Command.{IsCommand, IsNoCommand}
 use Rattle.rpki_ca.specs.Hexadecimal.{hexadecimal}
 use Rattle.rpki_base.specs.Scheme.{Relation}
 use Rattle.rpki_ca.specs.Refusal.{status_of}
 use Rattle.rpki_ca.specs.Seen.{Seen, IsSteady}
 use Rattle.rpki_ca.specs.Answer.{AnswersSpelled, IsAnswer, IsShown, IsAdmitted}
-
--- ---- one command
-
-abbrev some_word : List ℕ → Option (List ℕ)
-some_word w = Some w
-
-abbrev some_key : KeyFields → Option KeyFields
-some_key k = Some k
-
-one_moment : (word : List ℕ) (a b : ℤ) → IsMoment word a → IsMoment word b → a ≡ b
-one_moment word (pos m) (pos n) p q =
-    let low : m ≤ 253402300799 = p.1 in
-    let high : n ≤ 253402300799 = q.1 in
-    signed_decimal_injective (pos m) (pos n) (omega (arith, low)) (omega (arith, high)) (sym p.0 ∙ q.0)
-one_moment word (pos m) (negsuc n) p q = absurd q
-one_moment word (negsuc m) b p q = absurd p
-
-one_kind : (a b : Kind) → a ≡ b
-one_kind Publication Publication = refl
-
-same_at : (i : ℕ) (a b : List ℕ) (xs ys : List (List ℕ)) → xs ≡ ys → slice_get xs i ≡ Some a → slice_get ys i ≡ Some b → a ≡ b
-same_at i a b xs ys e p q = same (sym p ∙ ap (λ (ws : List (List ℕ)). slice_get ws i) e ∙ q)
-  where
-    same : some_word a ≡ some_word b → a ≡ b
-    same e = cc
-
-one_receive : (words : List (List ℕ)) (a b : Kind) (s t : ℤ) (k l : KeyFields) → IsReceive words a s k → IsReceive words b t l → Receive a s k ≡ Receive b t l
-one_receive words a b s t k l p q =
-    let e = sym p.are ∙ q.are in
-    let moment : p.moment_word ≡ q.moment_word = same_at 2 p.moment_word q.moment_word _ _ e refl refl in
-    let key : p.key_word ≡ q.key_word = same_at 3 p.key_word q.key_word _ _ e refl refl in
-    let st : s ≡ t = one_moment q.moment_word s t (subst (λ (w : List ℕ). IsMoment w s) moment p.moment) q.moment in
-    let kl : k ≡ l = same (sym p.spells ∙ ap key_of key ∙ q.spells) in
-    let ab : a ≡ b = one_kind a b in
-    cc
-  where
-    same : some_key k ≡ some_key l → k ≡ l
-    same e = cc
-
-not_both : (words : List (List ℕ)) (kind : Kind) (when : ℤ) (key : KeyFields) → words ≡ codes "content" ∷ [] → IsReceive words kind when key → ⊥
-not_both words kind when key e r = let n : length (codes "content" ∷ []) ≡ 4 = sym (ap length e) ∙ ap length r.are in omega (arith, n)
-
-pub one_command : (words : List (List ℕ)) (c d : Command) → IsCommand words c → IsCommand words d → c ≡ d
-one_command words Content Content p q = refl
-one_command words Content (Receive kind when key) p q = absurd (not_both words kind when key p q)
-one_command words (Receive kind when key) Content p q = absurd (not_both words kind when key q p)
-one_command words (Receive a s k) (Receive b t l) p q = one_receive words a b s t k l p q
+use Rattle.rpki_ca.proofs.Commands.{one_command}
 
 -- ---- the answer
 
@@ -113,7 +65,7 @@ no_usage scheme c None said = never said
     never : err_of refusals.Usage ≡ err_of refusals.Hex → ⊥
     never k = cc
 no_usage scheme Content (Some octets) said = said
-no_usage scheme (Receive kind when key) (Some octets) said = said
+no_usage scheme (Receive kind when keys) (Some octets) said = said
 
 no_fault : (scheme : Relation) (c : Command) (o : Option (List ℕ)) → AnswersSpelled scheme c o (Err refusals.ReadFault) → ⊥
 no_fault scheme c None said = never said
@@ -121,7 +73,7 @@ no_fault scheme c None said = never said
     never : err_of refusals.ReadFault ≡ err_of refusals.Hex → ⊥
     never k = cc
 no_fault scheme Content (Some octets) said = said
-no_fault scheme (Receive kind when key) (Some octets) said = said
+no_fault scheme (Receive kind when keys) (Some octets) said = said
 
 -- ---- what is admitted
 

@@ -1,18 +1,28 @@
 -- Lists of words, and the commands that they are.
-use Rattle.std.proofs.Common.{◌≡◌, ◌<◌, ℕ, suc, ℤ, Bool, true, false, Option, Some, None, List, [], ◌∷◌, length, refl, sym, ap, subst, ◌∙◌, arith, inl, inr}
+use Rattle.std.proofs.Common.{◌≡◌, ◌≤◌, ◌<◌, ◌+◌, ℕ, zero, suc, ℤ, Bool, true, false, Option, Some, None, List, [], ◌∷◌, ◌++◌, length, map, drop, pos, negsuc, refl, sym, ap, subst, ◌∙◌, arith, inl, inr}
 use Rattle.std.specs.Prelude.{codes, bytes_eq, if◌then◌else◌, slice_get, IsSome}
+use Rattle.std.proofs.lemmas.Fmt.{signed_decimal_injective}
 use Rattle.std.proofs.lemmas.Option.{slice_get_cases}
 use Rattle.std.proofs.lemmas.Slice.Eq.{bytes_eq-Decides}
 use Rattle.rpki_common.specs.Chaining.{◌>>=◌}
 use Rattle.rpki_base.specs.PublicKey.{KeyFields}
 use Rattle.rpki_ca.specs.declared.receiving.Kind.{Kind}
 use Rattle.rpki_ca.specs.declared.receiving.Kind.TheVariants.{Publication}
+use Rattle.rpki_ca.specs.declared.command.Verb.{Verb}
+use Rattle.rpki_ca.specs.declared.command.Verb.TheVariants as verbs
+use Rattle.rpki_ca.specs.declared.command.Command.{Command}
 use Rattle.rpki_ca.specs.declared.command.Command.TheVariants.{Content, Receive}
-use Rattle.rpki_ca.specs.Words.{IsMoment, IsMomentAt, key_at}
-use Rattle.rpki_ca.specs.Command.{kind_word, kind_of, kind_at, IsReceive, IsNoCommand}
+use Rattle.rpki_ca.specs.Words.{IsMoment, IsMomentAt, key_of, key_at}
+use Rattle.rpki_ca.specs.Command.{kind_word, kind_of, kind_at, verb_word, verb_of, verb_in, AreKeys, IsReceive, AskToReceive, Ask, IsCommand, IsNoCommand, AskInVain, HasFewKeys}
 
 abbrev some_word : List ℕ → Option (List ℕ)
 some_word w = Some w
+
+abbrev some_key : KeyFields → Option KeyFields
+some_key k = Some k
+
+abbrev some_verb : Verb → Option Verb
+some_verb v = Some v
 
 -- ---- what stands at an index
 
@@ -43,76 +53,192 @@ named_kind word Publication e = cases (bytes_eq word (codes "publication")) refl
     cases true t e = (bytes_eq-Decides word (codes "publication")).0 t
     cases false t e = cc
 
--- ---- so many words
+-- ---- the first word
 
-pub one_word : (words : List (List ℕ)) (first : List ℕ) → (slice_get words 0 ≡ Some first) × (length words ≡ 1) → words ≡ first ∷ []
-one_word [] first e = cc
-one_word (a ∷ []) first e = let s : some_word a ≡ some_word first = e.0 in let t : a ≡ first = cc in ap (λ (x : List ℕ). x ∷ []) t
-one_word (a ∷ b ∷ more) first e = absurd (never (length more) e.1)
+named_verb : (word : List ℕ) (verb : Verb) → verb_of word ≡ Some verb → word ≡ verb_word verb
+named_verb word verb e = first (bytes_eq word (verb_word verbs.Content)) refl e
   where
-    never : (n : ℕ) → suc (suc n) ≡ 1 → ⊥
-    never n l = cc
+    second : (b : Bool) → bytes_eq word (verb_word verbs.Receive) ≡ b → (if b then Some verbs.Receive else None) ≡ some_verb verb → word ≡ verb_word verb
+    second true t e = let same : verbs.Receive ≡ verb = cc in (bytes_eq-Decides word (verb_word verbs.Receive)).0 t ∙ ap verb_word same
+    second false t e = cc
 
-pub record Four (words : List (List ℕ)) (a : List ℕ) : Type 0 where
-  pub b : List ℕ
-  pub c : List ℕ
-  pub d : List ℕ
-  pub are : words ≡ a ∷ b ∷ c ∷ d ∷ []
+    first : (b : Bool) → bytes_eq word (verb_word verbs.Content) ≡ b → (if b then Some verbs.Content else if bytes_eq word (verb_word verbs.Receive) then Some verbs.Receive else None) ≡ some_verb verb → word ≡ verb_word verb
+    first true t e = let same : verbs.Content ≡ verb = cc in (bytes_eq-Decides word (verb_word verbs.Content)).0 t ∙ ap verb_word same
+    first false t e = second (bytes_eq word (verb_word verbs.Receive)) refl e
 
-pub four_words : (words : List (List ℕ)) (a : List ℕ) → slice_get words 0 ≡ Some a → length words ≡ 4 → Four words a
-four_words [] a e l = cc
-four_words (x ∷ []) a e l = cc
-four_words (x ∷ y ∷ []) a e l = cc
-four_words (x ∷ y ∷ z ∷ []) a e l = cc
-four_words (x ∷ y ∷ z ∷ w ∷ []) a e l = let s : some_word x ≡ some_word a = e in let t : x ≡ a = cc in record { b = y; c = z; d = w; are = ap (λ (k : List ℕ). k ∷ y ∷ z ∷ w ∷ []) t }
-four_words (x ∷ y ∷ z ∷ w ∷ v ∷ more) a e l = absurd (never (length more) l)
+-- the words begin with the word for the verb
+pub record BeginWith (words : List (List ℕ)) (verb : Verb) : Type 0 where
+  pub rest : List (List ℕ)
+  pub are : words ≡ verb_word verb ∷ rest
+
+pub begin_with : (words : List (List ℕ)) (verb : Verb) → verb_in words ≡ Some verb → BeginWith words verb
+unfolding ◌>>=◌
+begin_with [] verb e = cc
+begin_with (word ∷ rest) verb e = record { rest = rest; are = ap (λ (w : List ℕ). w ∷ rest) (named_verb word verb e) }
+
+-- words that ask for what a verb says begin with its word
+pub ask_with : (verb : Verb) (words : List (List ℕ)) (c : Command) → Ask verb words c → verb_in words ≡ Some verb
+unfolding ◌>>=◌
+ask_with verbs.Content words c a = ap verb_in a.0
+ask_with verbs.Receive words c a = ap verb_in a.receive.are
+
+one_verb : (words : List (List ℕ)) (v w : Verb) → verb_in words ≡ Some v → verb_in words ≡ Some w → v ≡ w
+one_verb words v w a b = same (sym a ∙ b)
   where
-    never : (n : ℕ) → suc (suc (suc (suc (suc n)))) ≡ 4 → ⊥
-    never n l = cc
+    same : some_verb v ≡ some_verb w → v ≡ w
+    same e = cc
+
+pub no_other : (words : List (List ℕ)) (verb : Verb) → verb_in words ≡ Some verb → AskInVain verb words → IsNoCommand words
+no_other words verb e none c a = none c (subst (λ (v : Verb). Ask v words c) (one_verb words a.0 verb (ask_with a.0 words c a.1) e) a.1)
+
+pub no_verb : (words : List (List ℕ)) → verb_in words ≡ None → IsNoCommand words
+no_verb words e c a = never (sym e ∙ ask_with a.0 words c a.1)
+  where
+    never : None ≡ some_verb a.0 → ⊥
+    never k = cc
+
+-- ---- `content`
+
+pub one_word : (words : List (List ℕ)) → verb_in words ≡ Some verbs.Content → length words ≡ 1 → Ask verbs.Content words Content
+one_word words e l = (are (begin_with words verbs.Content e), refl)
+  where
+    are : BeginWith words verbs.Content → words ≡ verb_word verbs.Content ∷ []
+    are b = alone b.rest b.are (sym (ap length b.are) ∙ l)
+      where
+        alone : (rest : List (List ℕ)) → words ≡ verb_word verbs.Content ∷ rest → length (verb_word verbs.Content ∷ rest) ≡ 1 → words ≡ verb_word verbs.Content ∷ []
+        alone [] e l = e
+        alone (x ∷ rest) e l = absurd (omega (arith, l))
+
+pub not_one : (words : List (List ℕ)) → (length words ≡ 1 → ⊥) → AskInVain verbs.Content words
+not_one words other c a = other (ap length a.0)
+
+-- ---- keys
+
+pub same_count : {A B C : Type 0} (f : A → C) (g : B → C) (xs : List A) (ys : List B) → map f xs ≡ map g ys → length xs ≡ length ys
+same_count f g [] [] e = refl
+same_count f g [] (y ∷ ys) e = cc
+same_count f g (x ∷ xs) [] e = cc
+same_count f g (x ∷ xs) (y ∷ ys) e = ap suc (same_count f g xs ys (ap (drop 1) e))
+
+one_list : (words : List (List ℕ)) (ks ls : List KeyFields) → AreKeys words ks → AreKeys words ls → ks ≡ ls
+one_list words ks ls p q = same ks ls (sym p ∙ q)
+  where
+    same : (ks ls : List KeyFields) → map some_key ks ≡ map some_key ls → ks ≡ ls
+    same [] [] e = refl
+    same [] (l ∷ ls) e = cc
+    same (k ∷ ks) [] e = cc
+    same (k ∷ ks) (l ∷ ls) e = let rest = same ks ls (ap (drop 1) e) in let first : k ≡ l = cc in rw (first, rest) refl
 
 -- ---- `receive`
 
-pub received : (words : List (List ℕ)) (kind : Kind) (when : ℤ) (key : KeyFields) → slice_get words 0 ≡ Some (codes "receive") → length words ≡ 4 → Some kind ≡ kind_at words 1 → IsMomentAt words 2 when → Some key ≡ key_at words 3 → IsReceive words kind when key
+pub few : (words : List (List ℕ)) (c : Command) → AskToReceive words c → (4 ≤ length words) × (length words ≤ 11)
+few words c a =
+    let n : length words ≡ 3 + length a.receive.key_words = ap length a.receive.are in
+    (omega (arith, n, a.receive.some), omega (arith, n, a.receive.few))
+
+pub no_count : (words : List (List ℕ)) → ((4 ≤ length words) × (length words ≤ 11) → ⊥) → AskInVain verbs.Receive words
+no_count words other c a = other (few words c a)
+
+pub no_kind : (words : List (List ℕ)) → None ≡ kind_at words 1 → AskInVain verbs.Receive words
 unfolding ◌>>=◌
-received words kind when key e l k m s =
-    let f = four_words words (codes "receive") e l in
-    let b : f.b ≡ kind_word kind = named_kind f.b kind (subst (λ (ws : List (List ℕ)). Some kind ≡ kind_at ws 1) f.are k) in
-    let third : some_word m.word ≡ some_word f.c = sym m.stands ∙ ap (λ (ws : List (List ℕ)). slice_get ws 2) f.are in
-    let same : m.word ≡ f.c = cc in
+no_kind words none c a =
+    let k : None ≡ Some a.kind = subst (λ (ws : List (List ℕ)). None ≡ kind_at ws 1) a.receive.are none ∙ same_kind a.kind in absurd (never k)
+  where
+    never : None ≡ Some a.kind → ⊥
+    never k = cc
+
+pub no_moment : (words : List (List ℕ)) → ((when : ℤ) → IsMomentAt words 2 when → ⊥) → AskInVain verbs.Receive words
+no_moment words none c a =
+    none a.when (record { word = a.receive.moment_word; stands = ap (λ (ws : List (List ℕ)). slice_get ws 2) a.receive.are; moment = a.receive.moment })
+
+pub no_keys : (words : List (List ℕ)) → ((keys : List KeyFields) → AreKeys (drop 3 words) keys → ⊥) → AskInVain verbs.Receive words
+no_keys words none c a = none a.keys (subst (λ (ws : List (List ℕ)). AreKeys (drop 3 ws) a.keys) (sym a.receive.are) a.receive.spell)
+
+three_words : (words : List (List ℕ)) (rest : List (List ℕ)) → words ≡ codes "receive" ∷ rest → 4 ≤ length words → (b : List ℕ) × (c : List ℕ) × (words ≡ codes "receive" ∷ b ∷ c ∷ drop 3 words)
+three_words words [] e l = absurd (never (ap length e))
+  where
+    never : length words ≡ 1 → ⊥
+    never n = omega (arith, n, l)
+three_words words (b ∷ []) e l = absurd (never (ap length e))
+  where
+    never : length words ≡ 2 → ⊥
+    never n = omega (arith, n, l)
+three_words words (b ∷ c ∷ rest) e l = (b, c, e ∙ ap (λ (ws : List (List ℕ)). codes "receive" ∷ b ∷ c ∷ ws) (sym (ap (drop 3) e)))
+
+pub received : (words : List (List ℕ)) (kind : Kind) (when : ℤ) (keys : List KeyFields) → verb_in words ≡ Some verbs.Receive → (4 ≤ length words) × (length words ≤ 11)
+    → Some kind ≡ kind_at words 1 → IsMomentAt words 2 when → AreKeys (drop 3 words) keys → Ask verbs.Receive words (Receive kind when keys)
+unfolding ◌>>=◌
+received words kind when keys e l k m s =
+    let f = begin_with words verbs.Receive e in
+    let w = three_words words f.rest f.are l.0 in
+    let n : length words ≡ 3 + length (drop 3 words) = ap length w.2 in
+    let b : w.0 ≡ kind_word kind = named_kind w.0 kind (k ∙ ap (λ (ws : List (List ℕ)). kind_at ws 1) w.2) in
+    let third : some_word m.word ≡ some_word w.1 = sym m.stands ∙ ap (λ (ws : List (List ℕ)). slice_get ws 2) w.2 in
+    let same : m.word ≡ w.1 = cc in
     record {
-      moment_word = f.c;
-      key_word = f.d;
-      are = f.are ∙ ap (λ (x : List ℕ). codes "receive" ∷ x ∷ f.c ∷ f.d ∷ []) b;
-      moment = subst (λ (w : List ℕ). IsMoment w when) same m.moment;
-      spells = sym (subst (λ (ws : List (List ℕ)). Some key ≡ key_at ws 3) f.are s);
+      kind = kind;
+      when = when;
+      keys = keys;
+      receive = record {
+        moment_word = w.1;
+        key_words = drop 3 words;
+        are = w.2 ∙ ap (λ (x : List ℕ). codes "receive" ∷ x ∷ w.1 ∷ drop 3 words) b;
+        some = omega (arith, n, l.0);
+        few = omega (arith, n, l.1);
+        moment = subst (λ (w : List ℕ). IsMoment w when) same m.moment;
+        spell = s;
+      };
+      is = refl;
     }
 
-not_content : (words : List (List ℕ)) → length words ≡ 4 → words ≡ codes "content" ∷ [] → ⊥
-not_content words l e = let n : 4 ≡ 1 = sym l ∙ ap length e in omega (arith, n)
+-- ---- one command
 
-pub no_kind : (words : List (List ℕ)) → length words ≡ 4 → None ≡ kind_at words 1 → IsNoCommand words
-unfolding ◌>>=◌
-no_kind words l none Content e = not_content words l e
-no_kind words l none (Receive kind when key) r =
-    let k : None ≡ Some kind = subst (λ (ws : List (List ℕ)). None ≡ kind_at ws 1) r.are none ∙ same_kind kind in absurd (never k)
+one_moment : (word : List ℕ) (a b : ℤ) → IsMoment word a → IsMoment word b → a ≡ b
+one_moment word (pos m) (pos n) p q =
+    let low : m ≤ 253402300799 = p.1 in
+    let high : n ≤ 253402300799 = q.1 in
+    signed_decimal_injective (pos m) (pos n) (omega (arith, low)) (omega (arith, high)) (sym p.0 ∙ q.0)
+one_moment word (pos m) (negsuc n) p q = absurd q
+one_moment word (negsuc m) b p q = absurd p
+
+one_kind : (a b : Kind) → a ≡ b
+one_kind Publication Publication = refl
+
+same_at : (i : ℕ) (a b : List ℕ) (xs ys : List (List ℕ)) → xs ≡ ys → slice_get xs i ≡ Some a → slice_get ys i ≡ Some b → a ≡ b
+same_at i a b xs ys e p q = same (sym p ∙ ap (λ (ws : List (List ℕ)). slice_get ws i) e ∙ q)
   where
-    never : None ≡ Some kind → ⊥
-    never k = cc
+    same : some_word a ≡ some_word b → a ≡ b
+    same e = cc
 
-pub no_moment : (words : List (List ℕ)) → length words ≡ 4 → ((when : ℤ) → IsMomentAt words 2 when → ⊥) → IsNoCommand words
-no_moment words l none Content e = not_content words l e
-no_moment words l none (Receive kind when key) r = none when (record { word = r.moment_word; stands = ap (λ (ws : List (List ℕ)). slice_get ws 2) r.are; moment = r.moment })
+one_receive : (words : List (List ℕ)) (a b : Kind) (s t : ℤ) (k l : List KeyFields) → IsReceive words a s k → IsReceive words b t l → Receive a s k ≡ Receive b t l
+one_receive words a b s t k l p q =
+    let e = sym p.are ∙ q.are in
+    let moment : p.moment_word ≡ q.moment_word = same_at 2 p.moment_word q.moment_word _ _ e refl refl in
+    let behind : p.key_words ≡ q.key_words = ap (drop 3) e in
+    let st : s ≡ t = one_moment q.moment_word s t (subst (λ (w : List ℕ). IsMoment w s) moment p.moment) q.moment in
+    let kl : k ≡ l = one_list q.key_words k l (subst (λ (ws : List (List ℕ)). AreKeys ws k) behind p.spell) q.spell in
+    let ab : a ≡ b = one_kind a b in
+    rw (ab, st, kl) refl
 
-pub no_key : (words : List (List ℕ)) → length words ≡ 4 → None ≡ key_at words 3 → IsNoCommand words
-unfolding ◌>>=◌
-no_key words l none Content e = not_content words l e
-no_key words l none (Receive kind when key) r = absurd (never (subst (λ (ws : List (List ℕ)). None ≡ key_at ws 3) r.are none ∙ r.spells))
+asked_once : (verb : Verb) (words : List (List ℕ)) (c d : Command) → Ask verb words c → Ask verb words d → c ≡ d
+asked_once verbs.Content words c d p q = p.1 ∙ sym q.1
+asked_once verbs.Receive words c d p q = p.is ∙ one_receive words p.kind q.kind p.when q.when p.keys q.keys p.receive q.receive ∙ sym q.is
+
+pub one_command : (words : List (List ℕ)) (c d : Command) → IsCommand words c → IsCommand words d → c ≡ d
+one_command words c d p q =
+    let same = one_verb words p.0 q.0 (ask_with p.0 words c p.1) (ask_with q.0 words d q.1) in
+    asked_once q.0 words c d (subst (λ (v : Verb). Ask v words c) same p.1) q.1
+
+-- ---- as a command
+
+pub is_command : (words : List (List ℕ)) (kind : Kind) (when : ℤ) (keys : List KeyFields) → IsReceive words kind when keys → IsCommand words (Receive kind when keys)
+is_command words kind when keys r = (verbs.Receive, record { kind = kind; when = when; keys = keys; receive = r; is = refl })
+
+pub has_few : (words : List (List ℕ)) (c : Command) → IsCommand words c → HasFewKeys c
+has_few words c a = by_verb a.0 a.1
   where
-    never : None ≡ Some key → ⊥
-    never k = cc
-
--- ---- no command at all
-
-pub no_command : (words : List (List ℕ)) → ((slice_get words 0 ≡ Some (codes "content")) × (length words ≡ 1) → ⊥) → ((slice_get words 0 ≡ Some (codes "receive")) × (length words ≡ 4) → ⊥) → IsNoCommand words
-no_command words one four Content e = one (ap (λ (ws : List (List ℕ)). slice_get ws 0) e, ap length e)
-no_command words one four (Receive kind when key) r = four (ap (λ (ws : List (List ℕ)). slice_get ws 0) r.are, ap length r.are)
+    by_verb : (verb : Verb) → Ask verb words c → HasFewKeys c
+    by_verb verbs.Content p = subst HasFewKeys (sym p.1) tt
+    by_verb verbs.Receive p =
+        let n : length p.receive.key_words ≡ length p.keys = same_count key_of some_key p.receive.key_words p.keys p.receive.spell in
+        subst HasFewKeys (sym p.is) (omega (arith, n, p.receive.some), omega (arith, n, p.receive.few))

@@ -1,6 +1,6 @@
 -- One answer to octets, and what it asks of a scheme.
-use Rattle.std.proofs.Common.{◌≡◌, ◌≢◌, ◌^◌, ◌==◌, if◌then◌else◌, length, ℕ, ℤ, ◌⊎◌, inl, inr, Bool, true, false, Option, Some, None, Result, Ok, Err, List, refl, sym, ap, subst, ◌∙◌}
-use Rattle.std.specs.Prelude.{◌↔◌, Decides, MatchResult, bytes_eq}
+use Rattle.std.proofs.Common.{◌≡◌, ◌≢◌, ◌^◌, ◌==◌, if◌then◌else◌, length, ℕ, ℤ, ◌⊎◌, inl, inr, Bool, true, false, Option, Some, None, Result, Ok, Err, List, [], ◌∷◌, refl, sym, ap, subst, ◌∙◌}
+use Rattle.std.specs.Prelude.{◌↔◌, Decides, bytes_eq}
 use Rattle.std.proofs.lemmas.Bool.Decides.{eqb_tells, leb_tells}
 use Rattle.std.proofs.lemmas.Slice.Eq.{bytes_eq-Decides}
 use Rattle.sha2.specs.Sha256.{sha256}
@@ -8,9 +8,9 @@ use Rattle.rpki_base.specs.PublicKey.{KeyFields}
 use Rattle.rpki_der.specs.declared.mode.Mode.TheVariants.{Ber}
 use Rattle.rpki_der.proofs.Decoding.{decoded_ok}
 use Rattle.rpki_base.specs.Checks.{first_failure, failing}
-use Rattle.rpki_base.specs.Checks.{IsSigned}
 use Rattle.rpki_base.specs.declared.validation.ValidationError.{ValidationError}
-use Rattle.rpki_sigmsg.specs.Checks.{checks, kind_of, AreAttributesSigned, Asked, AreSigned, IsBelieved, SameAnswers}
+use Rattle.rpki_sigmsg.specs.Checks.{checks, kind_of, Asked, IsBelieved, IsBelievedUnder, IsUnbelieved, AreAmong, AreOutcomes, ranked, SameAnswersUnder, IsInSpan}
+use Rattle.rpki_sigmsg.proofs.AnyKey.{at_one, under_more, one_span_under, first_too, unbelieved_too, outcomes_too}
 use Rattle.rpki_sigmsg.specs.Message.{MessageFields, signed_message}
 use Rattle.rpki_publication.specs.Cms.{BeginsSigned}
 use Rattle.rpki_publication.proofs.Refused.{one_message}
@@ -29,7 +29,7 @@ use Rattle.rpki_ca.specs.Answer.{IsContent, FailsDigest, IsContentAnswer, FailsA
 use Rattle.rpki_ca.specs.Command.{IsCommand, IsNoCommand}
 use Rattle.rpki_ca.specs.Hexadecimal.{hexadecimal}
 use Rattle.rpki_base.specs.Scheme.{Relation}
-use Rattle.rpki_ca.specs.Acceptance.{ReadsAs, Accepted, HoldsNoSigned, HoldsNoMessage, RefusesReceipt, text_of}
+use Rattle.rpki_ca.specs.Acceptance.{ReadsAs, Accepted, HoldsNoSigned, HoldsNoMessage, IsReceivedUnder, text_of}
 
 -- ---- what octets begin with, and what content reads as, is one
 
@@ -45,21 +45,16 @@ one_signed octets m n p q = same (sym (decoded_ok (signed_message Ber) Ber octet
 one_reading : (kind : Kind) (content : List ℕ) (m n : Received) → ReadsAs kind content m → ReadsAs kind content n → m ≡ n
 one_reading kinds.Publication content (received.Publication m) (received.Publication n) p q = ap received.Publication (one_message content m n p q)
 
--- ---- what is believed passes
+-- ---- what is believed under a key is not unbelieved
+
+not_failing : (scheme : Relation) (m : MessageFields) (keys : List KeyFields) (when : ℤ) → IsBelievedUnder scheme m keys when → IsUnbelieved scheme m keys when → ⊥
+not_failing scheme m keys when b none =
+    at_one (λ k. IsBelieved scheme m k when → ⊥) b.among.before b.key b.among.behind (subst (λ (ks : List KeyFields). IsUnbelieved scheme m ks when) b.among.parts none) b.believed
+
+-- ---- the check that is named is one
 
 so : {X : Type 0} → X → Decides true X
 so x = (λ _. x, λ _. refl)
-
-never : (e : ValidationError) (r : Result (Unit {0}) ℕ) → r ≡ Ok tt → failing kind_of r ≡ Err e → ⊥
-never e (Ok u) p f = cc
-never e (Err n) p f = cc
-
-not_failing : (scheme : Relation) (m : MessageFields) (key : KeyFields) (when : ℤ) (e : ValidationError) → IsBelieved scheme m key when → ((q : Asked scheme m key) → failing kind_of (first_failure 1 (checks m key when q.q3 q.q8 q.q10)) ≡ Err e) → ⊥
-not_failing scheme m key when e b first =
-    never e (first_failure 1 (checks m key when true true true)) b.passes
-    (first (record { q3 = true; q8 = true; q10 = true; attributes = so b.signatures.attributes; certificate = so b.signatures.certificate; crl = so b.signatures.crl }))
-
--- ---- the first failing check is one
 
 undecided : {X : Type 0} → ((b : Bool) → Decides b X → ⊥) → ⊥
 undecided k = k false (λ e. absurd (unlike e), λ x. absurd (k true (so x)))
@@ -67,45 +62,51 @@ undecided k = k false (λ e. absurd (unlike e), λ x. absurd (k true (so x)))
     unlike : false ≡ true → ⊥
     unlike e = cc
 
-abbrev err_of : ValidationError → Result (Unit {0}) ValidationError
+-- under each key something comes of the checks
+some_outcomes : (scheme : Relation) (m : MessageFields) (keys : List KeyFields) (when : ℤ) → ((os : List (Result (Unit {0}) ℕ)) → AreOutcomes scheme m keys when os → ⊥) → ⊥
+some_outcomes scheme m [] when k = k [] tt
+some_outcomes scheme m (key ∷ keys) when k =
+    some_outcomes scheme m keys when (λ os h. undecided (λ x a. undecided (λ y b. undecided (λ z c.
+      let q : Asked scheme m key = record { q3 = x; q8 = y; q10 = z; attributes = a; certificate = b; crls = c } in
+      k (first_failure 1 (checks m key when x y z) ∷ os) (record { asked = q; is = refl }, h)))))
+
+abbrev err_of : ValidationError → Result ℕ ValidationError
 err_of e = Err e
 
-one_check : (scheme : Relation) (m : MessageFields) (key : KeyFields) (when : ℤ) (d e : ValidationError) → ((q : Asked scheme m key) → failing kind_of (first_failure 1 (checks m key when q.q3 q.q8 q.q10)) ≡ Err d) → ((q : Asked scheme m key) → failing kind_of (first_failure 1 (checks m key when q.q3 q.q8 q.q10)) ≡ Err e) → d.check ≡ e.check
-one_check scheme m key when d e f g =
+one_check : (scheme : Relation) (m : MessageFields) (keys : List KeyFields) (when : ℤ) (d e : ValidationError) → ((os : List (Result (Unit {0}) ℕ)) → AreOutcomes scheme m keys when os → failing kind_of (ranked os) ≡ Err d)
+    → ((os : List (Result (Unit {0}) ℕ)) → AreOutcomes scheme m keys when os → failing kind_of (ranked os) ≡ Err e) → d.check ≡ e.check
+one_check scheme m keys when d e f g =
     elim (eqb_tells d.check e.check) [
       | inl same ↦ same.1
-      | inr other ↦ absurd (undecided (λ x a. undecided (λ y b. undecided (λ z c. other.1 (number (sym (f (asked x y z a b c)) ∙ g (asked x y z a b c)))))))
+      | inr other ↦ absurd (some_outcomes scheme m keys when (λ os h. other.1 (number (sym (f os h) ∙ g os h))))
     ]
   where
     number : err_of d ≡ err_of e → d.check ≡ e.check
     number p = cc
 
-    asked : (x y z : Bool) → Decides x (AreAttributesSigned scheme m) → Decides y (IsSigned scheme m.certificate key) → Decides z (IsSigned scheme m.crl key) → Asked scheme m key
-    asked x y z a b c = record { q3 = x; q8 = y; q10 = z; attributes = a; certificate = b; crl = c }
-
 -- ---- one answer
 
 -- what a receipt is
-abbrev View : (scheme : Relation) (kind : Kind) (octets : List ℕ) (key : KeyFields) (when : ℤ) → Result (List ℕ) Refusal → Type 0
-View scheme kind octets key when a =
-    ((text : List ℕ) × (a ≡ Ok text) × IsTextAccepted scheme kind octets key when text)
+abbrev View : (scheme : Relation) (kind : Kind) (octets : List ℕ) (keys : List KeyFields) (when : ℤ) → Result (List ℕ) Refusal → Type 0
+View scheme kind octets keys when a =
+    ((text : List ℕ) × (a ≡ Ok text) × IsTextAccepted scheme kind octets keys when text)
     ⊎ (((a ≡ Err refusals.CmsDecode) × HoldsNoSigned octets)
     ⊎ (((a ≡ Err refusals.XmlError) × HoldsNoMessage kind octets)
-    ⊎ ((n : ℕ) × (a ≡ Err (refusals.Validation n)) × FailsAt scheme kind octets key when n)))
+    ⊎ ((n : ℕ) × (a ≡ Err (refusals.Validation n)) × FailsAt scheme kind octets keys when n)))
 
-view : (scheme : Relation) (kind : Kind) (octets : List ℕ) (key : KeyFields) (when : ℤ) (a : Result (List ℕ) Refusal) → IsReceiveAnswer scheme kind octets key when a → View scheme kind octets key when a
-view scheme kind octets key when (Ok text) r = inl (text, refl, r)
-view scheme kind octets key when (Err refusals.CmsDecode) r = inr (inl (refl, r))
-view scheme kind octets key when (Err refusals.XmlError) r = inr (inr (inl (refl, r)))
-view scheme kind octets key when (Err (refusals.Validation n)) r = inr (inr (inr (n, refl, r)))
-view scheme kind octets key when (Err refusals.Usage) r = absurd r
-view scheme kind octets key when (Err refusals.Hex) r = absurd r
-view scheme kind octets key when (Err refusals.TooLong) r = absurd r
-view scheme kind octets key when (Err refusals.ReadFault) r = absurd r
-view scheme kind octets key when (Err refusals.OutOfMemory) r = absurd r
+view : (scheme : Relation) (kind : Kind) (octets : List ℕ) (keys : List KeyFields) (when : ℤ) (a : Result (List ℕ) Refusal) → IsReceiveAnswer scheme kind octets keys when a → View scheme kind octets keys when a
+view scheme kind octets keys when (Ok text) r = inl (text, refl, r)
+view scheme kind octets keys when (Err refusals.CmsDecode) r = inr (inl (refl, r))
+view scheme kind octets keys when (Err refusals.XmlError) r = inr (inr (inl (refl, r)))
+view scheme kind octets keys when (Err (refusals.Validation n)) r = inr (inr (inr (n, refl, r)))
+view scheme kind octets keys when (Err refusals.Usage) r = absurd r
+view scheme kind octets keys when (Err refusals.Hex) r = absurd r
+view scheme kind octets keys when (Err refusals.TooLong) r = absurd r
+view scheme kind octets keys when (Err refusals.ReadFault) r = absurd r
+view scheme kind octets keys when (Err refusals.OutOfMemory) r = absurd r
 
-one_text : (scheme : Relation) (kind : Kind) (octets : List ℕ) (key : KeyFields) (when : ℤ) (s t : List ℕ) → IsTextAccepted scheme kind octets key when s → IsTextAccepted scheme kind octets key when t → s ≡ t
-one_text scheme kind octets key when s t p q =
+one_text : (scheme : Relation) (kind : Kind) (octets : List ℕ) (keys : List KeyFields) (when : ℤ) (s t : List ℕ) → IsTextAccepted scheme kind octets keys when s → IsTextAccepted scheme kind octets keys when t → s ≡ t
+one_text scheme kind octets keys when s t p q =
     let signed = one_signed octets p.accepted.signed q.accepted.signed p.accepted.begins q.accepted.begins in
     let message = one_reading kind q.accepted.signed.content p.message q.message (subst (λ (m : MessageFields). ReadsAs kind m.content p.message) signed p.accepted.reads) q.accepted.reads in
     p.written ∙ ap text_of message ∙ sym q.written
@@ -113,33 +114,33 @@ one_text scheme kind octets key when s t p q =
 no_reading : (kind : Kind) (octets : List ℕ) (signed : MessageFields) (m : Received) → BeginsSigned octets signed → ReadsAs kind signed.content m → HoldsNoMessage kind octets → ⊥
 no_reading kind octets signed m b r h = h.none m (subst (λ (s : MessageFields). ReadsAs kind s.content m) (one_signed octets signed h.signed b h.begins) r)
 
-accepted_fails : (scheme : Relation) (kind : Kind) (octets : List ℕ) (key : KeyFields) (when : ℤ) (text : List ℕ) (n : ℕ) → IsTextAccepted scheme kind octets key when text → FailsAt scheme kind octets key when n → ⊥
-accepted_fails scheme kind octets key when text n a f =
-    not_failing scheme f.fails.signed key when f.error (subst (λ (m : MessageFields). IsBelieved scheme m key when) (one_signed octets a.accepted.signed f.fails.signed a.accepted.begins f.fails.begins) a.accepted.believed) f.fails.first
+accepted_fails : (scheme : Relation) (kind : Kind) (octets : List ℕ) (keys : List KeyFields) (when : ℤ) (text : List ℕ) (n : ℕ) → IsTextAccepted scheme kind octets keys when text → FailsAt scheme kind octets keys when n → ⊥
+accepted_fails scheme kind octets keys when text n a f =
+    not_failing scheme f.fails.signed keys when (subst (λ (m : MessageFields). IsBelievedUnder scheme m keys when) (one_signed octets a.accepted.signed f.fails.signed a.accepted.begins f.fails.begins) a.accepted.believed) f.fails.none
 
-one_number : (scheme : Relation) (kind : Kind) (octets : List ℕ) (key : KeyFields) (when : ℤ) (n m : ℕ) → FailsAt scheme kind octets key when n → FailsAt scheme kind octets key when m → n ≡ m
-one_number scheme kind octets key when n m f g =
+one_number : (scheme : Relation) (kind : Kind) (octets : List ℕ) (keys : List KeyFields) (when : ℤ) (n m : ℕ) → FailsAt scheme kind octets keys when n → FailsAt scheme kind octets keys when m → n ≡ m
+one_number scheme kind octets keys when n m f g =
     let same = one_signed octets f.fails.signed g.fails.signed f.fails.begins g.fails.begins in
-    let first = subst (λ (s : MessageFields). (q : Asked scheme s key) → failing kind_of (first_failure 1 (checks s key when q.q3 q.q8 q.q10)) ≡ Err f.error) same f.fails.first in
-    f.number ∙ one_check scheme g.fails.signed key when f.error g.error first g.fails.first ∙ sym g.number
+    let greatest = subst (λ (s : MessageFields). (os : List (Result (Unit {0}) ℕ)) → AreOutcomes scheme s keys when os → failing kind_of (ranked os) ≡ Err f.error) same f.fails.greatest in
+    f.number ∙ one_check scheme g.fails.signed keys when f.error g.error greatest g.fails.greatest ∙ sym g.number
 
-one_view : (scheme : Relation) (kind : Kind) (octets : List ℕ) (key : KeyFields) (when : ℤ) (a b : Result (List ℕ) Refusal) → View scheme kind octets key when a → View scheme kind octets key when b → a ≡ b
-one_view scheme kind octets key when a b (inl p) (inl q) = p.1 ∙ ap Ok (one_text scheme kind octets key when p.0 q.0 p.2 q.2) ∙ sym q.1
-one_view scheme kind octets key when a b (inl p) (inr (inl q)) = absurd (q.1 p.2.accepted.signed p.2.accepted.begins)
-one_view scheme kind octets key when a b (inl p) (inr (inr (inl q))) = absurd (no_reading kind octets p.2.accepted.signed p.2.message p.2.accepted.begins p.2.accepted.reads q.1)
-one_view scheme kind octets key when a b (inl p) (inr (inr (inr q))) = absurd (accepted_fails scheme kind octets key when p.0 q.0 p.2 q.2)
-one_view scheme kind octets key when a b (inr (inl p)) (inl q) = absurd (p.1 q.2.accepted.signed q.2.accepted.begins)
-one_view scheme kind octets key when a b (inr (inl p)) (inr (inl q)) = p.0 ∙ sym q.0
-one_view scheme kind octets key when a b (inr (inl p)) (inr (inr (inl q))) = absurd (p.1 q.1.signed q.1.begins)
-one_view scheme kind octets key when a b (inr (inl p)) (inr (inr (inr q))) = absurd (p.1 q.2.fails.signed q.2.fails.begins)
-one_view scheme kind octets key when a b (inr (inr (inl p))) (inl q) = absurd (no_reading kind octets q.2.accepted.signed q.2.message q.2.accepted.begins q.2.accepted.reads p.1)
-one_view scheme kind octets key when a b (inr (inr (inl p))) (inr (inl q)) = absurd (q.1 p.1.signed p.1.begins)
-one_view scheme kind octets key when a b (inr (inr (inl p))) (inr (inr (inl q))) = p.0 ∙ sym q.0
-one_view scheme kind octets key when a b (inr (inr (inl p))) (inr (inr (inr q))) = absurd (no_reading kind octets q.2.fails.signed q.2.fails.message q.2.fails.begins q.2.fails.reads p.1)
-one_view scheme kind octets key when a b (inr (inr (inr p))) (inl q) = absurd (accepted_fails scheme kind octets key when q.0 p.0 q.2 p.2)
-one_view scheme kind octets key when a b (inr (inr (inr p))) (inr (inl q)) = absurd (q.1 p.2.fails.signed p.2.fails.begins)
-one_view scheme kind octets key when a b (inr (inr (inr p))) (inr (inr (inl q))) = absurd (no_reading kind octets p.2.fails.signed p.2.fails.message p.2.fails.begins p.2.fails.reads q.1)
-one_view scheme kind octets key when a b (inr (inr (inr p))) (inr (inr (inr q))) = p.1 ∙ ap (λ (n : ℕ). Err (refusals.Validation n)) (one_number scheme kind octets key when p.0 q.0 p.2 q.2) ∙ sym q.1
+one_view : (scheme : Relation) (kind : Kind) (octets : List ℕ) (keys : List KeyFields) (when : ℤ) (a b : Result (List ℕ) Refusal) → View scheme kind octets keys when a → View scheme kind octets keys when b → a ≡ b
+one_view scheme kind octets keys when a b (inl p) (inl q) = p.1 ∙ ap Ok (one_text scheme kind octets keys when p.0 q.0 p.2 q.2) ∙ sym q.1
+one_view scheme kind octets keys when a b (inl p) (inr (inl q)) = absurd (q.1 p.2.accepted.signed p.2.accepted.begins)
+one_view scheme kind octets keys when a b (inl p) (inr (inr (inl q))) = absurd (no_reading kind octets p.2.accepted.signed p.2.message p.2.accepted.begins p.2.accepted.reads q.1)
+one_view scheme kind octets keys when a b (inl p) (inr (inr (inr q))) = absurd (accepted_fails scheme kind octets keys when p.0 q.0 p.2 q.2)
+one_view scheme kind octets keys when a b (inr (inl p)) (inl q) = absurd (p.1 q.2.accepted.signed q.2.accepted.begins)
+one_view scheme kind octets keys when a b (inr (inl p)) (inr (inl q)) = p.0 ∙ sym q.0
+one_view scheme kind octets keys when a b (inr (inl p)) (inr (inr (inl q))) = absurd (p.1 q.1.signed q.1.begins)
+one_view scheme kind octets keys when a b (inr (inl p)) (inr (inr (inr q))) = absurd (p.1 q.2.fails.signed q.2.fails.begins)
+one_view scheme kind octets keys when a b (inr (inr (inl p))) (inl q) = absurd (no_reading kind octets q.2.accepted.signed q.2.message q.2.accepted.begins q.2.accepted.reads p.1)
+one_view scheme kind octets keys when a b (inr (inr (inl p))) (inr (inl q)) = absurd (q.1 p.1.signed p.1.begins)
+one_view scheme kind octets keys when a b (inr (inr (inl p))) (inr (inr (inl q))) = p.0 ∙ sym q.0
+one_view scheme kind octets keys when a b (inr (inr (inl p))) (inr (inr (inr q))) = absurd (no_reading kind octets q.2.fails.signed q.2.fails.message q.2.fails.begins q.2.fails.reads p.1)
+one_view scheme kind octets keys when a b (inr (inr (inr p))) (inl q) = absurd (accepted_fails scheme kind octets keys when q.0 p.0 q.2 p.2)
+one_view scheme kind octets keys when a b (inr (inr (inr p))) (inr (inl q)) = absurd (q.1 p.2.fails.signed p.2.fails.begins)
+one_view scheme kind octets keys when a b (inr (inr (inr p))) (inr (inr (inl q))) = absurd (no_reading kind octets p.2.fails.signed p.2.fails.message p.2.fails.begins p.2.fails.reads q.1)
+one_view scheme kind octets keys when a b (inr (inr (inr p))) (inr (inr (inr q))) = p.1 ∙ ap (λ (n : ℕ). Err (refusals.Validation n)) (one_number scheme kind octets keys when p.0 q.0 p.2 q.2) ∙ sym q.1
 
 -- what an answer of `content` is
 abbrev ContentView : List ℕ → Result (List ℕ) Refusal → Type 0
@@ -177,7 +178,7 @@ one_content octets a b (inr (inr p)) (inr (inr q)) = p.0 ∙ sym q.0
 pub one_answer : (scheme : Relation) (command : Command) (octets : Option (List ℕ)) (a b : Result (List ℕ) Refusal) → AnswersSpelled scheme command octets a → AnswersSpelled scheme command octets b → a ≡ b
 one_answer scheme command None a b p q = p ∙ sym q
 one_answer scheme Content (Some octets) a b p q = one_content octets a b (content_view octets a p) (content_view octets b q)
-one_answer scheme (Receive kind when key) (Some octets) a b p q = one_view scheme kind octets key when a b (view scheme kind octets key when a p) (view scheme kind octets key when b q)
+one_answer scheme (Receive kind when keys) (Some octets) a b p q = one_view scheme kind octets keys when a b (view scheme kind octets keys when a p) (view scheme kind octets keys when b q)
 
 -- ---- two answers are the same or not
 
@@ -276,25 +277,36 @@ one_answer_to_words scheme words input a b p q =
           p.usage none ∙ sym (q.usage none)
     ]
 
--- ---- the three questions
+-- ---- the questions
 
-moved : {P Q : Type 0} (b : Bool) → P ↔ Q → Decides b Q → Decides b P
-moved b w d = (λ e. w.1 (d.0 e), λ p. d.1 (w.0 p))
-
-pub same_receipt : (s t : Relation) (kind : Kind) (octets : List ℕ) (key : KeyFields) (when : ℤ) (a : Result Received ReceiveError) → ((m : MessageFields) → BeginsSigned octets m → SameAnswers s t m key) → MatchResult a (Accepted s kind octets key when) (RefusesReceipt s kind octets key when) → MatchResult a (Accepted t kind octets key when) (RefusesReceipt t kind octets key when)
-same_receipt s t kind octets key when (Ok m) w r =
-    let same = w r.signed r.begins in
-    let signatures : AreSigned t r.signed key = record { attributes = same.attributes.0 r.believed.signatures.attributes; certificate = same.certificate.0 r.believed.signatures.certificate; crl = same.crl.0 r.believed.signatures.crl } in
-    record { signed = r.signed; begins = r.begins; believed = record { signatures = signatures; passes = r.believed.passes }; reads = r.reads }
-same_receipt s t kind octets key when (Err errors.CmsDecode) w r = r
-same_receipt s t kind octets key when (Err errors.XmlError) w r = r
-same_receipt s t kind octets key when (Err (errors.Validation e)) w r =
+pub same_receipt : (s t : Relation) (kind : Kind) (octets : List ℕ) (keys : List KeyFields) (when : ℤ) (a : Result (Received × ℕ) ReceiveError) → ((m : MessageFields) → BeginsSigned octets m → SameAnswersUnder s t m keys) → IsReceivedUnder s kind octets keys when a → IsReceivedUnder t kind octets keys when a
+same_receipt s t kind octets keys when (Ok (m, place)) w r =
+    record { signed = r.signed; begins = r.begins; believed = first_too s t r.signed keys when place (w r.signed r.begins) r.believed; reads = r.reads }
+same_receipt s t kind octets keys when (Err errors.CmsDecode) w r = r
+same_receipt s t kind octets keys when (Err errors.XmlError) w r = r
+same_receipt s t kind octets keys when (Err (errors.Validation e)) w r =
     let same = w r.signed r.begins in
     record {
       signed = r.signed;
       begins = r.begins;
       message = r.message;
       reads = r.reads;
-      first = λ q. r.first (record { q3 = q.q3; q8 = q.q8; q10 = q.q10; attributes = moved q.q3 same.attributes q.attributes; certificate = moved q.q8 same.certificate q.certificate; crl = moved q.q10 same.crl q.crl });
+      none = unbelieved_too s t r.signed keys when same r.none;
+      greatest = λ os h. r.greatest os (outcomes_too s t r.signed keys when os same h);
     }
-same_receipt s t kind octets key when (Err errors.OutOfMemory) w r = tt
+same_receipt s t kind octets keys when (Err errors.OutOfMemory) w r = tt
+
+-- ---- more keys, and other moments
+
+pub more_accept : (scheme : Relation) (kind : Kind) (octets : List ℕ) (keys more : List KeyFields) (when : ℤ) (m : Received) → AreAmong keys more → Accepted scheme kind octets keys when m → Accepted scheme kind octets more when m
+more_accept scheme kind octets keys more when m a r =
+    record { signed = r.signed; begins = r.begins; believed = under_more scheme r.signed keys more when a r.believed; reads = r.reads }
+
+pub accepted_span : (scheme : Relation) (kind : Kind) (octets : List ℕ) (keys : List KeyFields) (one : ℤ) (message : Received) → Accepted scheme kind octets keys one message
+    → (m : MessageFields) × BeginsSigned octets m × ((when : ℤ) → Accepted scheme kind octets keys when message ↔ IsInSpan m when)
+accepted_span scheme kind octets keys one message r =
+    let span : (when : ℤ) → IsBelievedUnder scheme r.signed keys when ↔ IsInSpan r.signed when = λ when. one_span_under scheme r.signed keys one when r.believed in
+    (r.signed, r.begins, λ when. (
+      (λ b. (span when).0 (subst (λ (m : MessageFields). IsBelievedUnder scheme m keys when) (one_signed octets b.signed r.signed b.begins r.begins) b.believed)),
+      (λ i. record { signed = r.signed; begins = r.begins; believed = (span when).1 i; reads = r.reads }),
+    ))

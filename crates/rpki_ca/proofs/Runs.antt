@@ -15,6 +15,7 @@ use Rattle.rpki_base.specs.Scheme.{Relation}
 use Rattle.rpki_ca.specs.Acceptance.{text_of}
 use Rattle.rpki_ca.specs.Seen.{Seen, HasFailed, IsSteady}
 use Rattle.rpki_ca.specs.Answer.{AnswersSpelled, IsAnswer, IsShown, IsAdmitted, Ends, EndsAs, ReadsAll, Delivers, Holds, Succeeds}
+use Rattle.rpki_ca.proofs.Commands.{is_command}
 use Rattle.rpki_ca.proofs.Answering.{if_some, always_some, answers, sort_of, to_shown}
 use Rattle.rpki_ca.proofs.Laws.{one_answer_to_words}
 
@@ -74,25 +75,25 @@ ok_text text = Ok text
 unlike : (text : List ℕ) (r : Refusal) → ok_text text ≡ Err r → ⊥
 unlike text r e = cc
 
-spelled : (scheme : Relation) (kind : Kind) (key : KeyFields) (when : ℤ) (input text : List ℕ) (octets : Option (List ℕ)) (sink : Seen) → hexadecimal input ≡ octets
-    → AnswersSpelled scheme (Receive kind when key) octets (Ok text) → Appends sink.before sink.after (text ++ 10 ∷ []) → Delivers scheme kind key when input sink
-spelled scheme kind key when input text None sink h a w = absurd (unlike text refusals.Hex a)
-spelled scheme kind key when input text (Some octets) sink h a w =
+spelled : (scheme : Relation) (kind : Kind) (keys : List KeyFields) (when : ℤ) (input text : List ℕ) (octets : Option (List ℕ)) (sink : Seen) → hexadecimal input ≡ octets
+    → AnswersSpelled scheme (Receive kind when keys) octets (Ok text) → Appends sink.before sink.after (text ++ 10 ∷ []) → Delivers scheme kind keys when input sink
+spelled scheme kind keys when input text None sink h a w = absurd (unlike text refusals.Hex a)
+spelled scheme kind keys when input text (Some octets) sink h a w =
     record { octets = octets; spells = h; message = a.message; accepted = a.accepted; written = subst (λ (t : List ℕ). Appends sink.before sink.after (t ++ 10 ∷ [])) a.written w }
 
-delivers : (scheme : Relation) (words : List (List ℕ)) (kind : Kind) (key : KeyFields) (when : ℤ) (input text : List ℕ) (sink : Seen) → IsReceive words kind when key
-    → Appends sink.before sink.after (text ++ 10 ∷ []) → IsAnswer scheme words input (Ok text) → Delivers scheme kind key when input sink
-delivers scheme words kind key when input text sink is w a =
+delivers : (scheme : Relation) (words : List (List ℕ)) (kind : Kind) (keys : List KeyFields) (when : ℤ) (input text : List ℕ) (sink : Seen) → IsReceive words kind when keys
+    → Appends sink.before sink.after (text ++ 10 ∷ []) → IsAnswer scheme words input (Ok text) → Delivers scheme kind keys when input sink
+delivers scheme words kind keys when input text sink is w a =
     elim (leb_tells (length input) (2 ^ 26)) [
-      | inl within ↦ spelled scheme kind key when input text (hexadecimal input) sink refl (a.answers (Receive kind when key) is within.1) w
-      | inr longer ↦ absurd (unlike text refusals.TooLong (a.long (Receive kind when key) is longer.1))
+      | inl within ↦ spelled scheme kind keys when input text (hexadecimal input) sink refl (a.answers (Receive kind when keys) (is_command words kind when keys is) within.1) w
+      | inr longer ↦ absurd (unlike text refusals.TooLong (a.long (Receive kind when keys) (is_command words kind when keys is) longer.1))
     ]
 
-pub received : (scheme : Relation) (words : List (List ℕ)) (source sink : Seen) (status : ℕ) → Answered scheme words source sink status → (kind : Kind) (when : ℤ) (key : KeyFields)
-    → IsReceive words kind when key → status ≡ 0 → IfSome source.before (λ rest. Delivers scheme kind key when rest sink)
-received scheme words source sink status a kind when key is zero =
+pub received : (scheme : Relation) (words : List (List ℕ)) (source sink : Seen) (status : ℕ) → Answered scheme words source sink status → (kind : Kind) (when : ℤ) (keys : List KeyFields)
+    → IsReceive words kind when keys → status ≡ 0 → IfSome source.before (λ rest. Delivers scheme kind keys when rest sink)
+received scheme words source sink status a kind when keys is zero =
     let w = written scheme words source sink status a zero in
-    if_some source.before _ _ (λ rest said. delivers scheme words kind key when rest w.text sink is w.written said) w.shown
+    if_some source.before _ _ (λ rest said. delivers scheme words kind keys when rest w.text sink is w.written said) w.shown
 
 -- ---- the answer that words and input show
 
@@ -126,18 +127,18 @@ text_succeeds text status source sink (inr (inl (inr w))) = inr (inr (inr (w.0, 
 text_succeeds text status source sink (inr (inr (inl w, failed))) = inr (inr (inl (w.0, failed)))
 text_succeeds text status source sink (inr (inr (inr w, failed))) = inr (inr (inr (w.0, w.2)))
 
-holds_text : (scheme : Relation) (words : List (List ℕ)) (kind : Kind) (key : KeyFields) (when : ℤ) (input : List ℕ) (h : Holds scheme kind key when input) → IsReceive words kind when key
+holds_text : (scheme : Relation) (words : List (List ℕ)) (kind : Kind) (keys : List KeyFields) (when : ℤ) (input : List ℕ) (h : Holds scheme kind keys when input) → IsReceive words kind when keys
     → IsAnswer scheme words input (Ok (text_of h.message))
-holds_text scheme words kind key when input h is =
-    let said : AnswersSpelled scheme (Receive kind when key) (Some h.octets) (Ok (text_of h.message)) = record { message = h.message; accepted = h.accepted; written = refl } in
-    answers scheme words input (Receive kind when key) (Ok (text_of h.message)) is h.short
-    (subst (λ (o : Option (List ℕ)). AnswersSpelled scheme (Receive kind when key) o (Ok (text_of h.message))) (sym h.spells) said)
+holds_text scheme words kind keys when input h is =
+    let said : AnswersSpelled scheme (Receive kind when keys) (Some h.octets) (Ok (text_of h.message)) = record { message = h.message; accepted = h.accepted; written = refl } in
+    answers scheme words input (Receive kind when keys) (Ok (text_of h.message)) (is_command words kind when keys is) h.short
+    (subst (λ (o : Option (List ℕ)). AnswersSpelled scheme (Receive kind when keys) o (Ok (text_of h.message))) (sym h.spells) said)
 
-pub succeeds : (scheme : Relation) (words : List (List ℕ)) (source sink : Seen) (status : ℕ) → Answered scheme words source sink status → (kind : Kind) (when : ℤ) (key : KeyFields)
-    → IsReceive words kind when key → IfSome source.before (λ rest. Holds scheme kind key when rest → Succeeds status source sink)
-succeeds scheme words source sink status a kind when key is =
+pub succeeds : (scheme : Relation) (words : List (List ℕ)) (source sink : Seen) (status : ℕ) → Answered scheme words source sink status → (kind : Kind) (when : ℤ) (keys : List KeyFields)
+    → IsReceive words kind when keys → IfSome source.before (λ rest. Holds scheme kind keys when rest → Succeeds status source sink)
+succeeds scheme words source sink status a kind when keys is =
     if_each source.before (λ (b : Result (List ℕ) Refusal) rest. IsAnswer scheme words rest b → EndsAs b status source sink) _
-    (λ rest each h. text_succeeds (text_of h.message) status source sink (each (Ok (text_of h.message)) (holds_text scheme words kind key when rest h is)))
+    (λ rest each h. text_succeeds (text_of h.message) status source sink (each (Ok (text_of h.message)) (holds_text scheme words kind keys when rest h is)))
     (ends_as scheme words source sink status a)
 
 -- ---- faults of the source

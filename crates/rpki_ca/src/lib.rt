@@ -23,8 +23,13 @@ mod running;
 mod words;
 
 pub use command::Command;
-pub use law::{one_answer, one_answer_to_words, receipts_ask_three_questions};
-pub use receiving::{Kind, ReceiveError, Received, receive, receive_counted};
+pub use law::{
+    accepted_moments_are_one_span, more_keys_accept, one_answer, one_answer_to_words,
+    receipts_ask_three_questions,
+};
+pub use receiving::{
+    Kind, ReceiveError, Received, receive, receive_any, receive_any_counted, receive_counted,
+};
 pub use refusals::Refusal;
 pub use running::{Status, refuse, run};
 pub use words::Words;

@@ -121,7 +121,7 @@ outcome_too : (s t : Relation) (m : MessageFields) (key : KeyFields) (when : ℤ
 unfolding asked_too
 outcome_too s t m key when o w h = record { asked = asked_too s t m key h.asked w; is = h.is }
 
-outcomes_too : (s t : Relation) (m : MessageFields) (keys : List KeyFields) (when : ℤ) (os : List (Result (Unit {0}) ℕ)) → SameAnswersUnder s t m keys → AreOutcomes t m keys when os → AreOutcomes s m keys when os
+pub outcomes_too : (s t : Relation) (m : MessageFields) (keys : List KeyFields) (when : ℤ) (os : List (Result (Unit {0}) ℕ)) → SameAnswersUnder s t m keys → AreOutcomes t m keys when os → AreOutcomes s m keys when os
 outcomes_too s t m [] when [] w h = tt
 outcomes_too s t m [] when (o ∷ os) w h = absurd h
 outcomes_too s t m (k ∷ ks) when [] w h = absurd h
@@ -134,10 +134,10 @@ each_only P Q h (x ∷ xs) a = (h x a.0, each_only P Q h xs a.1)
 backwards : (s t : Relation) (m : MessageFields) (keys : List KeyFields) → SameAnswersUnder s t m keys → SameAnswersUnder t s m keys
 backwards s t m keys w = each_only (SameAnswers s t m) (SameAnswers t s m) (λ k same. same_back s t m k same) keys w
 
-unbelieved_too : (s t : Relation) (m : MessageFields) (keys : List KeyFields) (when : ℤ) → SameAnswersUnder s t m keys → IsUnbelieved s m keys when → IsUnbelieved t m keys when
+pub unbelieved_too : (s t : Relation) (m : MessageFields) (keys : List KeyFields) (when : ℤ) → SameAnswersUnder s t m keys → IsUnbelieved s m keys when → IsUnbelieved t m keys when
 unbelieved_too s t m keys when w no = each_to (SameAnswers s t m) (λ k. IsBelieved s m k when → ⊥) (λ k. IsBelieved t m k when → ⊥) (λ k same n b. n (believed_too t s m k when (same_back s t m k same) b)) keys w no
 
-first_too : (s t : Relation) (m : MessageFields) (keys : List KeyFields) (when : ℤ) (place : ℕ) → SameAnswersUnder s t m keys → IsFirstBelieved s m keys when place → IsFirstBelieved t m keys when place
+pub first_too : (s t : Relation) (m : MessageFields) (keys : List KeyFields) (when : ℤ) (place : ℕ) → SameAnswersUnder s t m keys → IsFirstBelieved s m keys when place → IsFirstBelieved t m keys when place
 first_too s t m keys when place w f =
     let all : SameAnswersUnder s t m (f.before ++ f.key ∷ f.behind) = subst (SameAnswersUnder s t m) f.parts w in
     record {
