@@ -1,15 +1,18 @@
 -- A message under a list of keys.
-use Rattle.std.proofs.Common.{◌≡◌, ℕ, ◌+◌, ℤ, Bool, Option, None, Some, Result, Ok, Err, List, [], ◌∷◌, ◌++◌, length, drop, refl, sym, ap, subst, ◌∙◌, arith}
-use Rattle.std.specs.Prelude.{◌≤◌, ◌↔◌, max}
+use Rattle.std.proofs.Common.{◌≡◌, ℕ, suc, ◌+◌, ℤ, Bool, Option, None, Some, Result, Ok, Err, List, [], ◌∷◌, ◌++◌, length, take, drop, zero, refl, sym, ap, subst, ◌∙◌, arith}
+use Rattle.std.specs.Prelude.{◌≤◌, ◌<◌, ◌↔◌, max}
 use Rattle.std.specs.List.{AllByRecursion}
-use Rattle.std.proofs.Math.Nat.{max-zero, zero-max, max-le, le-max_left, le-max_right}
+use Rattle.std.proofs.Math.ListN.{get_or, drop_of_length-le}
+use Rattle.std.proofs.lemmas.List.{length-take-le}
+use Rattle.std.specs.Ordering.{ord_max, nat_cmp}
+use Rattle.std.proofs.Math.Nat.{max-zero, zero-max, max-le, le-max_left, le-max_right, max-eq_left, max-eq_right}
 use Rattle.rpki_base.specs.PublicKey.{KeyFields}
 use Rattle.rpki_base.specs.Scheme.{Relation}
 use Rattle.rpki_base.specs.Checks.{first_failure, failing}
 use Rattle.rpki_base.specs.declared.validation.ValidationError.{ValidationError}
 use Rattle.rpki_sigmsg.specs.Message.{MessageFields}
-use Rattle.rpki_sigmsg.specs.Checks.{checks, kind_of, Asked, IsBelieved, IsValidation, SameAnswers, SameAnswersUnder, IsInSpan, IsAmong, AreAmong, IsBelievedUnder, IsUnbelieved, IsFirstBelieved, HasOutcome, AreOutcomes, first_passing, greatest, ranked, ranked_by, IsAnyValidation, without_place}
-use Rattle.rpki_sigmsg.proofs.Meaning.{asked_too, believed_too, same_back, believed_within, believed_then}
+use Rattle.rpki_sigmsg.specs.Checks.{checks, kind_of, Asked, AreSigned, IsBelieved, IsValidation, SameAnswers, SameAnswersUnder, IsInSpan, IsAmong, AreAmong, IsBelievedUnder, IsUnbelieved, IsFirstBelieved, HasOutcome, AreOutcomes, first_passing, greatest, ranked, ranked_by, IsAnyValidation, without_place}
+use Rattle.rpki_sigmsg.proofs.Meaning.{asked_too, believed_too, same_back, believed_within, believed_then, number_believed}
 
 -- ---- lists
 
@@ -135,7 +138,7 @@ backwards : (s t : Relation) (m : MessageFields) (keys : List KeyFields) → Sam
 backwards s t m keys w = each_only (SameAnswers s t m) (SameAnswers t s m) (λ k same. same_back s t m k same) keys w
 
 pub unbelieved_too : (s t : Relation) (m : MessageFields) (keys : List KeyFields) (when : ℤ) → SameAnswersUnder s t m keys → IsUnbelieved s m keys when → IsUnbelieved t m keys when
-unbelieved_too s t m keys when w no = each_to (SameAnswers s t m) (λ k. IsBelieved s m k when → ⊥) (λ k. IsBelieved t m k when → ⊥) (λ k same n b. n (believed_too t s m k when (same_back s t m k same) b)) keys w no
+unbelieved_too s t m keys when w none = each_to (SameAnswers s t m) (λ k. IsBelieved s m k when → ⊥) (λ k. IsBelieved t m k when → ⊥) (λ k same n b. n (believed_too t s m k when (same_back s t m k same) b)) keys w none
 
 pub first_too : (s t : Relation) (m : MessageFields) (keys : List KeyFields) (when : ℤ) (place : ℕ) → SameAnswersUnder s t m keys → IsFirstBelieved s m keys when place → IsFirstBelieved t m keys when place
 first_too s t m keys when place w f =
@@ -162,10 +165,13 @@ same_under s t m keys when answer w v = record {
 
 -- ---- one key after the other
 
+abbrev pub ok_place : ℕ → Result ℕ ℕ
+ok_place n = Ok n
+
 -- the outcome at a place
 pub record OutcomeAt (scheme : Relation) (m : MessageFields) (key : KeyFields) (when : ℤ) (place : ℕ) (os : List (Result (Unit {0}) ℕ)) : Type 0 where
   pub outcome : Result (Unit {0}) ℕ
-  pub parts : drop place os ≡ outcome ∷ drop (place + 1) os
+  pub parts : drop place os ≡ outcome ∷ drop (suc place) os
   pub has : HasOutcome scheme m key when outcome
 
 pub outcome_at : (scheme : Relation) (m : MessageFields) (before : List KeyFields) (key : KeyFields) (behind : List KeyFields) (when : ℤ) (os : List (Result (Unit {0}) ℕ)) → AreOutcomes scheme m (before ++ key ∷ behind) when os → OutcomeAt scheme m key when (length before) os
@@ -174,8 +180,112 @@ outcome_at scheme m [] key behind when (o ∷ os) h = record { outcome = o; part
 outcome_at scheme m (b ∷ before) key behind when [] h = absurd h
 outcome_at scheme m (b ∷ before) key behind when (o ∷ os) h = let a = outcome_at scheme m before key behind when os h.1 in record { outcome = a.outcome; parts = a.parts; has = a.has }
 
-pub none_left : (scheme : Relation) (m : MessageFields) (keys : List KeyFields) (when : ℤ) (os : List (Result (Unit {0}) ℕ)) → AreOutcomes scheme m keys when os → drop (length keys) os ≡ []
-none_left scheme m [] when [] h = refl
-none_left scheme m [] when (o ∷ os) h = absurd h
-none_left scheme m (k ∷ ks) when [] h = absurd h
-none_left scheme m (k ∷ ks) when (o ∷ os) h = none_left scheme m ks when os h.1
+-- as many as there are keys
+as_many : (scheme : Relation) (m : MessageFields) (keys : List KeyFields) (when : ℤ) (os : List (Result (Unit {0}) ℕ)) → AreOutcomes scheme m keys when os → length os ≡ length keys
+as_many scheme m [] when [] h = refl
+as_many scheme m [] when (o ∷ os) h = absurd h
+as_many scheme m (k ∷ ks) when [] h = absurd h
+as_many scheme m (k ∷ ks) when (o ∷ os) h = ap suc (as_many scheme m ks when os h.1)
+
+-- the list is what stands before a place, what stands at it, and what stands behind it
+split_at : {X : Type 0} (xs : List X) (i : ℕ) (x : X) → i < length xs → x ≡ get_or xs i x → xs ≡ take i xs ++ x ∷ drop (suc i) xs
+split_at [] i x l e = absurd (omega (arith, l))
+split_at (y ∷ ys) zero x l e = ap (λ (z : _). z ∷ ys) (sym e)
+split_at (y ∷ ys) (suc i) x l e = ap (λ (r : List _). y ∷ r) (split_at ys i x (omega (arith, l)) e)
+
+one_longer : {X : Type 0} (xs : List X) (i : ℕ) (x : X) → i < length xs → x ≡ get_or xs i x → take (suc i) xs ≡ take i xs ++ x ∷ []
+one_longer [] i x l e = absurd (omega (arith, l))
+one_longer (y ∷ ys) zero x l e = ap (λ (z : _). z ∷ []) (sym e)
+one_longer (y ∷ ys) (suc i) x l e = ap (λ (r : List _). y ∷ r) (one_longer ys i x (omega (arith, l)) e)
+
+max_is : (a b : ℕ) → ord_max nat_cmp a b ≡ max a b
+max_is a b = grind arith
+
+-- what holds where so many keys were tried, at worst with this check
+abbrev pub SoFar : Relation → MessageFields → List KeyFields → ℤ → ℕ → ℕ → Type 0
+SoFar scheme m keys when i worst = IsUnbelieved scheme m (take i keys) when
+    × ((os : List (Result (Unit {0}) ℕ)) → AreOutcomes scheme m keys when os → ranked os ≡ ranked_from i worst (drop i os))
+
+next_rank : (scheme : Relation) (m : MessageFields) (keys : List KeyFields) (when : ℤ) (i worst : ℕ) (key : KeyFields) (r : Result (Unit {0}) ℕ) → i < length keys → key ≡ get_or keys i key
+    → ((q : Asked scheme m key) → r ≡ first_failure 1 (checks m key when q.q3 q.q8 q.q10)) → SoFar scheme m keys when i worst
+    → (os : List (Result (Unit {0}) ℕ)) → AreOutcomes scheme m keys when os → ranked os ≡ ranked_from i worst (r ∷ drop (suc i) os)
+next_rank scheme m keys when i worst key r l e said sofar os h =
+    let before = take i keys in
+    let behind = drop (suc i) keys in
+    let at : length before ≡ i = length-take-le i keys (omega (arith, l)) in
+    let o = outcome_at scheme m before key behind when os (subst (λ (ks : List KeyFields). AreOutcomes scheme m ks when os) (split_at keys i key l e) h) in
+    let same : o.outcome ≡ r = o.has.is ∙ sym (said o.has.asked) in
+    sofar.1 os h ∙ ap (ranked_from i worst) (ap (λ (n : ℕ). drop n os) (sym at) ∙ o.parts ∙ ap (λ (x : Result (Unit {0}) ℕ). x ∷ drop (suc (length before)) os) same ∙ ap (λ (n : ℕ). r ∷ drop (suc n) os) at)
+
+never : (check : ℕ) (o : Result (Unit {0}) ℕ) → o ≡ Err check → o ≡ Ok tt → ⊥
+never check (Ok u) e f = cc
+never check (Err n) e f = cc
+
+-- a key fails
+unbelieved_key : (scheme : Relation) (m : MessageFields) (when : ℤ) (check : ℕ) (key : KeyFields) → ((q : Asked scheme m key) → Err check ≡ first_failure 1 (checks m key when q.q3 q.q8 q.q10)) → IsBelieved scheme m key when → ⊥
+unbelieved_key scheme m when check key said b = never check (Err check) refl ((number_believed scheme m key when (Err check) tt said).1 b)
+
+next_unbelieved : (scheme : Relation) (m : MessageFields) (keys : List KeyFields) (when : ℤ) (i : ℕ) (key : KeyFields) → i < length keys → key ≡ get_or keys i key → (IsBelieved scheme m key when → ⊥) → IsUnbelieved scheme m (take i keys) when → IsUnbelieved scheme m (take (suc i) keys) when
+next_unbelieved scheme m keys when i key l e unlike sofar =
+    subst (λ (ks : List KeyFields). IsUnbelieved scheme m ks when) (sym (one_longer keys i key l e)) (one_more (λ k. IsBelieved scheme m k when → ⊥) (take i keys) key sofar unlike)
+
+next_worst : (scheme : Relation) (m : MessageFields) (keys : List KeyFields) (when : ℤ) (i worst check worse : ℕ) (key : KeyFields) → i < length keys → key ≡ get_or keys i key
+    → ((q : Asked scheme m key) → Err check ≡ first_failure 1 (checks m key when q.q3 q.q8 q.q10)) → worse ≡ ord_max nat_cmp worst check → SoFar scheme m keys when i worst
+    → (os : List (Result (Unit {0}) ℕ)) → AreOutcomes scheme m keys when os → ranked os ≡ ranked_from (i + 1) worse (drop (suc i) os)
+next_worst scheme m keys when i worst check worse key l e said greater sofar os h =
+    next_rank scheme m keys when i worst key (Err check) l e said sofar os h ∙ ranked_step i worst check (drop (suc i) os)
+    ∙ ap (λ (w : ℕ). ranked_from (i + 1) w (drop (suc i) os)) (sym (greater ∙ max_is worst check))
+
+pub failed_too : (scheme : Relation) (m : MessageFields) (keys : List KeyFields) (when : ℤ) (i worst check worse : ℕ) (key : KeyFields) → i < length keys → key ≡ get_or keys i key
+    → ((q : Asked scheme m key) → Err check ≡ first_failure 1 (checks m key when q.q3 q.q8 q.q10)) → worse ≡ ord_max nat_cmp worst check → SoFar scheme m keys when i worst → SoFar scheme m keys when (i + 1) worse
+failed_too scheme m keys when i worst check worse key l e said greater sofar =
+    let next : suc i ≡ i + 1 = omega arith in
+    let none : IsUnbelieved scheme m (take (suc i) keys) when = next_unbelieved scheme m keys when i key l e (unbelieved_key scheme m when check key said) sofar.0 in
+    let rank : (os : List (Result (Unit {0}) ℕ)) → AreOutcomes scheme m keys when os → ranked os ≡ ranked_from (i + 1) worse (drop (suc i) os) = next_worst scheme m keys when i worst check worse key l e said greater sofar in (
+      subst (λ (n : ℕ). IsUnbelieved scheme m (take n keys) when) next none,
+      subst (λ (n : ℕ). (os : List (Result (Unit {0}) ℕ)) → AreOutcomes scheme m keys when os → ranked os ≡ ranked_from (i + 1) worse (drop n os)) next rank,
+    )
+
+-- none fails under a key
+pub found_rank : (scheme : Relation) (m : MessageFields) (keys : List KeyFields) (when : ℤ) (i worst : ℕ) (key : KeyFields) → i < length keys → key ≡ get_or keys i key
+    → ((q : Asked scheme m key) → Ok tt ≡ first_failure 1 (checks m key when q.q3 q.q8 q.q10)) → SoFar scheme m keys when i worst → (os : List (Result (Unit {0}) ℕ)) → AreOutcomes scheme m keys when os → Ok i ≡ ranked os
+found_rank scheme m keys when i worst key l e said sofar os h = sym (next_rank scheme m keys when i worst key (Ok tt) l e said sofar os h)
+
+pub first_found : (scheme : Relation) (m : MessageFields) (keys : List KeyFields) (when : ℤ) (i worst : ℕ) (key : KeyFields) → i < length keys → key ≡ get_or keys i key
+    → AreSigned scheme m key → ((q : Asked scheme m key) → Ok tt ≡ first_failure 1 (checks m key when q.q3 q.q8 q.q10)) → SoFar scheme m keys when i worst → (place : ℕ) → ok_place i ≡ ok_place place → IsFirstBelieved scheme m keys when place
+first_found scheme m keys when i worst key l e signed said sofar place at =
+    let same : i ≡ place = cc in
+    record {
+      before = take i keys;
+      key = key;
+      behind = drop (suc i) keys;
+      parts = split_at keys i key l e;
+      number = sym same ∙ sym (length-take-le i keys (omega (arith, l)));
+      believed = (number_believed scheme m key when (Ok tt) signed said).0 refl;
+      none_before = sofar.0;
+    }
+
+-- all fail
+pub all_failed : (scheme : Relation) (m : MessageFields) (keys : List KeyFields) (when : ℤ) (i worst : ℕ) → length keys ≤ i → SoFar scheme m keys when i worst → (os : List (Result (Unit {0}) ℕ)) → AreOutcomes scheme m keys when os → Err worst ≡ ranked os
+all_failed scheme m keys when i worst past sofar os h =
+    let n : length os ≤ i = many (length keys) (length os) i past (as_many scheme m keys when os h) in
+    sym (sofar.1 os h ∙ ap (ranked_from i worst) (drop_of_length-le os n) ∙ ranked_end i worst)
+  where
+    many : (k o i : ℕ) → k ≤ i → o ≡ k → o ≤ i
+    many k o i past e = omega (arith, past, e)
+
+-- ---- the answer with its place
+
+-- a message is first believed under one key
+pub one_place : (scheme : Relation) (m : MessageFields) (keys : List KeyFields) (when : ℤ) (a b : ℕ) → IsFirstBelieved scheme m keys when a → IsFirstBelieved scheme m keys when b → a ≡ b
+one_place scheme m keys when a b f g = f.number ∙ same (λ k. IsBelieved scheme m k when) f.before f.key f.behind g.before g.key g.behind (sym f.parts ∙ g.parts) f.believed g.believed f.none_before g.none_before ∙ sym g.number
+  where
+    same : {X : Type 0} (P : X → Type 0) (xs : List X) (x : X) (xs' ys : List X) (y : X) (ys' : List X) → xs ++ x ∷ xs' ≡ ys ++ y ∷ ys' → P x → P y → AllByRecursion (λ k. P k → ⊥) xs → AllByRecursion (λ k. P k → ⊥) ys → length xs ≡ length ys
+    same P [] x xs' [] y ys' e p q n o = refl
+    same P [] x xs' (v ∷ ys) y ys' e p q n o = let f : x ≡ v = cc in absurd (o.0 (subst P f p))
+    same P (u ∷ xs) x xs' [] y ys' e p q n o = let f : y ≡ u = cc in absurd (n.0 (subst P f q))
+    same P (u ∷ xs) x xs' (v ∷ ys) y ys' e p q n o = ap suc (same P xs x xs' ys y ys' (ap (drop 1) e) p q n.1 o.1)
+
+pub not_unbelieved : (scheme : Relation) (m : MessageFields) (keys : List KeyFields) (when : ℤ) (place : ℕ) → IsFirstBelieved scheme m keys when place → IsUnbelieved scheme m keys when → ⊥
+not_unbelieved scheme m keys when place f none =
+    at_one (λ k. IsBelieved scheme m k when → ⊥) f.before f.key f.behind (subst (λ (ks : List KeyFields). IsUnbelieved scheme m ks when) f.parts none) f.believed

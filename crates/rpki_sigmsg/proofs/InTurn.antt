@@ -110,9 +110,20 @@ abbrev crls_in : CrlSet → List (List ℕ)
 crls_in s = crls_of s.first s.second
 
 -- the second CRL
+none_other : (other : List ℕ × CrlFields) (rest : Values) → if_any (with_octets crl_in_der) End ≡ Some (Some other, rest) → ⊥
+unfolding if_any
+none_other other rest e = no_list (ap (λ (o : Option (Option (List ℕ × CrlFields) × Values)). second o) e)
+  where
+    second : Option (Option (List ℕ × CrlFields) × Values) → Option (List ℕ × CrlFields)
+    second None = None
+    second (Some p) = p.0
+
+    no_list : None ≡ Some other → ⊥
+    no_list k = cc
+
 shows_other : (vs : Values) (other : List ℕ × CrlFields) (rest : Values) → if_any (with_octets crl_in_der) vs ≡ Some (Some other, rest) → StandInTurn (front_of other) (spellings vs)
 unfolding if_any
-shows_other End other rest e = cc
+shows_other End other rest e = absurd (none_other other rest e)
 shows_other (v ▸ vs) other rest e =
     let b = bound (with_octets crl_in_der v) _ (Some other, rest) e in
     let is : (Some b.x, vs) ≡ (Some other, rest) = same_some _ _ b.then' in

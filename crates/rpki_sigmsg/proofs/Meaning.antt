@@ -37,11 +37,15 @@ believed scheme m issuer when r signed first = (
   (λ b. first (all_signed scheme m issuer b.signatures) ∙ ap (failing kind_of) b.passes),
 )
 
+held_where_passed : {S : Type 0} (r : Result (Unit {0}) ℕ) → OnOk r S → r ≡ Ok tt → S
+held_where_passed (Ok u) s e = s
+held_where_passed (Err n) s e = cc
+
 -- the same of the number of the check alone
 pub number_believed : (scheme : Relation) (m : MessageFields) (issuer : KeyFields) (when : ℤ) (r : Result (Unit {0}) ℕ) → OnOk r (AreSigned scheme m issuer)
     → ((q : Asked scheme m issuer) → r ≡ first_failure 1 (checks m issuer when q.q3 q.q8 q.q10)) → (r ≡ Ok tt) ↔ IsBelieved scheme m issuer when
 number_believed scheme m issuer when r signed first = (
-  (λ e. let s = held_where_ok r signed e in record { signatures = s; passes = sym (first (all_signed scheme m issuer s)) ∙ e }),
+  (λ e. let s = held_where_passed r signed e in record { signatures = s; passes = sym (first (all_signed scheme m issuer s)) ∙ e }),
   (λ b. first (all_signed scheme m issuer b.signatures) ∙ b.passes),
 )
 
@@ -49,15 +53,15 @@ number_believed scheme m issuer when r signed first = (
 pub decides_one : (scheme : Relation) (c : CrlFields) (issuer : KeyFields) (q : Bool) → Decides q (IsSigned scheme c issuer) → Decides q (AreCrlsSigned scheme (c ∷ []) issuer)
 decides_one scheme c issuer q d = (λ e. (d.0 e, tt), λ s. d.1 s.0)
 
-one_signed : {P : Type 0} (r : Result (Unit {0}) ValidationError) → OnOk r (P × Unit {0}) → OnOk r P
-one_signed (Ok x) s = s.0
-one_signed (Err e) s = tt
+one_signed : (P : Type 0) (r : Result (Unit {0}) ValidationError) → OnOk r (P × Unit {0}) → OnOk r P
+one_signed P (Ok x) s = s.0
+one_signed P (Err e) s = tt
 
 pub list_believed : (scheme : Relation) (c : CrlFields) (issuer : KeyFields) (when : ℤ) (r : Result (Unit {0}) ValidationError) → OnOk r (AreCrlsSigned scheme (c ∷ []) issuer)
     → ((q : Bool) → Decides q (AreCrlsSigned scheme (c ∷ []) issuer) → r ≡ failing crl_kind (first_failure 9 (crl_checks (c ∷ []) issuer when q))) → (r ≡ Ok tt) ↔ IsListBelieved scheme c issuer when
 list_believed scheme c issuer when r signed first =
-    let asked = λ q d. first q (decides_one scheme c issuer q d) in (
-      (λ e. let s = held_where_ok r (one_signed r signed) e in
+    let asked : (q : Bool) → Decides q (IsSigned scheme c issuer) → r ≡ failing crl_kind (first_failure 9 (crl_checks (c ∷ []) issuer when q)) = λ q d. first q (decides_one scheme c issuer q d) in (
+      (λ e. let s = held_where_ok r (one_signed (IsSigned scheme c issuer) r signed) e in
           record { signed = s; passes = passes_where_ok crl_kind (IsSigned scheme c issuer) 9 (crl_checks (c ∷ []) issuer when) r asked s e }),
       (λ b. ok_where_passes crl_kind (IsSigned scheme c issuer) 9 (crl_checks (c ∷ []) issuer when) r asked b.signed b.passes),
     )
@@ -70,7 +74,7 @@ moved b w d = (λ e. w.0 (d.0 e), λ q. d.1 (w.1 q))
 pub turned : {P Q : Type 0} → P ↔ Q → Q ↔ P
 turned w = (w.1, w.0)
 
-pub asked_too : (s t : Relation) (m : MessageFields) (issuer : KeyFields) (r : Asked t m issuer) → SameAnswers s t m issuer → Asked s m issuer
+unfoldable pub asked_too : (s t : Relation) (m : MessageFields) (issuer : KeyFields) (r : Asked t m issuer) → SameAnswers s t m issuer → Asked s m issuer
 asked_too s t m issuer r w = record {
   q3 = r.q3;
   q8 = r.q8;

@@ -1,6 +1,8 @@
 //! Whether the CRLs of a signed message may be believed.
 
-ghost use Rattle.std.specs.Prelude.{◌≡◌, ◌↔◌, ◌∷◌, [], Bool, Decides, Ok, OnOk};
+ghost use Rattle.std.specs.Prelude.{◌≡◌, ◌↔◌, ◌∷◌, [], Bool, Decides, Ok, OnOk, int_le};
+ghost use Rattle.std.specs.List.{list_all};
+ghost use Rattle.rpki_base.specs.PublicKey.{names_issuer};
 ghost use Rattle.rpki_base.specs.Checks.{first_failure, failing, IsSigned};
 ghost use Rattle.rpki_sigmsg.specs.CrlChecks as spec;
 
@@ -84,6 +86,36 @@ fn are_signed<P: Scheme, V: Verifier<P>>(
     true
 }
 
+// Whether each CRL names the same algorithm in both places.
+fn name_one_algorithm(crls: &[SignedMessageCrl]) -> bool
+    ensures { result ≡ list_all
+        (λ c. spec.same_algorithm c.tbs.algorithm c.signed.signature.algorithm) crls.now }
+{
+    crls.iter().all(|crl| crl.names_one_algorithm())
+}
+
+// Whether no thisUpdate is after the moment.
+fn have_begun(crls: &[SignedMessageCrl], when: Time) -> bool
+    ensures { result ≡ list_all (λ c. int_le c.tbs.this_update when) crls.now }
+{
+    crls.iter().all(|crl| crl.tbs().this_update() <= when)
+}
+
+// Whether no nextUpdate is before the moment.
+fn have_not_ended(crls: &[SignedMessageCrl], when: Time) -> bool
+    ensures { result ≡ list_all (λ c. int_le when c.tbs.next_update) crls.now }
+{
+    crls.iter().all(|crl| when <= crl.tbs().next_update())
+}
+
+// Whether each authority key identifier that is there is that of the key.
+fn name_issuer(crls: &[SignedMessageCrl], key: &PublicKey) -> bool
+    ensures { result ≡ list_all (λ c. names_issuer c.tbs.authority_key_id key.now) crls.now }
+{
+    crls.iter()
+        .all(|crl| names_issuer(crl.tbs().authority_key_id(), key))
+}
+
 /// The number, from 9, of the first of the five checks that doesn't hold of each of the CRLs. It takes no memory.
 pub(crate) fn crls_failure<P: Scheme, V: Verifier<P>>(
     crls: &[SignedMessageCrl],
@@ -96,13 +128,9 @@ pub(crate) fn crls_failure<P: Scheme, V: Verifier<P>>(
         result ≡ first_failure 9 (spec.crl_checks crls.now issuer_key.now when q) }
     ensures signed { OnOk result (spec.AreCrlsSigned P.checks crls.now issuer_key.now) }
 {
-    require(9, crls.iter().all(|crl| crl.names_one_algorithm()))?;
+    require(9, name_one_algorithm(crls))?;
     require(10, are_signed(crls, verifier, issuer_key))?;
-    require(11, crls.iter().all(|crl| crl.tbs().this_update() <= when))?;
-    require(12, crls.iter().all(|crl| when <= crl.tbs().next_update()))?;
-    require(
-        13,
-        crls.iter()
-            .all(|crl| names_issuer(crl.tbs().authority_key_id(), issuer_key)),
-    )
+    require(11, have_begun(crls, when))?;
+    require(12, have_not_ended(crls, when))?;
+    require(13, name_issuer(crls, issuer_key))
 }

@@ -1,4 +1,4 @@
--- written by tools/answers.py rpki_sigmsg parts take_crls Message crl_set enter_counted one '?other' '!set' leave_counted
+-- written by tools/answers.py rpki_sigmsg parts take_crls Message crl_set enter_counted one '?other' '!set' leave_counted =in_ok-set
 use Rattle.std.proofs.Common.{refl}
 use Rattle.rpki_der.proofs.Counting.{reads_done, reads_first, reads_part, refuses_inside, refuses_within, stops_behind, stops_done, stops_first, stops_later, stops_memory, stops_part, takes_err}
 use Rattle.rpki_der.proofs.Counting.{takes_within}
@@ -41,7 +41,8 @@ returns-in_err-leave_counted g c = takes_err _ _ _ _ _ _ _ _ _ c.from_residual-i
 
 pub returns : goal.returns
 unfolding crl_set
-returns g c = takes_within _ _ _ _ _ _ _ _ _ _ _ refl c.in_ok-enter_counted.ensures.place c.in_ok-enter_counted.ensures.ticks
+returns g c = rw c.in_ok-set.ensures
+    (takes_within _ _ _ _ _ _ _ _ _ _ _ refl c.in_ok-enter_counted.ensures.place c.in_ok-enter_counted.ensures.ticks
     (reads_first _ _ _ _ _ _ _ _ _ _ _ _ _ refl c.in_ok-one.ensures
     (reads_part _ _ _ _ _ _ _ _ _ _ _ _ _ _ refl c.in_ok-other.ensures
-    (reads_done _ _ _ _ _ _ refl c.in_ok-leave_counted.ensures.place c.in_ok-leave_counted.ensures.ticks)))
+    (reads_done _ _ _ _ _ _ refl c.in_ok-leave_counted.ensures.place c.in_ok-leave_counted.ensures.ticks))))
