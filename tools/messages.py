@@ -214,8 +214,13 @@ def message(**options):
         value(0x31, o.signers(signer(o))))
     return o.outer(0x30, held(o, "envelope", o.envelope_type, o.outer(0xA0, o.outer(0x30, data))))
 
+
 def own_certificate(**options):
     return certificate(SimpleNamespace(**{**GOOD, **options}))
+
+
+def own_crl(**options):
+    return crl(SimpleNamespace(**{**GOOD, **options}))
 
 
 # ---- what breaks each check alone, the others being mended
