@@ -1,6 +1,8 @@
 #!/usr/bin/env python3
 """Times `rpkica receive` on signed messages of 1, 4 and 16 MB of hexadecimal, and beside it what `openssl cms -cmsout -noout` takes to
-parse the same octets, where openssl is there. It prints seconds, input bytes a second and peak memory.
+parse the same octets, where openssl is there. It prints seconds, input bytes a second and peak memory under one key, and the seconds
+under eight keys of which the last is the right one: what they are more is what the checks under seven keys cost, since the message
+is read once.
 
     bench/receive.py [MB ..]
 
@@ -20,8 +22,16 @@ sys.path.insert(0, os.path.join(TOP, "tools"))
 import messages  # noqa: E402
 
 PROGRAM = os.path.join(TOP, "crates", "rpkica", "out", "rpkica")
-WORDS = ["receive", "publication", str(messages.NOW), messages.seq(
-    messages.seq(messages.RSA, messages.NULL), messages.bits(messages.key_bits(1, 0))).hex()]
+
+
+def words(*numbers):
+    """The words of `receive` under the keys with these numbers, of seed 1; the messages are those of number 0."""
+    algorithm = messages.seq(messages.RSA, messages.NULL)
+    keys = (messages.seq(algorithm, messages.bits(messages.key_bits(1, number))).hex() for number in numbers)
+    return ["receive", "publication", str(messages.NOW), *keys]
+
+
+ONE_KEY, EIGHT_KEYS = words(0), words(*range(1, 8), 0)
 
 
 def with_comment(size):
@@ -47,7 +57,10 @@ def parse_time(path):
     openssl = shutil.which("openssl")
     if not openssl:
         return "-"
-    words = [openssl, "cms", "-cmsout", "-noout", "-inform", "DER"]
+    return shown_time(path, openssl, "cms", "-cmsout", "-noout", "-inform", "DER")
+
+
+def shown_time(path, *words):
     seconds, status, _ = min(run(path, *words) for _ in range(3))
     return f"{seconds:.3f}" if status == 0 else f"status {status}"
 
@@ -56,7 +69,7 @@ def main():
     sizes = [int(word) for word in sys.argv[1:]] or [1, 4, 16]
     if not os.path.exists(PROGRAM):
         subprocess.run([os.path.join(TOP, "rpkica"), "content"], stdin=subprocess.DEVNULL, stdout=subprocess.DEVNULL, check=False)
-    print(f"{'shape':<9} {'MB':>4} {'status':>6} {'seconds':>8} {'MB/s':>8} {'peak MB':>8} {'openssl':>9}")
+    print(f"{'shape':<9} {'MB':>4} {'status':>6} {'seconds':>8} {'MB/s':>8} {'peak MB':>8} {'8 keys':>9} {'openssl':>9}")
     with tempfile.TemporaryDirectory() as folder:
         path, octets = os.path.join(folder, "input"), os.path.join(folder, "octets")
         for shape in (comment, segments, revoked):
@@ -66,10 +79,10 @@ def main():
                     target.write(message)
                 with open(path, "w", encoding="ascii") as target:
                     target.write(message.hex())
-                seconds, status, peak = min(run(path, PROGRAM, *WORDS) for _ in range(3))
+                seconds, status, peak = min(run(path, PROGRAM, *ONE_KEY) for _ in range(3))
                 length = 2 * len(message)
                 print(f"{shape.__name__:<9} {size:>4} {status:>6} {seconds:>8.3f} {length / seconds / 1e6:>8.1f} "
-                      f"{peak / 1e6:>8.1f} {parse_time(octets):>9}")
+                      f"{peak / 1e6:>8.1f} {shown_time(path, PROGRAM, *EIGHT_KEYS):>9} {parse_time(octets):>9}")
 
 
 if __name__ == "__main__":

@@ -204,18 +204,25 @@ def signer(o):
 
 
 def message(**options):
-    """The octets of a message that is good but for the options, of which `certificate` is another certificate's octets."""
+    """The octets of a message that is good but for the options: `certificate` is another certificate's octets, `lists` the octets of
+    other CRLs, one behind the other."""
     own = options.pop("certificate", None)
+    lists = options.pop("lists", None)
     o = SimpleNamespace(**{**GOOD, **options})
     content = value(0x30, held(o, "content", o.data_content_type, value(0xA0, o.content_string(o.content))))
     digests = value(0x31, seq(o.digest, *o.digest_parameters))
     data = held(
-        o, "data", integer(o.data_version), digests, content, o.certificates(own or certificate(o)), o.crls(crl(o)),
+        o, "data", integer(o.data_version), digests, content, o.certificates(own or certificate(o)), o.crls(lists or crl(o)),
         value(0x31, o.signers(signer(o))))
     return o.outer(0x30, held(o, "envelope", o.envelope_type, o.outer(0xA0, o.outer(0x30, data))))
 
+
 def own_certificate(**options):
     return certificate(SimpleNamespace(**{**GOOD, **options}))
+
+
+def own_crl(**options):
+    return crl(SimpleNamespace(**{**GOOD, **options}))
 
 
 # ---- what breaks each check alone, the others being mended
@@ -245,6 +252,14 @@ def broken(*checks):
     if {11, 12} <= set(checks):
         options["updates"] = (NOW + 1, NOW - 1)
     return message(**options)
+
+
+OF_CRLS = range(9, 15)
+
+
+def two_crls(first, second, **options):
+    """A message with two CRLs, each of which is good but for its own options."""
+    return message(lists=own_crl(**first) + own_crl(**second), **options)
 
 
 def failing(check):
@@ -325,7 +340,9 @@ def malformed_cases():
     yield "no-certificate", message(certificates=lambda x: b"")
     yield "two-certificates", message(certificates=lambda x: value(0xA0, x + x))
     yield "no-crl", message(crls=lambda x: b"")
-    yield "two-crls", message(crls=lambda x: value(0xA1, x + x))
+    yield "three-crls", message(crls=lambda x: value(0xA1, x + x + x))
+    yield "overlong-length-in-the-second-crl", two_crls({}, dict(crl_entries_length=overlong))
+    yield "behind-the-second-crl", message(crls=lambda x: value(0xA1, x + x + NULL))
     yield "data-version-1", message(data_version=1)
     yield "envelope-of-another-kind", message(envelope_type=XML)
     yield "content-of-another-kind", message(data_content_type=SIGNED_DATA)
@@ -334,6 +351,19 @@ def malformed_cases():
     yield "empty", message()[:0] + b"\x30\0"
     for place in ("envelope", "data", "content", "tbs", "certificate", "crl-tbs", "crl", "signer"):
         yield f"behind-the-last-of-{place}", message(behind=place)
+
+
+def crl_cases():
+    """Messages with two CRLs, and what they answer."""
+    yield "two-crls", two_crls({}, dict(entries=(2, 3), crl_number=1)), "ok"
+    yield "one-crl-twice", message(crls=lambda x: value(0xA1, x + x)), "ok"
+    for check in OF_CRLS:
+        broken_one = BREAKS[check]
+        yield f"check-{check}-of-the-first-crl", two_crls(broken_one, {}), failing(check)
+        yield f"check-{check}-of-the-second-crl", two_crls({}, broken_one), failing(check)
+        yield f"check-{check}-of-both-crls", two_crls(broken_one, broken_one), failing(check)
+    yield "checks-10-9-of-two-crls", two_crls(BREAKS[10], BREAKS[9]), failing(9)
+    yield "second-crl-of-another-issuer", two_crls({}, dict(crl_seed=2)), "verification-10"
 
 
 def segmented(octets):
@@ -352,6 +382,16 @@ def ber_cases():
     yield "indefinite-attributes", message(attributes_tag=indefinite)
     yield "overlong-length-in-the-certificate", message(tbs_length=overlong)
     yield "overlong-length-of-the-envelope", message(outer=lambda tag, octets: value(tag, octets, overlong))
+    yield "two-crls-in-indefinite-envelope", two_crls({}, {}, outer=indefinite, content_string=segmented)
+    yield "two-crls-in-an-indefinite-set", two_crls({}, {}, crls=lambda x: indefinite(0xA1, x))
+
+
+def broken_ber_cases():
+    """Messages that are none in BER either, since a CRL is read in DER."""
+    loose = dict(outer=indefinite, content_string=segmented)
+    overlong_entries = dict(crl_entries_length=overlong)
+    yield "first-of-two-crls-in-ber-in-indefinite-envelope", two_crls(overlong_entries, {}, **loose)
+    yield "second-crl-in-ber-in-indefinite-envelope", two_crls({}, overlong_entries, **loose)
 
 
 def failing_cases():
@@ -414,10 +454,10 @@ def lines():
         yield from case(f"check-{check}", broken(check), failing(check))
     for first, second in itertools.combinations(BREAKS, 2):
         yield from case(f"checks-{first}-{second}", broken(first, second), failing(first), modes=("strict",))
-    for label, octets, expected in failing_cases():
+    for label, octets, expected in (*failing_cases(), *crl_cases()):
         yield from case(label, octets, expected)
     yield from case("issuer-of-another-format", message(), "verification-8", form="ec")
-    for label, octets in malformed_cases():
+    for label, octets in (*malformed_cases(), *broken_ber_cases()):
         yield from case(label, octets, "malformed")
     for label, octets in ber_cases():
         yield from case(label, octets, "ok", modes=("loose",))

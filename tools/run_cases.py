@@ -1,12 +1,14 @@
 #!/usr/bin/env python3
 """Writes the cases on which crates/run_cases runs `rpki_ca::run`: its data/cases.txt, and the stdout beside it.
 
-    tools/run_cases.py           writes the rows of this script, and keeps the cases named model-N that the file has
-    tools/run_cases.py FOLDER    takes the latter anew from a folder of cases
+    tools/run_cases.py               writes the rows of this script, and keeps the sets of cases that the file has
+    tools/run_cases.py SET FOLDER    takes a set anew from a folder of cases
 
-A case of a folder is case-N.words (one word a line), case-N.in (the input) and case-N.expected (the status in decimal, a line
-feed, then what is written); they come from a model that was written apart. The rows of this script are made of
-examples/query-list.hex, of examples/content.hex and of what stands here. No expected answer comes from the program under test.
+The cases of a set are named SET-N. There are two: `ber`, messages with one CRL under one key in all spellings, and commands; and
+`two`, messages with one or two CRLs under one to eight keys. A case of a folder is case-N.words (one word a line), case-N.in (the
+input) and case-N.expected (the status in decimal, a line feed, then what is written); they come from a model that was written
+apart. The rows of this script are made of examples/query-list.hex, of examples/content.hex and of what stands here. No expected
+answer comes from the program under test.
 
 A line is `NAME STATUS LINE INPUT WORD..`: the status in decimal, what is written and the input in hexadecimal, and the words as
 they are. A `-` stands for an empty field.
@@ -15,12 +17,13 @@ they are. A `-` stands for an empty field.
 import pathlib
 import sys
 
-from messages import QUERY, indefinite, overlong, segmented, seq, value
+from messages import QUERY, indefinite, own_crl, overlong, segmented, value
 
 ROOT = pathlib.Path(__file__).resolve().parent.parent
 CRATE = ROOT / "crates" / "run_cases"
 INPUT = (ROOT / "examples" / "query-list.hex").read_bytes()
 CONTENT_INPUT = (ROOT / "examples" / "content.hex").read_bytes()
+SETS = "ber", "two"
 
 MOMENT = "1700000000"
 KEY = "3022300d06092a864886f70d010101050003110000000000000000010000000000000000"
@@ -33,8 +36,8 @@ def validation(check):
     return 6, b"Validation %d" % check
 
 
-def receive(moment=MOMENT, key=KEY):
-    return "receive", "publication", moment, key
+def receive(*keys, moment=MOMENT):
+    return "receive", "publication", moment, *(keys or (KEY,))
 
 
 # ---- DER: values with identifiers of one octet
@@ -72,10 +75,12 @@ def changed(octets, path, change):
     return value(octets[0], b"".join(own))
 
 
-# Where the signed data, the content and the CRL's list of entries stand in a message.
+# Where the signed data, the content, the certificate's serial number and the CRLs stand in a message, and in a CRL its entries.
 DATA = (1, 0)
 CONTENT = DATA + (2, 1, 0)
-ENTRIES = DATA + (4, 0, 0, 5)
+SERIAL = DATA + (3, 0, 0, 1)
+CRLS = DATA + (4,)
+ENTRIES = (0, 5)
 
 
 def with_loose_lengths(octets):
@@ -86,8 +91,24 @@ def with_loose_lengths(octets):
     return indefinite(octets[0], contents(octets))
 
 
-def with_overlong_crl(octets):
-    return changed(octets, ENTRIES, lambda entries: value(entries[0], contents(entries), overlong))
+def part(octets, path):
+    """The part at the path of indices."""
+    return part(parts(octets)[path[0]], path[1:]) if path else octets
+
+
+def with_crls(octets, change):
+    """The message with what the change makes of its one CRL in the place of that."""
+    return changed(octets, CRLS, lambda crls: value(crls[0], change(contents(crls))))
+
+
+def in_ber(crl):
+    """The CRL with an overlong length."""
+    return changed(crl, ENTRIES, lambda entries: value(entries[0], contents(entries), overlong))
+
+
+def listing_crl(octets):
+    """A CRL of the same issuer that lists the message's certificate, rightly signed."""
+    return own_crl(entries=(int.from_bytes(contents(part(octets, SERIAL)), "big"),))
 
 
 # ---- the rows: name, words, input, status and text
@@ -95,28 +116,42 @@ def with_overlong_crl(octets):
 
 def moment_rows():
     for moment in ("1699999700", "1700000000", "1700000300"):
-        yield f"at-{moment}", receive(moment), INPUT, RECEIVED
+        yield f"at-{moment}", receive(moment=moment), INPUT, RECEIVED
     for moment in ("0", "1699999699", "1700000301", "253402300799"):
-        yield f"at-{moment}", receive(moment), INPUT, validation(5)
+        yield f"at-{moment}", receive(moment=moment), INPUT, validation(5)
     for moment in ("01700000000", "+1700000000", "-1", "253402300800", ""):
-        yield f"moment-{moment or 'empty'}", receive(moment), INPUT, USAGE
+        yield f"moment-{moment or 'empty'}", receive(moment=moment), INPUT, USAGE
 
 
 def key_rows():
-    yield "another-key", receive(key=OTHER_KEY), INPUT, validation(6)
-    yield "key-in-upper-case", receive(key=KEY.upper()), INPUT, RECEIVED
-    yield "key-without-a-digit", receive(key=KEY[:-1]), INPUT, USAGE
-    yield "key-with-an-octet-behind", receive(key=KEY + "00"), INPUT, USAGE
-    yield "key-empty", receive(key=""), INPUT, USAGE
-    yield "key-of-no-digits", receive(key="zz"), INPUT, USAGE
-    yield "key-with-an-overlong-length", receive(key=KEY.replace("3022", "308122", 1)), INPUT, USAGE
+    yield "another-key", receive(OTHER_KEY), INPUT, validation(6)
+    yield "key-in-upper-case", receive(KEY.upper()), INPUT, RECEIVED
+    yield "key-without-a-digit", receive(KEY[:-1]), INPUT, USAGE
+    yield "key-with-an-octet-behind", receive(KEY + "00"), INPUT, USAGE
+    yield "key-empty", receive(""), INPUT, USAGE
+    yield "key-of-no-digits", receive("zz"), INPUT, USAGE
+    yield "key-with-an-overlong-length", receive(KEY.replace("3022", "308122", 1)), INPUT, USAGE
+
+
+def list_rows():
+    """Lists of keys."""
+    seven = (OTHER_KEY,) * 7
+    yield "keys-the-second-right", receive(OTHER_KEY, KEY), INPUT, RECEIVED
+    yield "keys-the-first-right", receive(KEY, OTHER_KEY), INPUT, RECEIVED
+    yield "keys-none-right", receive(OTHER_KEY, OTHER_KEY), INPUT, validation(6)
+    yield "keys-late", receive(OTHER_KEY, KEY, moment="1700000301"), INPUT, validation(5)
+    yield "keys-one-twice", receive(KEY, KEY), INPUT, RECEIVED
+    yield "keys-eight", receive(*seven, KEY), INPUT, RECEIVED
+    yield "keys-eight-none-right", receive(*seven, OTHER_KEY), INPUT, validation(6)
+    yield "keys-nine", receive(*seven, KEY, KEY), INPUT, USAGE
+    for place, keys in ("first", ("zz", KEY, KEY)), ("middle", (KEY, KEY[:-2], KEY)), ("last", (KEY, KEY, "")):
+        yield f"keys-the-{place}-is-none", receive(*keys), INPUT, USAGE
 
 
 def word_rows():
     yield "receive-alone", receive()[:1], INPUT, USAGE
     yield "receive-without-moment", receive()[:2], INPUT, USAGE
     yield "receive-without-key", receive()[:3], INPUT, USAGE
-    yield "receive-of-five-words", receive() + (KEY,), INPUT, USAGE
     yield "receive-provisioning", ("receive", "provisioning", MOMENT, KEY), INPUT, USAGE
     yield "content-of-two-words", ("content", "content"), INPUT, USAGE
 
@@ -133,7 +168,21 @@ def input_rows():
     yield "with-two-line-feeds", receive(), INPUT + b"\n", HEX
     yield "with-loose-lengths", receive(), line(with_loose_lengths(octets)), RECEIVED
     yield "with-another-content", receive(), CONTENT_INPUT, XML_ERROR
-    yield "with-an-overlong-length-in-the-crl", receive(), line(with_overlong_crl(octets)), CMS_DECODE
+    yield "with-an-overlong-length-in-the-crl", receive(), line(with_crls(octets, in_ber)), CMS_DECODE
+
+
+def crl_rows():
+    octets = bytes.fromhex(INPUT.decode())
+    line = lambda change: with_crls(octets, change).hex().encode() + b"\n"
+    listing = listing_crl(octets)
+    yield "no-crl", receive(), line(lambda crl: b""), CMS_DECODE
+    yield "crl-twice", receive(), line(lambda crl: crl + crl), RECEIVED
+    yield "crl-three-times", receive(), line(lambda crl: crl + crl + crl), CMS_DECODE
+    yield "second-crl-in-ber", receive(), line(lambda crl: crl + in_ber(crl)), CMS_DECODE
+    yield "second-crl-lists-the-certificate", receive(), line(lambda crl: crl + listing), validation(14)
+    yield "first-crl-lists-the-certificate", receive(), line(lambda crl: listing + crl), validation(14)
+    yield "crl-twice-under-keys", receive(OTHER_KEY, KEY), line(lambda crl: crl + crl), RECEIVED
+    yield "second-crl-lists-under-keys", receive(KEY, OTHER_KEY), line(lambda crl: crl + listing), validation(14)
 
 
 def case(name, words, given, status, written):
@@ -143,26 +192,28 @@ def case(name, words, given, status, written):
 
 
 def rows():
-    for row in (*moment_rows(), *key_rows(), *word_rows(), *input_rows()):
+    for row in (*moment_rows(), *key_rows(), *list_rows(), *word_rows(), *input_rows(), *crl_rows()):
         name, words, given, (status, text) = row
         yield case(name, words, given, status, text + b"\n")
 
 
-def cases_of(folder):
+def cases_of(name, folder):
     for path in sorted(folder.glob("case-*.words")):
         words = path.read_text().removesuffix("\n").split("\n") if path.stat().st_size else []
         status, written = path.with_suffix(".expected").read_bytes().split(b"\n", 1)
         number = int(path.stem.removeprefix("case-"))
-        yield case(f"model-{number}", words, path.with_suffix(".in").read_bytes(), int(status), written)
+        yield case(f"{name}-{number}", words, path.with_suffix(".in").read_bytes(), int(status), written)
 
 
 def main():
     file = CRATE / "data" / "cases.txt"
+    kept = file.read_text().splitlines()
+    sets = {name: [line for line in kept if line.startswith(f"{name}-")] for name in SETS}
     if len(sys.argv) > 1:
-        model = list(cases_of(pathlib.Path(sys.argv[1])))
-    else:
-        model = [line for line in file.read_text().splitlines() if line.startswith("model-")]
-    lines = model + list(rows())
+        name, folder = sys.argv[1:]
+        assert name in SETS
+        sets[name] = list(cases_of(name, pathlib.Path(folder)))
+    lines = [line for name in SETS for line in sets[name]] + list(rows())
     names = [line.split(" ")[0] for line in lines]
     assert len(names) == len(set(names))
     file.write_text("".join(line + "\n" for line in lines))

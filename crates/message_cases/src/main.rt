@@ -86,7 +86,15 @@ fn stands_in(part: &[u8], octets: &[u8]) -> bool {
     !part.is_empty() && octets.windows(part.len()).any(|window| window == part)
 }
 
-// Whether the view holds an equal message, and each of its five parts stands in the octets.
+// Whether the view has a second CRL exactly where the message has two, and that one stands in the octets.
+fn has_second_crl(view: &SignedMessageRef<'_>, message: &SignedMessage, octets: &[u8]) -> bool {
+    match view.second_crl() {
+        Some(crl) => message.crls().len() == 2 && stands_in(crl, octets),
+        None => message.crls().len() == 1,
+    }
+}
+
+// Whether the view holds an equal message, and each of its parts stands in the octets.
 fn is_view_of(
     alloc: Global,
     view: &SignedMessageRef<'_>,
@@ -101,6 +109,7 @@ fn is_view_of(
             && stands_in(view.content_value(), octets)
             && stands_in(view.certificate(), octets)
             && stands_in(view.crl(), octets)
+            && has_second_crl(view, message, octets)
             && stands_in(view.attributes(), octets)
             && stands_in(view.signature_value(), octets),
     )

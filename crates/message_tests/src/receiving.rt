@@ -1,9 +1,9 @@
-ghost use Rattle.std.specs.Prelude.{◌≡◌, ◌<◌};
+ghost use Rattle.std.specs.Prelude.{◌≡◌, ◌<◌, ◌≤◌, length};
 
 use rpki_base::{PublicKey, Time};
 use rpki_ca::*;
 use rpki_idcert::{ValidationError, ValidationKind};
-use rpki_publication::Message;
+use rpki_publication::{Error, Message, PublicationCms};
 use rpki_signer::{ToyScheme, ToyVerifier};
 use std::alloc::Global;
 use std::marker::Brand;
@@ -126,6 +126,81 @@ fn a_message_is_received_counted(rt: HostRuntime) -> Result<(), Fail> {
     Ok(())
 }
 
+// What is received under the keys, counted.
+fn counted_under<L: Ledger>(
+    alloc: Global,
+    octets: &[u8],
+    keys: &[PublicKey],
+    when: Time,
+    blank: Blank,
+) -> Result<(Received, usize), ReceiveError>
+    requires name { blank.name ≡ L.name }
+    requires parts { blank.parts ≡ L.parts }
+    requires here { 0 < blank.parts }
+    requires some { 1 ≤ length keys.now }
+    requires few { length keys.now ≤ 8 }
+{
+    let mut steps = rpki_der::Steps::<L>::new(blank);
+    receive_any_counted(
+        alloc,
+        Kind::Publication,
+        octets,
+        keys,
+        when,
+        &ToyVerifier,
+        &mut steps,
+    )
+}
+
+fn is_list_at(answer: Result<(Received, usize), ReceiveError>, expected: usize) -> bool {
+    match answer {
+        Ok((message, place)) => {
+            message == Received::Publication(Message::list_query()) && place == expected
+        }
+        Err(_) => false,
+    }
+}
+
+#[test]
+fn a_message_is_received_under_two_keys(rt: HostRuntime) -> Result<(), Fail> {
+    let alloc = rt.alloc();
+    let octets = octets_of(alloc, QUERY)?;
+    let Some(when) = Time::new(NOW) else {
+        return Err(Fail::new("the moment"));
+    };
+    let other = ToyScheme::key(alloc, 1, 9)?;
+    let key = ToyScheme::key(alloc, 1, 0)?;
+    let keys = [other, key];
+    let answer = receive_any(alloc, Kind::Publication, &octets, &keys, when, &ToyVerifier);
+    assert!(rt; is_list_at(answer, 1));
+    let answer = counted_under::<Brand>(alloc, &octets, &keys, when, Blank::new(1));
+    assert!(rt; is_list_at(answer, 1));
+    Ok(())
+}
+
+#[test]
+fn a_message_is_believed_under_two_keys(rt: HostRuntime) -> Result<(), Fail> {
+    let alloc = rt.alloc();
+    let octets = octets_of(alloc, QUERY)?;
+    let (Some(when), Some(late)) = (Time::new(NOW), Time::new(NOW + 301)) else {
+        return Err(Fail::new("the moments"));
+    };
+    let other = ToyScheme::key(alloc, 1, 9)?;
+    let key = ToyScheme::key(alloc, 1, 0)?;
+    let keys = [other, key];
+    let cms = PublicationCms::decode(alloc, &octets)?;
+    let signed = cms.signed_message();
+    let error = ValidationError {
+        kind: ValidationKind::Verification,
+        check: 5,
+    };
+    assert!(rt; cms.validate_any_at(&ToyVerifier, &keys, when) == Ok(1));
+    assert!(rt; signed.validate_any_at(&ToyVerifier, &keys, when) == Ok(1));
+    assert!(rt; cms.validate_any_at(&ToyVerifier, &keys, late) == Err(Error::Validation(error)));
+    assert!(rt; signed.validate_any_at(&ToyVerifier, &keys, late) == Err(error));
+    Ok(())
+}
+
 #[test]
 fn errors_print(rt: HostRuntime) -> Result<(), Fail> {
     let alloc = rt.alloc();
@@ -233,16 +308,15 @@ fn keys_are_read_of_words(rt: HostRuntime) -> Result<(), Fail> {
     Ok(())
 }
 
-// Whether the words are those of `receive` at the moment 1, under the key with number 0 of seed 1.
-fn is_receive(alloc: Global, words: &Words) -> Result<bool, Fail> {
+// Whether the words are those of `receive` at the moment 1, under these keys.
+fn is_receive(alloc: Global, words: &Words, wanted: &[PublicKey]) -> Result<bool, Fail> {
     let Some(command) = words.command(alloc)? else {
         return Ok(false);
     };
-    let wanted = ToyScheme::key(alloc, 1, 0)?;
     match &command {
         Command::Content => Ok(false),
-        Command::Receive { kind, when, key } => {
-            Ok(*kind == Kind::Publication && when.seconds() == 1 && *key == wanted)
+        Command::Receive { kind, when, keys } => {
+            Ok(*kind == Kind::Publication && when.seconds() == 1 && keys.as_slice() == wanted)
         }
     }
 }
@@ -260,9 +334,14 @@ fn is_content(alloc: Global, words: &Words) -> Result<bool, Fail> {
 #[test]
 fn commands_are_read_of_words(rt: HostRuntime) -> Result<(), Fail> {
     let alloc = rt.alloc();
+    let key = ToyScheme::key(alloc, 1, 0)?;
     let words = words_of(alloc, &["receive", "publication", "1", KEY])?;
-    assert!(rt; is_receive(alloc, &words)?);
+    assert!(rt; is_receive(alloc, &words, &[key])?);
     assert!(rt; !is_content(alloc, &words)?);
+    let key = ToyScheme::key(alloc, 1, 0)?;
+    let again = ToyScheme::key(alloc, 1, 0)?;
+    let words = words_of(alloc, &["receive", "publication", "1", KEY, KEY])?;
+    assert!(rt; is_receive(alloc, &words, &[key, again])?);
     assert!(rt; is_content(alloc, &words_of(alloc, &["content"])?)?);
     assert!(rt; words_of(alloc, &["contents"])?.command(alloc)?.is_none());
     Ok(())

@@ -16,12 +16,13 @@ rpkica reads and checks the messages of RPKI certification authorities.
         that was signed; who signed is not looked at.
         Example: rpkica content < examples/content.hex
 
-    rpkica receive publication MOMENT KEY < MESSAGE
+    rpkica receive publication MOMENT KEY.. < MESSAGE
         Writes the message of the publication protocol that a signed message
-        is, if KEY issued its certificate for the moment and all fourteen
-        checks hold.
+        is, if all fourteen checks hold under one KEY, which has issued its
+        certificate for the moment.
         MOMENT is in seconds since 1970, in decimal digits without leading
-        zeros, up to 253402300799. KEY is a public key in DER, in hexadecimal.
+        zeros, up to 253402300799. There are one to eight KEYs; each is a
+        public key in DER, in hexadecimal.
         The signature scheme is a toy WITHOUT SECURITY: whoever knows the
         public key can sign.
         Example, on one line:
@@ -42,15 +43,17 @@ One line is written to standard output. The exit status is
      3  Hex           the input is not hexadecimal
      4  CmsDecode     the input begins with no signed message
      5  XmlError      the content is no message of the protocol
-     6  Validation N  N is the number of the first check that fails, as below
+     6  Validation N  check N fails, as below
      9  TooLong       more than 67108864 octets of input
     10  ReadFault     standard input failed
     11                standard output failed
     12  OutOfMemory   memory ran out
 
 The checks of receive in their order, and where to look if one fails; content
-makes the second alone. EE is the certificate in the message, SKI and AKI are
-its subject and authority key identifier, MOMENT and KEY are your words.
+makes the second alone. N is the first that fails; under several KEYs, the
+greatest of the first that fail, one under each. EE is the certificate in the
+message, which has one CRL or two; SKI and AKI are subject and authority key
+identifier, MOMENT and KEY are your words.
      1  the signer is named by the EE's SKI                  message
      2  the content's SHA-256 is the digest that was signed  message
      3  the EE's key signed the attributes                   message, scheme
@@ -59,12 +62,12 @@ its subject and authority key identifier, MOMENT and KEY are your words.
      6  the EE's AKI, if there is one, is that of KEY        KEY
      7  the EE is no certificate of an authority             certificate
      8  KEY signed the EE                                    KEY, certificate
-     9  the CRL has one algorithm, inside and outside        CRL
-    10  KEY signed the CRL                                   KEY, CRL
-    11  the CRL's thisUpdate is not after MOMENT             clock, CRL
-    12  the CRL's nextUpdate is not before MOMENT            clock, CRL
-    13  the CRL's AKI, if there is one, is that of KEY       KEY, CRL
-    14  the CRL does not list the EE                         CRL
+     9  each CRL has one algorithm, inside and outside       CRL
+    10  KEY signed each CRL                                  KEY, CRL
+    11  thisUpdate of no CRL is after MOMENT                 clock, CRL
+    12  nextUpdate of no CRL is before MOMENT                clock, CRL
+    13  the AKI of each CRL, if there, is that of KEY        KEY, CRL
+    14  no CRL lists the EE                                  CRL
 Example: rpkica --help; echo $?
 ";
 

@@ -2,7 +2,7 @@
 //! [`rpki_ca::receive`]. README.md quotes the code from the scheme on.
 #![tactic(auto)]
 
-ghost use Rattle.std.specs.Prelude.{MatchResult};
+ghost use Rattle.std.specs.Prelude.{MatchResult, ◌∷◌, []};
 ghost use Rattle.rpki_ca.specs.Acceptance.{Accepted, RefusesReceipt};
 ghost use Rattle.uses_receive.specs.LongKeys.{IsSigned};
 
@@ -43,8 +43,8 @@ pub fn message_from(
     when: Time,
 ) -> Result<Received, ReceiveError>
     ensures { MatchResult result
-        (Accepted IsSigned Kind.Publication octets.now key.now when)
-        (RefusesReceipt IsSigned Kind.Publication octets.now key.now when) }
+        (Accepted IsSigned Kind.Publication octets.now (key.now ∷ []) when)
+        (RefusesReceipt IsSigned Kind.Publication octets.now (key.now ∷ []) when) }
 {
     receive(
         alloc,
