@@ -23,8 +23,8 @@ pub record FirstFalse (n k : ℕ) (list : List Bool) : Type 0 where
   pub place : k ≡ n + length before
 
 -- the answer to a failing check is its number and its kind
-abbrev pub failing : (ℕ → ValidationKind) → Result (Unit {0}) ℕ → Result (Unit {0}) ValidationError
-failing kind (Ok u) = Ok u
+abbrev pub failing : {X : Type 0} → (ℕ → ValidationKind) → Result X ℕ → Result X ValidationError
+failing kind (Ok x) = Ok x
 failing kind (Err n) = Err (record { kind = kind n; check = n })
 
 -- the question to a scheme: whether the signature of a certificate or a CRL holds under a key
