@@ -23,7 +23,8 @@ pub(crate) fn add_run(
     run: Text,
 ) -> Result<(), XmlError>
     requires { IsHeld source.now nodes.old.items places.now }
-    ensures given { Gives (add_run (text_of source.now run) (held source.now nodes.old.items places.now))
+    ensures given { Gives
+        (add_run (text_of source.now run) (held source.now nodes.old.items places.now))
         (λ _. held source.now nodes.new.items places.now) result }
     ensures kept { OnOk result (IsHeld source.now nodes.new.items places.now) }
 {
@@ -46,7 +47,8 @@ pub(crate) fn add_element(
 ) -> Result<(), XmlError>
     requires held { IsHeld source.now nodes.old.items places.now }
     requires below { node.below ≡ 0 }
-    ensures given { Gives (add_element (head_of source.now node) (held source.now nodes.old.items places.now))
+    ensures given { Gives
+        (add_element (head_of source.now node) (held source.now nodes.old.items places.now))
         (λ _. held source.now nodes.new.items places.now) result }
     ensures kept { OnOk result (IsHeld source.now nodes.new.items places.now) }
 {
@@ -66,7 +68,8 @@ pub(crate) fn begin_element(
 ) -> Result<(), XmlError>
     requires held { IsHeld source.now nodes.old.items places.old.items }
     requires below { node.below ≡ 0 }
-    ensures given { Gives (begin_element (head_of source.now node) (held source.now nodes.old.items places.old.items))
+    ensures given { Gives
+        (begin_element (head_of source.now node) (held source.now nodes.old.items places.old.items))
         (λ _. held source.now nodes.new.items places.new.items) result }
     ensures kept { OnOk result (IsHeld source.now nodes.new.items places.new.items) }
 {
