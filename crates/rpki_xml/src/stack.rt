@@ -77,8 +77,21 @@ pub(crate) fn begin_element(
         return Err(XmlError::Malformed);
     }
     let place = narrow(nodes.len())?;
+    make_room(places)?;
     places.push(place)?;
     nodes.push(node)?;
+    Ok(())
+}
+
+// Room for one more place. Where there is none, the list grows by an eighth, so that little of it stays unused.
+fn make_room(places: &mut Vec<u32>) -> Result<(), XmlError>
+    ensures given { Gives (Some places.old.items) (λ _. places.new.items) result }
+    ensures kept { places.new.items ≡ places.old.items }
+{
+    if places.len() < places.capacity() {
+        return Ok(());
+    }
+    places.reserve_exact(places.len() / 8 + 4)?;
     Ok(())
 }
 

@@ -11,10 +11,10 @@ pub returns-clause-given : goal.returns-clause-given
 returns-clause-given c =
     let more : 0 < length c.args.places.now.items = grind arith in
     let count : c.in_ok-place.place ≡ length c.args.nodes.now.items = omega (arith, same_number _ _ c.in_ok-place.ensures) in
-    rw (c.in_ok-push-2.ensures.items, c.in_ok-push.ensures.items) (element_begun_in c.args.source.now c.args.nodes.now.items c.args.places.now.items c.in_ok-place.place c.args.node more c.requires.held c.requires.below count).0
+    rw (c.in_ok-push-2.ensures.items, c.in_ok-push.ensures.items, c.in_ok-make_room.ensures.kept) (element_begun_in c.args.source.now c.args.nodes.now.items c.args.places.now.items c.in_ok-place.place c.args.node more c.requires.held c.requires.below count).0
 
 pub returns-clause-kept : goal.returns-clause-kept
 returns-clause-kept c =
     let more : 0 < length c.args.places.now.items = grind arith in
     let count : c.in_ok-place.place ≡ length c.args.nodes.now.items = omega (arith, same_number _ _ c.in_ok-place.ensures) in
-    rw (c.in_ok-push-2.ensures.items, c.in_ok-push.ensures.items) (element_begun_in c.args.source.now c.args.nodes.now.items c.args.places.now.items c.in_ok-place.place c.args.node more c.requires.held c.requires.below count).1
+    rw (c.in_ok-push-2.ensures.items, c.in_ok-push.ensures.items, c.in_ok-make_room.ensures.kept) (element_begun_in c.args.source.now c.args.nodes.now.items c.args.places.now.items c.in_ok-place.place c.args.node more c.requires.held c.requires.below count).1
