@@ -137,6 +137,20 @@ def open_elements_with_attributes(size):
     return b"<a b=''>" * (size // 8), size // 8
 
 
+def open_elements_with_entities(size):
+    return b"<a>&lt;" * (size // 7), size // 7
+
+
+def open_values_with_entities(size):
+    """Each element has a value and a text with octets of their own: no other shape is known to take more for an octet"""
+    return b"<a b='&lt;'>&lt;" * (size // 16), size // 16
+
+
+def elements_with_namespaces(size):
+    count = size // 14 - 1
+    return b"<a>" + b"<a xmlns='x'/>" * count + b"</a>", count + 1
+
+
 def elements_with_entities(size):
     count = size // 11 - 1
     return b"<a>" + b"<a>&lt;</a>" * count + b"</a>", count + 1
@@ -193,7 +207,8 @@ def indefinite_levels(size):
 
 DOCUMENTS = [(shape, [1, 4, 16]) for shape in (small_elements, deep_elements, long_text, text_of_entities, text_in_parts)]
 DOCUMENTS += [(shape, [1, 24]) for shape in (list_elements, empty_elements, elements_with_attributes, elements_with_texts, comments, one_name, open_elements, open_lists,
-                                        open_elements_with_attributes, elements_with_entities, values_with_entities)]
+                                        open_elements_with_attributes, elements_with_entities, values_with_entities, open_elements_with_entities,
+                                        open_values_with_entities, elements_with_namespaces)]
 # some 10000 objects each
 DOCUMENTS += [(delta_of_objects, [22]), (list_reply, [2])]
 DOCUMENTS += [(attributes, [1, 4, 16, 32]), (declarations, [1, 4, 16]), (long_name, [1, 4, 16])]

@@ -1,6 +1,7 @@
 -- Text, namespace and attributes of an element that are taken apart, and put together with another text.
 use Rattle.std.proofs.Common.{◌≡◌, ℕ, List, ◌++◌, Option, Some, None, Result, refl, sym, ap, subst, ◌∙◌}
 use Rattle.rpki_common.specs.Chaining.{◌>>=◌}
+use Rattle.rpki_common.proofs.Truths.{same_some}
 use Rattle.rpki_xml.specs.declared.element.Rest.{Rest}
 use Rattle.rpki_xml.specs.declared.error.XmlError.{XmlError}
 use Rattle.rpki_xml.specs.declared.error.XmlError.TheVariants as errors
@@ -8,12 +9,9 @@ use Rattle.rpki_xml.specs.Answers.{Fails, Gives}
 use Rattle.rpki_xml.specs.Stack.{settled, settled_parts, with_part, with_more_text}
 use Rattle.rpki_xml.specs.Views.{Parts, parts_in}
 
-some_same : (a b : List ℕ) → Some a ≡ Some b → a ≡ b
-some_same a b e = cc
-
 pub run_put : (source text run : List ℕ) (p q : Parts) (r : Result Rest XmlError) → Some (p.text ++ run) ≡ Some text → p ≡ q → Gives (Some (with_part text p)) (parts_in source) r → Gives (Some (with_more_text run q)) (parts_in source) r
 run_put source text run p q r joined is gives =
-    let same : with_part text p ≡ with_more_text run q = ap (λ (t : List ℕ). with_part t p) (sym (some_same (p.text ++ run) text joined)) ∙ ap (with_more_text run) is in
+    let same : with_part text p ≡ with_more_text run q = ap (λ (t : List ℕ). with_part t p) (sym (same_some (p.text ++ run) text joined)) ∙ ap (with_more_text run) is in
     subst (λ (x : Parts). Gives (Some x) (parts_in source) r) same gives
 
 settled_some : (below : ℕ) (p : Parts) (text : List ℕ) → settled below p.text ≡ Some text → settled_parts below p ≡ Some (with_part text p)

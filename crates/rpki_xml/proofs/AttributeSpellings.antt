@@ -1,5 +1,5 @@
 -- Every lawful spelling of an attribute is read.
-use Rattle.std.proofs.Common.{◌≡◌, ℕ, suc, ◌<◌, Bool, ◌&&◌, ◌||◌, not, true, false, eqb, List, [], ◌∷◌, ◌++◌, length, Some, refl, sym, ap, subst, ◌∙◌, append_assoc, arith}
+use Rattle.std.proofs.Common.{◌≡◌, ℕ, Bool, ◌&&◌, ◌||◌, not, true, false, eqb, List, [], ◌∷◌, ◌++◌, Some, refl, sym, ap, subst, ◌∙◌, append_assoc, arith}
 use Rattle.std.proofs.lemmas.Bool.{eqb-true}
 use Rattle.std.proofs.lemmas.Bool.Decides.{nat_tests}
 use Rattle.std.proofs.lemmas.List.Folds.{list_all-append}
@@ -12,7 +12,7 @@ use Rattle.rpki_common.proofs.Truths.{both}
 use Rattle.rpki_xml.specs.AttributeSpelling.{is_entity, is_itself, IsValueSpelling, concatenated, IsAttributeSpelling}
 use Rattle.rpki_xml.specs.Content.{is_white}
 use Rattle.rpki_xml.specs.Element.{Attribute, is_nil}
-use Rattle.rpki_xml.specs.Lexing.{any_entity_at, character_at, ends_at, until, value_in, quoted_at, past_white, name_at, attribute_at, begins_white, begins_close, no_attribute}
+use Rattle.rpki_xml.specs.Lexing.{any_entity_at, character_at, ends_at, value_in, quoted_at, past_white, name_at, attribute_at, begins_white, no_attribute}
 use Rattle.rpki_xml.specs.Name.{is_name, is_name_octet}
 use Rattle.rpki_xml.specs.Runs.{RunsTo}
 use Rattle.rpki_xml.proofs.Repetitions.{characters_both}

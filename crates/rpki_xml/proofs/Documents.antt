@@ -7,18 +7,13 @@ use Rattle.rpki_xml.specs.Content.{Piece, IsElement, is_white}
 use Rattle.rpki_xml.specs.Stack.{Open, whole, step, steps}
 use Rattle.rpki_common.specs.Chaining.{◌>>=◌}
 use Rattle.rpki_common.proofs.Collected.{bind_under, bind_assoc}
+use Rattle.rpki_common.proofs.Truths.{none_some}
 use Rattle.rpki_xml.specs.Lexing.{piece_at, Repeats, is_octet, IsDocument}
 use Rattle.rpki_xml.proofs.Stacks.{element_reads, reads_element, one_element}
-
-abbrev nothing_of : {X : Type 0} → Option X
-nothing_of = None
 
 pub no_piece : piece_at [] ≡ None
 unfolding piece_at
 no_piece = refl
-
-none_some : {X : Type 0} (x : X) → nothing_of {X = X} ≡ Some x → ⊥
-none_some {X} x e = cc
 
 -- what was read from the front is the front of every whole reading
 pub continues : {X : Type 0} (at : List ℕ → Option (X × List ℕ)) (b : List ℕ) (front : List X) (rest : List ℕ) (all : List X) → at [] ≡ None → Repeats at b front rest → Repeats at b all [] → (more : List X) × (all ≡ front ++ more) × Repeats at rest more []

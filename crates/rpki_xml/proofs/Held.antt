@@ -12,6 +12,7 @@ use Rattle.rpki_xml.specs.Kept.{name_from}
 use Rattle.rpki_xml.specs.Views.{Parts, parts_in, text_in, head_of, slots}
 use Rattle.rpki_xml.specs.declared.element.Rest.{Rest}
 use Rattle.rpki_common.specs.Chaining.{◌>>=◌}
+use Rattle.rpki_common.proofs.Truths.{same_some}
 use Rattle.rpki_xml.specs.Stack.{Open, opened, and_more, closed, with_text, open_slot, slots_of, places_of, open_at, opens_of, held, IsHeld, settled, settled_parts, with_part, with_more_text, add_run, add_element, begin_element, end_element}
 use Rattle.rpki_xml.specs.Content.{text_of, fits}
 use Rattle.std.specs.Str.{bytes_eq}
@@ -102,12 +103,6 @@ set_there source nodes places front i m n = slots-set source nodes i n ∙ ap (�
 
 -- ---- a run
 
-some_same : (a b : List ℕ) → Some a ≡ Some b → a ≡ b
-some_same a b e = cc
-
-pub same_number : (a b : ℕ) → Some a ≡ Some b → a ≡ b
-same_number a b e = cc
-
 -- a node whose text, namespace and attributes were taken, and put back with another text
 abbrev head_with : List ℕ → Parts → Head
 head_with name p = record {
@@ -117,17 +112,14 @@ head_with name p = record {
   text = p.text;
 }
 
-same_parts : (a b : Parts) → Some a ≡ Some b → a ≡ b
-same_parts a b e = cc
-
 pub with_run : (source : List ℕ) (n : Node) (so_far new : Rest) (run : List ℕ) → so_far ≡ n.rest → Some (with_more_text run (parts_in source so_far)) ≡ Some (parts_in source new) → head_of source (record n { rest = new }) ≡ with_text ((head_of source n).text ++ run) (head_of source n)
 with_run source n so_far new run is more =
-    ap (head_with (name_from source n.name)) (sym (same_parts (with_more_text run (parts_in source so_far)) (parts_in source new) more) ∙ ap (λ (r : Rest). with_more_text run (parts_in source r)) is)
+    ap (head_with (name_from source n.name)) (sym (same_some (with_more_text run (parts_in source so_far)) (parts_in source new) more) ∙ ap (λ (r : Rest). with_more_text run (parts_in source r)) is)
 
 -- the same at the end of an element
 settled_as : (x : Option (List ℕ)) (p q : Parts) → (x >>= λ text. Some (with_part text p)) ≡ Some q → (x ≡ Some q.text) × (with_part q.text p ≡ q)
 unfolding ◌>>=◌
-settled_as (Some text) p q e = let same = same_parts (with_part text p) q e in (ap (λ (r : Parts). Some r.text) same, ap (λ (r : Parts). with_part r.text p) (sym same) ∙ same)
+settled_as (Some text) p q e = let same = same_some (with_part text p) q e in (ap (λ (r : Parts). Some r.text) same, ap (λ (r : Parts). with_part r.text p) (sym same) ∙ same)
 settled_as None p q e = absurd cc
 
 pub at_end : (source : List ℕ) (n : Node) (so_far new : Rest) (below : ℕ) → so_far ≡ n.rest → settled_parts below (parts_in source so_far) ≡ Some (parts_in source new)

@@ -1,6 +1,6 @@
 -- Elements and the list of them.
-use Rattle.std.proofs.Common.{◌≡◌, List, [], ◌∷◌, Option, Some, None, refl, ap, ◌∙◌}
-use Rattle.rpki_xml.specs.Element.{Head, Elements, none, first, Element, listed}
+use Rattle.std.proofs.Common.{◌≡◌, List, [], ◌∷◌, Some, None, refl, ap, ◌∙◌}
+use Rattle.rpki_xml.specs.Element.{Elements, none, first, Element, listed}
 use Rattle.rpki_xml.specs.Tables.{the_child, at_most_one_child, no_child}
 
 heads : (x y : Element) (xs ys : List Element) → x ∷ xs ≡ y ∷ ys → x ≡ y

@@ -4,6 +4,7 @@ use Rattle.std.proofs.lemmas.List.{append-nil, length-append}
 use Rattle.std.proofs.lemmas.Bool.{eqb-true, eqb-false}
 use Rattle.std.specs.List.{list_all}
 use Rattle.rpki_common.proofs.Truths.{both}
+use Rattle.rpki_common.proofs.Truths.{same_some}
 use Rattle.rpki_xml.specs.Lexing.{character_at, ends_at, front_of, back_of, until}
 use Rattle.rpki_xml.specs.PlainCharacter.{is_plain}
 use Rattle.rpki_xml.proofs.Until.{Until, until_starts, until_more, until_done}
@@ -89,10 +90,7 @@ moved_at_end at_end stop b rest le same off on = go (eqb (length rest) (length b
     go true e = absurd (differs (ends_at at_end stop rest) (ends_at at_end stop b) off on (ap (ends_at at_end stop) (same (eqb-true (length rest) (length b) e))))
     go false e = let ne = eqb-false (length rest) (length b) e in omega (arith, ne, le)
 
-some_same : (a b : List ℕ) → Some a ≡ Some b → a ≡ b
-some_same a b e = cc
-
 -- octets that are what stands for itself were read
 pub plain_read : (at_end : Bool) (stop : ℕ) (b front back octets : List ℕ) → Some front ≡ Some octets → front ≡ front_of (is_plain stop) b → back ≡ back_of (is_plain stop) b → ends_at at_end stop back ≡ true → until (ends_at at_end stop) character_at b ≡ Some (octets, back)
 plain_read at_end stop b front back octets same f g off =
-    plain_done at_end stop b (ap (ends_at at_end stop) (sym g) ∙ off) ∙ ap (λ (x : List ℕ). Some (x, back_of (is_plain stop) b)) (sym f ∙ some_same front octets same) ∙ ap (λ (x : List ℕ). Some (octets, x)) (sym g)
+    plain_done at_end stop b (ap (ends_at at_end stop) (sym g) ∙ off) ∙ ap (λ (x : List ℕ). Some (x, back_of (is_plain stop) b)) (sym f ∙ same_some front octets same) ∙ ap (λ (x : List ℕ). Some (octets, x)) (sym g)

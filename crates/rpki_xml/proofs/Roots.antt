@@ -19,6 +19,7 @@ use Rattle.rpki_xml.specs.Answers.{IsRefused}
 use Rattle.rpki_xml.specs.Stack.{bare_head}
 use Rattle.rpki_xml.specs.Answers.{Fails, Gives}
 use Rattle.rpki_xml.proofs.Documents.{Reached, at_start, at_end, is_document, no_piece_there, no_step_there}
+use Rattle.rpki_common.proofs.Truths.{none_some}
 use Rattle.rpki_xml.proofs.Held.{held_is, slot_with}
 
 abbrev no_element : Option Element
@@ -138,9 +139,6 @@ read_ok b opens x octets h e = let r = root_some opens x e in is_document b open
 root_at : (d : Open) (x : Element) → d.done ≡ alone x → list_all is_white d.head.text ≡ true → root_element (d ∷ []) ≡ Some x
 unfolding root_element
 root_at d x only white = rw (white, only) refl
-
-none_some : (x : Element) → no_element ≡ Some x → ⊥
-none_some x e = cc
 
 pub read_fails : (e : XmlError) (b : List ℕ) (opens : List Open) → Reached b [] opens → Fails e (root_element opens) → IsRefused e b
 read_fails errors.OutOfMemory b opens h fails = tt

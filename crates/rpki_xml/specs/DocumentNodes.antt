@@ -1,5 +1,5 @@
 -- The one element of a document, as it lies in the list of nodes: a means for the document in memory.
-use Rattle.std.specs.Prelude.{◌≡◌, ℕ, List, [], ◌∷◌, Option, Some, None, drop, if◌then◌else◌}
+use Rattle.std.specs.Prelude.{◌≡◌, ℕ, List, [], ◌∷◌, Option, None, drop, if◌then◌else◌}
 use Rattle.std.specs.List.{list_all}
 use Rattle.rpki_xml.specs.declared.element.Node.{Node}
 use Rattle.rpki_xml.specs.declared.document.Document.{Document}

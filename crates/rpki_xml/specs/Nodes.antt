@@ -13,12 +13,14 @@ pub record Slot : Type 0 where
 -- the elements in the order of their starts
 abbrev pub flat : Elements → List Slot
 flat none = []
-flat (first head children rest) = record { head = head; below = length (flat children) } ∷ (flat children ++ flat rest)
+flat (first head children rest) =
+    record { head = head; below = length (flat children) } ∷ (flat children ++ flat rest)
 
 abbrev pub tree_at : ℕ → List Slot → Elements
 tree_at zero slots = none
 tree_at (suc n) [] = none
-tree_at (suc n) (s ∷ slots) = first s.head (tree_at n (take s.below slots)) (tree_at n (drop s.below slots))
+tree_at (suc n) (s ∷ slots) =
+    first s.head (tree_at n (take s.below slots)) (tree_at n (drop s.below slots))
 
 -- the elements that a flat list stands for
 unfoldable pub tree_of : List Slot → Elements
@@ -33,8 +35,11 @@ tree_at-flat none (suc n) le = refl
 tree_at-flat (first h cs rest) zero le = absurd (omega arith)
 tree_at-flat (first h cs rest) (suc n) le =
     let sum = length-append (flat cs) (flat rest) in
-    ap (λ (s : List Slot). first h (tree_at n s) (tree_at n (drop (length (flat cs)) (flat cs ++ flat rest)))) (take_at (flat cs) (flat rest) (length (flat cs)) refl)
-    ∙ ap (λ (s : List Slot). first h (tree_at n (flat cs)) (tree_at n s)) (drop_at (flat cs) (flat rest) (length (flat cs)) refl)
+    let behind = drop (length (flat cs)) (flat cs ++ flat rest) in
+    ap (λ (s : List Slot). first h (tree_at n s) (tree_at n behind))
+    (take_at (flat cs) (flat rest) (length (flat cs)) refl)
+    ∙ ap (λ (s : List Slot). first h (tree_at n (flat cs)) (tree_at n s))
+    (drop_at (flat cs) (flat rest) (length (flat cs)) refl)
     ∙ ap (λ (c : Elements). first h c (tree_at n (flat rest))) (tree_at-flat cs n (omega arith))
     ∙ ap (first h cs) (tree_at-flat rest n (omega arith))
 
@@ -44,7 +49,9 @@ tree_of-flat es = tree_at-flat es (length (flat es)) (omega arith)
 
 -- how a value is stored where a proof keeps it
 abbrev attribute_code : Coded Attribute
-attribute_code = code_by (List ℕ × List ℕ) (coded× (coded_list coded_ℕ) (coded_list coded_ℕ)) (λ a. (a.name, a.value)) (λ p. record { name = p.0; value = p.1 }) (λ _. refl)
+attribute_code =
+    code_by (List ℕ × List ℕ) (coded× (coded_list coded_ℕ) (coded_list coded_ℕ))
+    (λ a. (a.name, a.value)) (λ p. record { name = p.0; value = p.1 }) (λ _. refl)
 
 abbrev pub attributes_code : Coded (List Attribute)
 attributes_code = coded_list attribute_code
@@ -53,13 +60,23 @@ abbrev pub HeadParts : Type 0
 HeadParts = (List ℕ × Option (List ℕ)) × (List Attribute × List ℕ)
 
 abbrev head_code : Coded Head
-head_code = code_by HeadParts (coded× (coded× (coded_list coded_ℕ) (coded_option (coded_list coded_ℕ))) (coded× (coded_list attribute_code) (coded_list coded_ℕ))) (λ h. ((h.name, h.namespace), (h.attributes, h.text))) (λ p. record { name = p.0.0; namespace = p.0.1; attributes = p.1.0; text = p.1.1 }) (λ _. refl)
+head_code =
+    code_by HeadParts
+    (coded× (coded× (coded_list coded_ℕ) (coded_option (coded_list coded_ℕ)))
+    (coded× (coded_list attribute_code) (coded_list coded_ℕ)))
+    (λ h. ((h.name, h.namespace), (h.attributes, h.text)))
+    (λ p. record { name = p.0.0; namespace = p.0.1; attributes = p.1.0; text = p.1.1 })
+    (λ _. refl)
 
 abbrev slot_code : Coded Slot
-slot_code = code_by (Head × ℕ) (coded× head_code coded_ℕ) (λ s. (s.head, s.below)) (λ p. record { head = p.0; below = p.1 }) (λ _. refl)
+slot_code =
+    code_by (Head × ℕ) (coded× head_code coded_ℕ) (λ s. (s.head, s.below))
+    (λ p. record { head = p.0; below = p.1 }) (λ _. refl)
 
 abbrev pub elements_code : Coded Elements
 elements_code = code_by (List Slot) (coded_list slot_code) flat tree_of tree_of-flat
 
 abbrev pub element_code : Coded Element
-element_code = code_by (Head × Elements) (coded× head_code elements_code) (λ e. (e.head, e.children)) (λ p. record { head = p.0; children = p.1 }) (λ _. refl)
+element_code =
+    code_by (Head × Elements) (coded× head_code elements_code) (λ e. (e.head, e.children))
+    (λ p. record { head = p.0; children = p.1 }) (λ _. refl)

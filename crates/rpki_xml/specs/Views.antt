@@ -1,5 +1,5 @@
 -- What the code holds, as values: the nodes of the document in memory, and the names of a writer's open elements.
-use Rattle.std.specs.Prelude.{ℕ, List, [], map, reverse, Option, None}
+use Rattle.std.specs.Prelude.{ℕ, List, [], map, reverse, Option, Some, None}
 use Rattle.std.specs.Global.{Vec}
 use Rattle.std.specs.Option.{option_map}
 use Rattle.rpki_xml.specs.declared.element.Node as declared_node
@@ -15,15 +15,21 @@ use Rattle.rpki_xml.specs.Nodes.{Slot}
 -- the text of a node, its namespace and its attributes
 abbrev pub text_in : List ℕ → Rest → List ℕ
 text_in source (rest.Plain start end) = part_of start end source
-text_in source (rest.Full more) = text_of source more.value.text
+text_in source (rest.Own octets) = octets.value.items
+text_in source (rest.Attributed more) = text_of source more.value.text
+text_in source (rest.Namespaced more) = text_of source more.value.text
 
 abbrev pub namespace_in : List ℕ → Rest → Option (List ℕ)
 namespace_in source (rest.Plain start end) = None
-namespace_in source (rest.Full more) = option_map (text_of source) more.value.namespace
+namespace_in source (rest.Own octets) = None
+namespace_in source (rest.Attributed more) = None
+namespace_in source (rest.Namespaced more) = Some (text_of source more.value.namespace)
 
 abbrev pub attributes_in : List ℕ → Rest → List Attribute
 attributes_in source (rest.Plain start end) = []
-attributes_in source (rest.Full more) = attributes_of source more.value.attributes.items
+attributes_in source (rest.Own octets) = []
+attributes_in source (rest.Attributed more) = attributes_of source more.value.attributes.items
+attributes_in source (rest.Namespaced more) = attributes_of source more.value.attributes.items
 
 -- the same together
 pub record Parts : Type 0 where

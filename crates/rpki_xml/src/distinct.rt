@@ -30,7 +30,8 @@ pub(crate) fn is_distinct(
 }
 
 fn differs_from_all(source: &[u8], name: &[u8], attributes: &[Named]) -> bool
-    ensures { result ≡ list_all (λ b. not (bytes_eq name.now b.name)) (attributes_of source.now attributes.now) }
+    ensures { result ≡ list_all (λ b. not (bytes_eq name.now b.name))
+        (attributes_of source.now attributes.now) }
 {
     for other in attributes {
         if name == name_from(source, other.name) {

@@ -55,7 +55,8 @@ impl Model for Element {
 
     ghost view = { λ e. root_in e.document.value };
 
-    ghost invariant = { λ e. IsWholeIn e.document.value × AreLettered (alone (root_in e.document.value)) };
+    ghost invariant = { λ e. IsWholeIn e.document.value
+        × AreLettered (alone (root_in e.document.value)) };
 }
 
 /// Reads a document: the element that the octets are a document of. Malformed exactly where they are no document.
@@ -74,7 +75,8 @@ pub fn read_document(alloc: Global, octets: &[u8]) -> Result<Element, XmlError>
 // The document, with its nodes.
 fn document_of(alloc: Global, octets: &[u8]) -> Result<Document, XmlError>
     requires { list_all is_octet octets.now ≡ true }
-    ensures value { MatchResult result (λ d. IsDocument octets.now (root_in d)) (λ e. IsRefused e octets.now) }
+    ensures value { MatchResult result (λ d. IsDocument octets.now (root_in d))
+        (λ e. IsRefused e octets.now) }
     ensures whole { IfOk result IsWholeIn }
 {
     let source = Vec::from_slice(alloc, octets)?;
@@ -138,7 +140,8 @@ fn take(
     piece: Piece<'_>,
 ) -> Result<(), XmlError>
     requires { IsHeld source.now nodes.old.items places.old.items }
-    ensures given { Gives (step (piece_of source.now piece.entry) (held source.now nodes.old.items places.old.items))
+    ensures given { Gives
+        (step (piece_of source.now piece.entry) (held source.now nodes.old.items places.old.items))
         (λ _. held source.now nodes.new.items places.new.items) result }
     ensures kept { OnOk result (IsHeld source.now nodes.new.items places.new.items) }
 {

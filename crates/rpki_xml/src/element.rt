@@ -2,7 +2,7 @@
 
 ghost use Rattle.std.specs.Fn.{FnOnceReturnsAt};
 ghost use Rattle.std.specs.Option.{option_copied, option_map};
-ghost use Rattle.std.specs.Prelude.{◌≡◌, ℕ, List, Option, Some};
+ghost use Rattle.std.specs.Prelude.{◌≡◌, ℕ, List, Option, Some, None};
 ghost use Rattle.rpki_xml.specs.Answers.{Gives, Matches};
 ghost use Rattle.rpki_xml.specs.Element.{is_none, is_nil};
 ghost use Rattle.rpki_xml.specs.Kept.{text_of, attributes_of};
@@ -50,7 +50,8 @@ impl<'a> Model for Attributes<'a> {
 
     ghost view = { λ a. attributes_of a.source.now a.left.now };
 
-    ghost invariant = { λ a. AllByRecursion IsLetteredAttribute (attributes_of a.source.now a.left.now) };
+    ghost invariant = { λ a.
+        AllByRecursion IsLetteredAttribute (attributes_of a.source.now a.left.now) };
 }
 
 impl<'a> Iterator for Attributes<'a> {
@@ -87,14 +88,26 @@ pub(crate) struct Node {
 pub(crate) enum Rest {
     /// A text that stands in the document, and nothing else.
     Plain { start: u32, end: u32 },
-    Full(Box<More>),
+    /// A text of its own, and nothing else.
+    Own(Box<Vec<u8>>),
+    /// A text and attributes, and no namespace.
+    Attributed(Box<Attributed>),
+    /// A text, a namespace and attributes.
+    Namespaced(Box<Namespaced>),
 }
 
-/// Text, namespace and attributes of an element.
+/// Text and attributes of an element that has no namespace.
 #[derive(Drop)]
-pub(crate) struct More {
+pub(crate) struct Attributed {
     pub(crate) text: Text,
-    pub(crate) namespace: Option<Text>,
+    pub(crate) attributes: Vec<Named>,
+}
+
+/// Text, namespace and attributes of an element that has a namespace.
+#[derive(Drop)]
+pub(crate) struct Namespaced {
+    pub(crate) text: Text,
+    pub(crate) namespace: Text,
     pub(crate) attributes: Vec<Named>,
 }
 
@@ -105,7 +118,9 @@ impl Rest {
     {
         match self {
             Rest::Plain { start, end } => part_of(source, *start, *end),
-            Rest::Full(more) => more.text.octets(source),
+            Rest::Own(octets) => octets.as_slice(),
+            Rest::Attributed(more) => more.text.octets(source),
+            Rest::Namespaced(more) => more.text.octets(source),
         }
     }
 
@@ -116,17 +131,22 @@ impl Rest {
     {
         match self {
             Rest::Plain { start: _, end: _ } => None,
-            Rest::Full(more) => more.namespace.as_ref(),
+            Rest::Own(_) => None,
+            Rest::Attributed(_) => None,
+            Rest::Namespaced(more) => Some(&more.namespace),
         }
     }
 
     /// The attributes.
     fn attributes(&self) -> &[Named]
-        ensures { (source : List ℕ) → attributes_of source result.now ≡ attributes_in source self.now }
+        ensures { (source : List ℕ)
+            → attributes_of source result.now ≡ attributes_in source self.now }
     {
         match self {
             Rest::Plain { start: _, end: _ } => &[],
-            Rest::Full(more) => more.attributes.as_slice(),
+            Rest::Own(_) => &[],
+            Rest::Attributed(more) => more.attributes.as_slice(),
+            Rest::Namespaced(more) => more.attributes.as_slice(),
         }
     }
 }
@@ -141,33 +161,34 @@ pub(crate) fn rest_of(
     ensures { (source : List ℕ)
         → Gives (Some (parts_of source text namespace attributes.items)) (parts_in source) result }
 {
-    if let Text::At { start, end } = &text
-        && namespace.is_none()
-        && attributes.is_empty()
-    {
-        return Ok(Rest::Plain {
-            start: *start,
-            end: *end,
-        });
+    match namespace {
+        None => rest_without_namespace(alloc, text, attributes),
+        Some(namespace) => {
+            let more = Namespaced {
+                text,
+                namespace,
+                attributes,
+            };
+            Ok(Rest::Namespaced(Box::new(alloc, more)?))
+        }
     }
-    full(alloc, text, namespace, attributes)
 }
 
-fn full(
+fn rest_without_namespace(
     alloc: Global,
     text: Text,
-    namespace: Option<Text>,
     attributes: Vec<Named>,
 ) -> Result<Rest, XmlError>
     ensures { (source : List ℕ)
-        → Gives (Some (parts_of source text namespace attributes.items)) (parts_in source) result }
+        → Gives (Some (parts_of source text None attributes.items)) (parts_in source) result }
 {
-    let more = More {
-        text,
-        namespace,
-        attributes,
-    };
-    Ok(Rest::Full(Box::new(alloc, more)?))
+    if !attributes.is_empty() {
+        return Ok(Rest::Attributed(Box::new(alloc, Attributed { text, attributes })?));
+    }
+    match text {
+        Text::At { start, end } => Ok(Rest::Plain { start, end }),
+        Text::Own(octets) => Ok(Rest::Own(octets)),
+    }
 }
 
 /// Text, namespace and attributes, taken apart.
@@ -177,13 +198,18 @@ pub(crate) fn taken_apart(alloc: Global, rest: Rest) -> (Text, Option<Text>, Vec
 {
     match rest {
         Rest::Plain { start, end } => (Text::At { start, end }, None, Vec::new(alloc)),
-        Rest::Full(more) => {
-            let More {
+        Rest::Own(octets) => (Text::Own(octets), None, Vec::new(alloc)),
+        Rest::Attributed(more) => {
+            let Attributed { text, attributes } = Box::into_inner(more);
+            (text, None, attributes)
+        }
+        Rest::Namespaced(more) => {
+            let Namespaced {
                 text,
                 namespace,
                 attributes,
             } = Box::into_inner(more);
-            (text, namespace, attributes)
+            (text, Some(namespace), attributes)
         }
     }
 }
@@ -208,7 +234,8 @@ impl<'a> Model for Children<'a> {
 
     ghost view = { λ c. tree_of (slots c.source.now c.nodes.now) };
 
-    ghost invariant = { λ c. IsFlat (slots c.source.now c.nodes.now) × AreLettered (tree_of (slots c.source.now c.nodes.now)) };
+    ghost invariant = { λ c. IsFlat (slots c.source.now c.nodes.now)
+        × AreLettered (tree_of (slots c.source.now c.nodes.now)) };
 }
 
 /// An element of a document. In a clause it is a record of its head, which has name, namespace, attributes and text, and of
@@ -230,10 +257,14 @@ impl<'a> Model for ElementRef<'a> {
 
     ghost coded = { element_code };
 
-    ghost view = { λ e. record { head = head_of e.source.now e.head.now; children = tree_of (slots e.source.now e.below.now) } };
+    ghost view = { λ e. record {
+      head = head_of e.source.now e.head.now;
+      children = tree_of (slots e.source.now e.below.now);
+    } };
 
     ghost invariant = { λ e. IsLetteredHead (head_of e.source.now e.head.now)
-        × (IsFlat (slots e.source.now e.below.now) × AreLettered (tree_of (slots e.source.now e.below.now))) };
+        × (IsFlat (slots e.source.now e.below.now)
+        × AreLettered (tree_of (slots e.source.now e.below.now))) };
 }
 
 impl<'a> Iterator for Children<'a> {

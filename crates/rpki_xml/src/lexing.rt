@@ -225,7 +225,8 @@ fn characters_until<'a>(
     ensures value { Gives (until (ends_at at_end stop) character_at b.now)
         (λ x. (text_of source.now x.0, x.1.now)) result }
     ensures shorter { IfOk result (λ x. length x.1.now ≤ length b.now) }
-    ensures moved { IfOk result (λ x. ends_at at_end stop b.now ≡ false → length x.1.now < length b.now) }
+    ensures moved { IfOk result (λ x. ends_at at_end stop b.now ≡ false
+        → length x.1.now < length b.now) }
 {
     let (front, rest) = split_plain(stop, b);
     if ends_at(at_end, stop, rest) {
@@ -245,7 +246,8 @@ fn resolved_until<'a>(
     ensures value { Gives (until (ends_at at_end stop) character_at b.now)
         (λ x. (x.0.items, x.1.now)) result }
     ensures shorter { IfOk result (λ x. length x.1.now ≤ length b.now) }
-    ensures moved { IfOk result (λ x. ends_at at_end stop b.now ≡ false → length x.1.now < length b.now) }
+    ensures moved { IfOk result (λ x. ends_at at_end stop b.now ≡ false
+        → length x.1.now < length b.now) }
 {
     let mut value = Vec::new(alloc);
     let mut rest = b;
@@ -303,7 +305,8 @@ fn attribute_at<'a>(
     source: &[u8],
     b: &'a [u8],
 ) -> Result<(Named, &'a [u8]), XmlError>
-    ensures value { Gives (attribute_at b.now) (λ x. (attribute_of source.now x.0, x.1.now)) result }
+    ensures value { Gives (attribute_at b.now)
+        (λ x. (attribute_of source.now x.0, x.1.now)) result }
     ensures shorter { IfOk result (λ x. length x.1.now < length b.now) }
 {
     let Some((name, behind_name)) = name_at(past_white(b)) else {
@@ -350,7 +353,9 @@ fn attributes_at<'a>(
         (λ x. (attributes_of source.now x.0.items, x.1.now)) result }
     ensures shorter { IfOk result (λ x. length x.1.now ≤ length b.now) }
 {
-    let mut attributes = Vec::new(alloc);
+    // Room for the first one alone: most elements have no second.
+    let room = if no_attribute(b) { 0 } else { 1 };
+    let mut attributes = Vec::with_capacity(alloc, room)?;
     let mut rest = b;
     'attributes: while !no_attribute(rest) {
         let (attribute, after) = attribute_at(alloc, source, rest)?;
@@ -407,7 +412,8 @@ fn passed_at<'a>(close: &[u8], b: &'a [u8]) -> Result<&'a [u8], XmlError>
 
 fn run_at<'a>(alloc: Global, source: &[u8], b: &'a [u8]) -> Result<(Piece<'a>, &'a [u8]), XmlError>
     ensures value { Gives (run_at b.now) (λ x. (piece source.now x.0, x.1.now)) result }
-    ensures moved { IfOk result (λ x. ends_at true 60 b.now ≡ false → length x.1.now < length b.now) }
+    ensures moved { IfOk result (λ x. ends_at true 60 b.now ≡ false
+        → length x.1.now < length b.now) }
 {
     let (text, rest) = characters_until(alloc, source, true, b'<', b)?;
     Ok((Piece::Run(text), rest))

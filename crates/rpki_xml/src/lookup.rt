@@ -84,7 +84,9 @@ pub(crate) fn only_among(
     attributes: &[Named],
     locals: &[&str],
 ) -> Result<(), Mismatch>
-    ensures { Matches (items.only (is_listed (texts locals.now)) (attributes_of source.now attributes.now)) (λ _. tt) result }
+    ensures { Matches
+        (items.only (is_listed (texts locals.now)) (attributes_of source.now attributes.now))
+        (λ _. tt) result }
 {
     for attribute in attributes {
         if !is_listed(source, attribute, locals) {

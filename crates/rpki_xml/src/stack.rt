@@ -23,7 +23,8 @@ pub(crate) fn add_run(
     run: Text,
 ) -> Result<(), XmlError>
     requires { IsHeld source.now nodes.old.items places.now }
-    ensures given { Gives (add_run (text_of source.now run) (held source.now nodes.old.items places.now))
+    ensures given { Gives
+        (add_run (text_of source.now run) (held source.now nodes.old.items places.now))
         (λ _. held source.now nodes.new.items places.now) result }
     ensures kept { OnOk result (IsHeld source.now nodes.new.items places.now) }
 {
@@ -46,7 +47,8 @@ pub(crate) fn add_element(
 ) -> Result<(), XmlError>
     requires held { IsHeld source.now nodes.old.items places.now }
     requires below { node.below ≡ 0 }
-    ensures given { Gives (add_element (head_of source.now node) (held source.now nodes.old.items places.now))
+    ensures given { Gives
+        (add_element (head_of source.now node) (held source.now nodes.old.items places.now))
         (λ _. held source.now nodes.new.items places.now) result }
     ensures kept { OnOk result (IsHeld source.now nodes.new.items places.now) }
 {
@@ -66,7 +68,8 @@ pub(crate) fn begin_element(
 ) -> Result<(), XmlError>
     requires held { IsHeld source.now nodes.old.items places.old.items }
     requires below { node.below ≡ 0 }
-    ensures given { Gives (begin_element (head_of source.now node) (held source.now nodes.old.items places.old.items))
+    ensures given { Gives
+        (begin_element (head_of source.now node) (held source.now nodes.old.items places.old.items))
         (λ _. held source.now nodes.new.items places.new.items) result }
     ensures kept { OnOk result (IsHeld source.now nodes.new.items places.new.items) }
 {
@@ -74,8 +77,21 @@ pub(crate) fn begin_element(
         return Err(XmlError::Malformed);
     }
     let place = narrow(nodes.len())?;
+    make_room(places)?;
     places.push(place)?;
     nodes.push(node)?;
+    Ok(())
+}
+
+// Room for one more place. Where there is none, the list grows by an eighth, so that little of it stays unused.
+fn make_room(places: &mut Vec<u32>) -> Result<(), XmlError>
+    ensures given { Gives (Some places.old.items) (λ _. places.new.items) result }
+    ensures kept { places.new.items ≡ places.old.items }
+{
+    if places.len() < places.capacity() {
+        return Ok(());
+    }
+    places.reserve_exact(places.len() / 8 + 4)?;
     Ok(())
 }
 

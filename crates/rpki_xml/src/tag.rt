@@ -65,7 +65,8 @@ fn declared<'a>(source: &[u8], name: &[u8], attributes: &'a [Named]) -> Option<&
 
 #[tactic(auto, unfolding(crate::specs::Content::namespace_of))]
 fn namespace_of(alloc: Global, source: &[u8], tag: &Tag) -> Result<Option<Text>, XmlError>
-    ensures { Gives (Some (namespace_of (tag_of source.now tag.now))) (option_map (text_of source.now)) result }
+    ensures { Gives (Some (namespace_of (tag_of source.now tag.now)))
+        (option_map (text_of source.now)) result }
 {
     let name = name_from(source, tag.name);
     match declared(source, name, tag.attributes.as_slice()) {
@@ -82,7 +83,8 @@ fn namespace_of(alloc: Global, source: &[u8], tag: &Tag) -> Result<Option<Text>,
 
 // The attributes that are no declarations, in their order.
 fn handed_on(source: &[u8], attributes: Vec<Named>) -> Vec<Named>
-    ensures { attributes_of source.now result.items ≡ handed_on (attributes_of source.now attributes.items) }
+    ensures { attributes_of source.now result.items
+        ≡ handed_on (attributes_of source.now attributes.items) }
 {
     let mut kept = attributes;
     kept.retain(|attribute| !is_declaration(source, attribute));

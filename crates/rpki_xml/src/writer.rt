@@ -30,7 +30,11 @@ impl Model for ElementWriter {
 
     ghost Value = { Draft };
 
-    ghost view = { λ w. record { octets = w.octets.items; open_names = names_of w.names.items; in_start = w.in_start } };
+    ghost view = { λ w. record {
+      octets = w.octets.items;
+      open_names = names_of w.names.items;
+      in_start = w.in_start;
+    } };
 }
 
 impl ElementWriter {

@@ -8,7 +8,7 @@ use Rattle.rpki_xml.proofs.lexing.attributes_at.Goals as goal
 
 pub attributes-init : goal.attributes-init
 attributes-init c = record {
-  read = rw c.new-attributes.ensures.items (until_starts no_attribute attribute_at c.args.b.now);
+  read = rw c.in_ok-attributes.ensures.items (until_starts no_attribute attribute_at c.args.b.now);
   shorter = omega arith;
 }
 
@@ -20,7 +20,7 @@ attributes-preserved c = record {
 
 pub returns-in_err-attribute-clause-value : goal.returns-in_err-attribute-clause-value
 returns-in_err-attribute-clause-value c =
-    let p = err_from_is_err_and c.from_residual.result c.from_residual.ensures.1 in
+    let p = err_from_is_err_and c.from_residual-in_err-attribute.result c.from_residual-in_err-attribute.ensures.1 in
     rw (p.1, p.2) (until_fails no_attribute attribute_at c.args.b.now (attributes_of c.args.source.now c.attributes.attributes.items) c.attributes.rest.now c.in_err-attribute.field-0.0 c.attributes.invariant.read (sym c.attributes-test.ensures) c.in_err-attribute.ensures.value)
 
 pub returns-clause-value : goal.returns-clause-value
