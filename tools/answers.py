@@ -45,7 +45,7 @@ BLANKS = {
 GAPS = [r" (?=\(\w+_(?:within|inside|first|later|part|behind|bind|memory|done) )", r" (?=\(\w+_(?:in|slower) _)"]
 
 
-def filled(text, first="", later=" " * 12, end=""):
+def filled(text, first="", later=" " * 4, end=""):
     return textwrap.wrap(text, WIDTH - len(end), initial_indent=first, subsequent_indent=later, break_long_words=False,
                          break_on_hyphens=False)
 
@@ -53,8 +53,8 @@ def filled(text, first="", later=" " * 12, end=""):
 def laid(line):
     """the lines of a definition; none ends in an operator, since what stands behind it is held to it by a hard space"""
     lines = [line.replace("∙ ", "∙\xa0")]
-    for depth, gap in enumerate(GAPS, 1):
-        broken = [re.sub(gap, "\n" + " " * 4 * depth, line) if len(line) > WIDTH else line for line in lines]
+    for gap in GAPS:
+        broken = [re.sub(gap, "\n    ", line) if len(line) > WIDTH else line for line in lines]
         lines = "\n".join(broken).split("\n")
     return [part.replace("\xa0", " ") for line in lines for part in filled(line)]
 

@@ -67,8 +67,8 @@ some_outcomes : (scheme : Relation) (m : MessageFields) (keys : List KeyFields) 
 some_outcomes scheme m [] when k = k [] tt
 some_outcomes scheme m (key ∷ keys) when k =
     some_outcomes scheme m keys when (λ os h. undecided (λ x a. undecided (λ y b. undecided (λ z c.
-      let q : Asked scheme m key = record { q3 = x; q8 = y; q10 = z; attributes = a; certificate = b; crls = c } in
-      k (first_failure 1 (checks m key when x y z) ∷ os) (record { asked = q; is = refl }, h)))))
+    let q : Asked scheme m key = record { q3 = x; q8 = y; q10 = z; attributes = a; certificate = b; crls = c } in
+    k (first_failure 1 (checks m key when x y z) ∷ os) (record { asked = q; is = refl }, h)))))
 
 abbrev err_of : ValidationError → Result ℕ ValidationError
 err_of e = Err e
@@ -305,8 +305,11 @@ more_accept scheme kind octets keys more when m a r =
 pub accepted_span : (scheme : Relation) (kind : Kind) (octets : List ℕ) (keys : List KeyFields) (one : ℤ) (message : Received) → Accepted scheme kind octets keys one message
     → (m : MessageFields) × BeginsSigned octets m × ((when : ℤ) → Accepted scheme kind octets keys when message ↔ IsInSpan m when)
 accepted_span scheme kind octets keys one message r =
-    let span : (when : ℤ) → IsBelievedUnder scheme r.signed keys when ↔ IsInSpan r.signed when = λ when. one_span_under scheme r.signed keys one when r.believed in
-    (r.signed, r.begins, λ when. (
-      (λ b. (span when).0 (subst (λ (m : MessageFields). IsBelievedUnder scheme m keys when) (one_signed octets b.signed r.signed b.begins r.begins) b.believed)),
-      (λ i. record { signed = r.signed; begins = r.begins; believed = (span when).1 i; reads = r.reads }),
-    ))
+    let span : (when : ℤ) → IsBelievedUnder scheme r.signed keys when ↔ IsInSpan r.signed when = λ when. one_span_under scheme r.signed keys one when r.believed in (
+      r.signed,
+      r.begins,
+      λ when. (
+        (λ b. (span when).0 (subst (λ (m : MessageFields). IsBelievedUnder scheme m keys when) (one_signed octets b.signed r.signed b.begins r.begins) b.believed)),
+        (λ i. record { signed = r.signed; begins = r.begins; believed = (span when).1 i; reads = r.reads }),
+      ),
+    )

@@ -35,7 +35,7 @@ pub fn receipts_ask_three_questions<P: Scheme, Q: Scheme>()
     ensures { (kind : Kind) (octets : List ℕ) (keys : List KeyFields) (when : ℤ)
         (answer : Result (Received × ℕ) ReceiveError)
         → ((m : MessageFields) → BeginsSigned octets m
-            → SameAnswersUnder P.checks Q.checks m keys)
+        → SameAnswersUnder P.checks Q.checks m keys)
         → IsReceivedUnder P.checks kind octets keys when answer
         → IsReceivedUnder Q.checks kind octets keys when answer }
 {}
@@ -56,5 +56,5 @@ pub fn accepted_moments_are_one_span<P: Scheme>()
     ensures { (kind : Kind) (octets : List ℕ) (keys : List KeyFields) (one : ℤ)
         (message : Received) → Accepted P.checks kind octets keys one message
         → (m : MessageFields) × BeginsSigned octets m
-            × ((when : ℤ) → Accepted P.checks kind octets keys when message ↔ IsInSpan m when) }
+        × ((when : ℤ) → Accepted P.checks kind octets keys when message ↔ IsInSpan m when) }
 {}

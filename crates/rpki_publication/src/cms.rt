@@ -187,9 +187,6 @@ impl PublicationCms {
             checks.AreOutcomes P.checks self.now.signed keys.now when outcomes →
             result ≡ validated (failing checks.kind_of (checks.ranked outcomes)) }
     {
-        passed_on(
-            self.signed_message()
-                .validate_any_at(verifier, keys, when),
-        )
+        passed_on(self.signed_message().validate_any_at(verifier, keys, when))
     }
 }

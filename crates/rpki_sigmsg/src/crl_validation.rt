@@ -58,7 +58,7 @@ impl SignedMessageCrl {
         // The first check that fails decides, whatever the scheme answers.
         ensures first_failing { (q : Bool) → Decides q (IsSigned P.checks self.now issuer_key.now) →
             result ≡ failing spec.crl_kind
-                (first_failure 9 (spec.crl_checks (self.now ∷ []) issuer_key.now when q)) }
+            (first_failure 9 (spec.crl_checks (self.now ∷ []) issuer_key.now when q)) }
     {
         match crls_failure(array::from_ref(self), verifier, issuer_key, when) {
             Ok(()) => Ok(()),

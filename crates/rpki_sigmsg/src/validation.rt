@@ -103,7 +103,7 @@ impl SignedMessage {
         // The first check that fails decides, whatever the scheme answers.
         ensures first_failing { (q : spec.Asked P.checks self.now issuer_key.now) →
             result ≡ failing spec.kind_of
-                (first_failure 1 (spec.checks self.now issuer_key.now when q.q3 q.q8 q.q10)) }
+            (first_failure 1 (spec.checks self.now issuer_key.now when q.q3 q.q8 q.q10)) }
     {
         match self.failure(verifier, issuer_key, when) {
             Ok(()) => Ok(()),

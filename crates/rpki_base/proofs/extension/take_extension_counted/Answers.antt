@@ -29,7 +29,7 @@ returns-in_err-critical-clause-value g c = takes_err _ _ _ _ _ _ _ _ _ c.from_re
     (refuses_inside _ _ _ _ _ _ _ _ _ _ refl c.in_ok-enter_counted.ensures.place c.in_ok-enter_counted.ensures.ticks
     (stops_later _ _ _ _ _ _ _ _ _ _ _ _ refl c.in_ok-identifier.ensures
     (stops_part _ _ _ _ _ _ _ _ _ refl
-        (refuses_part_in _ _ (λ m. optional boolean_tag (boolean m)) _ _ _ _ _ (c.in_ok-identifier.ensures.takes.mode ∙ c.in_ok-enter_counted.ensures.place.mode) c.in_err-critical.ensures.fields))))
+    (refuses_part_in _ _ (λ m. optional boolean_tag (boolean m)) _ _ _ _ _ (c.in_ok-identifier.ensures.takes.mode ∙ c.in_ok-enter_counted.ensures.place.mode) c.in_err-critical.ensures.fields))))
 
 pub returns-in_err-value-clause-value : goal.returns-in_err-value-clause-value
 unfolding extension
@@ -37,9 +37,9 @@ returns-in_err-value-clause-value g c = takes_err _ _ _ _ _ _ _ _ _ c.from_resid
     (refuses_inside _ _ _ _ _ _ _ _ _ _ refl c.in_ok-enter_counted.ensures.place c.in_ok-enter_counted.ensures.ticks
     (stops_later _ _ _ _ _ _ _ _ _ _ _ _ refl c.in_ok-identifier.ensures
     (stops_behind _ _ _ _ _ _ _ _ _ _ _ _ _ refl
-        (part_in _ _ (λ m. optional boolean_tag (boolean m)) _ _ _ _ _ _ (c.in_ok-identifier.ensures.takes.mode ∙ c.in_ok-enter_counted.ensures.place.mode) c.in_ok-critical.ensures.fields)
+    (part_in _ _ (λ m. optional boolean_tag (boolean m)) _ _ _ _ _ _ (c.in_ok-identifier.ensures.takes.mode ∙ c.in_ok-enter_counted.ensures.place.mode) c.in_ok-critical.ensures.fields)
     (stops_first _ _ _ _ _ _ _ _ refl
-        (refuses_in _ octet_string _ _ _ _ _ (c.in_ok-critical.ensures.fields.takes.mode ∙ c.in_ok-identifier.ensures.takes.mode ∙ c.in_ok-enter_counted.ensures.place.mode) c.in_err-value.ensures)))))
+    (refuses_in _ octet_string _ _ _ _ _ (c.in_ok-critical.ensures.fields.takes.mode ∙ c.in_ok-identifier.ensures.takes.mode ∙ c.in_ok-enter_counted.ensures.place.mode) c.in_err-value.ensures)))))
 
 pub returns-in_err-leave_counted-clause-value : goal.returns-in_err-leave_counted-clause-value
 unfolding extension
@@ -47,9 +47,9 @@ returns-in_err-leave_counted-clause-value g c = takes_err _ _ _ _ _ _ _ _ _ c.fr
     (refuses_inside _ _ _ _ _ _ _ _ _ _ refl c.in_ok-enter_counted.ensures.place c.in_ok-enter_counted.ensures.ticks
     (stops_later _ _ _ _ _ _ _ _ _ _ _ _ refl c.in_ok-identifier.ensures
     (stops_behind _ _ _ _ _ _ _ _ _ _ _ _ _ refl
-        (part_in _ _ (λ m. optional boolean_tag (boolean m)) _ _ _ _ _ _ (c.in_ok-identifier.ensures.takes.mode ∙ c.in_ok-enter_counted.ensures.place.mode) c.in_ok-critical.ensures.fields)
+    (part_in _ _ (λ m. optional boolean_tag (boolean m)) _ _ _ _ _ _ (c.in_ok-identifier.ensures.takes.mode ∙ c.in_ok-enter_counted.ensures.place.mode) c.in_ok-critical.ensures.fields)
     (stops_later _ _ _ _ _ _ _ _ _ _ _ _ refl
-        (takes_in _ octet_string _ _ _ _ _ _ (c.in_ok-critical.ensures.fields.takes.mode ∙ c.in_ok-identifier.ensures.takes.mode ∙ c.in_ok-enter_counted.ensures.place.mode) c.in_ok-value.ensures)
+    (takes_in _ octet_string _ _ _ _ _ _ (c.in_ok-critical.ensures.fields.takes.mode ∙ c.in_ok-identifier.ensures.takes.mode ∙ c.in_ok-enter_counted.ensures.place.mode) c.in_ok-value.ensures)
     (stops_done _ _ _ _ _ _ c.in_err-leave_counted.ensures.place c.in_err-leave_counted.ensures.refused)))))
 
 pub returns-clause-value : goal.returns-clause-value
@@ -58,11 +58,11 @@ returns-clause-value g c = rw c.unwrap_or.ensures
     (takes_within _ _ _ _ _ _ _ _ _ _ _ refl c.in_ok-enter_counted.ensures.place c.in_ok-enter_counted.ensures.ticks
     (reads_first _ _ _ _ _ _ _ _ _ _ _ _ _ refl c.in_ok-identifier.ensures
     (reads_part _ _ _ _ _ _ _ _ _ _ _ _ _ _ refl
-        (part_in _ _ (λ m. optional boolean_tag (boolean m)) _ _ _ _ _ _ (c.in_ok-identifier.ensures.takes.mode ∙ c.in_ok-enter_counted.ensures.place.mode) c.in_ok-critical.ensures.fields)
+    (part_in _ _ (λ m. optional boolean_tag (boolean m)) _ _ _ _ _ _ (c.in_ok-identifier.ensures.takes.mode ∙ c.in_ok-enter_counted.ensures.place.mode) c.in_ok-critical.ensures.fields)
     (reads_first _ _ _ _ _ _ _ _ _ _ _ _ _ refl
-        (takes_in _ octet_string _ _ _ _ _ _ (c.in_ok-critical.ensures.fields.takes.mode ∙ c.in_ok-identifier.ensures.takes.mode ∙ c.in_ok-enter_counted.ensures.place.mode) c.in_ok-value.ensures)
+    (takes_in _ octet_string _ _ _ _ _ _ (c.in_ok-critical.ensures.fields.takes.mode ∙ c.in_ok-identifier.ensures.takes.mode ∙ c.in_ok-enter_counted.ensures.place.mode) c.in_ok-value.ensures)
     (reads_done _ _ _ _ _ _ refl c.in_ok-leave_counted.ensures.place c.in_ok-leave_counted.ensures.ticks)))))
 
 pub returns-clause-within : goal.returns-clause-within
 returns-clause-within g c = held_within _ _ _ _ _ _ _ _ _ _ _ _ _ _ _ _ c.in_ok-enter_counted.ensures.place c.in_ok-identifier.ensures c.in_ok-critical.ensures.fields c.in_ok-value.ensures
-            c.in_ok-leave_counted.ensures.place
+    c.in_ok-leave_counted.ensures.place

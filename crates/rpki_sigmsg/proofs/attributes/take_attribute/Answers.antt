@@ -21,5 +21,4 @@ returns-in_err-kind g c = takes_err _ _ _ _ _ _ _ _ _ c.from_residual-in_err-kin
 pub returns : goal.returns
 unfolding add_value
 returns g c = takes_within_rest _ _ _ _ _ _ _ _ _ _ _ _ _ _ _ _ _ refl refl c.in_ok-enter_counted.ensures.place c.in_ok-enter_counted.ensures.ticks c.in_ok-kind.ensures
-        (rest_in _ _ (λ m vs. add m (shown c.args.found) (c.in_ok-kind.kind.now, vs)) _ _ _ _ _ _ _ (c.in_ok-kind.ensures.takes.mode ∙ c.in_ok-enter_counted.ensures.place.mode)
-            c.finish_attribute.ensures)
+    (rest_in _ _ (λ m vs. add m (shown c.args.found) (c.in_ok-kind.kind.now, vs)) _ _ _ _ _ _ _ (c.in_ok-kind.ensures.takes.mode ∙ c.in_ok-enter_counted.ensures.place.mode) c.finish_attribute.ensures)

@@ -28,8 +28,8 @@ returns-in_err-content g c = takes_err _ _ _ _ _ _ _ _ _ c.from_residual-in_err-
     (refuses_inside _ _ _ _ _ _ _ _ _ _ refl c.in_ok-enter_counted.ensures.place c.in_ok-enter_counted.ensures.ticks
     (stops_later _ _ _ _ _ _ _ _ _ _ _ _ refl c.in_ok-take_oid_if_counted.ensures
     (stops_first _ _ _ _ _ _ _ _ refl
-        (refuses_in _ (λ m. wrapped (context 0) (with_octets (octet_string m))) _ _ _ _ _ (c.in_ok-take_oid_if_counted.ensures.takes.mode ∙ c.in_ok-enter_counted.ensures.place.mode)
-            c.in_err-content.ensures))))
+    (refuses_in _ (λ m. wrapped (context 0) (with_octets (octet_string m))) _ _ _ _ _ (c.in_ok-take_oid_if_counted.ensures.takes.mode ∙ c.in_ok-enter_counted.ensures.place.mode)
+    c.in_err-content.ensures))))
 
 pub returns-in_err-leave_counted : goal.returns-in_err-leave_counted
 unfolding encapsulated_content
@@ -37,8 +37,8 @@ returns-in_err-leave_counted g c = takes_err _ _ _ _ _ _ _ _ _ c.from_residual-i
     (refuses_inside _ _ _ _ _ _ _ _ _ _ refl c.in_ok-enter_counted.ensures.place c.in_ok-enter_counted.ensures.ticks
     (stops_later _ _ _ _ _ _ _ _ _ _ _ _ refl c.in_ok-take_oid_if_counted.ensures
     (stops_later _ _ _ _ _ _ _ _ _ _ _ _ refl
-        (takes_in _ (λ m. wrapped (context 0) (with_octets (octet_string m))) _ _ _ _ _ _ (c.in_ok-take_oid_if_counted.ensures.takes.mode ∙ c.in_ok-enter_counted.ensures.place.mode)
-            c.in_ok-content.ensures)
+    (takes_in _ (λ m. wrapped (context 0) (with_octets (octet_string m))) _ _ _ _ _ _ (c.in_ok-take_oid_if_counted.ensures.takes.mode ∙ c.in_ok-enter_counted.ensures.place.mode)
+    c.in_ok-content.ensures)
     (stops_done _ _ _ _ _ _ c.in_err-leave_counted.ensures.place c.in_err-leave_counted.ensures.refused))))
 
 pub returns : goal.returns
@@ -46,6 +46,6 @@ unfolding encapsulated_content
 returns g c = takes_within _ _ _ _ _ _ _ _ _ _ _ refl c.in_ok-enter_counted.ensures.place c.in_ok-enter_counted.ensures.ticks
     (reads_first _ _ _ _ _ _ _ _ _ _ _ _ _ refl c.in_ok-take_oid_if_counted.ensures
     (reads_first _ _ _ _ _ _ _ _ _ _ _ _ _ refl
-        (takes_in _ (λ m. wrapped (context 0) (with_octets (octet_string m))) _ _ _ _ _ _ (c.in_ok-take_oid_if_counted.ensures.takes.mode ∙ c.in_ok-enter_counted.ensures.place.mode)
-            c.in_ok-content.ensures)
+    (takes_in _ (λ m. wrapped (context 0) (with_octets (octet_string m))) _ _ _ _ _ _ (c.in_ok-take_oid_if_counted.ensures.takes.mode ∙ c.in_ok-enter_counted.ensures.place.mode)
+    c.in_ok-content.ensures)
     (reads_done _ _ _ _ _ _ refl c.in_ok-leave_counted.ensures.place c.in_ok-leave_counted.ensures.ticks)))

@@ -39,8 +39,8 @@ returns-in_err-content g c = takes_err _ _ _ _ _ _ _ _ _ c.from_residual-in_err-
     (stops_later _ _ _ _ _ _ _ _ _ _ _ _ refl c.in_ok-take_integer_if_counted.ensures
     (stops_later _ _ _ _ _ _ _ _ _ _ _ _ refl c.in_ok-pass_digest_algorithms.ensures
     (stops_first _ _ _ _ _ _ _ _ refl
-        (refuses_in _ encapsulated_content _ _ _ _ _ (c.in_ok-pass_digest_algorithms.ensures.takes.mode ∙ c.in_ok-take_integer_if_counted.ensures.takes.mode ∙ c.in_ok-enter_counted.ensures.place.mode)
-            c.in_err-content.ensures)))))
+    (refuses_in _ encapsulated_content _ _ _ _ _ (c.in_ok-pass_digest_algorithms.ensures.takes.mode ∙ c.in_ok-take_integer_if_counted.ensures.takes.mode ∙ c.in_ok-enter_counted.ensures.place.mode)
+    c.in_err-content.ensures)))))
 
 pub returns-in_err-certificate : goal.returns-in_err-certificate
 unfolding signed_parts
@@ -49,11 +49,11 @@ returns-in_err-certificate g c = takes_err _ _ _ _ _ _ _ _ _ c.from_residual-in_
     (stops_later _ _ _ _ _ _ _ _ _ _ _ _ refl c.in_ok-take_integer_if_counted.ensures
     (stops_later _ _ _ _ _ _ _ _ _ _ _ _ refl c.in_ok-pass_digest_algorithms.ensures
     (stops_later _ _ _ _ _ _ _ _ _ _ _ _ refl
-        (takes_in _ encapsulated_content _ _ _ _ _ _ (c.in_ok-pass_digest_algorithms.ensures.takes.mode ∙ c.in_ok-take_integer_if_counted.ensures.takes.mode ∙ c.in_ok-enter_counted.ensures.place.mode)
-            c.in_ok-content.ensures)
+    (takes_in _ encapsulated_content _ _ _ _ _ _ (c.in_ok-pass_digest_algorithms.ensures.takes.mode ∙ c.in_ok-take_integer_if_counted.ensures.takes.mode ∙ c.in_ok-enter_counted.ensures.place.mode)
+    c.in_ok-content.ensures)
     (stops_first _ _ _ _ _ _ _ _ refl
-        (refuses_in _ (λ m. wrapped (context 0) (with_octets (identity_certificate m))) _ _ _ _ _ (c.in_ok-content.ensures.takes.mode ∙ c.in_ok-pass_digest_algorithms.ensures.takes.mode
-            ∙ c.in_ok-take_integer_if_counted.ensures.takes.mode ∙ c.in_ok-enter_counted.ensures.place.mode) c.in_err-certificate.ensures))))))
+    (refuses_in _ (λ m. wrapped (context 0) (with_octets (identity_certificate m))) _ _ _ _ _ (c.in_ok-content.ensures.takes.mode ∙ c.in_ok-pass_digest_algorithms.ensures.takes.mode
+    ∙ c.in_ok-take_integer_if_counted.ensures.takes.mode ∙ c.in_ok-enter_counted.ensures.place.mode) c.in_err-certificate.ensures))))))
 
 pub returns-in_err-crls : goal.returns-in_err-crls
 unfolding signed_parts
@@ -62,11 +62,11 @@ returns-in_err-crls g c = takes_err _ _ _ _ _ _ _ _ _ c.from_residual-in_err-crl
     (stops_later _ _ _ _ _ _ _ _ _ _ _ _ refl c.in_ok-take_integer_if_counted.ensures
     (stops_later _ _ _ _ _ _ _ _ _ _ _ _ refl c.in_ok-pass_digest_algorithms.ensures
     (stops_later _ _ _ _ _ _ _ _ _ _ _ _ refl
-        (takes_in _ encapsulated_content _ _ _ _ _ _ (c.in_ok-pass_digest_algorithms.ensures.takes.mode ∙ c.in_ok-take_integer_if_counted.ensures.takes.mode ∙ c.in_ok-enter_counted.ensures.place.mode)
-            c.in_ok-content.ensures)
+    (takes_in _ encapsulated_content _ _ _ _ _ _ (c.in_ok-pass_digest_algorithms.ensures.takes.mode ∙ c.in_ok-take_integer_if_counted.ensures.takes.mode ∙ c.in_ok-enter_counted.ensures.place.mode)
+    c.in_ok-content.ensures)
     (stops_later _ _ _ _ _ _ _ _ _ _ _ _ refl
-        (takes_in _ (λ m. wrapped (context 0) (with_octets (identity_certificate m))) _ _ _ _ _ _ (c.in_ok-content.ensures.takes.mode ∙ c.in_ok-pass_digest_algorithms.ensures.takes.mode
-            ∙ c.in_ok-take_integer_if_counted.ensures.takes.mode ∙ c.in_ok-enter_counted.ensures.place.mode) c.in_ok-certificate.ensures)
+    (takes_in _ (λ m. wrapped (context 0) (with_octets (identity_certificate m))) _ _ _ _ _ _ (c.in_ok-content.ensures.takes.mode ∙ c.in_ok-pass_digest_algorithms.ensures.takes.mode
+    ∙ c.in_ok-take_integer_if_counted.ensures.takes.mode ∙ c.in_ok-enter_counted.ensures.place.mode) c.in_ok-certificate.ensures)
     (stops_first _ _ _ _ _ _ _ _ refl c.in_err-crls.ensures))))))
 
 pub returns-in_err-signer : goal.returns-in_err-signer
@@ -76,15 +76,15 @@ returns-in_err-signer g c = takes_err _ _ _ _ _ _ _ _ _ c.from_residual-in_err-s
     (stops_later _ _ _ _ _ _ _ _ _ _ _ _ refl c.in_ok-take_integer_if_counted.ensures
     (stops_later _ _ _ _ _ _ _ _ _ _ _ _ refl c.in_ok-pass_digest_algorithms.ensures
     (stops_later _ _ _ _ _ _ _ _ _ _ _ _ refl
-        (takes_in _ encapsulated_content _ _ _ _ _ _ (c.in_ok-pass_digest_algorithms.ensures.takes.mode ∙ c.in_ok-take_integer_if_counted.ensures.takes.mode ∙ c.in_ok-enter_counted.ensures.place.mode)
-            c.in_ok-content.ensures)
+    (takes_in _ encapsulated_content _ _ _ _ _ _ (c.in_ok-pass_digest_algorithms.ensures.takes.mode ∙ c.in_ok-take_integer_if_counted.ensures.takes.mode ∙ c.in_ok-enter_counted.ensures.place.mode)
+    c.in_ok-content.ensures)
     (stops_later _ _ _ _ _ _ _ _ _ _ _ _ refl
-        (takes_in _ (λ m. wrapped (context 0) (with_octets (identity_certificate m))) _ _ _ _ _ _ (c.in_ok-content.ensures.takes.mode ∙ c.in_ok-pass_digest_algorithms.ensures.takes.mode
-            ∙ c.in_ok-take_integer_if_counted.ensures.takes.mode ∙ c.in_ok-enter_counted.ensures.place.mode) c.in_ok-certificate.ensures)
+    (takes_in _ (λ m. wrapped (context 0) (with_octets (identity_certificate m))) _ _ _ _ _ _ (c.in_ok-content.ensures.takes.mode ∙ c.in_ok-pass_digest_algorithms.ensures.takes.mode
+    ∙ c.in_ok-take_integer_if_counted.ensures.takes.mode ∙ c.in_ok-enter_counted.ensures.place.mode) c.in_ok-certificate.ensures)
     (stops_later _ _ _ _ _ _ _ _ _ _ _ _ refl c.in_ok-crls.ensures
     (stops_first _ _ _ _ _ _ _ _ refl
-        (refuses_in _ (λ m. wrapped set (signer_info m)) _ _ _ _ _ (c.in_ok-crls.ensures.takes.mode ∙ c.in_ok-certificate.ensures.takes.mode ∙ c.in_ok-content.ensures.takes.mode
-            ∙ c.in_ok-pass_digest_algorithms.ensures.takes.mode ∙ c.in_ok-take_integer_if_counted.ensures.takes.mode ∙ c.in_ok-enter_counted.ensures.place.mode) c.in_err-signer.ensures))))))))
+    (refuses_in _ (λ m. wrapped set (signer_info m)) _ _ _ _ _ (c.in_ok-crls.ensures.takes.mode ∙ c.in_ok-certificate.ensures.takes.mode ∙ c.in_ok-content.ensures.takes.mode
+    ∙ c.in_ok-pass_digest_algorithms.ensures.takes.mode ∙ c.in_ok-take_integer_if_counted.ensures.takes.mode ∙ c.in_ok-enter_counted.ensures.place.mode) c.in_err-signer.ensures))))))))
 
 pub returns-in_err-signed : goal.returns-in_err-signed
 unfolding signed_parts
@@ -93,15 +93,15 @@ returns-in_err-signed g c = takes_err _ _ _ _ _ _ _ _ _ c.from_residual-in_err-s
     (stops_later _ _ _ _ _ _ _ _ _ _ _ _ refl c.in_ok-take_integer_if_counted.ensures
     (stops_later _ _ _ _ _ _ _ _ _ _ _ _ refl c.in_ok-pass_digest_algorithms.ensures
     (stops_later _ _ _ _ _ _ _ _ _ _ _ _ refl
-        (takes_in _ encapsulated_content _ _ _ _ _ _ (c.in_ok-pass_digest_algorithms.ensures.takes.mode ∙ c.in_ok-take_integer_if_counted.ensures.takes.mode ∙ c.in_ok-enter_counted.ensures.place.mode)
-            c.in_ok-content.ensures)
+    (takes_in _ encapsulated_content _ _ _ _ _ _ (c.in_ok-pass_digest_algorithms.ensures.takes.mode ∙ c.in_ok-take_integer_if_counted.ensures.takes.mode ∙ c.in_ok-enter_counted.ensures.place.mode)
+    c.in_ok-content.ensures)
     (stops_later _ _ _ _ _ _ _ _ _ _ _ _ refl
-        (takes_in _ (λ m. wrapped (context 0) (with_octets (identity_certificate m))) _ _ _ _ _ _ (c.in_ok-content.ensures.takes.mode ∙ c.in_ok-pass_digest_algorithms.ensures.takes.mode
-            ∙ c.in_ok-take_integer_if_counted.ensures.takes.mode ∙ c.in_ok-enter_counted.ensures.place.mode) c.in_ok-certificate.ensures)
+    (takes_in _ (λ m. wrapped (context 0) (with_octets (identity_certificate m))) _ _ _ _ _ _ (c.in_ok-content.ensures.takes.mode ∙ c.in_ok-pass_digest_algorithms.ensures.takes.mode
+    ∙ c.in_ok-take_integer_if_counted.ensures.takes.mode ∙ c.in_ok-enter_counted.ensures.place.mode) c.in_ok-certificate.ensures)
     (stops_later _ _ _ _ _ _ _ _ _ _ _ _ refl c.in_ok-crls.ensures
     (stops_later _ _ _ _ _ _ _ _ _ _ _ _ refl
-        (takes_in _ (λ m. wrapped set (signer_info m)) _ _ _ _ _ _ (c.in_ok-crls.ensures.takes.mode ∙ c.in_ok-certificate.ensures.takes.mode ∙ c.in_ok-content.ensures.takes.mode
-            ∙ c.in_ok-pass_digest_algorithms.ensures.takes.mode ∙ c.in_ok-take_integer_if_counted.ensures.takes.mode ∙ c.in_ok-enter_counted.ensures.place.mode) c.in_ok-signer.ensures)
+    (takes_in _ (λ m. wrapped set (signer_info m)) _ _ _ _ _ _ (c.in_ok-crls.ensures.takes.mode ∙ c.in_ok-certificate.ensures.takes.mode ∙ c.in_ok-content.ensures.takes.mode
+    ∙ c.in_ok-pass_digest_algorithms.ensures.takes.mode ∙ c.in_ok-take_integer_if_counted.ensures.takes.mode ∙ c.in_ok-enter_counted.ensures.place.mode) c.in_ok-signer.ensures)
     (stops_memory _ _ _ _ _ refl))))))))
 
 pub returns-in_err-leave_counted : goal.returns-in_err-leave_counted
@@ -111,15 +111,15 @@ returns-in_err-leave_counted g c = takes_err _ _ _ _ _ _ _ _ _ c.from_residual-i
     (stops_later _ _ _ _ _ _ _ _ _ _ _ _ refl c.in_ok-take_integer_if_counted.ensures
     (stops_later _ _ _ _ _ _ _ _ _ _ _ _ refl c.in_ok-pass_digest_algorithms.ensures
     (stops_later _ _ _ _ _ _ _ _ _ _ _ _ refl
-        (takes_in _ encapsulated_content _ _ _ _ _ _ (c.in_ok-pass_digest_algorithms.ensures.takes.mode ∙ c.in_ok-take_integer_if_counted.ensures.takes.mode ∙ c.in_ok-enter_counted.ensures.place.mode)
-            c.in_ok-content.ensures)
+    (takes_in _ encapsulated_content _ _ _ _ _ _ (c.in_ok-pass_digest_algorithms.ensures.takes.mode ∙ c.in_ok-take_integer_if_counted.ensures.takes.mode ∙ c.in_ok-enter_counted.ensures.place.mode)
+    c.in_ok-content.ensures)
     (stops_later _ _ _ _ _ _ _ _ _ _ _ _ refl
-        (takes_in _ (λ m. wrapped (context 0) (with_octets (identity_certificate m))) _ _ _ _ _ _ (c.in_ok-content.ensures.takes.mode ∙ c.in_ok-pass_digest_algorithms.ensures.takes.mode
-            ∙ c.in_ok-take_integer_if_counted.ensures.takes.mode ∙ c.in_ok-enter_counted.ensures.place.mode) c.in_ok-certificate.ensures)
+    (takes_in _ (λ m. wrapped (context 0) (with_octets (identity_certificate m))) _ _ _ _ _ _ (c.in_ok-content.ensures.takes.mode ∙ c.in_ok-pass_digest_algorithms.ensures.takes.mode
+    ∙ c.in_ok-take_integer_if_counted.ensures.takes.mode ∙ c.in_ok-enter_counted.ensures.place.mode) c.in_ok-certificate.ensures)
     (stops_later _ _ _ _ _ _ _ _ _ _ _ _ refl c.in_ok-crls.ensures
     (stops_later _ _ _ _ _ _ _ _ _ _ _ _ refl
-        (takes_in _ (λ m. wrapped set (signer_info m)) _ _ _ _ _ _ (c.in_ok-crls.ensures.takes.mode ∙ c.in_ok-certificate.ensures.takes.mode ∙ c.in_ok-content.ensures.takes.mode
-            ∙ c.in_ok-pass_digest_algorithms.ensures.takes.mode ∙ c.in_ok-take_integer_if_counted.ensures.takes.mode ∙ c.in_ok-enter_counted.ensures.place.mode) c.in_ok-signer.ensures)
+    (takes_in _ (λ m. wrapped set (signer_info m)) _ _ _ _ _ _ (c.in_ok-crls.ensures.takes.mode ∙ c.in_ok-certificate.ensures.takes.mode ∙ c.in_ok-content.ensures.takes.mode
+    ∙ c.in_ok-pass_digest_algorithms.ensures.takes.mode ∙ c.in_ok-take_integer_if_counted.ensures.takes.mode ∙ c.in_ok-enter_counted.ensures.place.mode) c.in_ok-signer.ensures)
     (stops_done _ _ _ _ _ _ c.in_err-leave_counted.ensures.place c.in_err-leave_counted.ensures.refused))))))))
 
 pub returns : goal.returns
@@ -129,13 +129,13 @@ returns g c = rw c.new.ensures
     (reads_first _ _ _ _ _ _ _ _ _ _ _ _ _ refl c.in_ok-take_integer_if_counted.ensures
     (reads_first _ _ _ _ _ _ _ _ _ _ _ _ _ refl c.in_ok-pass_digest_algorithms.ensures
     (reads_first _ _ _ _ _ _ _ _ _ _ _ _ _ refl
-        (takes_in _ encapsulated_content _ _ _ _ _ _ (c.in_ok-pass_digest_algorithms.ensures.takes.mode ∙ c.in_ok-take_integer_if_counted.ensures.takes.mode ∙ c.in_ok-enter_counted.ensures.place.mode)
-            c.in_ok-content.ensures)
+    (takes_in _ encapsulated_content _ _ _ _ _ _ (c.in_ok-pass_digest_algorithms.ensures.takes.mode ∙ c.in_ok-take_integer_if_counted.ensures.takes.mode ∙ c.in_ok-enter_counted.ensures.place.mode)
+    c.in_ok-content.ensures)
     (reads_first _ _ _ _ _ _ _ _ _ _ _ _ _ refl
-        (takes_in _ (λ m. wrapped (context 0) (with_octets (identity_certificate m))) _ _ _ _ _ _ (c.in_ok-content.ensures.takes.mode ∙ c.in_ok-pass_digest_algorithms.ensures.takes.mode
-            ∙ c.in_ok-take_integer_if_counted.ensures.takes.mode ∙ c.in_ok-enter_counted.ensures.place.mode) c.in_ok-certificate.ensures)
+    (takes_in _ (λ m. wrapped (context 0) (with_octets (identity_certificate m))) _ _ _ _ _ _ (c.in_ok-content.ensures.takes.mode ∙ c.in_ok-pass_digest_algorithms.ensures.takes.mode
+    ∙ c.in_ok-take_integer_if_counted.ensures.takes.mode ∙ c.in_ok-enter_counted.ensures.place.mode) c.in_ok-certificate.ensures)
     (reads_first _ _ _ _ _ _ _ _ _ _ _ _ _ refl c.in_ok-crls.ensures
     (reads_first _ _ _ _ _ _ _ _ _ _ _ _ _ refl
-        (takes_in _ (λ m. wrapped set (signer_info m)) _ _ _ _ _ _ (c.in_ok-crls.ensures.takes.mode ∙ c.in_ok-certificate.ensures.takes.mode ∙ c.in_ok-content.ensures.takes.mode
-            ∙ c.in_ok-pass_digest_algorithms.ensures.takes.mode ∙ c.in_ok-take_integer_if_counted.ensures.takes.mode ∙ c.in_ok-enter_counted.ensures.place.mode) c.in_ok-signer.ensures)
+    (takes_in _ (λ m. wrapped set (signer_info m)) _ _ _ _ _ _ (c.in_ok-crls.ensures.takes.mode ∙ c.in_ok-certificate.ensures.takes.mode ∙ c.in_ok-content.ensures.takes.mode
+    ∙ c.in_ok-pass_digest_algorithms.ensures.takes.mode ∙ c.in_ok-take_integer_if_counted.ensures.takes.mode ∙ c.in_ok-enter_counted.ensures.place.mode) c.in_ok-signer.ensures)
     (reads_done _ _ _ _ _ _ refl c.in_ok-leave_counted.ensures.place c.in_ok-leave_counted.ensures.ticks))))))))

@@ -31,7 +31,7 @@ returns-in_err-identifier g c = takes_err _ _ _ _ _ _ _ _ _ c.from_residual-in_e
     (refuses_inside _ _ _ _ _ _ _ _ _ _ refl c.in_ok-enter_counted.ensures.place c.in_ok-enter_counted.ensures.ticks
     (stops_later _ _ _ _ _ _ _ _ _ _ _ _ refl c.in_ok-take_integer_if_counted.ensures
     (stops_first _ _ _ _ _ _ _ _ refl
-        (refuses_in _ (key_identifier_under (context 0)) _ _ _ _ _ (c.in_ok-take_integer_if_counted.ensures.takes.mode ∙ c.in_ok-enter_counted.ensures.place.mode) c.in_err-identifier.ensures))))
+    (refuses_in _ (key_identifier_under (context 0)) _ _ _ _ _ (c.in_ok-take_integer_if_counted.ensures.takes.mode ∙ c.in_ok-enter_counted.ensures.place.mode) c.in_err-identifier.ensures))))
 
 pub returns-in_err-pass_digest_algorithm : goal.returns-in_err-pass_digest_algorithm
 unfolding signer_info
@@ -39,7 +39,7 @@ returns-in_err-pass_digest_algorithm g c = takes_err _ _ _ _ _ _ _ _ _ c.from_re
     (refuses_inside _ _ _ _ _ _ _ _ _ _ refl c.in_ok-enter_counted.ensures.place c.in_ok-enter_counted.ensures.ticks
     (stops_later _ _ _ _ _ _ _ _ _ _ _ _ refl c.in_ok-take_integer_if_counted.ensures
     (stops_later _ _ _ _ _ _ _ _ _ _ _ _ refl
-        (takes_in _ (key_identifier_under (context 0)) _ _ _ _ _ _ (c.in_ok-take_integer_if_counted.ensures.takes.mode ∙ c.in_ok-enter_counted.ensures.place.mode) c.in_ok-identifier.ensures)
+    (takes_in _ (key_identifier_under (context 0)) _ _ _ _ _ _ (c.in_ok-take_integer_if_counted.ensures.takes.mode ∙ c.in_ok-enter_counted.ensures.place.mode) c.in_ok-identifier.ensures)
     (stops_first _ _ _ _ _ _ _ _ refl c.in_err-pass_digest_algorithm.ensures))))
 
 pub returns-in_err-attributes : goal.returns-in_err-attributes
@@ -48,11 +48,11 @@ returns-in_err-attributes g c = takes_err _ _ _ _ _ _ _ _ _ c.from_residual-in_e
     (refuses_inside _ _ _ _ _ _ _ _ _ _ refl c.in_ok-enter_counted.ensures.place c.in_ok-enter_counted.ensures.ticks
     (stops_later _ _ _ _ _ _ _ _ _ _ _ _ refl c.in_ok-take_integer_if_counted.ensures
     (stops_later _ _ _ _ _ _ _ _ _ _ _ _ refl
-        (takes_in _ (key_identifier_under (context 0)) _ _ _ _ _ _ (c.in_ok-take_integer_if_counted.ensures.takes.mode ∙ c.in_ok-enter_counted.ensures.place.mode) c.in_ok-identifier.ensures)
+    (takes_in _ (key_identifier_under (context 0)) _ _ _ _ _ _ (c.in_ok-take_integer_if_counted.ensures.takes.mode ∙ c.in_ok-enter_counted.ensures.place.mode) c.in_ok-identifier.ensures)
     (stops_later _ _ _ _ _ _ _ _ _ _ _ _ refl c.in_ok-pass_digest_algorithm.ensures
     (stops_first _ _ _ _ _ _ _ _ refl
-        (refuses_in _ signed_attributes _ _ _ _ _ (c.in_ok-pass_digest_algorithm.ensures.takes.mode ∙ c.in_ok-identifier.ensures.takes.mode ∙ c.in_ok-take_integer_if_counted.ensures.takes.mode
-            ∙ c.in_ok-enter_counted.ensures.place.mode) c.in_err-attributes.ensures))))))
+    (refuses_in _ signed_attributes _ _ _ _ _ (c.in_ok-pass_digest_algorithm.ensures.takes.mode ∙ c.in_ok-identifier.ensures.takes.mode ∙ c.in_ok-take_integer_if_counted.ensures.takes.mode
+    ∙ c.in_ok-enter_counted.ensures.place.mode) c.in_err-attributes.ensures))))))
 
 pub returns-in_err-algorithm : goal.returns-in_err-algorithm
 unfolding signer_info
@@ -60,14 +60,14 @@ returns-in_err-algorithm g c = takes_err _ _ _ _ _ _ _ _ _ c.from_residual-in_er
     (refuses_inside _ _ _ _ _ _ _ _ _ _ refl c.in_ok-enter_counted.ensures.place c.in_ok-enter_counted.ensures.ticks
     (stops_later _ _ _ _ _ _ _ _ _ _ _ _ refl c.in_ok-take_integer_if_counted.ensures
     (stops_later _ _ _ _ _ _ _ _ _ _ _ _ refl
-        (takes_in _ (key_identifier_under (context 0)) _ _ _ _ _ _ (c.in_ok-take_integer_if_counted.ensures.takes.mode ∙ c.in_ok-enter_counted.ensures.place.mode) c.in_ok-identifier.ensures)
+    (takes_in _ (key_identifier_under (context 0)) _ _ _ _ _ _ (c.in_ok-take_integer_if_counted.ensures.takes.mode ∙ c.in_ok-enter_counted.ensures.place.mode) c.in_ok-identifier.ensures)
     (stops_later _ _ _ _ _ _ _ _ _ _ _ _ refl c.in_ok-pass_digest_algorithm.ensures
     (stops_later _ _ _ _ _ _ _ _ _ _ _ _ refl
-        (takes_in _ signed_attributes _ _ _ _ _ _ (c.in_ok-pass_digest_algorithm.ensures.takes.mode ∙ c.in_ok-identifier.ensures.takes.mode ∙ c.in_ok-take_integer_if_counted.ensures.takes.mode
-            ∙ c.in_ok-enter_counted.ensures.place.mode) c.in_ok-attributes.ensures)
+    (takes_in _ signed_attributes _ _ _ _ _ _ (c.in_ok-pass_digest_algorithm.ensures.takes.mode ∙ c.in_ok-identifier.ensures.takes.mode ∙ c.in_ok-take_integer_if_counted.ensures.takes.mode
+    ∙ c.in_ok-enter_counted.ensures.place.mode) c.in_ok-attributes.ensures)
     (stops_first _ _ _ _ _ _ _ _ refl
-        (refuses_in _ signature_algorithm _ _ _ _ _ (c.in_ok-attributes.ensures.takes.mode ∙ c.in_ok-pass_digest_algorithm.ensures.takes.mode ∙ c.in_ok-identifier.ensures.takes.mode
-            ∙ c.in_ok-take_integer_if_counted.ensures.takes.mode ∙ c.in_ok-enter_counted.ensures.place.mode) c.in_err-algorithm.ensures)))))))
+    (refuses_in _ signature_algorithm _ _ _ _ _ (c.in_ok-attributes.ensures.takes.mode ∙ c.in_ok-pass_digest_algorithm.ensures.takes.mode ∙ c.in_ok-identifier.ensures.takes.mode
+    ∙ c.in_ok-take_integer_if_counted.ensures.takes.mode ∙ c.in_ok-enter_counted.ensures.place.mode) c.in_err-algorithm.ensures)))))))
 
 pub returns-in_err-signature_value : goal.returns-in_err-signature_value
 unfolding signer_info
@@ -75,17 +75,17 @@ returns-in_err-signature_value g c = takes_err _ _ _ _ _ _ _ _ _ c.from_residual
     (refuses_inside _ _ _ _ _ _ _ _ _ _ refl c.in_ok-enter_counted.ensures.place c.in_ok-enter_counted.ensures.ticks
     (stops_later _ _ _ _ _ _ _ _ _ _ _ _ refl c.in_ok-take_integer_if_counted.ensures
     (stops_later _ _ _ _ _ _ _ _ _ _ _ _ refl
-        (takes_in _ (key_identifier_under (context 0)) _ _ _ _ _ _ (c.in_ok-take_integer_if_counted.ensures.takes.mode ∙ c.in_ok-enter_counted.ensures.place.mode) c.in_ok-identifier.ensures)
+    (takes_in _ (key_identifier_under (context 0)) _ _ _ _ _ _ (c.in_ok-take_integer_if_counted.ensures.takes.mode ∙ c.in_ok-enter_counted.ensures.place.mode) c.in_ok-identifier.ensures)
     (stops_later _ _ _ _ _ _ _ _ _ _ _ _ refl c.in_ok-pass_digest_algorithm.ensures
     (stops_later _ _ _ _ _ _ _ _ _ _ _ _ refl
-        (takes_in _ signed_attributes _ _ _ _ _ _ (c.in_ok-pass_digest_algorithm.ensures.takes.mode ∙ c.in_ok-identifier.ensures.takes.mode ∙ c.in_ok-take_integer_if_counted.ensures.takes.mode
-            ∙ c.in_ok-enter_counted.ensures.place.mode) c.in_ok-attributes.ensures)
+    (takes_in _ signed_attributes _ _ _ _ _ _ (c.in_ok-pass_digest_algorithm.ensures.takes.mode ∙ c.in_ok-identifier.ensures.takes.mode ∙ c.in_ok-take_integer_if_counted.ensures.takes.mode
+    ∙ c.in_ok-enter_counted.ensures.place.mode) c.in_ok-attributes.ensures)
     (stops_later _ _ _ _ _ _ _ _ _ _ _ _ refl
-        (takes_in _ signature_algorithm _ _ _ _ _ _ (c.in_ok-attributes.ensures.takes.mode ∙ c.in_ok-pass_digest_algorithm.ensures.takes.mode ∙ c.in_ok-identifier.ensures.takes.mode
-            ∙ c.in_ok-take_integer_if_counted.ensures.takes.mode ∙ c.in_ok-enter_counted.ensures.place.mode) c.in_ok-algorithm.ensures)
+    (takes_in _ signature_algorithm _ _ _ _ _ _ (c.in_ok-attributes.ensures.takes.mode ∙ c.in_ok-pass_digest_algorithm.ensures.takes.mode ∙ c.in_ok-identifier.ensures.takes.mode
+    ∙ c.in_ok-take_integer_if_counted.ensures.takes.mode ∙ c.in_ok-enter_counted.ensures.place.mode) c.in_ok-algorithm.ensures)
     (stops_first _ _ _ _ _ _ _ _ refl
-        (refuses_in _ (λ m. with_octets (octet_string m)) _ _ _ _ _ (c.in_ok-algorithm.ensures.takes.mode ∙ c.in_ok-attributes.ensures.takes.mode ∙ c.in_ok-pass_digest_algorithm.ensures.takes.mode
-            ∙ c.in_ok-identifier.ensures.takes.mode ∙ c.in_ok-take_integer_if_counted.ensures.takes.mode ∙ c.in_ok-enter_counted.ensures.place.mode) c.in_err-signature_value.ensures))))))))
+    (refuses_in _ (λ m. with_octets (octet_string m)) _ _ _ _ _ (c.in_ok-algorithm.ensures.takes.mode ∙ c.in_ok-attributes.ensures.takes.mode ∙ c.in_ok-pass_digest_algorithm.ensures.takes.mode
+    ∙ c.in_ok-identifier.ensures.takes.mode ∙ c.in_ok-take_integer_if_counted.ensures.takes.mode ∙ c.in_ok-enter_counted.ensures.place.mode) c.in_err-signature_value.ensures))))))))
 
 pub returns-in_err-leave_counted : goal.returns-in_err-leave_counted
 unfolding signer_info
@@ -93,17 +93,17 @@ returns-in_err-leave_counted g c = takes_err _ _ _ _ _ _ _ _ _ c.from_residual-i
     (refuses_inside _ _ _ _ _ _ _ _ _ _ refl c.in_ok-enter_counted.ensures.place c.in_ok-enter_counted.ensures.ticks
     (stops_later _ _ _ _ _ _ _ _ _ _ _ _ refl c.in_ok-take_integer_if_counted.ensures
     (stops_later _ _ _ _ _ _ _ _ _ _ _ _ refl
-        (takes_in _ (key_identifier_under (context 0)) _ _ _ _ _ _ (c.in_ok-take_integer_if_counted.ensures.takes.mode ∙ c.in_ok-enter_counted.ensures.place.mode) c.in_ok-identifier.ensures)
+    (takes_in _ (key_identifier_under (context 0)) _ _ _ _ _ _ (c.in_ok-take_integer_if_counted.ensures.takes.mode ∙ c.in_ok-enter_counted.ensures.place.mode) c.in_ok-identifier.ensures)
     (stops_later _ _ _ _ _ _ _ _ _ _ _ _ refl c.in_ok-pass_digest_algorithm.ensures
     (stops_later _ _ _ _ _ _ _ _ _ _ _ _ refl
-        (takes_in _ signed_attributes _ _ _ _ _ _ (c.in_ok-pass_digest_algorithm.ensures.takes.mode ∙ c.in_ok-identifier.ensures.takes.mode ∙ c.in_ok-take_integer_if_counted.ensures.takes.mode
-            ∙ c.in_ok-enter_counted.ensures.place.mode) c.in_ok-attributes.ensures)
+    (takes_in _ signed_attributes _ _ _ _ _ _ (c.in_ok-pass_digest_algorithm.ensures.takes.mode ∙ c.in_ok-identifier.ensures.takes.mode ∙ c.in_ok-take_integer_if_counted.ensures.takes.mode
+    ∙ c.in_ok-enter_counted.ensures.place.mode) c.in_ok-attributes.ensures)
     (stops_later _ _ _ _ _ _ _ _ _ _ _ _ refl
-        (takes_in _ signature_algorithm _ _ _ _ _ _ (c.in_ok-attributes.ensures.takes.mode ∙ c.in_ok-pass_digest_algorithm.ensures.takes.mode ∙ c.in_ok-identifier.ensures.takes.mode
-            ∙ c.in_ok-take_integer_if_counted.ensures.takes.mode ∙ c.in_ok-enter_counted.ensures.place.mode) c.in_ok-algorithm.ensures)
+    (takes_in _ signature_algorithm _ _ _ _ _ _ (c.in_ok-attributes.ensures.takes.mode ∙ c.in_ok-pass_digest_algorithm.ensures.takes.mode ∙ c.in_ok-identifier.ensures.takes.mode
+    ∙ c.in_ok-take_integer_if_counted.ensures.takes.mode ∙ c.in_ok-enter_counted.ensures.place.mode) c.in_ok-algorithm.ensures)
     (stops_later _ _ _ _ _ _ _ _ _ _ _ _ refl
-        (takes_in _ (λ m. with_octets (octet_string m)) _ _ _ _ _ _ (c.in_ok-algorithm.ensures.takes.mode ∙ c.in_ok-attributes.ensures.takes.mode ∙ c.in_ok-pass_digest_algorithm.ensures.takes.mode
-            ∙ c.in_ok-identifier.ensures.takes.mode ∙ c.in_ok-take_integer_if_counted.ensures.takes.mode ∙ c.in_ok-enter_counted.ensures.place.mode) c.in_ok-signature_value.ensures)
+    (takes_in _ (λ m. with_octets (octet_string m)) _ _ _ _ _ _ (c.in_ok-algorithm.ensures.takes.mode ∙ c.in_ok-attributes.ensures.takes.mode ∙ c.in_ok-pass_digest_algorithm.ensures.takes.mode
+    ∙ c.in_ok-identifier.ensures.takes.mode ∙ c.in_ok-take_integer_if_counted.ensures.takes.mode ∙ c.in_ok-enter_counted.ensures.place.mode) c.in_ok-signature_value.ensures)
     (stops_done _ _ _ _ _ _ c.in_err-leave_counted.ensures.place c.in_err-leave_counted.ensures.refused))))))))
 
 pub returns : goal.returns
@@ -112,15 +112,15 @@ returns g c = rw c.new-signature.ensures
     (takes_within _ _ _ _ _ _ _ _ _ _ _ refl c.in_ok-enter_counted.ensures.place c.in_ok-enter_counted.ensures.ticks
     (reads_first _ _ _ _ _ _ _ _ _ _ _ _ _ refl c.in_ok-take_integer_if_counted.ensures
     (reads_first _ _ _ _ _ _ _ _ _ _ _ _ _ refl
-        (takes_in _ (key_identifier_under (context 0)) _ _ _ _ _ _ (c.in_ok-take_integer_if_counted.ensures.takes.mode ∙ c.in_ok-enter_counted.ensures.place.mode) c.in_ok-identifier.ensures)
+    (takes_in _ (key_identifier_under (context 0)) _ _ _ _ _ _ (c.in_ok-take_integer_if_counted.ensures.takes.mode ∙ c.in_ok-enter_counted.ensures.place.mode) c.in_ok-identifier.ensures)
     (reads_first _ _ _ _ _ _ _ _ _ _ _ _ _ refl c.in_ok-pass_digest_algorithm.ensures
     (reads_first _ _ _ _ _ _ _ _ _ _ _ _ _ refl
-        (takes_in _ signed_attributes _ _ _ _ _ _ (c.in_ok-pass_digest_algorithm.ensures.takes.mode ∙ c.in_ok-identifier.ensures.takes.mode ∙ c.in_ok-take_integer_if_counted.ensures.takes.mode
-            ∙ c.in_ok-enter_counted.ensures.place.mode) c.in_ok-attributes.ensures)
+    (takes_in _ signed_attributes _ _ _ _ _ _ (c.in_ok-pass_digest_algorithm.ensures.takes.mode ∙ c.in_ok-identifier.ensures.takes.mode ∙ c.in_ok-take_integer_if_counted.ensures.takes.mode
+    ∙ c.in_ok-enter_counted.ensures.place.mode) c.in_ok-attributes.ensures)
     (reads_first _ _ _ _ _ _ _ _ _ _ _ _ _ refl
-        (takes_in _ signature_algorithm _ _ _ _ _ _ (c.in_ok-attributes.ensures.takes.mode ∙ c.in_ok-pass_digest_algorithm.ensures.takes.mode ∙ c.in_ok-identifier.ensures.takes.mode
-            ∙ c.in_ok-take_integer_if_counted.ensures.takes.mode ∙ c.in_ok-enter_counted.ensures.place.mode) c.in_ok-algorithm.ensures)
+    (takes_in _ signature_algorithm _ _ _ _ _ _ (c.in_ok-attributes.ensures.takes.mode ∙ c.in_ok-pass_digest_algorithm.ensures.takes.mode ∙ c.in_ok-identifier.ensures.takes.mode
+    ∙ c.in_ok-take_integer_if_counted.ensures.takes.mode ∙ c.in_ok-enter_counted.ensures.place.mode) c.in_ok-algorithm.ensures)
     (reads_first _ _ _ _ _ _ _ _ _ _ _ _ _ refl
-        (takes_in _ (λ m. with_octets (octet_string m)) _ _ _ _ _ _ (c.in_ok-algorithm.ensures.takes.mode ∙ c.in_ok-attributes.ensures.takes.mode ∙ c.in_ok-pass_digest_algorithm.ensures.takes.mode
-            ∙ c.in_ok-identifier.ensures.takes.mode ∙ c.in_ok-take_integer_if_counted.ensures.takes.mode ∙ c.in_ok-enter_counted.ensures.place.mode) c.in_ok-signature_value.ensures)
+    (takes_in _ (λ m. with_octets (octet_string m)) _ _ _ _ _ _ (c.in_ok-algorithm.ensures.takes.mode ∙ c.in_ok-attributes.ensures.takes.mode ∙ c.in_ok-pass_digest_algorithm.ensures.takes.mode
+    ∙ c.in_ok-identifier.ensures.takes.mode ∙ c.in_ok-take_integer_if_counted.ensures.takes.mode ∙ c.in_ok-enter_counted.ensures.place.mode) c.in_ok-signature_value.ensures)
     (reads_done _ _ _ _ _ _ refl c.in_ok-leave_counted.ensures.place c.in_ok-leave_counted.ensures.ticks))))))))

@@ -31,7 +31,7 @@ returns-in_err-signature g c = takes_err _ _ _ _ _ _ _ _ _ c.from_residual-in_er
     (refuses_inside _ _ _ _ _ _ _ _ _ _ refl c.in_ok-enter_counted.ensures.place c.in_ok-enter_counted.ensures.ticks
     (stops_later _ _ _ _ _ _ _ _ _ _ _ _ refl c.in_ok-octets.ensures.value
     (stops_bind _ _ _ _ _ _ _ _
-        (stops_in _ _ (signature_in g.Alg.SignatureAlgorithm.reads) _ _ _ _ _ (c.in_ok-octets.ensures.value.takes.mode ∙ c.in_ok-enter_counted.ensures.place.mode) c.in_err-signature.ensures))))
+    (stops_in _ _ (signature_in g.Alg.SignatureAlgorithm.reads) _ _ _ _ _ (c.in_ok-octets.ensures.value.takes.mode ∙ c.in_ok-enter_counted.ensures.place.mode) c.in_err-signature.ensures))))
 
 pub returns : goal.returns
 unfolding signed_data signed_as
@@ -39,4 +39,4 @@ returns g c = rw c.in_ok-slice.ensures
     (takes_within _ _ _ _ _ _ _ _ _ _ _ refl c.in_ok-enter_counted.ensures.place c.in_ok-enter_counted.ensures.ticks
     (reads_first _ _ _ _ _ _ _ _ _ _ _ _ _ refl c.in_ok-octets.ensures.value
     (reads_bind _ _ _ _ _ _ _ _ _ _
-        (reads_in _ _ (signature_in g.Alg.SignatureAlgorithm.reads) _ _ _ _ _ _ (c.in_ok-octets.ensures.value.takes.mode ∙ c.in_ok-enter_counted.ensures.place.mode) c.in_ok-signature.ensures) refl)))
+    (reads_in _ _ (signature_in g.Alg.SignatureAlgorithm.reads) _ _ _ _ _ _ (c.in_ok-octets.ensures.value.takes.mode ∙ c.in_ok-enter_counted.ensures.place.mode) c.in_ok-signature.ensures) refl)))

@@ -38,8 +38,8 @@ returns-in_err-signature g c = takes_err _ _ _ _ _ _ _ _ _ c.from_residual-in_er
     (refuses_inside _ _ _ _ _ _ _ _ _ _ refl c.in_ok-enter_counted.ensures.place c.in_ok-enter_counted.ensures.ticks
     (stops_later _ _ _ _ _ _ _ _ _ _ _ _ refl (takes_in _ (λ m. with_octets (tbs_certificate m)) _ _ _ _ _ _ c.in_ok-enter_counted.ensures.place.mode c.in_ok-octets.ensures)
     (stops_bind _ _ _ _ _ _ _ _
-        (stops_slower _ 1 _ _ _ _ _ _ refl
-        (stops_in _ _ (signature_in (whole_of x509_algorithm)) _ _ _ _ _ (c.in_ok-octets.ensures.takes.mode ∙ c.in_ok-enter_counted.ensures.place.mode) c.in_err-signature.ensures)))))
+    (stops_slower _ 1 _ _ _ _ _ _ refl
+    (stops_in _ _ (signature_in (whole_of x509_algorithm)) _ _ _ _ _ (c.in_ok-octets.ensures.takes.mode ∙ c.in_ok-enter_counted.ensures.place.mode) c.in_err-signature.ensures)))))
 
 pub returns : goal.returns
 unfolding identity_certificate signed_value signed_as
@@ -47,5 +47,5 @@ returns g c = rw (c.new-signed.ensures, c.in_ok-slice.ensures)
     (takes_within _ _ _ _ _ _ _ _ _ _ _ refl c.in_ok-enter_counted.ensures.place c.in_ok-enter_counted.ensures.ticks
     (reads_first _ _ _ _ _ _ _ _ _ _ _ _ _ refl (takes_in _ (λ m. with_octets (tbs_certificate m)) _ _ _ _ _ _ c.in_ok-enter_counted.ensures.place.mode c.in_ok-octets.ensures)
     (reads_bind _ _ _ _ _ _ _ _ _ _
-        (reads_slower _ 1 _ _ _ _ _ _ _ refl
-        (reads_in _ _ (signature_in (whole_of x509_algorithm)) _ _ _ _ _ _ (c.in_ok-octets.ensures.takes.mode ∙ c.in_ok-enter_counted.ensures.place.mode) c.in_ok-signature.ensures)) refl)))
+    (reads_slower _ 1 _ _ _ _ _ _ _ refl
+    (reads_in _ _ (signature_in (whole_of x509_algorithm)) _ _ _ _ _ _ (c.in_ok-octets.ensures.takes.mode ∙ c.in_ok-enter_counted.ensures.place.mode) c.in_ok-signature.ensures)) refl)))

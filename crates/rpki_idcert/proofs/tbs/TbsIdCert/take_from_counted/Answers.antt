@@ -36,7 +36,7 @@ returns-in_err-take_algorithm g c = takes_err _ _ _ _ _ _ _ _ _ c.from_residual-
     (stops_later _ _ _ _ _ _ _ _ _ _ _ _ refl c.in_ok-take_version.ensures
     (stops_later _ _ _ _ _ _ _ _ _ _ _ _ refl c.in_ok-serial.ensures
     (stops_first _ _ _ _ _ _ _ _ refl
-        (refuses_in _ algorithm _ _ _ _ _ (c.in_ok-serial.ensures.takes.mode ∙ c.in_ok-take_version.ensures.takes.mode ∙ c.in_ok-enter_counted.ensures.place.mode) c.in_err-take_algorithm.ensures)))))
+    (refuses_in _ algorithm _ _ _ _ _ (c.in_ok-serial.ensures.takes.mode ∙ c.in_ok-take_version.ensures.takes.mode ∙ c.in_ok-enter_counted.ensures.place.mode) c.in_err-take_algorithm.ensures)))))
 
 pub returns-in_err-issuer : goal.returns-in_err-issuer
 unfolding tbs_certificate
@@ -45,7 +45,7 @@ returns-in_err-issuer g c = takes_err _ _ _ _ _ _ _ _ _ c.from_residual-in_err-i
     (stops_later _ _ _ _ _ _ _ _ _ _ _ _ refl c.in_ok-take_version.ensures
     (stops_later _ _ _ _ _ _ _ _ _ _ _ _ refl c.in_ok-serial.ensures
     (stops_later _ _ _ _ _ _ _ _ _ _ _ _ refl
-        (takes_in _ algorithm _ _ _ _ _ _ (c.in_ok-serial.ensures.takes.mode ∙ c.in_ok-take_version.ensures.takes.mode ∙ c.in_ok-enter_counted.ensures.place.mode) c.in_ok-take_algorithm.ensures)
+    (takes_in _ algorithm _ _ _ _ _ _ (c.in_ok-serial.ensures.takes.mode ∙ c.in_ok-take_version.ensures.takes.mode ∙ c.in_ok-enter_counted.ensures.place.mode) c.in_ok-take_algorithm.ensures)
     (stops_first _ _ _ _ _ _ _ _ refl c.in_err-issuer.ensures)))))
 
 pub returns-in_err-validity : goal.returns-in_err-validity
@@ -55,7 +55,7 @@ returns-in_err-validity g c = takes_err _ _ _ _ _ _ _ _ _ c.from_residual-in_err
     (stops_later _ _ _ _ _ _ _ _ _ _ _ _ refl c.in_ok-take_version.ensures
     (stops_later _ _ _ _ _ _ _ _ _ _ _ _ refl c.in_ok-serial.ensures
     (stops_later _ _ _ _ _ _ _ _ _ _ _ _ refl
-        (takes_in _ algorithm _ _ _ _ _ _ (c.in_ok-serial.ensures.takes.mode ∙ c.in_ok-take_version.ensures.takes.mode ∙ c.in_ok-enter_counted.ensures.place.mode) c.in_ok-take_algorithm.ensures)
+    (takes_in _ algorithm _ _ _ _ _ _ (c.in_ok-serial.ensures.takes.mode ∙ c.in_ok-take_version.ensures.takes.mode ∙ c.in_ok-enter_counted.ensures.place.mode) c.in_ok-take_algorithm.ensures)
     (stops_later _ _ _ _ _ _ _ _ _ _ _ _ refl c.in_ok-issuer.ensures
     (stops_first _ _ _ _ _ _ _ _ refl c.in_err-validity.ensures))))))
 
@@ -66,7 +66,7 @@ returns-in_err-subject g c = takes_err _ _ _ _ _ _ _ _ _ c.from_residual-in_err-
     (stops_later _ _ _ _ _ _ _ _ _ _ _ _ refl c.in_ok-take_version.ensures
     (stops_later _ _ _ _ _ _ _ _ _ _ _ _ refl c.in_ok-serial.ensures
     (stops_later _ _ _ _ _ _ _ _ _ _ _ _ refl
-        (takes_in _ algorithm _ _ _ _ _ _ (c.in_ok-serial.ensures.takes.mode ∙ c.in_ok-take_version.ensures.takes.mode ∙ c.in_ok-enter_counted.ensures.place.mode) c.in_ok-take_algorithm.ensures)
+    (takes_in _ algorithm _ _ _ _ _ _ (c.in_ok-serial.ensures.takes.mode ∙ c.in_ok-take_version.ensures.takes.mode ∙ c.in_ok-enter_counted.ensures.place.mode) c.in_ok-take_algorithm.ensures)
     (stops_later _ _ _ _ _ _ _ _ _ _ _ _ refl c.in_ok-issuer.ensures
     (stops_later _ _ _ _ _ _ _ _ _ _ _ _ refl c.in_ok-validity.ensures
     (stops_first _ _ _ _ _ _ _ _ refl c.in_err-subject.ensures)))))))
@@ -78,7 +78,7 @@ returns-in_err-key g c = takes_err _ _ _ _ _ _ _ _ _ c.from_residual-in_err-key.
     (stops_later _ _ _ _ _ _ _ _ _ _ _ _ refl c.in_ok-take_version.ensures
     (stops_later _ _ _ _ _ _ _ _ _ _ _ _ refl c.in_ok-serial.ensures
     (stops_later _ _ _ _ _ _ _ _ _ _ _ _ refl
-        (takes_in _ algorithm _ _ _ _ _ _ (c.in_ok-serial.ensures.takes.mode ∙ c.in_ok-take_version.ensures.takes.mode ∙ c.in_ok-enter_counted.ensures.place.mode) c.in_ok-take_algorithm.ensures)
+    (takes_in _ algorithm _ _ _ _ _ _ (c.in_ok-serial.ensures.takes.mode ∙ c.in_ok-take_version.ensures.takes.mode ∙ c.in_ok-enter_counted.ensures.place.mode) c.in_ok-take_algorithm.ensures)
     (stops_later _ _ _ _ _ _ _ _ _ _ _ _ refl c.in_ok-issuer.ensures
     (stops_later _ _ _ _ _ _ _ _ _ _ _ _ refl c.in_ok-validity.ensures
     (stops_later _ _ _ _ _ _ _ _ _ _ _ _ refl c.in_ok-subject.ensures
@@ -91,15 +91,15 @@ returns-in_err-known g c = takes_err _ _ _ _ _ _ _ _ _ c.from_residual-in_err-kn
     (stops_later _ _ _ _ _ _ _ _ _ _ _ _ refl c.in_ok-take_version.ensures
     (stops_later _ _ _ _ _ _ _ _ _ _ _ _ refl c.in_ok-serial.ensures
     (stops_later _ _ _ _ _ _ _ _ _ _ _ _ refl
-        (takes_in _ algorithm _ _ _ _ _ _ (c.in_ok-serial.ensures.takes.mode ∙ c.in_ok-take_version.ensures.takes.mode ∙ c.in_ok-enter_counted.ensures.place.mode) c.in_ok-take_algorithm.ensures)
+    (takes_in _ algorithm _ _ _ _ _ _ (c.in_ok-serial.ensures.takes.mode ∙ c.in_ok-take_version.ensures.takes.mode ∙ c.in_ok-enter_counted.ensures.place.mode) c.in_ok-take_algorithm.ensures)
     (stops_later _ _ _ _ _ _ _ _ _ _ _ _ refl c.in_ok-issuer.ensures
     (stops_later _ _ _ _ _ _ _ _ _ _ _ _ refl c.in_ok-validity.ensures
     (stops_later _ _ _ _ _ _ _ _ _ _ _ _ refl c.in_ok-subject.ensures
     (stops_later _ _ _ _ _ _ _ _ _ _ _ _ refl c.in_ok-key.ensures
     (stops_first _ _ _ _ _ _ _ _ refl
-        (refuses_in _ (λ m. wrapped (context 3) (extension_list m)) _ _ _ _ _ (c.in_ok-key.ensures.takes.mode ∙ c.in_ok-subject.ensures.takes.mode ∙ c.in_ok-validity.ensures.takes.mode
-            ∙ c.in_ok-issuer.ensures.takes.mode ∙ c.in_ok-take_algorithm.ensures.takes.mode ∙ c.in_ok-serial.ensures.takes.mode ∙ c.in_ok-take_version.ensures.takes.mode
-            ∙ c.in_ok-enter_counted.ensures.place.mode) c.in_err-known.ensures))))))))))
+    (refuses_in _ (λ m. wrapped (context 3) (extension_list m)) _ _ _ _ _ (c.in_ok-key.ensures.takes.mode ∙ c.in_ok-subject.ensures.takes.mode ∙ c.in_ok-validity.ensures.takes.mode
+    ∙ c.in_ok-issuer.ensures.takes.mode ∙ c.in_ok-take_algorithm.ensures.takes.mode ∙ c.in_ok-serial.ensures.takes.mode ∙ c.in_ok-take_version.ensures.takes.mode
+    ∙ c.in_ok-enter_counted.ensures.place.mode) c.in_err-known.ensures))))))))))
 
 pub returns-in_err-leave_counted : goal.returns-in_err-leave_counted
 unfolding tbs_certificate
@@ -108,15 +108,15 @@ returns-in_err-leave_counted g c = takes_err _ _ _ _ _ _ _ _ _ c.from_residual-i
     (stops_later _ _ _ _ _ _ _ _ _ _ _ _ refl c.in_ok-take_version.ensures
     (stops_later _ _ _ _ _ _ _ _ _ _ _ _ refl c.in_ok-serial.ensures
     (stops_later _ _ _ _ _ _ _ _ _ _ _ _ refl
-        (takes_in _ algorithm _ _ _ _ _ _ (c.in_ok-serial.ensures.takes.mode ∙ c.in_ok-take_version.ensures.takes.mode ∙ c.in_ok-enter_counted.ensures.place.mode) c.in_ok-take_algorithm.ensures)
+    (takes_in _ algorithm _ _ _ _ _ _ (c.in_ok-serial.ensures.takes.mode ∙ c.in_ok-take_version.ensures.takes.mode ∙ c.in_ok-enter_counted.ensures.place.mode) c.in_ok-take_algorithm.ensures)
     (stops_later _ _ _ _ _ _ _ _ _ _ _ _ refl c.in_ok-issuer.ensures
     (stops_later _ _ _ _ _ _ _ _ _ _ _ _ refl c.in_ok-validity.ensures
     (stops_later _ _ _ _ _ _ _ _ _ _ _ _ refl c.in_ok-subject.ensures
     (stops_later _ _ _ _ _ _ _ _ _ _ _ _ refl c.in_ok-key.ensures
     (stops_later _ _ _ _ _ _ _ _ _ _ _ _ refl
-        (takes_in _ (λ m. wrapped (context 3) (extension_list m)) _ _ _ _ _ _ (c.in_ok-key.ensures.takes.mode ∙ c.in_ok-subject.ensures.takes.mode ∙ c.in_ok-validity.ensures.takes.mode
-            ∙ c.in_ok-issuer.ensures.takes.mode ∙ c.in_ok-take_algorithm.ensures.takes.mode ∙ c.in_ok-serial.ensures.takes.mode ∙ c.in_ok-take_version.ensures.takes.mode
-            ∙ c.in_ok-enter_counted.ensures.place.mode) c.in_ok-known.ensures)
+    (takes_in _ (λ m. wrapped (context 3) (extension_list m)) _ _ _ _ _ _ (c.in_ok-key.ensures.takes.mode ∙ c.in_ok-subject.ensures.takes.mode ∙ c.in_ok-validity.ensures.takes.mode
+    ∙ c.in_ok-issuer.ensures.takes.mode ∙ c.in_ok-take_algorithm.ensures.takes.mode ∙ c.in_ok-serial.ensures.takes.mode ∙ c.in_ok-take_version.ensures.takes.mode
+    ∙ c.in_ok-enter_counted.ensures.place.mode) c.in_ok-known.ensures)
     (stops_done _ _ _ _ _ _ c.in_err-leave_counted.ensures.place c.in_err-leave_counted.ensures.refused))))))))))
 
 pub returns : goal.returns
@@ -126,13 +126,13 @@ returns g c = rw c.parts-subject_key_id.ensures
     (reads_first _ _ _ _ _ _ _ _ _ _ _ _ _ refl c.in_ok-take_version.ensures
     (reads_first _ _ _ _ _ _ _ _ _ _ _ _ _ refl c.in_ok-serial.ensures
     (reads_first _ _ _ _ _ _ _ _ _ _ _ _ _ refl
-        (takes_in _ algorithm _ _ _ _ _ _ (c.in_ok-serial.ensures.takes.mode ∙ c.in_ok-take_version.ensures.takes.mode ∙ c.in_ok-enter_counted.ensures.place.mode) c.in_ok-take_algorithm.ensures)
+    (takes_in _ algorithm _ _ _ _ _ _ (c.in_ok-serial.ensures.takes.mode ∙ c.in_ok-take_version.ensures.takes.mode ∙ c.in_ok-enter_counted.ensures.place.mode) c.in_ok-take_algorithm.ensures)
     (reads_first _ _ _ _ _ _ _ _ _ _ _ _ _ refl c.in_ok-issuer.ensures
     (reads_first _ _ _ _ _ _ _ _ _ _ _ _ _ refl c.in_ok-validity.ensures
     (reads_first _ _ _ _ _ _ _ _ _ _ _ _ _ refl c.in_ok-subject.ensures
     (reads_first _ _ _ _ _ _ _ _ _ _ _ _ _ refl c.in_ok-key.ensures
     (reads_first _ _ _ _ _ _ _ _ _ _ _ _ _ refl
-        (takes_in _ (λ m. wrapped (context 3) (extension_list m)) _ _ _ _ _ _ (c.in_ok-key.ensures.takes.mode ∙ c.in_ok-subject.ensures.takes.mode ∙ c.in_ok-validity.ensures.takes.mode
-            ∙ c.in_ok-issuer.ensures.takes.mode ∙ c.in_ok-take_algorithm.ensures.takes.mode ∙ c.in_ok-serial.ensures.takes.mode ∙ c.in_ok-take_version.ensures.takes.mode
-            ∙ c.in_ok-enter_counted.ensures.place.mode) c.in_ok-known.ensures)
+    (takes_in _ (λ m. wrapped (context 3) (extension_list m)) _ _ _ _ _ _ (c.in_ok-key.ensures.takes.mode ∙ c.in_ok-subject.ensures.takes.mode ∙ c.in_ok-validity.ensures.takes.mode
+    ∙ c.in_ok-issuer.ensures.takes.mode ∙ c.in_ok-take_algorithm.ensures.takes.mode ∙ c.in_ok-serial.ensures.takes.mode ∙ c.in_ok-take_version.ensures.takes.mode
+    ∙ c.in_ok-enter_counted.ensures.place.mode) c.in_ok-known.ensures)
     (reads_done _ _ _ _ _ _ refl c.in_ok-leave_counted.ensures.place c.in_ok-leave_counted.ensures.ticks))))))))))

@@ -25,7 +25,7 @@ returns-in_err-view g c = takes_err _ _ _ _ _ _ _ _ _ c.from_residual-in_err-vie
     (refuses_inside _ _ _ _ _ _ _ _ _ _ refl c.in_ok-enter_counted.ensures.place c.in_ok-enter_counted.ensures.ticks
     (stops_later _ _ _ _ _ _ _ _ _ _ _ _ refl c.in_ok-take_oid_if_counted.ensures
     (stops_first _ _ _ _ _ _ _ _ refl
-        (refuses_in _ (λ m. wrapped (context 0) (signed_parts m)) _ _ _ _ _ (c.in_ok-take_oid_if_counted.ensures.takes.mode ∙ c.in_ok-enter_counted.ensures.place.mode) c.in_err-view.ensures))))
+    (refuses_in _ (λ m. wrapped (context 0) (signed_parts m)) _ _ _ _ _ (c.in_ok-take_oid_if_counted.ensures.takes.mode ∙ c.in_ok-enter_counted.ensures.place.mode) c.in_err-view.ensures))))
 
 pub returns-in_err-leave_counted : goal.returns-in_err-leave_counted
 unfolding viewed_message
@@ -33,7 +33,7 @@ returns-in_err-leave_counted g c = takes_err _ _ _ _ _ _ _ _ _ c.from_residual-i
     (refuses_inside _ _ _ _ _ _ _ _ _ _ refl c.in_ok-enter_counted.ensures.place c.in_ok-enter_counted.ensures.ticks
     (stops_later _ _ _ _ _ _ _ _ _ _ _ _ refl c.in_ok-take_oid_if_counted.ensures
     (stops_later _ _ _ _ _ _ _ _ _ _ _ _ refl
-        (takes_in _ (λ m. wrapped (context 0) (signed_parts m)) _ _ _ _ _ _ (c.in_ok-take_oid_if_counted.ensures.takes.mode ∙ c.in_ok-enter_counted.ensures.place.mode) c.in_ok-view.ensures)
+    (takes_in _ (λ m. wrapped (context 0) (signed_parts m)) _ _ _ _ _ _ (c.in_ok-take_oid_if_counted.ensures.takes.mode ∙ c.in_ok-enter_counted.ensures.place.mode) c.in_ok-view.ensures)
     (stops_done _ _ _ _ _ _ c.in_err-leave_counted.ensures.place c.in_err-leave_counted.ensures.refused))))
 
 pub returns : goal.returns
@@ -41,5 +41,5 @@ unfolding viewed_message
 returns g c = takes_within _ _ _ _ _ _ _ _ _ _ _ refl c.in_ok-enter_counted.ensures.place c.in_ok-enter_counted.ensures.ticks
     (reads_first _ _ _ _ _ _ _ _ _ _ _ _ _ refl c.in_ok-take_oid_if_counted.ensures
     (reads_first _ _ _ _ _ _ _ _ _ _ _ _ _ refl
-        (takes_in _ (λ m. wrapped (context 0) (signed_parts m)) _ _ _ _ _ _ (c.in_ok-take_oid_if_counted.ensures.takes.mode ∙ c.in_ok-enter_counted.ensures.place.mode) c.in_ok-view.ensures)
+    (takes_in _ (λ m. wrapped (context 0) (signed_parts m)) _ _ _ _ _ _ (c.in_ok-take_oid_if_counted.ensures.takes.mode ∙ c.in_ok-enter_counted.ensures.place.mode) c.in_ok-view.ensures)
     (reads_done _ _ _ _ _ _ refl c.in_ok-leave_counted.ensures.place c.in_ok-leave_counted.ensures.ticks)))

@@ -36,7 +36,7 @@ returns-in_err-issuer g c = takes_err _ _ _ _ _ _ _ _ _ c.from_residual-in_err-i
     (refuses_inside _ _ _ _ _ _ _ _ _ _ refl c.in_ok-enter_counted.ensures.place c.in_ok-enter_counted.ensures.ticks
     (stops_later _ _ _ _ _ _ _ _ _ _ _ _ refl c.in_ok-take_integer_if_counted.ensures
     (stops_later _ _ _ _ _ _ _ _ _ _ _ _ refl
-        (takes_in _ algorithm _ _ _ _ _ _ (c.in_ok-take_integer_if_counted.ensures.takes.mode ∙ c.in_ok-enter_counted.ensures.place.mode) c.in_ok-algorithm.ensures)
+    (takes_in _ algorithm _ _ _ _ _ _ (c.in_ok-take_integer_if_counted.ensures.takes.mode ∙ c.in_ok-enter_counted.ensures.place.mode) c.in_ok-algorithm.ensures)
     (stops_first _ _ _ _ _ _ _ _ refl c.in_err-issuer.ensures))))
 
 pub returns-in_err-this_update : goal.returns-in_err-this_update
@@ -45,7 +45,7 @@ returns-in_err-this_update g c = takes_err _ _ _ _ _ _ _ _ _ c.from_residual-in_
     (refuses_inside _ _ _ _ _ _ _ _ _ _ refl c.in_ok-enter_counted.ensures.place c.in_ok-enter_counted.ensures.ticks
     (stops_later _ _ _ _ _ _ _ _ _ _ _ _ refl c.in_ok-take_integer_if_counted.ensures
     (stops_later _ _ _ _ _ _ _ _ _ _ _ _ refl
-        (takes_in _ algorithm _ _ _ _ _ _ (c.in_ok-take_integer_if_counted.ensures.takes.mode ∙ c.in_ok-enter_counted.ensures.place.mode) c.in_ok-algorithm.ensures)
+    (takes_in _ algorithm _ _ _ _ _ _ (c.in_ok-take_integer_if_counted.ensures.takes.mode ∙ c.in_ok-enter_counted.ensures.place.mode) c.in_ok-algorithm.ensures)
     (stops_later _ _ _ _ _ _ _ _ _ _ _ _ refl c.in_ok-issuer.ensures
     (stops_first _ _ _ _ _ _ _ _ refl c.in_err-this_update.ensures)))))
 
@@ -55,7 +55,7 @@ returns-in_err-next_update g c = takes_err _ _ _ _ _ _ _ _ _ c.from_residual-in_
     (refuses_inside _ _ _ _ _ _ _ _ _ _ refl c.in_ok-enter_counted.ensures.place c.in_ok-enter_counted.ensures.ticks
     (stops_later _ _ _ _ _ _ _ _ _ _ _ _ refl c.in_ok-take_integer_if_counted.ensures
     (stops_later _ _ _ _ _ _ _ _ _ _ _ _ refl
-        (takes_in _ algorithm _ _ _ _ _ _ (c.in_ok-take_integer_if_counted.ensures.takes.mode ∙ c.in_ok-enter_counted.ensures.place.mode) c.in_ok-algorithm.ensures)
+    (takes_in _ algorithm _ _ _ _ _ _ (c.in_ok-take_integer_if_counted.ensures.takes.mode ∙ c.in_ok-enter_counted.ensures.place.mode) c.in_ok-algorithm.ensures)
     (stops_later _ _ _ _ _ _ _ _ _ _ _ _ refl c.in_ok-issuer.ensures
     (stops_later _ _ _ _ _ _ _ _ _ _ _ _ refl c.in_ok-this_update.ensures
     (stops_first _ _ _ _ _ _ _ _ refl c.in_err-next_update.ensures))))))
@@ -66,7 +66,7 @@ returns-in_err-revoked g c = takes_err _ _ _ _ _ _ _ _ _ c.from_residual-in_err-
     (refuses_inside _ _ _ _ _ _ _ _ _ _ refl c.in_ok-enter_counted.ensures.place c.in_ok-enter_counted.ensures.ticks
     (stops_later _ _ _ _ _ _ _ _ _ _ _ _ refl c.in_ok-take_integer_if_counted.ensures
     (stops_later _ _ _ _ _ _ _ _ _ _ _ _ refl
-        (takes_in _ algorithm _ _ _ _ _ _ (c.in_ok-take_integer_if_counted.ensures.takes.mode ∙ c.in_ok-enter_counted.ensures.place.mode) c.in_ok-algorithm.ensures)
+    (takes_in _ algorithm _ _ _ _ _ _ (c.in_ok-take_integer_if_counted.ensures.takes.mode ∙ c.in_ok-enter_counted.ensures.place.mode) c.in_ok-algorithm.ensures)
     (stops_later _ _ _ _ _ _ _ _ _ _ _ _ refl c.in_ok-issuer.ensures
     (stops_later _ _ _ _ _ _ _ _ _ _ _ _ refl c.in_ok-this_update.ensures
     (stops_later _ _ _ _ _ _ _ _ _ _ _ _ refl c.in_ok-next_update.ensures
@@ -78,15 +78,15 @@ returns-in_err-known g c = takes_err _ _ _ _ _ _ _ _ _ c.from_residual-in_err-kn
     (refuses_inside _ _ _ _ _ _ _ _ _ _ refl c.in_ok-enter_counted.ensures.place c.in_ok-enter_counted.ensures.ticks
     (stops_later _ _ _ _ _ _ _ _ _ _ _ _ refl c.in_ok-take_integer_if_counted.ensures
     (stops_later _ _ _ _ _ _ _ _ _ _ _ _ refl
-        (takes_in _ algorithm _ _ _ _ _ _ (c.in_ok-take_integer_if_counted.ensures.takes.mode ∙ c.in_ok-enter_counted.ensures.place.mode) c.in_ok-algorithm.ensures)
+    (takes_in _ algorithm _ _ _ _ _ _ (c.in_ok-take_integer_if_counted.ensures.takes.mode ∙ c.in_ok-enter_counted.ensures.place.mode) c.in_ok-algorithm.ensures)
     (stops_later _ _ _ _ _ _ _ _ _ _ _ _ refl c.in_ok-issuer.ensures
     (stops_later _ _ _ _ _ _ _ _ _ _ _ _ refl c.in_ok-this_update.ensures
     (stops_later _ _ _ _ _ _ _ _ _ _ _ _ refl c.in_ok-next_update.ensures
     (stops_behind _ _ _ _ _ _ _ _ _ _ _ _ _ refl c.in_ok-revoked.ensures
     (stops_first _ _ _ _ _ _ _ _ refl
-        (refuses_in _ (λ m. wrapped (context 0) (extension_list m)) _ _ _ _ _ (c.in_ok-revoked.ensures.takes.mode ∙ c.in_ok-next_update.ensures.takes.mode ∙ c.in_ok-this_update.ensures.takes.mode
-            ∙ c.in_ok-issuer.ensures.takes.mode ∙ c.in_ok-algorithm.ensures.takes.mode ∙ c.in_ok-take_integer_if_counted.ensures.takes.mode ∙ c.in_ok-enter_counted.ensures.place.mode)
-            c.in_err-known.ensures)))))))))
+    (refuses_in _ (λ m. wrapped (context 0) (extension_list m)) _ _ _ _ _ (c.in_ok-revoked.ensures.takes.mode ∙ c.in_ok-next_update.ensures.takes.mode ∙ c.in_ok-this_update.ensures.takes.mode
+    ∙ c.in_ok-issuer.ensures.takes.mode ∙ c.in_ok-algorithm.ensures.takes.mode ∙ c.in_ok-take_integer_if_counted.ensures.takes.mode ∙ c.in_ok-enter_counted.ensures.place.mode)
+    c.in_err-known.ensures)))))))))
 
 pub returns-in_err-leave_counted : goal.returns-in_err-leave_counted
 unfolding tbs_crl
@@ -94,15 +94,14 @@ returns-in_err-leave_counted g c = takes_err _ _ _ _ _ _ _ _ _ c.from_residual-i
     (refuses_inside _ _ _ _ _ _ _ _ _ _ refl c.in_ok-enter_counted.ensures.place c.in_ok-enter_counted.ensures.ticks
     (stops_later _ _ _ _ _ _ _ _ _ _ _ _ refl c.in_ok-take_integer_if_counted.ensures
     (stops_later _ _ _ _ _ _ _ _ _ _ _ _ refl
-        (takes_in _ algorithm _ _ _ _ _ _ (c.in_ok-take_integer_if_counted.ensures.takes.mode ∙ c.in_ok-enter_counted.ensures.place.mode) c.in_ok-algorithm.ensures)
+    (takes_in _ algorithm _ _ _ _ _ _ (c.in_ok-take_integer_if_counted.ensures.takes.mode ∙ c.in_ok-enter_counted.ensures.place.mode) c.in_ok-algorithm.ensures)
     (stops_later _ _ _ _ _ _ _ _ _ _ _ _ refl c.in_ok-issuer.ensures
     (stops_later _ _ _ _ _ _ _ _ _ _ _ _ refl c.in_ok-this_update.ensures
     (stops_later _ _ _ _ _ _ _ _ _ _ _ _ refl c.in_ok-next_update.ensures
     (stops_behind _ _ _ _ _ _ _ _ _ _ _ _ _ refl c.in_ok-revoked.ensures
     (stops_later _ _ _ _ _ _ _ _ _ _ _ _ refl
-        (takes_in _ (λ m. wrapped (context 0) (extension_list m)) _ _ _ _ _ _ (c.in_ok-revoked.ensures.takes.mode ∙ c.in_ok-next_update.ensures.takes.mode ∙ c.in_ok-this_update.ensures.takes.mode
-            ∙ c.in_ok-issuer.ensures.takes.mode ∙ c.in_ok-algorithm.ensures.takes.mode ∙ c.in_ok-take_integer_if_counted.ensures.takes.mode ∙ c.in_ok-enter_counted.ensures.place.mode)
-            c.in_ok-known.ensures)
+    (takes_in _ (λ m. wrapped (context 0) (extension_list m)) _ _ _ _ _ _ (c.in_ok-revoked.ensures.takes.mode ∙ c.in_ok-next_update.ensures.takes.mode ∙ c.in_ok-this_update.ensures.takes.mode
+    ∙ c.in_ok-issuer.ensures.takes.mode ∙ c.in_ok-algorithm.ensures.takes.mode ∙ c.in_ok-take_integer_if_counted.ensures.takes.mode ∙ c.in_ok-enter_counted.ensures.place.mode) c.in_ok-known.ensures)
     (stops_done _ _ _ _ _ _ c.in_err-leave_counted.ensures.place c.in_err-leave_counted.ensures.refused)))))))))
 
 pub returns : goal.returns
@@ -111,13 +110,12 @@ returns g c = rw (c.parts-authority_key_id.ensures, c.unwrap_or.ensures, c.empty
     (takes_within _ _ _ _ _ _ _ _ _ _ _ refl c.in_ok-enter_counted.ensures.place c.in_ok-enter_counted.ensures.ticks
     (reads_first _ _ _ _ _ _ _ _ _ _ _ _ _ refl c.in_ok-take_integer_if_counted.ensures
     (reads_first _ _ _ _ _ _ _ _ _ _ _ _ _ refl
-        (takes_in _ algorithm _ _ _ _ _ _ (c.in_ok-take_integer_if_counted.ensures.takes.mode ∙ c.in_ok-enter_counted.ensures.place.mode) c.in_ok-algorithm.ensures)
+    (takes_in _ algorithm _ _ _ _ _ _ (c.in_ok-take_integer_if_counted.ensures.takes.mode ∙ c.in_ok-enter_counted.ensures.place.mode) c.in_ok-algorithm.ensures)
     (reads_first _ _ _ _ _ _ _ _ _ _ _ _ _ refl c.in_ok-issuer.ensures
     (reads_first _ _ _ _ _ _ _ _ _ _ _ _ _ refl c.in_ok-this_update.ensures
     (reads_first _ _ _ _ _ _ _ _ _ _ _ _ _ refl c.in_ok-next_update.ensures
     (reads_part _ _ _ _ _ _ _ _ _ _ _ _ _ _ refl c.in_ok-revoked.ensures
     (reads_first _ _ _ _ _ _ _ _ _ _ _ _ _ refl
-        (takes_in _ (λ m. wrapped (context 0) (extension_list m)) _ _ _ _ _ _ (c.in_ok-revoked.ensures.takes.mode ∙ c.in_ok-next_update.ensures.takes.mode ∙ c.in_ok-this_update.ensures.takes.mode
-            ∙ c.in_ok-issuer.ensures.takes.mode ∙ c.in_ok-algorithm.ensures.takes.mode ∙ c.in_ok-take_integer_if_counted.ensures.takes.mode ∙ c.in_ok-enter_counted.ensures.place.mode)
-            c.in_ok-known.ensures)
+    (takes_in _ (λ m. wrapped (context 0) (extension_list m)) _ _ _ _ _ _ (c.in_ok-revoked.ensures.takes.mode ∙ c.in_ok-next_update.ensures.takes.mode ∙ c.in_ok-this_update.ensures.takes.mode
+    ∙ c.in_ok-issuer.ensures.takes.mode ∙ c.in_ok-algorithm.ensures.takes.mode ∙ c.in_ok-take_integer_if_counted.ensures.takes.mode ∙ c.in_ok-enter_counted.ensures.place.mode) c.in_ok-known.ensures)
     (reads_done _ _ _ _ _ _ refl c.in_ok-leave_counted.ensures.place c.in_ok-leave_counted.ensures.ticks)))))))))
