@@ -54,6 +54,13 @@ shown scheme words source octets c a is within steady said =
       steady = steady;
     }
 
+-- words of no command
+usage_answer : (scheme : Relation) (words : List (List ℕ)) (input : List ℕ) → IsNoCommand words → IsAnswer scheme words input (Err refusals.Usage)
+usage_answer scheme words input none = record { usage = λ n. refl; long = λ c is l. absurd (none c is); answers = λ c is l. absurd (none c is) }
+
+pub usage_shown : (scheme : Relation) (words : List (List ℕ)) (source : Seen) → IsNoCommand words → IsSteady source → IsShown scheme words source (Err refusals.Usage)
+usage_shown scheme words source none steady = record { shown = always_some source.before _ (λ input. usage_answer scheme words input none); steady = steady }
+
 -- ---- what no command answers
 
 abbrev err_of : Refusal → Result (List ℕ) Refusal

@@ -1,7 +1,9 @@
 -- Lists of words, and the commands that they are.
-use Rattle.std.proofs.Common.{◌≡◌, ◌≤◌, ◌<◌, ◌+◌, ℕ, zero, suc, ℤ, Bool, true, false, Option, Some, None, List, [], ◌∷◌, ◌++◌, length, map, drop, pos, negsuc, refl, sym, ap, subst, ◌∙◌, arith, inl, inr}
+use Rattle.std.proofs.Common.{◌≡◌, ◌≤◌, ◌<◌, ◌+◌, ℕ, zero, suc, ℤ, Bool, true, false, Option, Some, None, List, [], ◌∷◌, ◌++◌, length, map, drop, pos, negsuc, refl, sym, ap, subst, ◌∙◌, append_assoc, arith, inl, inr}
 use Rattle.std.specs.Prelude.{codes, bytes_eq, if◌then◌else◌, slice_get, IsSome}
 use Rattle.std.proofs.lemmas.Fmt.{signed_decimal_injective}
+use Rattle.std.proofs.Math.ListN.{drop_of_length-le}
+use Rattle.std.proofs.lemmas.List.{append-nil}
 use Rattle.std.proofs.lemmas.Option.{slice_get_cases}
 use Rattle.std.proofs.lemmas.Slice.Eq.{bytes_eq-Decides}
 use Rattle.rpki_common.specs.Chaining.{◌>>=◌}
@@ -89,12 +91,12 @@ one_verb words v w a b = same (sym a ∙ b)
     same e = cc
 
 pub no_other : (words : List (List ℕ)) (verb : Verb) → verb_in words ≡ Some verb → AskInVain verb words → IsNoCommand words
-no_other words verb e none c a = none c (subst (λ (v : Verb). Ask v words c) (one_verb words a.0 verb (ask_with a.0 words c a.1) e) a.1)
+no_other words verb e none c a = none c (subst (λ (v : Verb). Ask v words c) (one_verb words a.verb verb (ask_with a.verb words c a.ask) e) a.ask)
 
 pub no_verb : (words : List (List ℕ)) → verb_in words ≡ None → IsNoCommand words
-no_verb words e c a = never (sym e ∙ ask_with a.0 words c a.1)
+no_verb words e c a = never (sym e ∙ ask_with a.verb words c a.ask)
   where
-    never : None ≡ some_verb a.0 → ⊥
+    never : None ≡ some_verb a.verb → ⊥
     never k = cc
 
 -- ---- `content`
@@ -129,11 +131,74 @@ one_list words ks ls p q = same ks ls (sym p ∙ q)
     same (k ∷ ks) [] e = cc
     same (k ∷ ks) (l ∷ ls) e = let rest = same ks ls (ap (drop 1) e) in let first : k ≡ l = cc in rw (first, rest) refl
 
+-- what stands at an index, and behind it
+pub record StandsAt (words : List (List ℕ)) (i : ℕ) : Type 0 where
+  pub word : List ℕ
+  pub parts : drop i words ≡ word ∷ drop (suc i) words
+  pub stands : slice_get words i ≡ Some word
+
+stands_at : (words : List (List ℕ)) (i : ℕ) → i < length words → StandsAt words i
+stands_at [] i l = absurd (omega (arith, l))
+stands_at (w ∷ ws) zero l = record { word = w; parts = refl; stands = refl }
+stands_at (w ∷ ws) (suc i) l = let r = stands_at ws i (omega (arith, l)) in record { word = r.word; parts = r.parts; stands = r.stands }
+
+-- the words from the fourth up to an index spell these keys: what spells the rest then spells all, and all spells some rest
+pub record SpellSoFar (words : List (List ℕ)) (i : ℕ) (keys : List KeyFields) : Type 0 where
+  pub rest : (all : List KeyFields) → AreKeys (drop 3 words) all → (more : List KeyFields) × AreKeys (drop i words) more
+  pub whole : (more : List KeyFields) → AreKeys (drop i words) more → AreKeys (drop 3 words) (keys ++ more)
+
+pub none_so_far : (words : List (List ℕ)) → SpellSoFar words 3 []
+none_so_far words = record { rest = λ all a. (all, a); whole = λ more a. a }
+
+behind_one : (word : List ℕ) (words : List (List ℕ)) (all : List KeyFields) → AreKeys (word ∷ words) all → (more : List KeyFields) × AreKeys words more
+behind_one word words [] e = cc
+behind_one word words (k ∷ more) e = (more, ap (drop 1) e)
+
+in_front : (word : List ℕ) (words : List (List ℕ)) (key : KeyFields) (more : List KeyFields) → key_of word ≡ Some key → AreKeys words more → AreKeys (word ∷ words) (key ∷ more)
+in_front word words key more e a = rw (e, a) refl
+
+spelled_at : (words : List (List ℕ)) (i : ℕ) (s : StandsAt words i) (key : Option KeyFields) → key ≡ key_at words i → key_of s.word ≡ key
+unfolding ◌>>=◌
+spelled_at words i s key e = sym (rw s.stands at e)
+
+pub one_more : (words : List (List ℕ)) (i : ℕ) (keys : List KeyFields) (key : KeyFields) → i < length words → Some key ≡ key_at words i → SpellSoFar words i keys → SpellSoFar words (i + 1) (keys ++ key ∷ [])
+one_more words i keys key l e sofar =
+    let s = stands_at words i l in
+    let next : suc i ≡ i + 1 = omega arith in
+    subst (λ (n : ℕ). SpellSoFar words n (keys ++ key ∷ [])) next (record {
+      rest = λ all a. let m = sofar.rest all a in behind_one s.word (drop (suc i) words) m.0 (subst (λ (ws : List (List ℕ)). AreKeys ws m.0) s.parts m.1);
+      whole = λ more a.
+          subst (AreKeys (drop 3 words)) (sym (append_assoc keys (key ∷ []) more))
+          (sofar.whole (key ∷ more) (subst (λ (ws : List (List ℕ)). AreKeys ws (key ∷ more)) (sym s.parts) (in_front s.word (drop (suc i) words) key more (spelled_at words i s (Some key) e) a)));
+    })
+
+pub no_key_here : (words : List (List ℕ)) (i : ℕ) (keys : List KeyFields) → i < length words → None ≡ key_at words i → SpellSoFar words i keys → (all : List KeyFields) → AreKeys (drop 3 words) all → ⊥
+no_key_here words i keys l e sofar all a =
+    let s = stands_at words i l in
+    let m = sofar.rest all a in
+    none s.word (drop (suc i) words) m.0 (spelled_at words i s None e) (subst (λ (ws : List (List ℕ)). AreKeys ws m.0) s.parts m.1)
+  where
+    none : (word : List ℕ) (words : List (List ℕ)) (all : List KeyFields) → key_of word ≡ None → AreKeys (word ∷ words) all → ⊥
+    none word words [] f b = unlike (ap (λ (l : List (Option KeyFields)). length l) b)
+      where
+        unlike : suc (length (map key_of words)) ≡ 0 → ⊥
+        unlike k = cc
+    none word words (k ∷ more) f b = unlike (sym f ∙ first b)
+      where
+        first : map key_of (word ∷ words) ≡ map some_key (k ∷ more) → key_of word ≡ Some k
+        first k = cc
+
+        unlike : None ≡ some_key k → ⊥
+        unlike k = cc
+
+pub all_spelled : (words : List (List ℕ)) (i : ℕ) (keys : List KeyFields) → length words ≤ i → SpellSoFar words i keys → AreKeys (drop 3 words) keys
+all_spelled words i keys l sofar = subst (AreKeys (drop 3 words)) (append-nil keys) (sofar.whole [] (ap (map key_of) (drop_of_length-le words l)))
+
 -- ---- `receive`
 
 pub few : (words : List (List ℕ)) (c : Command) → AskToReceive words c → (4 ≤ length words) × (length words ≤ 11)
 few words c a =
-    let n : length words ≡ 3 + length a.receive.key_words = ap length a.receive.are in
+    let n : length words ≡ suc (suc (suc (length a.receive.key_words))) = ap length a.receive.are in
     (omega (arith, n, a.receive.some), omega (arith, n, a.receive.few))
 
 pub no_count : (words : List (List ℕ)) → ((4 ≤ length words) × (length words ≤ 11) → ⊥) → AskInVain verbs.Receive words
@@ -171,7 +236,7 @@ unfolding ◌>>=◌
 received words kind when keys e l k m s =
     let f = begin_with words verbs.Receive e in
     let w = three_words words f.rest f.are l.0 in
-    let n : length words ≡ 3 + length (drop 3 words) = ap length w.2 in
+    let n : length words ≡ suc (suc (suc (length (drop 3 words)))) = ap length w.2 in
     let b : w.0 ≡ kind_word kind = named_kind w.0 kind (k ∙ ap (λ (ws : List (List ℕ)). kind_at ws 1) w.2) in
     let third : some_word m.word ≡ some_word w.1 = sym m.stands ∙ ap (λ (ws : List (List ℕ)). slice_get ws 2) w.2 in
     let same : m.word ≡ w.1 = cc in
@@ -226,16 +291,16 @@ asked_once verbs.Receive words c d p q = p.is ∙ one_receive words p.kind q.kin
 
 pub one_command : (words : List (List ℕ)) (c d : Command) → IsCommand words c → IsCommand words d → c ≡ d
 one_command words c d p q =
-    let same = one_verb words p.0 q.0 (ask_with p.0 words c p.1) (ask_with q.0 words d q.1) in
-    asked_once q.0 words c d (subst (λ (v : Verb). Ask v words c) same p.1) q.1
+    let same = one_verb words p.verb q.verb (ask_with p.verb words c p.ask) (ask_with q.verb words d q.ask) in
+    asked_once q.verb words c d (subst (λ (v : Verb). Ask v words c) same p.ask) q.ask
 
 -- ---- as a command
 
 pub is_command : (words : List (List ℕ)) (kind : Kind) (when : ℤ) (keys : List KeyFields) → IsReceive words kind when keys → IsCommand words (Receive kind when keys)
-is_command words kind when keys r = (verbs.Receive, record { kind = kind; when = when; keys = keys; receive = r; is = refl })
+is_command words kind when keys r = record { verb = verbs.Receive; ask = record { kind = kind; when = when; keys = keys; receive = r; is = refl } }
 
 pub has_few : (words : List (List ℕ)) (c : Command) → IsCommand words c → HasFewKeys c
-has_few words c a = by_verb a.0 a.1
+has_few words c a = by_verb a.verb a.ask
   where
     by_verb : (verb : Verb) → Ask verb words c → HasFewKeys c
     by_verb verbs.Content p = subst HasFewKeys (sym p.1) tt

@@ -68,8 +68,9 @@ Ask verbs.Content words command =
 Ask verbs.Receive words command = AskToReceive words command
 
 -- the words are those of the command
-abbrev pub IsCommand : List (List ℕ) → Command → Type 0
-IsCommand words command = (verb : Verb) × Ask verb words command
+pub record IsCommand (words : List (List ℕ)) (command : Command) : Type 0 where
+  pub verb : Verb
+  pub ask : Ask verb words command
 
 -- the words are those of no command
 abbrev pub IsNoCommand : List (List ℕ) → Type 0

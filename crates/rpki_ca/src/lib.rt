@@ -3,9 +3,9 @@
 //!
 //! - `content` reads a signed message in hexadecimal and writes its content, if the content has the
 //!   digest that was signed. It says nothing of who signed.
-//! - `receive publication MOMENT KEY` writes the message of the publication protocol that a signed
-//!   message is, if the key issued its certificate for the moment; [`receive`] is the same for
-//!   octets.
+//! - `receive publication MOMENT KEY..` writes the message of the publication protocol that a signed
+//!   message is, if one of the one to eight keys issued its certificate for the moment;
+//!   [`receive_any`] is the same for octets, and [`receive`] for one key.
 //!
 //! What is accepted stands in specs/Acceptance.antt, and what is answered to words and input in
 //! specs/Answer.antt.

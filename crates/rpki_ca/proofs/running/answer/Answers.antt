@@ -1,8 +1,14 @@
-use Rattle.std.proofs.Common.{Ok, ◌∙◌}
+use Rattle.std.proofs.Common.{Ok, refl, ◌∙◌}
 use Rattle.std.proofs.lemmas.Result.{IfOk-weaker}
 use Rattle.rpki_ca.specs.Hexadecimal.{hexadecimal}
-use Rattle.rpki_ca.proofs.Answering.{if_some, if_err, shown, admitted, usage_of_none}
+use Rattle.rpki_ca.proofs.Answering.{if_some, if_err, shown, admitted, usage_of_none, usage_shown}
 use Rattle.rpki_ca.proofs.running.answer.Goals as goal
+
+pub returns-in_default-clause-err : goal.returns-in_default-clause-err
+returns-in_default-clause-err g c = usage_shown g.P.Scheme.checks c.args.words.now _ ((rw c.in_default.is at c.in_ok-command.ensures.none) refl) refl
+
+pub returns-in_default-clause-usage : goal.returns-in_default-clause-usage
+returns-in_default-clause-usage g c = λ u. (rw c.in_default.is at c.in_ok-command.ensures.none) refl
 
 pub returns-clause-ok : goal.returns-clause-ok
 returns-clause-ok g c =
