@@ -23,6 +23,8 @@ import pathlib
 import sys
 from types import SimpleNamespace
 
+from stored import SIZES
+
 CRATE = pathlib.Path(__file__).resolve().parent.parent / "crates" / "message_cases"
 NOW = 1700000000
 FIRST, LAST = NOW - 300, NOW + 300
@@ -65,6 +67,10 @@ def octet_string(octets):
 
 def bits(octets):
     return value(3, b"\0" + octets)
+
+
+def printable(octets):
+    return value(0x13, octets)
 
 
 def oid(text):
@@ -128,13 +134,16 @@ GOOD = dict(
     seed=1, ee=1, serial=1, content=QUERY,
     # the signer
     signer_id=None, digested=None, attributes=lambda xs: xs, spoilt_attributes=False, signed_at=NOW,
-    signer_version=3, signer_algorithm=seq(RSA, NULL), signers=lambda x: x, attributes_tag=value,
+    signer_version=3, signer_algorithm=seq(RSA, NULL), signers=lambda x: x, attributes_tag=value, signature=lambda x: x,
     # the certificate
     subject_key=None, validity=(FIRST, LAST), authority_key="issuer", constraints=None, spoilt_certificate=False,
-    certificate_extensions=lambda xs: xs, tbs_length=length,
+    certificate_extensions=lambda xs: xs, tbs_length=length, subject_text=printable,
+    # the certificate and the CRL
+    issuer_text=printable,
     # the CRL
     crl_seed=None, crl_inner=ALGORITHM, crl_outer=ALGORITHM, spoilt_crl=False, updates=(FIRST, LAST), crl_authority="issuer",
     entries=(), revoked_at=FIRST, crl_number=NOW * 1000, crl_extensions=lambda xs: xs, crl_entries_length=length,
+    entry_extensions=b"",
     # the envelope
     outer=value, content_string=octet_string, digest=SHA256, digest_parameters=(), behind=None, envelope_type=SIGNED_DATA,
     data_version=3, data_content_type=XML, certificates=lambda x: value(0xA0, x), crls=lambda x: value(0xA1, x),
@@ -146,9 +155,8 @@ def held(o, place, *parts):
     return b"".join(parts) + (NULL if o.behind == place else b"")
 
 
-def name(seed, number):
-    text = value(0x13, key_identifier(seed, number).hex().upper().encode())
-    return seq(value(0x31, seq(COMMON_NAME, text)))
+def name(seed, number, text=printable):
+    return seq(value(0x31, seq(COMMON_NAME, text(key_identifier(seed, number).hex().upper().encode()))))
 
 
 def authority(identifier, issuer_seed):
@@ -170,19 +178,20 @@ def certificate(o):
         flag = b"\1\1\xff"
         extensions.append(seq(BASIC_CONSTRAINTS, flag, octet_string(seq(flag if o.constraints else b""))))
     tbs = value(0x30, held(
-        o, "tbs", value(0xA0, integer(2)), integer(o.serial), ALGORITHM, name(o.seed, 0), seq(*map(time, o.validity)),
-        name(o.seed, o.ee), key, value(0xA3, seq(*o.certificate_extensions(extensions)))), o.tbs_length)
+        o, "tbs", value(0xA0, integer(2)), integer(o.serial), ALGORITHM, name(o.seed, 0, o.issuer_text),
+        seq(*map(time, o.validity)), name(o.seed, o.ee, o.subject_text), key,
+        value(0xA3, seq(*o.certificate_extensions(extensions)))), o.tbs_length)
     signature = sign(o.seed, 0, tbs, o.spoilt_certificate)
     return value(0x30, held(o, "certificate", tbs, ALGORITHM, bits(signature)))
 
 
 def crl(o):
     seed = o.crl_seed or o.seed
-    entries = b"".join(seq(integer(n), time(o.revoked_at)) for n in o.entries or ())
+    entries = b"".join(seq(integer(n), time(o.revoked_at), o.entry_extensions) for n in o.entries or ())
     entries = b"" if o.entries is None else value(0x30, entries, o.crl_entries_length)
     extensions = authority(o.crl_authority, seed) + [seq(CRL_NUMBER, octet_string(integer(o.crl_number)))]
     tbs = value(0x30, held(
-        o, "crl-tbs", integer(1), o.crl_inner, name(seed, 0), *map(time, o.updates), entries,
+        o, "crl-tbs", integer(1), o.crl_inner, name(seed, 0, o.issuer_text), *map(time, o.updates), entries,
         value(0xA0, seq(*o.crl_extensions(extensions)))))
     signature = sign(seed, 0, tbs, o.spoilt_crl)
     return value(0x30, held(o, "crl", tbs, o.crl_outer, bits(signature)))
@@ -200,7 +209,7 @@ def signer(o):
     signature = sign(o.seed, o.ee, value(0x31, attributes), o.spoilt_attributes)
     return value(0x30, held(
         o, "signer", integer(o.signer_version), value(0x80, o.signer_id or subject_key(o)), seq(SHA256, *o.digest_parameters),
-        o.attributes_tag(0xA0, attributes), o.signer_algorithm, octet_string(signature)))
+        o.attributes_tag(0xA0, attributes), o.signer_algorithm, octet_string(o.signature(signature))))
 
 
 def message(**options):
@@ -406,6 +415,92 @@ def failing_cases():
     yield "long-serial-listed", message(serial=(1 << 159) - 1, entries=(1, (1 << 159) - 1)), "verification-14"
 
 
+# ---- parts of the sizes where a length or a count takes one octet more; what is in BER is read loosely alone, for a short file
+
+SMALL = SIZES[:4]
+
+
+def varied(n):
+    return bytes(i % 251 for i in range(n))
+
+
+def content_sizes():
+    for n in SIZES:
+        yield from case(f"content-of-{n}", message(content=varied(n)), "ok")
+
+
+def segment_sizes():
+    """The content in segments of one octet, one behind the other; and in one segment, so many levels down (X.690, 8.7.3)."""
+    flat = lambda octets: indefinite(0x24, b"".join(octet_string(bytes([octet])) for octet in octets))
+    for n in SIZES:
+        octets = message(content=varied(n), content_string=flat)
+        yield from case(f"content-in-{n}-segments", octets, "ok", modes=("loose",))
+    for n in SMALL:
+        octets = message(content_string=lambda octets: b"\x24\x80" * n + octet_string(octets) + b"\0\0" * n)
+        yield from case(f"content-in-a-segment-{n}-levels-down", octets, "ok", modes=("loose",))
+
+
+def entry_sizes():
+    """The certificate's number is 1. The numbers of the longest list have one octet, so that each stands there many times."""
+    for n in SMALL:
+        yield from case(f"{n}-entries", message(entries=range(2, n + 2)), "ok")
+    yield from case("last-of-256-entries-is-the-serial", message(entries=[*range(2, 257), 1]), "verification-14")
+    yield from case("65536-entries", message(entries=[2 + i % 126 for i in range(65536)]), "ok", modes=("strict",))
+
+
+def name_sizes():
+    for n in SMALL:
+        text = lambda octets: printable((octets * 7)[:n])
+        yield from case(f"names-of-{n}", message(issuer_text=text, subject_text=text), "ok")
+
+
+def signature_sizes():
+    """A signature of the toy scheme has 32 octets, so these don't hold."""
+    for n in SMALL:
+        yield from case(f"signature-of-{n}", message(signature=lambda octets: (octets * 8)[:n]), "verification-3")
+
+
+def extension_sizes():
+    """Unknown extensions, which aren't critical, in front of the known ones."""
+    for n in SMALL:
+        unknown = [seq(oid(f"1.3.6.1.4.1.99999.{arc}"), octet_string(b"")) for arc in range(n)]
+        yield from case(f"{n}-unknown-extensions", message(certificate_extensions=lambda xs: [*unknown, *xs]), "ok")
+
+
+def open_levels(n):
+    """So many SEQUENCEs, each the only value in the one round it, of indefinite lengths."""
+    return b"\x30\x80" * n + b"\0\0" * n
+
+
+def der_levels(n):
+    """The same in DER."""
+    octets = b""
+    for _ in range(n):
+        octets = seq(octets)
+    return octets
+
+
+def level_sizes():
+    """Among the values of an unknown attribute, which aren't looked at."""
+    in_attribute = lambda levels: message(attributes=behind_last(attribute(oid("1.3.6.1.4.1.99999.1"), levels)))
+    for n in SIZES:
+        yield from case(f"{n}-levels-in-an-attribute", in_attribute(open_levels(n)), "ok", modes=("loose",))
+    for n in SMALL:
+        yield from case(f"{n}-der-levels-in-an-attribute", in_attribute(der_levels(n)), "ok")
+
+
+def level_places():
+    """A name's value and an entry's extensions aren't looked at either, but a CRL is in DER; an algorithm's parameters are NULL or
+    nothing."""
+    in_ber, in_der = open_levels(256), der_levels(256)
+    yield from case("256-levels-in-a-name", message(subject_text=lambda octets: in_ber), "ok", modes=("loose",))
+    yield from case("256-der-levels-in-a-name", message(subject_text=lambda octets: in_der), "ok")
+    yield from case("256-levels-in-an-entry", message(entries=(2,), entry_extensions=in_ber), "malformed")
+    yield from case("256-der-levels-in-an-entry", message(entries=(2,), entry_extensions=in_der), "ok")
+    yield from case("256-der-levels-in-the-digest-algorithms", message(digest_parameters=(in_der,)), "malformed")
+    yield from case("256-der-levels-in-the-signer-algorithm", message(signer_algorithm=seq(RSA, in_der)), "malformed")
+
+
 # Two messages that were made elsewhere; content-a's signatures are zeros.
 QUERY_MESSAGE = (
     "3082039906092a864886f70d010702a082038a30820386020103310d300b06096086480165030402013076060b2a864886f70d010910011ca067"
@@ -462,6 +557,9 @@ def lines():
     for label, octets in ber_cases():
         yield from case(label, octets, "ok", modes=("loose",))
         yield from case(label, octets, "malformed", modes=("strict",))
+    for part in (content_sizes, segment_sizes, entry_sizes, name_sizes, signature_sizes, extension_sizes, level_sizes,
+            level_places):
+        yield from part()
 
 
 def compare(octets):
