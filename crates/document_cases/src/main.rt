@@ -8,30 +8,26 @@
 use rpki_common::OutOfMemory;
 use rpki_xml::{ElementRef, ElementWriter, XmlError, read_document};
 use std::alloc::Global;
+use std::io;
 use std::io::ErrorKind;
-use std::rt::Files;
-use std::{fs, io};
+use stored_cases::{Cases, invalid, run};
 
 fn out_of_memory(_: OutOfMemory) -> io::Error {
     io::Error::from(ErrorKind::OutOfMemory)
-}
-
-fn no_case() -> io::Error {
-    io::Error::from(ErrorKind::InvalidData)
 }
 
 // The octets that a word gives in hexadecimal.
 fn octets_of(alloc: Global, word: &str) -> io::Result<Vec<u8>> {
     match hex::decode(alloc, word) {
         Ok(octets) => Ok(octets),
-        Err(_) => Err(no_case()),
+        Err(_) => Err(invalid()),
     }
 }
 
 // `COUNT*HEX`: so many of these octets in a row.
 fn add_repeated(alloc: Global, out: &mut Vec<u8>, count: &str, word: &str) -> io::Result<()> {
     let octets = octets_of(alloc, word)?;
-    let count = count.parse::<u32>().map_err(|_| no_case())?;
+    let count = count.parse::<u32>().map_err(|_| invalid())?;
     for _ in 0..count {
         out.extend_from_slice(&octets)?;
     }
@@ -40,10 +36,10 @@ fn add_repeated(alloc: Global, out: &mut Vec<u8>, count: &str, word: &str) -> io
 
 // `COUNT#HEX/HEX`: each number below COUNT in decimal, between these octets.
 fn add_numbered(alloc: Global, out: &mut Vec<u8>, count: &str, words: &str) -> io::Result<()> {
-    let (front, back) = words.split_once('/').ok_or(no_case())?;
+    let (front, back) = words.split_once('/').ok_or(invalid())?;
     let front = octets_of(alloc, front)?;
     let back = octets_of(alloc, back)?;
-    let count = count.parse::<u32>().map_err(|_| no_case())?;
+    let count = count.parse::<u32>().map_err(|_| invalid())?;
     for number in 0..count {
         out.extend_from_slice(&front)?;
         out.extend_from_slice(format!(in alloc; "{number}")?.as_bytes())?;
@@ -121,21 +117,16 @@ fn holds(alloc: Global, document: &str, element: &str) -> io::Result<bool> {
     is_as_expected(alloc, &document, Some(&expected))
 }
 
-fn main(rt: HostRuntime) -> io::Result<()> {
-    let cases = fs::read(&rt, "cases.txt")?;
-    let Ok(cases) = std::str::from_utf8(&cases) else {
-        return Err(no_case());
-    };
-    let mut count = 0usize;
-    let mut differ = 0usize;
-    for line in cases.lines() {
-        let (name, fields) = line.split_once(' ').ok_or(no_case())?;
-        let (document, element) = fields.split_once(' ').ok_or(no_case())?;
-        count = count.saturating_add(1);
-        if !holds(rt.alloc(), document, element)? {
-            println!(rt; "case {name} differs")?;
-            differ = differ.saturating_add(1);
-        }
+struct Documents;
+
+impl Cases for Documents {
+    fn holds(&self, alloc: Global, line: &str) -> io::Result<bool> {
+        let (_, fields) = line.split_once(' ').ok_or(invalid())?;
+        let (document, element) = fields.split_once(' ').ok_or(invalid())?;
+        holds(alloc, document, element)
     }
-    println!(rt; "{count} cases, {differ} differ")
+}
+
+fn main(rt: HostRuntime) -> io::Result<()> {
+    run(&rt, &Documents)
 }

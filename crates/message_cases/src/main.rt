@@ -9,13 +9,12 @@ use rpki_idcert::{ValidationError, ValidationKind};
 use rpki_sigmsg::{DecodeError, OutOfMemory, SignedMessage, SignedMessageRef};
 use rpki_signer::{ToyScheme, ToyVerifier};
 use std::alloc::Global;
+use std::io;
 use std::io::ErrorKind;
-use std::rt::Files;
-use std::{fs, io};
+use stored_cases::{Cases, invalid, run};
 
 #[derive(Drop)]
 struct Case<'a> {
-    name: &'a str,
     strict: bool,
     format: PublicKeyFormat,
     seed: u64,
@@ -45,8 +44,7 @@ fn strictness_of(word: &str) -> Option<bool> {
 }
 
 fn case_of<'a>(line: &'a str) -> Option<Case<'a>> {
-    let mut words = line.split_whitespace();
-    let name = words.next()?;
+    let mut words = line.split_whitespace().skip(1);
     let strict = strictness_of(words.next()?)?;
     let format = format_of(words.next()?)?;
     let seed = words.next()?.parse::<u64>().ok()?;
@@ -54,7 +52,6 @@ fn case_of<'a>(line: &'a str) -> Option<Case<'a>> {
     let expected = words.next()?;
     let message = words.next()?;
     Some(Case {
-        name,
         strict,
         format,
         seed,
@@ -167,29 +164,20 @@ fn is_as_expected(alloc: Global, case: &Case<'_>, octets: &[u8]) -> io::Result<b
     }
 }
 
-fn holds(alloc: Global, case: &Case<'_>) -> io::Result<bool> {
-    match hex::decode(alloc, case.message) {
-        Ok(octets) => is_as_expected(alloc, case, &octets),
-        Err(_) => Err(io::Error::from(ErrorKind::InvalidData)),
+struct Messages;
+
+impl Cases for Messages {
+    fn holds(&self, alloc: Global, line: &str) -> io::Result<bool> {
+        let Some(case) = case_of(line) else {
+            return Err(invalid());
+        };
+        match hex::decode(alloc, case.message) {
+            Ok(octets) => is_as_expected(alloc, &case, &octets),
+            Err(_) => Err(invalid()),
+        }
     }
 }
 
 fn main(rt: HostRuntime) -> io::Result<()> {
-    let cases = fs::read(&rt, "cases.txt")?;
-    let Ok(cases) = std::str::from_utf8(&cases) else {
-        return Err(io::Error::from(ErrorKind::InvalidData));
-    };
-    let mut count = 0usize;
-    let mut differ = 0usize;
-    for line in cases.lines() {
-        let Some(case) = case_of(line) else {
-            return Err(io::Error::from(ErrorKind::InvalidData));
-        };
-        count = count.saturating_add(1);
-        if !holds(rt.alloc(), &case)? {
-            println!(rt; "case {} differs", case.name)?;
-            differ = differ.saturating_add(1);
-        }
-    }
-    println!(rt; "{count} cases, {differ} differ")
+    run(&rt, &Messages)
 }

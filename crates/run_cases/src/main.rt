@@ -7,12 +7,13 @@
 //! script.
 #![tactic(auto)]
 
-use rpki_ca::{Status, Words, run};
+use rpki_ca::{Status, Words};
 use rpki_signer::ToyVerifier;
 use rpki_text::{MemorySink, MemorySource};
 use std::alloc::Global;
+use std::io;
 use std::io::ErrorKind;
-use std::{fs, io};
+use stored_cases::{Cases, invalid, run};
 
 #[derive(Drop)]
 struct Case {
@@ -20,10 +21,6 @@ struct Case {
     input: Vec<u8>,
     status: u8,
     line: Vec<u8>,
-}
-
-fn invalid() -> io::Error {
-    io::Error::from(ErrorKind::InvalidData)
 }
 
 fn out_of_memory() -> io::Error {
@@ -38,13 +35,6 @@ fn octets_of(alloc: Global, field: &str) -> io::Result<Vec<u8>> {
     match hex::decode(alloc, text_of(field)) {
         Ok(octets) => Ok(octets),
         Err(_) => Err(invalid()),
-    }
-}
-
-fn name_of(line: &str) -> &str {
-    match line.split_whitespace().next() {
-        Some(name) => name,
-        None => "",
     }
 }
 
@@ -86,7 +76,7 @@ fn is_answered(alloc: Global, case: &Case, piece: usize) -> io::Result<bool> {
     ) else {
         return Err(out_of_memory());
     };
-    let Status(status) = run(
+    let Status(status) = rpki_ca::run(
         alloc,
         &case.words,
         &mut source,
@@ -96,25 +86,16 @@ fn is_answered(alloc: Global, case: &Case, piece: usize) -> io::Result<bool> {
     Ok(status == case.status && sink.written() == case.line.as_slice())
 }
 
-// Whether the case is answered as expected, whole and an octet at a time.
-fn holds(alloc: Global, line: &str) -> io::Result<bool> {
-    let case = case_of(alloc, line)?;
-    Ok(is_answered(alloc, &case, 1 << 20)? && is_answered(alloc, &case, 1)?)
+struct Runs;
+
+impl Cases for Runs {
+    // Whether the case is answered as expected, whole and an octet at a time.
+    fn holds(&self, alloc: Global, line: &str) -> io::Result<bool> {
+        let case = case_of(alloc, line)?;
+        Ok(is_answered(alloc, &case, 1 << 20)? && is_answered(alloc, &case, 1)?)
+    }
 }
 
 fn main(rt: HostRuntime) -> io::Result<()> {
-    let cases = fs::read(&rt, "cases.txt")?;
-    let Ok(cases) = std::str::from_utf8(&cases) else {
-        return Err(invalid());
-    };
-    let mut count = 0usize;
-    let mut differ = 0usize;
-    for line in cases.lines() {
-        count = count.saturating_add(1);
-        if !holds(rt.alloc(), line)? {
-            println!(rt; "case {} differs", name_of(line))?;
-            differ = differ.saturating_add(1);
-        }
-    }
-    println!(rt; "{count} cases, {differ} differ")
+    run(&rt, &Runs)
 }

@@ -10,26 +10,20 @@ mod calls;
 
 use calls::{Answer, answer_to};
 use std::alloc::Global;
-use std::io::ErrorKind;
-use std::{fs, io};
+use std::io;
+use stored_cases::{Cases, invalid, run};
 
 #[derive(Drop)]
 struct Case<'a> {
-    name: &'a str,
     call: &'a str,
     answer: &'a str,
     first: &'a str,
     second: &'a str,
 }
 
-fn invalid() -> io::Error {
-    io::Error::from(ErrorKind::InvalidData)
-}
-
 fn case_of<'a>(line: &'a str) -> Option<Case<'a>> {
-    let mut fields = line.split_whitespace();
+    let mut fields = line.split_whitespace().skip(1);
     Some(Case {
-        name: fields.next()?,
         call: fields.next()?,
         answer: fields.next()?,
         first: fields.next()?,
@@ -77,31 +71,22 @@ fn is_answer(alloc: Global, answer: &Answer, field: &str) -> io::Result<bool> {
     }
 }
 
-fn holds(alloc: Global, case: &Case<'_>) -> io::Result<bool> {
-    let first = octets_of(alloc, case.first)?;
-    let second = octets_of(alloc, case.second)?;
-    let Some(answer) = answer_to(alloc, case.call, &first, &second)? else {
-        return Err(invalid());
-    };
-    is_answer(alloc, &answer, case.answer)
-}
+struct Texts;
 
-fn main(rt: HostRuntime) -> io::Result<()> {
-    let cases = fs::read(&rt, "cases.txt")?;
-    let Ok(cases) = std::str::from_utf8(&cases) else {
-        return Err(invalid());
-    };
-    let mut count = 0usize;
-    let mut differ = 0usize;
-    'cases: for line in cases.lines() {
-        count = count.saturating_add(1);
+impl Cases for Texts {
+    fn holds(&self, alloc: Global, line: &str) -> io::Result<bool> {
         let Some(case) = case_of(line) else {
             return Err(invalid());
         };
-        if !holds(rt.alloc(), &case)? {
-            println!(rt; "case {} differs", case.name)?;
-            differ = differ.saturating_add(1);
-        }
+        let first = octets_of(alloc, case.first)?;
+        let second = octets_of(alloc, case.second)?;
+        let Some(answer) = answer_to(alloc, case.call, &first, &second)? else {
+            return Err(invalid());
+        };
+        is_answer(alloc, &answer, case.answer)
     }
-    println!(rt; "{count} cases, {differ} differ")
+}
+
+fn main(rt: HostRuntime) -> io::Result<()> {
+    run(&rt, &Texts)
 }
