@@ -1,6 +1,6 @@
 //! What the words of a command line ask for.
 
-ghost use Rattle.std.specs.Prelude.{◌≡◌, IfOk, IfSome, IsNone, List, Some, drop};
+ghost use Rattle.std.specs.Prelude.{◌≡◌, ◌≤◌, Decides, IfOk, IfSome, IsNone, List, Some, drop, length};
 ghost use Rattle.rpki_base.specs.PublicKey.{KeyFields};
 ghost use Rattle.rpki_ca.specs.declared.command.Verb.TheVariants as verbs;
 ghost use Rattle.rpki_ca.specs.Command.{IsCommand, IsNoCommand, AreKeys, Ask, AskInVain};
@@ -100,6 +100,13 @@ impl Words {
         }
     }
 
+    // Whether one to eight words stand behind the first three.
+    fn has_few_keys(&self) -> bool
+        ensures { Decides result ((4 ≤ length self.now) × (length self.now ≤ 11)) }
+    {
+        self.len() >= 4 && self.len() <= 11
+    }
+
     // The keys that the words from the fourth on spell, if each spells one.
     fn keys(&self, alloc: Global) -> Result<Option<Vec<PublicKey>>, OutOfMemory>
         ensures some { IfOk result (λ o. IfSome o (λ keys. AreKeys (drop 3 self.now) keys.items)) }
@@ -122,7 +129,7 @@ impl Words {
         ensures command { IfOk result (λ c. IfSome c (Ask verbs.Receive self.now)) }
         ensures none { IfOk result (λ c. IsNone c → AskInVain verbs.Receive self.now) }
     {
-        if self.len() < 4 || self.len() > 11 {
+        if !self.has_few_keys() {
             return Ok(None);
         }
         let Some(kind) = self.kind(1) else {

@@ -1,18 +1,18 @@
 -- A message under a list of keys.
-use Rattle.std.proofs.Common.{◌≡◌, ℕ, suc, ◌+◌, ℤ, Result, Ok, Err, List, [], ◌∷◌, ◌++◌, length, take, drop, zero, refl, sym, ap, subst, ◌∙◌, arith}
-use Rattle.std.specs.Prelude.{◌≤◌, ◌<◌, ◌↔◌, max}
+use Rattle.std.proofs.Common.{◌≡◌, ℕ, suc, ◌+◌, ℤ, Bool, None, Result, Ok, Err, List, [], ◌∷◌, ◌++◌, length, take, drop, zero, refl, sym, ap, subst, ◌∙◌, arith}
+use Rattle.std.specs.Prelude.{◌≤◌, ◌<◌, ◌↔◌, Decides, max}
 use Rattle.std.specs.List.{AllByRecursion}
 use Rattle.std.proofs.Math.ListN.{get_or, drop_of_length-le}
 use Rattle.std.proofs.lemmas.List.{length-take-le}
 use Rattle.std.specs.Ordering.{ord_max, nat_cmp}
-use Rattle.std.proofs.Math.Nat.{max-zero, zero-max, max-le, le-max_left, le-max_right}
+use Rattle.std.proofs.Math.Nat.{max-zero, zero-max, max-le, le-max_left, le-max_right, max-eq_left}
 use Rattle.rpki_base.specs.PublicKey.{KeyFields}
 use Rattle.rpki_base.specs.Scheme.{Relation}
 use Rattle.rpki_base.specs.Checks.{first_failure, failing}
 use Rattle.rpki_base.specs.declared.validation.ValidationError.{ValidationError}
 use Rattle.rpki_sigmsg.specs.Message.{MessageFields}
-use Rattle.rpki_sigmsg.specs.Checks.{checks, kind_of, Asked, AreSigned, IsBelieved, IsValidation, SameAnswers, SameAnswersUnder, IsInSpan, IsAmong, AreAmong, IsBelievedUnder, IsUnbelieved, IsFirstBelieved, HasOutcome, AreOutcomes, first_passing, greatest, ranked, ranked_by, IsAnyValidation, without_place}
-use Rattle.rpki_sigmsg.proofs.Meaning.{asked_too, believed_too, same_back, believed_within, believed_then, number_believed}
+use Rattle.rpki_sigmsg.specs.Checks.{checks, message_checks, kind_of, AreAttributesSigned, Asked, AreSigned, IsBelieved, IsValidation, SameAnswers, SameAnswersUnder, IsInSpan, IsAmong, AreAmong, IsBelievedUnder, IsUnbelieved, IsFirstBelieved, HasOutcome, AreOutcomes, first_passing, greatest, ranked, ranked_by, IsAnyValidation, without_place}
+use Rattle.rpki_sigmsg.proofs.Meaning.{asked_too, believed_too, same_back, believed_within, believed_then, number_believed, said_of_none}
 
 -- ---- lists
 
@@ -273,6 +273,34 @@ all_failed scheme m keys when i worst past sofar os h =
   where
     many : (k o i : ℕ) → k ≤ i → o ≡ k → o ≤ i
     many k o i past e = omega (arith, past, e)
+
+-- ---- what fails under every key
+
+pub none_believed : (scheme : Relation) (m : MessageFields) (keys : List KeyFields) (when : ℤ) (n : ℕ) → ((q3 : Bool) → Decides q3 (AreAttributesSigned scheme m) → Err n ≡ first_failure 1 (message_checks m q3)) → IsUnbelieved scheme m keys when
+none_believed scheme m [] when n own = tt
+none_believed scheme m (k ∷ ks) when n own = (unbelieved_key scheme m when n k (said_of_none scheme m k when n own), none_believed scheme m ks when n own)
+
+same_outcome : (scheme : Relation) (m : MessageFields) (key : KeyFields) (when : ℤ) (n : ℕ) (o : Result (Unit {0}) ℕ) → ((q3 : Bool) → Decides q3 (AreAttributesSigned scheme m) → Err n ≡ first_failure 1 (message_checks m q3)) → HasOutcome scheme m key when o → o ≡ Err n
+same_outcome scheme m key when n o own h = h.is ∙ sym (said_of_none scheme m key when n own h.asked)
+
+none_passes : (scheme : Relation) (m : MessageFields) (keys : List KeyFields) (when : ℤ) (n i : ℕ) (os : List (Result (Unit {0}) ℕ)) → ((q3 : Bool) → Decides q3 (AreAttributesSigned scheme m) → Err n ≡ first_failure 1 (message_checks m q3)) → AreOutcomes scheme m keys when os → first_passing i os ≡ None
+none_passes scheme m [] when n i [] own h = refl
+none_passes scheme m [] when n i (o ∷ os) own h = absurd h
+none_passes scheme m (k ∷ ks) when n i [] own h = absurd h
+none_passes scheme m (k ∷ ks) when n i (o ∷ os) own h = rw (same_outcome scheme m k when n o own h.0) (none_passes scheme m ks when n (i + 1) os own h.1)
+
+at_most : (scheme : Relation) (m : MessageFields) (keys : List KeyFields) (when : ℤ) (n : ℕ) (os : List (Result (Unit {0}) ℕ)) → ((q3 : Bool) → Decides q3 (AreAttributesSigned scheme m) → Err n ≡ first_failure 1 (message_checks m q3)) → AreOutcomes scheme m keys when os → greatest os ≤ n
+at_most scheme m [] when n [] own h = omega arith
+at_most scheme m [] when n (o ∷ os) own h = absurd h
+at_most scheme m (k ∷ ks) when n [] own h = absurd h
+at_most scheme m (k ∷ ks) when n (o ∷ os) own h = rw (same_outcome scheme m k when n o own h.0) (max-le (omega arith) (at_most scheme m ks when n os own h.1))
+
+pub fails_under_all : (scheme : Relation) (m : MessageFields) (keys : List KeyFields) (when : ℤ) (n : ℕ) → 1 ≤ length keys → ((q3 : Bool) → Decides q3 (AreAttributesSigned scheme m) → Err n ≡ first_failure 1 (message_checks m q3))
+    → (os : List (Result (Unit {0}) ℕ)) → AreOutcomes scheme m keys when os → Err n ≡ ranked os
+fails_under_all scheme m [] when n some own os h = absurd (omega (arith, some))
+fails_under_all scheme m (k ∷ ks) when n some own [] h = absurd h
+fails_under_all scheme m (k ∷ ks) when n some own (o ∷ os) h =
+    rw (same_outcome scheme m k when n o own h.0, none_passes scheme m ks when n 1 os own h.1) (ap (λ (w : ℕ). Err w) (sym (max-eq_left (at_most scheme m ks when n os own h.1))))
 
 -- ---- the answer with its place
 

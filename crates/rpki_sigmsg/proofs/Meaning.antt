@@ -12,12 +12,12 @@ use Rattle.rpki_base.specs.Scheme.{Relation}
 use Rattle.rpki_base.specs.Checks.{first_failure, failing, IsSigned}
 use Rattle.rpki_idcert.specs.Checks.{has_own_identifier, is_true}
 use Rattle.rpki_base.specs.declared.validation.ValidationError.{ValidationError}
-use Rattle.rpki_base.proofs.Checking.{passes}
+use Rattle.rpki_base.proofs.Checking.{passes, passed, failed}
 use Rattle.rpki_base.proofs.Believing.{decides_yes, none_failing, held_where_ok, passes_where_ok, ok_where_passes}
 use Rattle.rpki_sigmsg.specs.Crl.{CrlFields}
 use Rattle.rpki_sigmsg.specs.CrlChecks.{same_algorithm, crl_checks, crl_kind, AreCrlsSigned, IsListBelieved}
 use Rattle.rpki_sigmsg.specs.Message.{MessageFields}
-use Rattle.rpki_sigmsg.specs.Checks.{checks, kind_of, is_not_revoked, Asked, AreSigned, IsBelieved, IsValidation, SameAnswers, Passes, IsInSpan}
+use Rattle.rpki_sigmsg.specs.Checks.{checks, message_checks, key_checks, kind_of, is_not_revoked, AreAttributesSigned, Asked, AreSigned, IsBelieved, IsValidation, SameAnswers, Passes, IsInSpan}
 
 -- ---- what is believed
 
@@ -65,6 +65,23 @@ list_believed scheme c issuer when r signed first =
           record { signed = s; passes = passes_where_ok crl_kind (IsSigned scheme c issuer) 9 (crl_checks (c ∷ []) issuer when) r asked s e }),
       (λ b. ok_where_passes crl_kind (IsSigned scheme c issuer) 9 (crl_checks (c ∷ []) issuer when) r asked b.signed b.passes),
     )
+
+-- ---- checks 1 to 3 first, and then 4 to 14 under a key
+
+pub said_of_all : (scheme : Relation) (m : MessageFields) (key : KeyFields) (when : ℤ) (r : Result (Unit {0}) ℕ)
+    → ((q3 : Bool) → Decides q3 (AreAttributesSigned scheme m) → Ok tt ≡ first_failure 1 (message_checks m q3))
+    → ((q8 q10 : Bool) → Decides q8 (IsSigned scheme m.certificate key) → Decides q10 (AreCrlsSigned scheme m.crls key) → r ≡ first_failure 4 (key_checks m key when q8 q10))
+    → (q : Asked scheme m key) → r ≡ first_failure 1 (checks m key when q.q3 q.q8 q.q10)
+said_of_all scheme m key when r own under q = under q.q8 q.q10 q.certificate q.crls ∙ sym (passed 1 (message_checks m q.q3) _ _ (own q.q3 q.attributes))
+
+pub signed_of_all : (scheme : Relation) (m : MessageFields) (key : KeyFields) (r : Result (Unit {0}) ℕ) → AreAttributesSigned scheme m → OnOk r (IsSigned scheme m.certificate key) → OnOk r (AreCrlsSigned scheme m.crls key) → OnOk r (AreSigned scheme m key)
+signed_of_all scheme m key (Ok u) a c l = record { attributes = a; certificate = c; crls = l }
+signed_of_all scheme m key (Err n) a c l = tt
+
+-- where one of the first three fails, it is what fails under every key
+pub said_of_none : (scheme : Relation) (m : MessageFields) (key : KeyFields) (when : ℤ) (n : ℕ)
+    → ((q3 : Bool) → Decides q3 (AreAttributesSigned scheme m) → Err n ≡ first_failure 1 (message_checks m q3)) → (q : Asked scheme m key) → Err n ≡ first_failure 1 (checks m key when q.q3 q.q8 q.q10)
+said_of_none scheme m key when n own q = sym (failed 1 (message_checks m q.q3) _ _ (own q.q3 q.attributes))
 
 -- ---- two schemes
 

@@ -34,13 +34,17 @@ abbrev pub is_not_revoked : MessageFields → Bool
 is_not_revoked m =
     list_all (λ c. not (is_listed m.certificate.tbs.serial c.tbs.revoked.entries)) m.crls
 
--- all fourteen; 4 to 8 are those of the end entity's certificate, 9 to 13 those of the CRLs
+-- 4 to 14, which ask for the issuer's key; 4 to 8 are those of the end entity's certificate, 9 to 13 those of the CRLs
+abbrev pub key_checks : MessageFields → KeyFields → ℤ → Bool → Bool → List Bool
+key_checks m issuer when q8 q10 =
+    ee_checks m.certificate issuer when q8
+    ++ (crl_checks m.crls issuer when q10
+    ++ (is_not_revoked m ∷ []))
+
+-- all fourteen
 abbrev pub checks : MessageFields → KeyFields → ℤ → Bool → Bool → Bool → List Bool
 checks m issuer when q3 q8 q10 =
-    message_checks m q3
-    ++ (ee_checks m.certificate issuer when q8
-    ++ (crl_checks m.crls issuer when q10
-    ++ (is_not_revoked m ∷ [])))
+    message_checks m q3 ++ key_checks m issuer when q8 q10
 
 -- checks 1 and 4 are inspections
 abbrev pub kind_of : ℕ → ValidationKind

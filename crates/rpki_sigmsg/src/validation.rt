@@ -3,7 +3,8 @@
 ghost use Rattle.std.specs.Prelude.{◌≡◌, ◌↔◌, ◌⊎◌, ◌<◌, ◌≤◌, ◌∷◌, [], ℕ, Bool, ℤ, Decides, List, Result, Ok, Err, OnOk, bytes_eq, length};
 ghost use Rattle.rpki_base.specs.PublicKey.{KeyFields};
 ghost use Rattle.rpki_base.specs.declared.validation.ValidationError.{ValidationError as FailedCheck};
-ghost use Rattle.rpki_base.specs.Checks.{first_failure, failing};
+ghost use Rattle.rpki_base.specs.Checks.{first_failure, failing, IsSigned};
+ghost use Rattle.rpki_sigmsg.specs.CrlChecks.{AreCrlsSigned};
 ghost use Rattle.rpki_sigmsg.specs.Message.{MessageFields};
 ghost use Rattle.rpki_sigmsg.specs.Checks as spec;
 
@@ -65,6 +66,26 @@ impl SignedMessage {
             .all(|crl| !crl.tbs().revoked_certs().contains(serial))
     }
 
+    // Checks 4 to 14.
+    fn key_failure<P: Scheme, V: Verifier<P>>(
+        &self,
+        verifier: &V,
+        issuer_key: &PublicKey,
+        when: Time,
+    ) -> Result<(), u8>
+        ensures first_failing { (q8 q10 : Bool) →
+            Decides q8 (IsSigned P.checks self.now.certificate issuer_key.now) →
+            Decides q10 (AreCrlsSigned P.checks self.now.crls issuer_key.now) →
+            result ≡ first_failure 4 (spec.key_checks self.now issuer_key.now when q8 q10) }
+        ensures certificate { OnOk result
+            (IsSigned P.checks self.now.certificate issuer_key.now) }
+        ensures crls { OnOk result (AreCrlsSigned P.checks self.now.crls issuer_key.now) }
+    {
+        self.ee_cert().ee_failure(verifier, issuer_key, when, 4)?;
+        crls_failure(self.crls(), verifier, issuer_key, when)?;
+        require(14, self.is_not_revoked())
+    }
+
     fn failure<P: Scheme, V: Verifier<P>>(
         &self,
         verifier: &V,
@@ -76,9 +97,7 @@ impl SignedMessage {
         ensures signed { OnOk result (spec.AreSigned P.checks self.now issuer_key.now) }
     {
         self.own_failure(verifier)?;
-        self.ee_cert().ee_failure(verifier, issuer_key, when, 4)?;
-        crls_failure(self.crls(), verifier, issuer_key, when)?;
-        require(14, self.is_not_revoked())
+        self.key_failure(verifier, issuer_key, when)
     }
 
     /// Whether the key issued the certificate for the moment and the certificate's key signed the message; if not, the first of
@@ -117,13 +136,15 @@ impl SignedMessage {
 
 /// # Validation under a list of keys
 impl SignedMessage {
-    // The place of the first key under which no check fails; else the greatest of the first checks that fail under each.
+    // The place of the first key under which no check fails; else the greatest of the first checks that fail under each. What doesn't
+    // ask for the key is checked once.
     fn any_failure<P: Scheme, V: Verifier<P>>(
         &self,
         verifier: &V,
         keys: &[PublicKey],
         when: Time,
     ) -> Result<usize, u8>
+        requires { 1 ≤ length keys.now }
         ensures ok { (place : ℕ) → result ≡ Ok place →
             spec.IsFirstBelieved P.checks self.now keys.now when place }
         ensures err { (check : ℕ) → result ≡ Err check →
@@ -132,9 +153,10 @@ impl SignedMessage {
             spec.AreOutcomes P.checks self.now keys.now when outcomes →
             result ≡ spec.ranked outcomes }
     {
+        self.own_failure(verifier)?;
         let mut greatest = 0;
         for (place, key) in keys.iter().enumerate() {
-            match self.failure(verifier, key, when) {
+            match self.key_failure(verifier, key, when) {
                 Ok(()) => return Ok(place),
                 Err(check) => greatest = greatest.max(check),
             }

@@ -11,5 +11,5 @@ returns-in_default-moment-clause-none c = λ n. no_moment c.args.self.now (c.in_
 pub returns-in-Some-2-clause-command : goal.returns-in-Some-2-clause-command
 returns-in-Some-2-clause-command c =
     rw c.from_vec.ensures
-    (received c.args.self.now c.in-Some.kind c.in-Some-moment.when c.in-Some-2.keys.items c.requires (rw c.len.ensures at c.if-len-lt4.false, rw c.len-else-len-lt4.ensures at c.if-len-gt11.false) c.in-Some.ensures
+    (received c.args.self.now c.in-Some.kind c.in-Some-moment.when c.in-Some-2.keys.items c.requires (c.has_few_keys.ensures.0 c.if-not-has_few_keys.false) c.in-Some.ensures
     c.in-Some-moment.ensures.some (rw c.in-Some-2.is at c.in_ok-keys.ensures.some))
