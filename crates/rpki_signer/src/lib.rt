@@ -1,8 +1,12 @@
-//! A signature scheme without any security, which stands in where no real one is handed in.
+//! Signers, and a signature scheme without any security, which stands in where no real one is handed in.
 //!
 //! [`ToyScheme`] says which signatures hold: the SHA-256 of the key's bits and the message. [`ToyVerifier`] answers that.
 #![tactic(auto)]
 
+mod errors;
+mod signer;
 mod toy;
 
+pub use errors::{CallError, KeyError, MakeError, SigningError};
+pub use signer::Signer;
 pub use toy::{ToyScheme, ToyVerifier};
