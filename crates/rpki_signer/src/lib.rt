@@ -6,7 +6,9 @@
 mod errors;
 mod signer;
 mod toy;
+mod toy_signer;
 
 pub use errors::{CallError, KeyError, MakeError, SigningError};
 pub use signer::Signer;
 pub use toy::{ToyScheme, ToyVerifier};
+pub use toy_signer::{ToyKey, ToySigner};

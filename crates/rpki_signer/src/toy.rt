@@ -21,7 +21,7 @@ impl Scheme for ToyScheme {
 }
 
 // The digest that stands for a signature.
-fn toy_digest(bits: &[u8], message: &[u8]) -> [u8; 32]
+pub(crate) fn toy_digest(bits: &[u8], message: &[u8]) -> [u8; 32]
     ensures { result ≡ sha256 (bits.now ++ message.now) }
 {
     let mut hasher = Sha256::new();

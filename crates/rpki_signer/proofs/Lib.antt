@@ -1,0 +1,4 @@
+pub mod Keyrings
+pub mod Promises
+pub mod Random
+pub mod ToySigners
