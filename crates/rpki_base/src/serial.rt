@@ -93,6 +93,16 @@ impl From<u64> for Serial {
     }
 }
 
+impl From<[u8; 20]> for Serial {
+    ghost use Rattle.std.specs.Prelude.{◌≡◌};
+
+    ghost from_gives = { λ octets s. s ≡ octets };
+
+    fn from(octets: [u8; 20]) -> Serial {
+        Serial { octets }
+    }
+}
+
 // The octets behind 00.
 fn behind_zero(octets: &[u8; 20]) -> [u8; 21]
     ensures { result ≡ 0 ∷ octets.now }

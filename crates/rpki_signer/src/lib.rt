@@ -4,11 +4,13 @@
 #![tactic(auto)]
 
 mod errors;
+mod serials;
 mod signer;
 mod toy;
 mod toy_signer;
 
 pub use errors::{CallError, KeyError, MakeError, SigningError};
+pub use serials::random_serial;
 pub use signer::Signer;
 pub use toy::{ToyScheme, ToyVerifier};
 pub use toy_signer::{ToyKey, ToySigner};

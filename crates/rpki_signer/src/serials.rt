@@ -22,5 +22,5 @@ pub fn random_serial<P: Scheme, S: Signer<P>>(
     let mut octets = [0u8; 20];
     signer.rand(&mut octets)?;
     octets[0] &= 0x7F;
-    Ok(Serial::from_octets(octets))
+    Ok(Serial::from(octets))
 }
