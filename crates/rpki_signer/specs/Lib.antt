@@ -1,5 +1,6 @@
--- Said in contracts, and to be believed: Signer, Errors, Serials, Toy, ToySigner.
+-- Said in contracts, and to be believed: Signer, Errors, Limits, Serials, Toy, ToySigner.
 pub mod Errors
+pub mod Limits
 pub mod Serials
 pub mod Signer
 pub mod Toy

@@ -4,12 +4,14 @@
 #![tactic(auto)]
 
 mod errors;
+mod limits;
 mod serials;
 mod signer;
 mod toy;
 mod toy_signer;
 
 pub use errors::{CallError, KeyError, MakeError, SigningError};
+pub use limits::{key_within_limit, sign_once_within_limit, sign_within_limit};
 pub use serials::random_serial;
 pub use signer::Signer;
 pub use toy::{ToyScheme, ToyVerifier};

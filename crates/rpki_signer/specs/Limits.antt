@@ -1,0 +1,60 @@
+-- Keys and signatures of a signer that are not too long, and what calls answer that make something with them.
+use Rattle.std.specs.Prelude.{true, ◌≡◌, ◌≢◌, ◌≤◌, ◌^◌, ℕ, List, length, ⊤}
+use Rattle.rpki_common.specs.Causes.{Rose}
+use Rattle.rpki_base.specs.declared.algorithm.SigningAlgorithm.{SigningAlgorithm}
+use Rattle.rpki_base.specs.PublicKey.{KeyFields}
+use Rattle.rpki_base.specs.declared.rpki_algorithm.RsaIdentifier.TheVariants.{RsaEncryption}
+use Rattle.rpki_base.specs.RpkiSignatureAlgorithm.{RpkiAlgorithm}
+use Rattle.rpki_base.specs.Scheme.{Relation}
+use Rattle.rpki_signer.specs.declared.errors.MakeError.{MakeError}
+use Rattle.rpki_signer.specs.declared.errors.MakeError.TheVariants as make
+use Rattle.rpki_signer.specs.declared.errors.SigningError.TheVariants as signing
+use Rattle.rpki_signer.specs.Signer.{SignerState, IsLater, IsKeyOf, IsSignature, IsOneOff, SigningFails}
+
+-- at most 2^16 octets
+abbrev pub IsShort : List ℕ → Type 0
+IsShort octets = length octets ≤ 2 ^ 16
+
+pub record IsShortKey {Id : Type 0} (id : Id) (before after : SignerState Id) (key : KeyFields)
+    : Type 0 where
+  pub is : IsKeyOf id before after key
+  pub short : IsShort key.bits
+
+pub record IsShortSignature {Id : Type 0} (scheme : Relation) (kind : SigningAlgorithm) (id : Id)
+    (message : List ℕ) (before after : SignerState Id) (octets : List ℕ) : Type 0 where
+  pub is : IsSignature scheme kind id message before after octets
+  pub short : IsShort octets
+
+pub record IsShortOneOff {Id : Type 0} (scheme : Relation) (kind : SigningAlgorithm)
+    (message : List ℕ) (before after : SignerState Id) (octets : List ℕ) (key : KeyFields) : Type 0
+  where
+    pub is : IsOneOff scheme kind message before after octets key
+    pub short : IsShort octets
+    pub short_key : IsShort key.bits
+
+-- the keyring stays, and no count falls
+pub record Keeps {Id : Type 0} (before after : SignerState Id) : Type 0 where
+  pub later : IsLater before after
+  pub keyring : after.keyring ≡ before.keyring
+
+-- Why nothing was made: a key or a signature was too long, and the signer told so by its count; or the signer refused, by its causes.
+-- Of want of memory nothing is said, and no refusal of the signer stands for it.
+abbrev pub MakeFails : {Id E : Type 0} → SigningAlgorithm → Id → SignerState Id → SignerState Id
+    → MakeError E → Type 0
+MakeFails kind id before after make.TooLong = Rose before.overlong after.overlong
+MakeFails kind id before after (make.Signing error) =
+    (error ≢ signing.OutOfMemory) × SigningFails kind id before after error
+MakeFails kind id before after make.OutOfMemory = ⊤
+
+-- the same of a signature under a key for one use, which asks for no identifier
+abbrev pub OnceFails : {Id E : Type 0} → SignerState Id → SignerState Id → MakeError E → Type 0
+OnceFails before after make.TooLong = Rose before.overlong after.overlong
+OnceFails before after (make.Signing signing.KeyNotFound) = ⊥
+OnceFails before after (make.Signing signing.IncompatibleKey) = ⊥
+OnceFails before after (make.Signing (signing.Signer error)) = Rose before.faults after.faults
+OnceFails before after (make.Signing signing.OutOfMemory) = ⊥
+OnceFails before after make.OutOfMemory = ⊤
+
+-- the algorithm that is signed with: rsaEncryption and NULL
+abbrev pub default_algorithm : RpkiAlgorithm
+default_algorithm = record { identifier = RsaEncryption; null = true }

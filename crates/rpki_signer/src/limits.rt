@@ -1,0 +1,84 @@
+//! Keys and signatures of a signer that are not too long.
+
+ghost use Rattle.std.specs.Prelude.{◌≡◌, ◌↔◌, ◌<◌, ◌^◌, length, IsTrue, IfOk, MatchResult};
+ghost use Rattle.rpki_signer.specs.Signer.{AreDistinct, Stays};
+ghost use Rattle.rpki_signer.specs.Limits.{IsShort, IsShortKey, IsShortSignature, IsShortOneOff, Keeps, MakeFails, OnceFails, default_algorithm};
+
+use crate::errors::MakeError;
+use crate::signer::Signer;
+use rpki_base::{
+    PublicKey, RpkiSignatureAlgorithm, Scheme, Signature, SignatureAlgorithm, SigningAlgorithm,
+};
+use std::alloc::Global;
+
+/// The most octets that the bits of a signer's key or one of its signatures may have.
+const LIMIT: usize = 1 << 16;
+
+fn is_short(octets: &[u8]) -> bool
+    ensures { IsTrue result ↔ IsShort octets.now }
+{
+    octets.len() <= LIMIT
+}
+
+/// The key with this identifier; TooLong where it has more than 2^16 octets.
+pub fn key_within_limit<P: Scheme, S: Signer<P>>(
+    alloc: Global,
+    id: &S::KeyId,
+    signer: &mut S,
+) -> Result<PublicKey, MakeError<S::Error>>
+    ensures key { MatchResult result
+        (IsShortKey id.now (S.state signer.old) (S.state signer.new))
+        (λ e. Stays (S.state signer.old) (S.state signer.new)
+        × MakeFails SigningAlgorithm.RsaSha256 id.now (S.state signer.old) (S.state signer.new) e) }
+    ensures distinct { AreDistinct (S.state signer.new).keyring }
+{
+    let key = signer.get_key_info(alloc, id)?;
+    if !is_short(key.bits_bytes().as_slice()) {
+        return Err(MakeError::TooLong);
+    }
+    Ok(key)
+}
+
+/// The signature of a message under the RSA key with this identifier; TooLong where it has more than 2^16 octets.
+pub fn sign_within_limit<P: Scheme, S: Signer<P>>(
+    alloc: Global,
+    id: &S::KeyId,
+    message: &[u8],
+    signer: &mut S,
+) -> Result<Signature<RpkiSignatureAlgorithm>, MakeError<S::Error>>
+    ensures signed { MatchResult result
+        (λ s. IsShortSignature P.checks SigningAlgorithm.RsaSha256 id.now message.now
+        (S.state signer.old) (S.state signer.new) s.value)
+        (λ e. Stays (S.state signer.old) (S.state signer.new)
+        × MakeFails SigningAlgorithm.RsaSha256 id.now (S.state signer.old) (S.state signer.new) e) }
+    ensures algorithm { IfOk result (λ s. s.algorithm ≡ default_algorithm) }
+    ensures distinct { AreDistinct (S.state signer.new).keyring }
+{
+    let signature = signer.sign(alloc, id, RpkiSignatureAlgorithm::default(), message)?;
+    if !is_short(signature.value().as_slice()) {
+        return Err(MakeError::TooLong);
+    }
+    Ok(signature)
+}
+
+/// The signature of a message under an RSA key for this one use, and that key; TooLong where one of them has more than 2^16 octets.
+pub fn sign_once_within_limit<P: Scheme, S: Signer<P>>(
+    alloc: Global,
+    message: &[u8],
+    signer: &mut S,
+) -> Result<(Signature<RpkiSignatureAlgorithm>, PublicKey), MakeError<S::Error>>
+    ensures signed { MatchResult result
+        (λ r. IsShortOneOff P.checks SigningAlgorithm.RsaSha256 message.now
+        (S.state signer.old) (S.state signer.new) r.0.value r.1)
+        (λ e. Keeps (S.state signer.old) (S.state signer.new)
+        × OnceFails (S.state signer.old) (S.state signer.new) e) }
+    ensures algorithm { IfOk result (λ r. r.0.algorithm ≡ default_algorithm) }
+    ensures distinct { AreDistinct (S.state signer.new).keyring }
+{
+    let algorithm = RpkiSignatureAlgorithm::default();
+    let (signature, key) = signer.sign_one_off(alloc, algorithm, message)?;
+    if !is_short(signature.value().as_slice()) || !is_short(key.bits_bytes().as_slice()) {
+        return Err(MakeError::TooLong);
+    }
+    Ok((signature, key))
+}
