@@ -3,3 +3,4 @@ pub mod Gathering
 pub mod Sizes
 pub mod Beliefs
 pub mod Alike
+pub mod Issuing

@@ -1,4 +1,4 @@
--- Said in contracts, and to be believed: TbsIdCert, IdCert, Extensions, Spelling, Checks.
+-- Said in contracts, and to be believed: TbsIdCert, IdCert, Extensions, Spelling, Making, Checks.
 -- Means for readers: Shown, Gathered.
 pub mod Extensions
 pub mod Gathered
@@ -6,4 +6,5 @@ pub mod Shown
 pub mod TbsIdCert
 pub mod IdCert
 pub mod Spelling
+pub mod Making
 pub mod Checks

@@ -64,7 +64,7 @@ spelled_fields t =
     ++ (spelled_key t.key
     ++ der_constructed (context 3) (der_constructed sequence (spelled_extensions t))))))))
 
-abbrev pub spelled_tbs : TbsFields → List ℕ
+unfoldable pub spelled_tbs : TbsFields → List ℕ
 spelled_tbs t = der_constructed sequence (spelled_fields t)
 
 -- the fields have a spelling: four length octets can say how long they are (X.690, 8.1.3)

@@ -50,6 +50,15 @@ pub fn signed_octets_determine_the_fields()
         whole_of (tbs_certificate mode) mode c.signed.slice ≡ Some c.tbs }
 {}
 
+impl IdCert {
+    // The certificate of these parts.
+    pub(crate) fn from_parts(signed: SignedData<RpkiSignatureAlgorithm>, tbs: TbsIdCert) -> IdCert
+        ensures { result ≡ record { signed = signed; tbs = tbs } }
+    {
+        IdCert { signed, tbs }
+    }
+}
+
 /// # Data access
 impl IdCert {
     /// What is signed.

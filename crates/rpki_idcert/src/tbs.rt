@@ -1,10 +1,11 @@
 //! What is signed of an identity certificate.
 
-ghost use Rattle.std.specs.Prelude.{◌≡◌, ◌↔◌, ◌<◌, true, IfOk};
+ghost use Rattle.std.specs.Prelude.{◌≡◌, ◌↔◌, ◌<◌, true, Decides, IfOk};
 ghost use Rattle.rpki_der.specs.Takes.{Takes};
 ghost use Rattle.rpki_der.specs.Held.{with_octets};
 ghost use Rattle.rpki_der.specs.Ticks.{TakesCounted};
 ghost use Rattle.rpki_idcert.specs.IdCert.{CertificateFields};
+ghost use Rattle.rpki_idcert.specs.Making.{authority_of_own, issuer_of_other, IsMadeFor};
 ghost use Rattle.rpki_idcert.specs.TbsIdCert.{TbsFields, version, tbs_certificate};
 
 use crate::extensions::take_extensions;
@@ -67,6 +68,60 @@ pub fn equal_certificates_are_the_same()
     ensures certificates { (a b : CertificateFields) →
         (⟦<IdCert as PartialEq>⟧.eq a b ≡ true) ↔ (a.signed ≡ b.signed) }
 {}
+
+// Whether two keys are the same.
+fn is_same(a: &PublicKey, b: &PublicKey) -> bool
+    ensures { Decides result (a.now ≡ b.now) }
+{
+    a == b
+}
+
+// That the subject is an authority, where the key is the issuing one.
+fn authority_of_own(own: bool) -> Option<bool>
+    ensures { result ≡ authority_of_own own }
+{
+    if own { Some(true) } else { None }
+}
+
+// The key identifier of the issuing key, where the key is another.
+fn issuer_of_other(own: bool, issuing_key: &PublicKey) -> Option<KeyIdentifier>
+    ensures { result ≡ issuer_of_other own issuing_key.now }
+{
+    if own {
+        None
+    } else {
+        Some(issuing_key.key_identifier())
+    }
+}
+
+/// # Making
+impl TbsIdCert {
+    /// What is to be signed under the issuing key of a certificate for `key`: the issuing key's own is an authority's, and every
+    /// other has the key identifier of the issuing key.
+    pub fn new(
+        alloc: Global,
+        serial: Serial,
+        validity: Validity,
+        key: &PublicKey,
+        issuing_key: &PublicKey,
+    ) -> Result<TbsIdCert, OutOfMemory>
+        ensures { IfOk result (IsMadeFor issuing_key.now key.now serial validity) }
+    {
+        let own = is_same(key, issuing_key);
+        let issuer = Name::from_pub_key(alloc, issuing_key)?;
+        let subject = Name::from_pub_key(alloc, key)?;
+        Ok(TbsIdCert {
+            serial,
+            issuer,
+            validity,
+            subject,
+            key: key.clone(alloc)?,
+            basic_ca: authority_of_own(own),
+            subject_key_id: key.key_identifier(),
+            authority_key_id: issuer_of_other(own, issuing_key),
+        })
+    }
+}
 
 /// # Data access
 impl TbsIdCert {

@@ -1,0 +1,112 @@
+-- How identity certificates are made (RFC 5280, 4.1.2 and 4.2.1).
+use Rattle.std.specs.Prelude.{◌≡◌, ◌≤ℤ◌, Decides, ℕ, ℤ, Bool, true, false, Option, None, Some, Ok, List, ◌++◌}
+use Rattle.hex.specs.Hex.{encode_upper}
+use Rattle.sha1.specs.Sha1.{sha1}
+use Rattle.rpki_der.specs.declared.mode.Mode.{Mode}
+use Rattle.rpki_der.specs.Takes.{BeginsAs}
+use Rattle.rpki_base.specs.declared.algorithm.SigningAlgorithm.TheVariants.{RsaSha256}
+use Rattle.rpki_base.specs.Checks.{IsSigned}
+use Rattle.rpki_base.specs.Name.{name_of_text}
+use Rattle.rpki_base.specs.PublicKey.{KeyFields}
+use Rattle.rpki_base.specs.RpkiSignatureAlgorithm.{spelled_x509}
+use Rattle.rpki_base.specs.Scheme.{Relation}
+use Rattle.rpki_base.specs.Serial.{serial_of}
+use Rattle.rpki_base.specs.SignedData.{spelled_data, CanBeSpelled}
+use Rattle.rpki_base.specs.Validity.{ValidityFields}
+use Rattle.rpki_signer.specs.Limits.{IsShort, IsShortSignature, Keeps, default_algorithm}
+use Rattle.rpki_signer.specs.Serials.{without_first_bit}
+use Rattle.rpki_signer.specs.Signer.{SignerState, Holds, Stays}
+use Rattle.rpki_idcert.specs.TbsIdCert.{TbsFields}
+use Rattle.rpki_idcert.specs.IdCert.{CertificateFields, identity_certificate}
+use Rattle.rpki_idcert.specs.Spelling.{spelled_tbs}
+
+-- ---- the fields
+
+-- the name of a key: its one attribute is commonName, with the key identifier in upper case hexadecimal digits
+abbrev pub name_of_key : KeyFields → List ℕ
+name_of_key key = name_of_text (encode_upper (sha1 key.bits))
+
+-- the issuing key's own certificate is an authority's (4.2.1.9), and every other names the issuing key (4.2.1.1)
+abbrev pub authority_of_own : Bool → Option Bool
+authority_of_own true = Some true
+authority_of_own false = None
+
+abbrev pub issuer_of_other : Bool → KeyFields → Option (List ℕ)
+issuer_of_other true issuing = None
+issuer_of_other false issuing = Some (sha1 issuing.bits)
+
+-- what is said of a key, where own says whether it is the issuing key itself
+abbrev pub made_fields : Bool → KeyFields → KeyFields → List ℕ → ValidityFields → TbsFields
+made_fields own issuing key serial validity = record {
+  serial = serial;
+  issuer = name_of_key issuing;
+  validity = validity;
+  subject = name_of_key key;
+  key = key;
+  basic_ca = authority_of_own own;
+  subject_key_id = sha1 key.bits;
+  authority_key_id = issuer_of_other own issuing;
+}
+
+pub record IsMadeFor (issuing key : KeyFields) (serial : List ℕ) (validity : ValidityFields)
+    (t : TbsFields) : Type 0 where
+  pub own : Bool
+  pub decides : Decides own (key ≡ issuing)
+  pub is : t ≡ made_fields own issuing key serial validity
+
+-- ---- the certificate
+
+-- the fields in DER, with a signature under the issuing key
+pub record IsIssued (scheme : Relation) (issuing : KeyFields) (c : CertificateFields) : Type 0 where
+  pub slice : c.signed.slice ≡ spelled_tbs c.tbs
+  pub algorithm : c.signed.signature.algorithm ≡ default_algorithm
+  pub signed : IsSigned scheme c issuing
+  pub short : IsShort c.signed.signature.value
+
+-- the same for these fields, as the signer's call gives it
+pub record IsSignedAs {Id : Type 0} (scheme : Relation) (t : TbsFields) (id : Id)
+    (before after : SignerState Id) (c : CertificateFields) : Type 0 where
+  pub tbs : c.tbs ≡ t
+  pub slice : c.signed.slice ≡ spelled_tbs t
+  pub algorithm : c.signed.signature.algorithm ≡ default_algorithm
+  pub signed : IsShortSignature scheme RsaSha256 id (spelled_tbs t) before after
+      c.signed.signature.value
+
+-- A certificate for the signer's key itself, with serial number 1.
+pub record IsAnchorMade {Id : Type 0} (scheme : Relation) (id : Id) (validity : ValidityFields)
+    (before after : SignerState Id) (c : CertificateFields) : Type 0 where
+  pub key : KeyFields
+  pub holds : Holds before.keyring id key
+  pub short : IsShort key.bits
+  pub fields : c.tbs ≡ made_fields true key key (serial_of 1) validity
+  pub issued : IsIssued scheme key c
+  pub keeps : Keeps before after
+  pub drawn : after.drawn ≡ before.drawn
+
+-- A certificate with this serial number for the key, under the signer's key.
+pub record IsIssuedTo {Id : Type 0} (scheme : Relation) (key : KeyFields) (serial : List ℕ)
+    (id : Id) (validity : ValidityFields) (before after : SignerState Id) (c : CertificateFields)
+    : Type 0 where
+  pub issuing : KeyFields
+  pub holds : Holds before.keyring id issuing
+  pub short : IsShort issuing.bits
+  pub fields : IsMadeFor issuing key serial validity c.tbs
+  pub issued : IsIssued scheme issuing c
+  pub stays : Stays before after
+
+-- A certificate for the key, whose serial number the signer drew.
+pub record IsEndEntityMade {Id : Type 0} (scheme : Relation) (key : KeyFields) (id : Id)
+    (validity : ValidityFields) (before after : SignerState Id) (c : CertificateFields) : Type 0
+  where
+    pub issuing : KeyFields
+    pub holds : Holds before.keyring id issuing
+    pub short : IsShort issuing.bits
+    pub fields : IsMadeFor issuing key (without_first_bit after.random) validity c.tbs
+    pub issued : IsIssued scheme issuing c
+    pub keeps : Keeps before after
+    pub drawn : after.drawn ≡ before.drawn
+
+-- its octets begin with it, whatever stands behind them
+abbrev pub IsReadAgain : Mode → CertificateFields → Type 0
+IsReadAgain mode c = (rest : List ℕ) → CanBeSpelled spelled_x509 c.signed
+    → BeginsAs (identity_certificate mode) mode (spelled_data spelled_x509 c.signed ++ rest) c

@@ -1,0 +1,164 @@
+//! Making identity certificates.
+
+ghost use Rattle.std.specs.Prelude.{◌≡◌, ◌<◌, ◌≤ℤ◌, ◌++◌, ℤ, IfOk, IsOk, MatchResult};
+ghost use Rattle.rpki_der.specs.declared.mode.Mode.TheVariants.{Der};
+ghost use Rattle.rpki_base.specs.declared.algorithm.SigningAlgorithm.TheVariants.{RsaSha256};
+ghost use Rattle.rpki_signer.specs.Limits.{Keeps, MakeFails};
+ghost use Rattle.rpki_signer.specs.Signer.{AreDistinct, Stays};
+ghost use Rattle.rpki_idcert.specs.Checks.{IsTaBelieved};
+ghost use Rattle.rpki_idcert.specs.Making.{IsSignedAs, IsIssuedTo, IsAnchorMade, IsEndEntityMade, IsReadAgain};
+ghost use Rattle.rpki_idcert.specs.Spelling.{spelled_tbs, CanBeSpelled};
+
+use crate::id_cert::IdCert;
+use crate::tbs::TbsIdCert;
+use bytes::Bytes;
+use rpki_base::{PublicKey, RpkiSignatureAlgorithm, Scheme, Serial, Signature, SignedData, Validity};
+use rpki_der::{OutOfMemory, Writer};
+use rpki_signer::{MakeError, Signer, key_within_limit, random_serial, sign_within_limit};
+use std::alloc::Global;
+use std::marker::Model;
+
+/// A certificate that is to be signed: its fields, and the octets that the signature covers. In a clause it is the fields.
+#[derive(Drop)]
+pub struct UnsignedIdCert {
+    tbs: TbsIdCert,
+    octets: Bytes,
+}
+
+impl Model for UnsignedIdCert {
+    ghost use Rattle.std.specs.Prelude.{◌≡◌};
+    ghost use Rattle.rpki_idcert.specs.Spelling.{spelled_tbs};
+    ghost use Rattle.rpki_idcert.specs.TbsIdCert.{TbsFields};
+
+    ghost Value = { TbsFields };
+
+    ghost view = { λ u. u.tbs };
+
+    ghost invariant = { λ u. u.octets ≡ spelled_tbs u.tbs };
+}
+
+impl UnsignedIdCert {
+    /// A certificate with these fields, which are spelled in DER as [`TbsIdCert::encode_ref`] spells them.
+    pub fn new(alloc: Global, tbs: TbsIdCert) -> Result<UnsignedIdCert, OutOfMemory>
+        ensures fields { IfOk result (λ u. u ≡ tbs) }
+    {
+        let mut out = Writer::new(alloc);
+        tbs.encode_ref(&mut out)?;
+        let octets = out.into_captured()?.into_bytes();
+        Ok(UnsignedIdCert { tbs, octets })
+    }
+
+    /// The fields.
+    pub fn tbs(&self) -> &TbsIdCert
+        ensures { result.now ≡ self.now }
+    {
+        &self.tbs
+    }
+
+    /// The octets that are to be signed.
+    pub fn as_slice(&self) -> &[u8]
+        ensures { result.now ≡ spelled_tbs self.now }
+    {
+        self.octets.as_slice()
+    }
+
+    /// The certificate with this signature, which isn't looked at. It takes no memory.
+    pub fn with_signature(self, signature: Signature<RpkiSignatureAlgorithm>) -> IdCert
+        ensures { result ≡ record {
+          signed = record { slice = spelled_tbs self; signature = signature };
+          tbs = self;
+        } }
+    {
+        let signed = SignedData::new(self.octets, signature);
+        IdCert::from_parts(signed, self.tbs)
+    }
+}
+
+// The certificate with these fields, signed.
+fn issue<P: Scheme, S: Signer<P>>(
+    alloc: Global,
+    tbs: TbsIdCert,
+    issuing_key_id: &S::KeyId,
+    signer: &mut S,
+) -> Result<IdCert, MakeError<S::Error>>
+    ensures signed { MatchResult result
+        (IsSignedAs P.checks tbs issuing_key_id.now
+        (S.state signer.old) (S.state signer.new))
+        (λ e. Stays (S.state signer.old) (S.state signer.new)
+        × MakeFails RsaSha256 issuing_key_id.now (S.state signer.old) (S.state signer.new) e) }
+    ensures distinct { IsOk result → AreDistinct (S.state signer.new).keyring }
+{
+    let unsigned = UnsignedIdCert::new(alloc, tbs)?;
+    let signature = sign_within_limit(alloc, issuing_key_id, unsigned.as_slice(), signer)?;
+    Ok(unsigned.with_signature(signature))
+}
+
+// The certificate with this serial number for the key.
+fn issue_to<P: Scheme, S: Signer<P>>(
+    alloc: Global,
+    serial: Serial,
+    key: &PublicKey,
+    validity: Validity,
+    issuing_key_id: &S::KeyId,
+    signer: &mut S,
+) -> Result<IdCert, MakeError<S::Error>>
+    ensures { MatchResult result
+        (IsIssuedTo P.checks key.now serial issuing_key_id.now validity
+        (S.state signer.old) (S.state signer.new))
+        (λ e. Stays (S.state signer.old) (S.state signer.new)
+        × MakeFails RsaSha256 issuing_key_id.now (S.state signer.old) (S.state signer.new) e) }
+{
+    let issuing_key = key_within_limit(alloc, issuing_key_id, signer)?;
+    let tbs = TbsIdCert::new(alloc, serial, validity, key, &issuing_key)?;
+    issue(alloc, tbs, issuing_key_id, signer)
+}
+
+/// # Making
+impl IdCert {
+    /// A trust anchor's certificate: that of the signer's key itself, with serial number 1, valid for this time.
+    ///
+    /// The signer gives the key and then signs; its first refusal decides. TooLong where the key or the signature has more than
+    /// 2^16 octets.
+    pub fn new_ta<P: Scheme, S: Signer<P>>(
+        alloc: Global,
+        validity: Validity,
+        issuing_key_id: &S::KeyId,
+        signer: &mut S,
+    ) -> Result<IdCert, MakeError<S::Error>>
+        ensures made { MatchResult result
+            (IsAnchorMade P.checks issuing_key_id.now validity
+            (S.state signer.old) (S.state signer.new))
+            (λ e. Stays (S.state signer.old) (S.state signer.new)
+            × MakeFails RsaSha256 issuing_key_id.now (S.state signer.old) (S.state signer.new) e) }
+
+        // It is believed at each second of its validity.
+        ensures believed { IfOk result (λ c. (when : ℤ) → validity.not_before ≤ℤ when
+            → when ≤ℤ validity.not_after → IsTaBelieved P.checks c when) }
+    {
+        let key = key_within_limit(alloc, issuing_key_id, signer)?;
+        let tbs = TbsIdCert::new(alloc, Serial::from(1), validity, &key, &key)?;
+        issue(alloc, tbs, issuing_key_id, signer)
+    }
+
+    /// An end entity's certificate for `ee_key` under the signer's key, with a serial number that it draws, valid for this time.
+    ///
+    /// The signer draws, gives the issuing key and then signs; its first refusal decides. TooLong where the issuing key or the
+    /// signature has more than 2^16 octets; the length of `ee_key` isn't looked at.
+    pub fn new_ee<P: Scheme, S: Signer<P>>(
+        alloc: Global,
+        ee_key: &PublicKey,
+        validity: Validity,
+        issuing_key_id: &S::KeyId,
+        signer: &mut S,
+    ) -> Result<IdCert, MakeError<S::Error>>
+        ensures made { MatchResult result
+            (IsEndEntityMade P.checks ee_key.now issuing_key_id.now validity
+            (S.state signer.old) (S.state signer.new))
+            (λ e. Keeps (S.state signer.old) (S.state signer.new)
+            × ((S.state signer.new).drawn ≡ (S.state signer.old).drawn)
+            × MakeFails RsaSha256 issuing_key_id.now (S.state signer.old) (S.state signer.new) e) }
+    {
+        let serial = random_serial(signer)?;
+        issue_to(alloc, serial, ee_key, validity, issuing_key_id, signer)
+    }
+}

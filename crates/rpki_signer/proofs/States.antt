@@ -1,0 +1,89 @@
+-- Several calls of a signer in turn.
+use Rattle.std.proofs.Common.{◌≡◌, ◌≢◌, ℕ, ◌+◌, ◌-◌, ◌^◌, ◌≤◌, List, refl, sym, subst, ◌∙◌, arith}
+use Rattle.std.specs.Prelude.{min}
+use Rattle.rpki_common.specs.Causes.{Rose}
+use Rattle.rpki_base.specs.declared.algorithm.SigningAlgorithm.{SigningAlgorithm}
+use Rattle.rpki_signer.specs.declared.errors.CallError.{CallError}
+use Rattle.rpki_signer.specs.declared.errors.CallError.TheVariants as call
+use Rattle.rpki_signer.specs.declared.errors.MakeError.{MakeError}
+use Rattle.rpki_signer.specs.declared.errors.MakeError.TheVariants as make
+use Rattle.rpki_signer.specs.declared.errors.SigningError.{SigningError}
+use Rattle.rpki_signer.specs.declared.errors.SigningError.TheVariants as signing
+use Rattle.rpki_signer.specs.Errors.{signing_error_of, make_error_of}
+use Rattle.rpki_signer.specs.Limits.{Keeps, MakeFails, OnceFails}
+use Rattle.rpki_signer.specs.Signer.{SignerState, HeldKey, Holds, Lacks, IsLater, Stays, IsUnfit, CallFails, SigningFails}
+
+-- ---- counts
+
+pub rose_then : (a b c : ℕ) → Rose a b → b ≤ c → Rose a c
+rose_then a b c r h = omega (arith, r, h)
+
+pub then_rose : (a b c : ℕ) → a ≤ b → Rose b c → Rose a c
+then_rose a b c h r = omega (arith, r, h)
+
+pub later_same : {I : Type 0} (s : SignerState I) → IsLater s s
+later_same s = record { faults = omega arith; overlong = omega arith; reused = omega arith }
+
+pub later_then : {I : Type 0} (a b c : SignerState I) → IsLater a b → IsLater b c → IsLater a c
+later_then a b c p q = record { faults = omega (arith, p.faults, q.faults); overlong = omega (arith, p.overlong, q.overlong); reused = omega (arith, p.reused, q.reused) }
+
+-- ---- what stays
+
+pub stays_same : {I : Type 0} (s : SignerState I) → Stays s s
+stays_same s = record { later = later_same s; keyring = refl; drawn = refl; random = refl }
+
+pub stays_then : {I : Type 0} (a b c : SignerState I) → Stays a b → Stays b c → Stays a c
+stays_then a b c p q = record { later = later_then a b c p.later q.later; keyring = q.keyring ∙ p.keyring; drawn = q.drawn ∙ p.drawn; random = q.random ∙ p.random }
+
+pub stays_keeps : {I : Type 0} (a b : SignerState I) → Stays a b → Keeps a b
+stays_keeps a b p = record { later = p.later; keyring = p.keyring }
+
+pub keeps_same : {I : Type 0} (s : SignerState I) → Keeps s s
+keeps_same s = record { later = later_same s; keyring = refl }
+
+pub keeps_then : {I : Type 0} (a b c : SignerState I) → Keeps a b → Keeps b c → Keeps a c
+keeps_then a b c p q = record { later = later_then a b c p.later q.later; keyring = q.keyring ∙ p.keyring }
+
+-- ---- why a later call failed
+
+unfit_before : {I : Type 0} (kind : SigningAlgorithm) (a b : SignerState I) (id : I) → Keeps a b → IsUnfit kind b.keyring id → IsUnfit kind a.keyring id
+unfit_before kind a b id k u = subst (λ r. IsUnfit kind r id) k.keyring u
+
+pub signing_before : {I E : Type 0} (kind : SigningAlgorithm) (id : I) (a b c : SignerState I) (e : SigningError E) → Keeps a b → SigningFails kind id b c e → SigningFails kind id a c e
+signing_before kind id a b c signing.KeyNotFound k f = subst (λ r. Lacks r id) k.keyring f
+signing_before kind id a b c signing.IncompatibleKey k f = unfit_before kind a b id k f
+signing_before kind id a b c (signing.Signer e) k f = then_rose a.faults b.faults c.faults k.later.faults f
+signing_before kind id a b c signing.OutOfMemory k f = tt
+
+pub fails_before : {I E : Type 0} (kind : SigningAlgorithm) (id : I) (a b c : SignerState I) (e : MakeError E) → Keeps a b → MakeFails kind id b c e → MakeFails kind id a c e
+fails_before kind id a b c make.TooLong k f = then_rose a.overlong b.overlong c.overlong k.later.overlong f
+fails_before kind id a b c (make.Signing e) k f = (f.0, signing_before kind id a b c e k f.1)
+fails_before kind id a b c make.OutOfMemory k f = tt
+
+pub once_before : {I E : Type 0} (a b c : SignerState I) (e : MakeError E) → Keeps a b → OnceFails b c e → OnceFails a c e
+once_before a b c make.TooLong k f = then_rose a.overlong b.overlong c.overlong k.later.overlong f
+once_before a b c (make.Signing signing.KeyNotFound) k f = absurd f
+once_before a b c (make.Signing signing.IncompatibleKey) k f = absurd f
+once_before a b c (make.Signing (signing.Signer e)) k f = then_rose a.faults b.faults c.faults k.later.faults f
+once_before a b c (make.Signing signing.OutOfMemory) k f = absurd f
+once_before a b c make.OutOfMemory k f = tt
+
+not_memory : {E : Type 0} (e : E) → ◌≢◌ {A = SigningError E} (signing.Signer e) signing.OutOfMemory
+not_memory {E = E} e p = tell p
+  where
+    tell : ◌≡◌ {A = SigningError E} (signing.Signer e) signing.OutOfMemory → ⊥
+    tell q = cc
+
+-- a call that asks for no key is a reason too
+pub call_fails : {I E : Type 0} (kind : SigningAlgorithm) (id : I) (a b : SignerState I) (e : CallError E) → CallFails a b e → MakeFails kind id a b (make_error_of (signing_error_of e))
+call_fails kind id a b (call.Signer e) f = (not_memory e, f)
+call_fails kind id a b call.OutOfMemory f = tt
+
+-- and one under a key for one use
+pub once_fails : {I E : Type 0} (kind : SigningAlgorithm) (id : I) (a b : SignerState I) (e : MakeError E) → OnceFails a b e → MakeFails kind id a b e
+once_fails kind id a b make.TooLong f = f
+once_fails kind id a b (make.Signing signing.KeyNotFound) f = absurd f
+once_fails kind id a b (make.Signing signing.IncompatibleKey) f = absurd f
+once_fails kind id a b (make.Signing (signing.Signer e)) f = (not_memory e, f)
+once_fails kind id a b (make.Signing signing.OutOfMemory) f = absurd f
+once_fails kind id a b make.OutOfMemory f = tt
