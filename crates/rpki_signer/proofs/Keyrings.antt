@@ -57,9 +57,10 @@ lacks_push_by h g more key n m (inr e) = m h.key (subst (λ i. Holds (h ∷ more
 
 pub distinct_push : {I : Type 0} (keyring : List (HeldKey I)) (g : HeldKey I) → AreDistinct keyring → Lacks keyring g.id → AreDistinct (keyring ++ g ∷ [])
 distinct_push [] g d n = ((λ key c. none_in (record { id = g.id; key = key }) c), tt)
-distinct_push (h ∷ more) g d n =
-    ((λ key c. lacks_push_by h g more key d.0 n (Contains-push_cases more g (record { id = h.id; key = key }) c)),
-    distinct_push more g d.1 (λ key c. n key (behind h (record { id = g.id; key = key }) more c)))
+distinct_push (h ∷ more) g d n = (
+  (λ key c. lacks_push_by h g more key d.0 n (Contains-push_cases more g (record { id = h.id; key = key }) c)),
+  distinct_push more g d.1 (λ key c. n key (behind h (record { id = g.id; key = key }) more c)),
+)
 
 kept_by : {X : Type 0} (front : List X) (x y : X) (back : List X) → (Contains front y ⊎ Contains back y) → Contains (front ++ x ∷ back) y
 kept_by front x y back (inl c) = Contains-append_left front (x ∷ back) y c

@@ -50,9 +50,10 @@ copied at count target octets new h k e =
     let lc : length (take count octets) ≡ count = length-take-le count octets k in
     let d = drop (at + length (take count octets)) target in
     let whole : length (take at target ++ take count octets) ≡ at + count = omega (arith, length-append (take at target) (take count octets), la, lc) in
-    let assoc : new ≡ (take at target ++ take count octets) ++ d = e ∙ sym (append_assoc (take at target) (take count octets) d) in
-    (ap (λ o. take (at + count) o) assoc ∙ take_at (take at target ++ take count octets) d (at + count) whole,
-    ap (λ (o : List ℕ). length o) assoc ∙ omega (arith, length-append (take at target ++ take count octets) d, whole, length-drop (at + length (take count octets)) target, lc, h))
+    let assoc : new ≡ (take at target ++ take count octets) ++ d = e ∙ sym (append_assoc (take at target) (take count octets) d) in (
+      ap (λ o. take (at + count) o) assoc ∙ take_at (take at target ++ take count octets) d (at + count) whole,
+      ap (λ (o : List ℕ). length o) assoc ∙ omega (arith, length-append (take at target ++ take count octets) d, whole, length-drop (at + length (take count octets)) target, lc, h),
+    )
 
 -- a round of the loop
 pub filled : (seed number block at count : ℕ) (target new all : List ℕ) → at < length target → count ≡ min (length target - at) 32 → new ≡ take at target ++ (take count (random_block seed number block) ++ drop (at + length (take count (random_block seed number block))) target)
@@ -63,12 +64,15 @@ filled seed number block at count target new all h e n i =
     let l = block_length seed number block in
     let within : at + count ≤ length target = omega (arith, h, e) in
     let c = copied at count target b new within (omega (arith, l, e)) n in
-    let left : length new - (at + count) ≡ length target - at - count = omega (arith, c.1) in
-    (ap (λ o. o ++ octets_from seed number (block + 1) (length new - (at + count))) c.0
-    ∙ (ap (λ k. (take at target ++ take count b) ++ octets_from seed number (block + 1) k) left
-    ∙ (append_assoc (take at target) (take count b) (octets_from seed number (block + 1) (length target - at - count))
-    ∙ (ap (λ o. take at target ++ o) (sym (step seed number block (length target - at) count e)) ∙ i))),
-    c.1, omega (arith, c.1, within), omega (arith, h, e))
+    let left : length new - (at + count) ≡ length target - at - count = omega (arith, c.1) in (
+      ap (λ o. o ++ octets_from seed number (block + 1) (length new - (at + count))) c.0
+          ∙ (ap (λ k. (take at target ++ take count b) ++ octets_from seed number (block + 1) k) left
+          ∙ (append_assoc (take at target) (take count b) (octets_from seed number (block + 1) (length target - at - count))
+          ∙ (ap (λ o. take at target ++ o) (sym (step seed number block (length target - at) count e)) ∙ i))),
+      c.1,
+      omega (arith, c.1, within),
+      omega (arith, h, e),
+    )
 
 pub at_end : (seed number block at : ℕ) (target all : List ℕ) → length target ≤ at → at ≤ length target → take at target ++ octets_from seed number block (length target - at) ≡ all → target ≡ all
 at_end seed number block at target all h k e =

@@ -9,9 +9,7 @@ use crate::signer::Signer;
 use rpki_base::{Scheme, Serial};
 
 /// A serial number of twenty random octets, of which the first bit is cleared. It takes no memory.
-pub fn random_serial<P: Scheme, S: Signer<P>>(
-    signer: &mut S,
-) -> Result<Serial, CallError<S::Error>>
+pub fn random_serial<P: Scheme, S: Signer<P>>(signer: &mut S) -> Result<Serial, CallError<S::Error>>
     ensures serial { MatchResult result
         (IsSerialDrawn (S.state signer.old) (S.state signer.new))
         (λ e. Stays (S.state signer.old) (S.state signer.new)

@@ -4,6 +4,7 @@ ghost use Rattle.std.specs.Prelude.{◌≡◌, ◌++◌, IfOk};
 ghost use Rattle.sha2.specs.Sha256.{sha256};
 ghost use Rattle.rpki_signer.specs.Toy.{ToyChecks, toy_signature, toy_key};
 
+use crate::toy_signer::{ToyKey, key_of};
 use bytes::Bytes;
 use rpki_base::{PublicKey, PublicKeyFormat, Scheme, SigningAlgorithm, Verifier};
 use rpki_common::OutOfMemory;
@@ -36,10 +37,11 @@ impl ToyScheme {
     pub fn key(alloc: Global, seed: u64, number: u64) -> Result<PublicKey, OutOfMemory>
         ensures { IfOk result (λ k. k ≡ toy_key seed number) }
     {
-        let mut bits = Vec::with_capacity(alloc, 16)?;
-        bits.extend_from_slice(&seed.to_be_bytes())?;
-        bits.extend_from_slice(&number.to_be_bytes())?;
-        PublicKey::new(alloc, PublicKeyFormat::Rsa, &bits)
+        let key = ToyKey {
+            number,
+            format: PublicKeyFormat::Rsa,
+        };
+        key_of(alloc, seed, key)
     }
 
     /// The 32 octets that are the signature of a message under a key, of the kind that has the key's format.

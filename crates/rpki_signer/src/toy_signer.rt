@@ -98,8 +98,8 @@ fn place_of(keys: &[ToyKey], number: u64) -> Option<usize>
     None
 }
 
-// The key with this number and format.
-fn key_of(alloc: Global, seed: u64, key: ToyKey) -> Result<PublicKey, OutOfMemory>
+/// The key with this number and format.
+pub(crate) fn key_of(alloc: Global, seed: u64, key: ToyKey) -> Result<PublicKey, OutOfMemory>
     ensures { IfOk result (λ k. k ≡ spec.key_of seed key) }
 {
     let mut bits = Vec::with_capacity(alloc, 16)?;
@@ -224,11 +224,7 @@ impl ToySigner {
 
 // The calls, by what they answer exactly.
 impl ToySigner {
-    fn create(
-        &mut self,
-        alloc: Global,
-        format: PublicKeyFormat,
-    ) -> Result<u64, CallError<ToyFault>>
+    fn create(&mut self, alloc: Global, format: PublicKeyFormat) -> Result<u64, CallError<ToyFault>>
         ensures created { spec.IsToyCreated format self.old self.new result }
         ensures sound { spec.IsSound self.old.seed self.old.next self.old.keys }
         ensures counts { spec.AreCounts self.old }
@@ -404,6 +400,7 @@ fn fill_random(seed: u64, number: u64, target: &mut [u8])
 
 impl Signer<ToyScheme> for ToySigner {
     type KeyId = u64;
+
     type Error = ToyFault;
 
     ghost use Rattle.rpki_signer.specs.ToySigner.{state_of};
@@ -428,11 +425,7 @@ impl Signer<ToyScheme> for ToySigner {
         self.create(alloc, format)
     }
 
-    fn get_key_info(
-        &mut self,
-        alloc: Global,
-        key: &u64,
-    ) -> Result<PublicKey, KeyError<ToyFault>>
+    fn get_key_info(&mut self, alloc: Global, key: &u64) -> Result<PublicKey, KeyError<ToyFault>>
         // What each signer promises.
         ensures key { MatchResult result
             (IsKeyOf key.now (spec.state_of self.old) (spec.state_of self.new))
