@@ -4,3 +4,5 @@ pub mod Sizes
 pub mod Beliefs
 pub mod Alike
 pub mod Issuing
+pub mod Pieces
+pub mod ReadAgain

@@ -21,6 +21,10 @@ bit_6_size (a ∷ more) = refl
 pub constructed_size : (tag content : List ℕ) → length (der_constructed tag content) ≤ length tag + 5 + length content
 constructed_size tag content = omega (arith, bit_6_size tag, length-append (with_bit_6 tag) (der_length (length content) ++ content), length-append (der_length (length content)) content, length-der_length (length content))
 
+-- contents are within the value
+pub content_within : (tag content : List ℕ) → length content ≤ length (der_constructed tag content)
+content_within tag content = omega (arith, length-append (with_bit_6 tag) (der_length (length content) ++ content), length-append (der_length (length content)) content)
+
 -- ---- times
 
 text_size : (seconds : ℤ) (b : Bool) → length (spelling (if b then primitive_value utc_time_tag (utc_text (civil_at seconds)) else primitive_value generalized_time_tag (generalized_text (civil_at seconds)))) ≤ 32

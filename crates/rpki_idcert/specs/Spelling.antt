@@ -1,7 +1,11 @@
 -- How the fields of an identity certificate are written in DER (RFC 5280, 4.1.2; X.690, 10 and 11).
-use Rattle.std.specs.Prelude.{ℕ, ◌^◌, ◌<◌, Bool, true, false, Option, None, Some, List, [], ◌∷◌, ◌++◌, length}
+use Rattle.std.specs.Prelude.{◌≡◌, ⊤, ℕ, ◌^◌, ◌<◌, Bool, true, false, Option, None, Some, List, [], ◌∷◌, ◌++◌, length}
 use Rattle.rpki_der.specs.Tags.{sequence, context, oid_tag, boolean_tag, integer_tag, octet_string_tag}
 use Rattle.rpki_der.specs.Writing.{der_primitive, der_constructed}
+use Rattle.rpki_der.specs.declared.mode.Mode.{Mode}
+use Rattle.rpki_der.specs.Whole.{IsWhole}
+use Rattle.rpki_base.specs.Civil.{IsMoment}
+use Rattle.rpki_base.specs.Name.{name}
 use Rattle.rpki_base.specs.ObjectIdentifiers as names
 use Rattle.rpki_base.specs.PublicKey.{spelled_key}
 use Rattle.rpki_base.specs.AlgorithmIdentifier.{spelled_identifier}
@@ -70,3 +74,20 @@ spelled_tbs t = der_constructed sequence (spelled_fields t)
 -- the fields have a spelling: four length octets can say how long they are (X.690, 8.1.3)
 abbrev pub CanBeSpelled : TbsFields → Type 0
 CanBeSpelled t = length (spelled_fields t) < 2 ^ 32
+
+-- ---- fields that are read again where they are written
+
+-- twenty octets, if there are any
+abbrev pub AreTwenty : Option (List ℕ) → Type 0
+AreTwenty None = ⊤
+AreTwenty (Some octets) = length octets ≡ 20
+
+-- serial number and key identifiers have twenty octets, the names are names, and the times are in the years 0 to 9999
+pub record AreReadable (mode : Mode) (t : TbsFields) : Type 0 where
+  pub serial : length t.serial ≡ 20
+  pub issuer : IsWhole name mode t.issuer t.issuer
+  pub not_before : IsMoment t.validity.not_before
+  pub not_after : IsMoment t.validity.not_after
+  pub subject : IsWhole name mode t.subject t.subject
+  pub subject_key_id : length t.subject_key_id ≡ 20
+  pub authority_key_id : AreTwenty t.authority_key_id
