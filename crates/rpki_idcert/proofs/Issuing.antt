@@ -23,6 +23,10 @@ use Rattle.rpki_signer.proofs.States.{stays_then, stays_keeps, keeps_then, fails
 use Rattle.rpki_idcert.specs.Checks.{has_own_identifier, is_true, is_within, ta_checks, names_itself, IsTaBelieved}
 use Rattle.rpki_idcert.specs.IdCert.{CertificateFields}
 use Rattle.rpki_idcert.specs.Making.{made_fields, IsMadeFor, IsIssued, IsSignedAs, IsIssuedTo, IsAnchorMade, IsEndEntityMade}
+use Rattle.rpki_der.specs.declared.mode.Mode.{Mode}
+use Rattle.rpki_base.specs.Civil.{IsMoment}
+use Rattle.rpki_idcert.specs.Making.{IsReadAgain}
+use Rattle.rpki_idcert.proofs.ReadAgain.{made_again}
 use Rattle.rpki_idcert.specs.Spelling.{spelled_tbs}
 use Rattle.rpki_idcert.specs.TbsIdCert.{TbsFields}
 
@@ -139,3 +143,21 @@ pub anchors_believed : {I E : Type 0} (scheme : Relation) (id : I) (validity : V
     → IfOk r (λ c. (when : ℤ) → validity.not_before ≤ℤ when → when ≤ℤ validity.not_after → IsTaBelieved scheme c when)
 anchors_believed scheme id validity a b (Ok c) f m = anchor_believed scheme id validity a b c m
 anchors_believed scheme id validity a b (Err e) f m = tt
+
+-- ---- and is read again
+
+first_bit_length : (octets : List ℕ) → length octets ≡ 20 → length (without_first_bit octets) ≡ 20
+first_bit_length [] e = e
+first_bit_length (a ∷ more) e = e
+
+pub anchors_again : {I E : Type 0} (scheme : Relation) (id : I) (validity : ValidityFields) (a b : SignerState I) (r : Result CertificateFields (MakeError E)) (f : MakeError E → Type 0) → IsMoment validity.not_before × IsMoment validity.not_after → MatchResult r (IsAnchorMade scheme id validity a b) f
+    → IfOk r (λ c. (mode : Mode) → IsReadAgain mode c)
+anchors_again scheme id validity a b (Ok c) f p m = λ mode. made_again mode m.key m.key (serial_of 1) validity c refl p.0 p.1 true m.fields m.issued.slice m.issued.algorithm
+anchors_again scheme id validity a b (Err e) f p m = tt
+
+pub end_entities_again : {I E : Type 0} (scheme : Relation) (key : KeyFields) (serial : List ℕ) (id : I) (validity : ValidityFields) (a b e : SignerState I) (r : Result CertificateFields (MakeError E)) (f : MakeError E → Type 0) → IsMoment validity.not_before × IsMoment validity.not_after → IsSerialDrawn a b serial → MatchResult r (IsIssuedTo scheme key serial id validity b e) f
+    → IfOk r (λ c. (mode : Mode) → IsReadAgain mode c)
+end_entities_again scheme key serial id validity a b e (Ok c) f p n m =
+    let twenty : length serial ≡ 20 = subst (λ o. length o ≡ 20) (sym n.is) (first_bit_length n.octets n.twenty) in
+    λ mode. made_again mode m.issuing key serial validity c twenty p.0 p.1 m.fields.own m.fields.is m.issued.slice m.issued.algorithm
+end_entities_again scheme key serial id validity a b e (Err x) f p n m = tt

@@ -165,7 +165,8 @@ impl IdCert {
 
     /// What `encode_ref` appends, by itself.
     pub fn to_captured(&self, alloc: Global) -> Result<Captured, OutOfMemory>
-        ensures { IfOk result (λ c. c ≡ spelled_data spelled_x509 self.now.signed) }
+        ensures octets { IfOk result (λ c. c ≡ spelled_data spelled_x509 self.now.signed) }
+        ensures spelled { OnOk result (CanBeSpelled spelled_x509 self.now.signed) }
     {
         let mut out = Writer::new(alloc);
         self.encode_ref(&mut out)?;
@@ -174,7 +175,8 @@ impl IdCert {
 
     /// The same as shared octets.
     pub fn to_bytes(&self, alloc: Global) -> Result<Bytes, OutOfMemory>
-        ensures { IfOk result (λ b. b ≡ spelled_data spelled_x509 self.now.signed) }
+        ensures octets { IfOk result (λ b. b ≡ spelled_data spelled_x509 self.now.signed) }
+        ensures spelled { OnOk result (CanBeSpelled spelled_x509 self.now.signed) }
     {
         Ok(self.to_captured(alloc)?.into_bytes())
     }

@@ -18,4 +18,5 @@ pub use id_cert::{IdCert, signed_octets_determine_the_fields};
 pub use law::written_fields_are_read;
 pub use making::UnsignedIdCert;
 pub use rpki_base::{ValidationError, ValidationKind, first_false_decides, names_issuer, require};
+pub use spelling::{write_authority_key, write_extension};
 pub use tbs::{TbsIdCert, equal_certificates_are_the_same};

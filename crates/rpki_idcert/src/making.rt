@@ -1,8 +1,9 @@
 //! Making identity certificates.
 
 ghost use Rattle.std.specs.Prelude.{◌≡◌, ◌<◌, ◌≤ℤ◌, ◌++◌, ℤ, IfOk, IsOk, MatchResult};
-ghost use Rattle.rpki_der.specs.declared.mode.Mode.TheVariants.{Der};
+ghost use Rattle.rpki_der.specs.declared.mode.Mode.{Mode};
 ghost use Rattle.rpki_base.specs.declared.algorithm.SigningAlgorithm.TheVariants.{RsaSha256};
+ghost use Rattle.rpki_base.specs.Civil.{IsMoment};
 ghost use Rattle.rpki_signer.specs.Limits.{Keeps, MakeFails};
 ghost use Rattle.rpki_signer.specs.Signer.{AreDistinct, Stays};
 ghost use Rattle.rpki_idcert.specs.Checks.{IsTaBelieved};
@@ -74,6 +75,14 @@ impl UnsignedIdCert {
     }
 }
 
+// Both ends of a validity are in the years 0 to 9999.
+fn are_moments(validity: Validity)
+    ensures { IsMoment validity.not_before × IsMoment validity.not_after }
+{
+    let _ = validity.not_before().seconds();
+    let _ = validity.not_after().seconds();
+}
+
 // The certificate with these fields, signed.
 fn issue<P: Scheme, S: Signer<P>>(
     alloc: Global,
@@ -134,7 +143,11 @@ impl IdCert {
         // It is believed at each second of its validity.
         ensures believed { IfOk result (λ c. (when : ℤ) → validity.not_before ≤ℤ when
             → when ≤ℤ validity.not_after → IsTaBelieved P.checks c when) }
+
+        // What is written of it is read again, in both modes.
+        ensures again { IfOk result (λ c. (mode : Mode) → IsReadAgain mode c) }
     {
+        are_moments(validity);
         let key = key_within_limit(alloc, issuing_key_id, signer)?;
         let tbs = TbsIdCert::new(alloc, Serial::from(1), validity, &key, &key)?;
         issue(alloc, tbs, issuing_key_id, signer)
@@ -157,7 +170,11 @@ impl IdCert {
             (λ e. Keeps (S.state signer.old) (S.state signer.new)
             × ((S.state signer.new).drawn ≡ (S.state signer.old).drawn)
             × MakeFails RsaSha256 issuing_key_id.now (S.state signer.old) (S.state signer.new) e) }
+
+        // What is written of it is read again, in both modes.
+        ensures again { IfOk result (λ c. (mode : Mode) → IsReadAgain mode c) }
     {
+        are_moments(validity);
         let serial = random_serial(signer)?;
         issue_to(alloc, serial, ee_key, validity, issuing_key_id, signer)
     }

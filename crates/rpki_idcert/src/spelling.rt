@@ -20,8 +20,8 @@ const TRUE_ALONE: [u8; 5] = [0x30, 0x03, 0x01, 0x01, 0xFF];
 
 const NOTHING: [u8; 2] = [0x30, 0x00];
 
-// Appends an extension.
-fn write_extension(
+/// Appends an extension, whose flag is written only where it is true. After a refusal nothing is appended.
+pub fn write_extension(
     identifier: &[u8],
     critical: bool,
     value: &[u8],
@@ -63,8 +63,8 @@ fn write_subject_key(identifier: KeyIdentifier, out: &mut Writer) -> Result<(), 
     write_extension(&SUBJECT_KEY_IDENTIFIER, false, value.as_slice(), out)
 }
 
-// Appends authorityKeyIdentifier, where it is there.
-fn write_authority_key(
+/// Appends the extension authorityKeyIdentifier, where it is there. After a refusal nothing is appended.
+pub fn write_authority_key(
     identifier: Option<KeyIdentifier>,
     out: &mut Writer,
 ) -> Result<(), OutOfMemory>
