@@ -8,3 +8,6 @@ pub mod AnyKey
 pub mod Loosening
 pub mod Bounds
 pub mod InTurn
+pub mod Rewriting
+pub mod HeldMessages
+pub mod Again

@@ -1,5 +1,5 @@
 -- Said in contracts, and to be believed: ObjectIdentifiers, Algorithm, Attributes, CrlExtensions, Signer, RevokedCertificates, TbsCrl, Crl, Message,
--- Places, CrlChecks, Checks.
+-- Places, CrlChecks, Checks, Spelling, Making, Errors.
 -- Means for readers: Ahead, Gathered, CrlGathered.
 pub mod ObjectIdentifiers
 pub mod Algorithm
@@ -16,3 +16,6 @@ pub mod CrlChecks
 pub mod Message
 pub mod Checks
 pub mod Places
+pub mod Spelling
+-- pub mod Making
+pub mod Errors

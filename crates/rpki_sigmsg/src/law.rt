@@ -1,11 +1,12 @@
 //! What holds of every message.
 
-ghost use Rattle.std.specs.Prelude.{◌≡◌, List, ℕ, Some, None};
+ghost use Rattle.std.specs.Prelude.{◌≡◌, ◌++◌, List, ℕ, Some, None};
 ghost use Rattle.rpki_der.specs.declared.mode.Mode.{Mode};
 ghost use Rattle.rpki_der.specs.declared.mode.Mode.TheVariants.{Ber, Der};
 ghost use Rattle.rpki_der.specs.Takes.{BeginsAs};
-ghost use Rattle.rpki_der.specs.Value.{Value, spelling};
+ghost use Rattle.rpki_der.specs.Value.{Value, spelling, IsValue};
 ghost use Rattle.rpki_sigmsg.specs.Message.{MessageFields, ViewFields, signed_message, viewed_message};
+ghost use Rattle.rpki_sigmsg.specs.Spelling.{rewritten, CanBeSpelled};
 ghost use Rattle.rpki_sigmsg.specs.Places.{StandInTurn, parts_of};
 
 /// What is a message in DER is the same message in BER, and so is a view of one: what strict decoding accepts, loose decoding
@@ -30,4 +31,15 @@ pub fn views_are_of_messages()
 pub fn parts_stand_in_turn()
     ensures { (mode : Mode) (v : Value) (w : ViewFields) →
         viewed_message mode v ≡ Some w → StandInTurn (parts_of w) (spelling v) }
+{}
+
+/// What is written of a message that was read is read as that message again, whatever stands behind it: by the rules by which it was
+/// read, and in BER.
+pub fn rewritten_messages_are_read()
+    ensures again { (mode : Mode) (v : Value) (m : MessageFields) (rest : List ℕ) →
+        IsValue mode v → signed_message mode v ≡ Some m → CanBeSpelled m →
+        BeginsAs (signed_message mode) mode (rewritten m ++ rest) m }
+    ensures loosely { (mode : Mode) (v : Value) (m : MessageFields) (rest : List ℕ) →
+        IsValue mode v → signed_message mode v ≡ Some m → CanBeSpelled m →
+        BeginsAs (signed_message Ber) Ber (rewritten m ++ rest) m }
 {}

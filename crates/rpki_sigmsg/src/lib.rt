@@ -11,6 +11,7 @@
 mod algorithm;
 mod attributes;
 mod content;
+mod create_error;
 mod crl;
 mod crl_extensions;
 mod crl_validation;
@@ -22,11 +23,16 @@ mod parts;
 mod reference;
 mod revoked;
 mod signer;
+mod spelling;
 mod tbs_crl;
 mod validation;
 
+pub use create_error::CreateError;
 pub use crl::SignedMessageCrl;
-pub use law::{parts_stand_in_turn, strict_messages_are_loose, views_are_of_messages};
+pub use law::{
+    parts_stand_in_turn, rewritten_messages_are_read, strict_messages_are_loose,
+    views_are_of_messages,
+};
 pub use message::SignedMessage;
 pub use object_identifiers::message_identifiers_have_texts;
 pub use reference::SignedMessageRef;
