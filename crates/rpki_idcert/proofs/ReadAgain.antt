@@ -341,7 +341,9 @@ tbs_reads mode t a v1 v2 v3 v4 v5 v6 v7 v8 e1 e2 e3 e4 e5 e6 e7 e8 = rw (e1, e2,
 -- the parts of the fields are no longer than all of them
 extensions_within : (t : TbsFields) → CanBeSpelled t → length (der_constructed sequence (spelled_extensions t)) < 4294967296
 extensions_within t h =
-    omega (arith, h,
+    omega (
+      arith,
+      h,
       length-append spelled_version (der_serial t.serial ++ (spelled_algorithm ++ (t.issuer ++ (spelled_validity t.validity ++ (t.subject ++ (spelled_key t.key ++ der_constructed (context 3) (der_constructed sequence (spelled_extensions t)))))))),
       length-append (der_serial t.serial) (spelled_algorithm ++ (t.issuer ++ (spelled_validity t.validity ++ (t.subject ++ (spelled_key t.key ++ der_constructed (context 3) (der_constructed sequence (spelled_extensions t))))))),
       length-append spelled_algorithm (t.issuer ++ (spelled_validity t.validity ++ (t.subject ++ (spelled_key t.key ++ der_constructed (context 3) (der_constructed sequence (spelled_extensions t)))))),
@@ -349,11 +351,14 @@ extensions_within t h =
       length-append (spelled_validity t.validity) (t.subject ++ (spelled_key t.key ++ der_constructed (context 3) (der_constructed sequence (spelled_extensions t)))),
       length-append t.subject (spelled_key t.key ++ der_constructed (context 3) (der_constructed sequence (spelled_extensions t))),
       length-append (spelled_key t.key) (der_constructed (context 3) (der_constructed sequence (spelled_extensions t))),
-      content_within (context 3) (der_constructed sequence (spelled_extensions t)))
+      content_within (context 3) (der_constructed sequence (spelled_extensions t)),
+    )
 
 key_within : (t : TbsFields) → CanBeSpelled t → KeyCanBeSpelled t.key
 key_within t h =
-    omega (arith, h,
+    omega (
+      arith,
+      h,
       length-append spelled_version (der_serial t.serial ++ (spelled_algorithm ++ (t.issuer ++ (spelled_validity t.validity ++ (t.subject ++ (spelled_key t.key ++ der_constructed (context 3) (der_constructed sequence (spelled_extensions t)))))))),
       length-append (der_serial t.serial) (spelled_algorithm ++ (t.issuer ++ (spelled_validity t.validity ++ (t.subject ++ (spelled_key t.key ++ der_constructed (context 3) (der_constructed sequence (spelled_extensions t))))))),
       length-append spelled_algorithm (t.issuer ++ (spelled_validity t.validity ++ (t.subject ++ (spelled_key t.key ++ der_constructed (context 3) (der_constructed sequence (spelled_extensions t)))))),
@@ -361,7 +366,8 @@ key_within t h =
       length-append (spelled_validity t.validity) (t.subject ++ (spelled_key t.key ++ der_constructed (context 3) (der_constructed sequence (spelled_extensions t)))),
       length-append t.subject (spelled_key t.key ++ der_constructed (context 3) (der_constructed sequence (spelled_extensions t))),
       length-append (spelled_key t.key) (der_constructed (context 3) (der_constructed sequence (spelled_extensions t))),
-      content_within sequence (spelled_parts t.key))
+      content_within sequence (spelled_parts t.key),
+    )
 
 pub tbs_piece : (mode : Mode) (t : TbsFields) → AreReadable mode t → CanBeSpelled t → Piece mode (tbs_certificate mode) (spelled_tbs t) t
 unfolding tbs_certificate spelled_tbs
@@ -376,8 +382,8 @@ tbs_piece mode t l h =
     let e = extensions_within t h in
     let p8 = wrapping mode (context 3) (der_constructed sequence (spelled_extensions t)) (extension_list mode) _ is_context_3 e (extensions_piece mode t l.subject_key_id l.authority_key_id (omega (arith, e, content_within sequence (spelled_extensions t)))) in
     constructed mode sequence (spelled_fields t) (tbs_fields mode) (p1.value ▸ p2.value ▸ p3.value ▸ p4.value ▸ p5.value ▸ p6.value ▸ p7.value ▸ p8.value ▸ End) t is_sequence h
-      (spells_followed mode _ _ _ _ p1.spells (spells_followed mode _ _ _ _ p2.spells (spells_followed mode _ _ _ _ p3.spells (spells_followed mode _ _ _ _ p4.spells (spells_followed mode _ _ _ _ p5.spells (spells_followed mode _ _ _ _ p6.spells (spells_followed mode _ _ _ _ p7.spells p8.spells)))))))
-      (tbs_reads mode t _ p1.value p2.value p3.value p4.value p5.value p6.value p7.value p8.value p1.reads p2.reads p3.reads p4.reads p5.reads p6.reads p7.reads p8.reads)
+    (spells_followed mode _ _ _ _ p1.spells (spells_followed mode _ _ _ _ p2.spells (spells_followed mode _ _ _ _ p3.spells (spells_followed mode _ _ _ _ p4.spells (spells_followed mode _ _ _ _ p5.spells (spells_followed mode _ _ _ _ p6.spells (spells_followed mode _ _ _ _ p7.spells p8.spells)))))))
+    (tbs_reads mode t _ p1.value p2.value p3.value p4.value p5.value p6.value p7.value p8.value p1.reads p2.reads p3.reads p4.reads p5.reads p6.reads p7.reads p8.reads)
 
 -- ---- the certificate
 
@@ -405,10 +411,10 @@ signed_piece tbs mode d p a h =
     let q = with_its_octets mode (tbs mode) d.signed.slice d.tbs p in
     let r = algorithm_piece mode d.signed.signature.algorithm a in
     let short : length d.signed.signature.value + 1 < 4294967296 =
-        omega (arith, h, bits_within d.signed.signature.value, length-append d.signed.slice (spelled_x509 d.signed.signature.algorithm ++ spelled_bits d.signed.signature.value), length-append (spelled_x509 d.signed.signature.algorithm) (spelled_bits d.signed.signature.value)) in
+    omega (arith, h, bits_within d.signed.signature.value, length-append d.signed.slice (spelled_x509 d.signed.signature.algorithm ++ spelled_bits d.signed.signature.value), length-append (spelled_x509 d.signed.signature.algorithm) (spelled_bits d.signed.signature.value)) in
     constructed mode sequence (spelled_signed spelled_x509 d.signed) (signed_as_fields (with_octets (tbs mode)) signed_fields (whole_of x509_algorithm) mode) (q.value ▸ r.value ▸ bits_value d.signed.signature.value ▸ End) d is_sequence h
-      (spells_followed mode _ _ _ _ q.spells (spells_followed mode _ _ _ _ r.spells (bits_spell mode d.signed.signature.value short)))
-      (signed_reads mode (tbs mode) d q.value r.value q.reads r.reads)
+    (spells_followed mode _ _ _ _ q.spells (spells_followed mode _ _ _ _ r.spells (bits_spell mode d.signed.signature.value short)))
+    (signed_reads mode (tbs mode) d q.value r.value q.reads r.reads)
 
 pub certificate_piece : (mode : Mode) (c : CertificateFields) → Piece mode (tbs_certificate mode) c.signed.slice c.tbs → c.signed.signature.algorithm.identifier ≡ RsaEncryption → DataCanBeSpelled spelled_x509 c.signed → Piece mode (identity_certificate mode) (spelled_data spelled_x509 c.signed) c
 unfolding identity_certificate
@@ -425,7 +431,7 @@ unfolding encode_with
 digits_length t [] = refl
 digits_length t (x ∷ xs) = omega (arith, digits_length t xs)
 
-name_is_read : (mode : Mode) (key : KeyFields) → IsWhole name mode (name_of_key key) (name_of_key key)
+pub name_is_read : (mode : Mode) (key : KeyFields) → IsWhole name mode (name_of_key key) (name_of_key key)
 name_is_read mode key =
     let forty : length (encode_upper (sha1 key.bits)) ≡ 40 = omega (arith, digits_length upper_digits (sha1 key.bits), sha1_twenty key.bits) in
     let m = made_name mode (encode_upper (sha1 key.bits)) [] forty in
@@ -435,7 +441,7 @@ issuer_twenty : (own : Bool) (issuing : KeyFields) → AreTwenty (issuer_of_othe
 issuer_twenty true issuing = tt
 issuer_twenty false issuing = sha1_twenty issuing.bits
 
-made_readable : (mode : Mode) (own : Bool) (issuing key : KeyFields) (serial' : List ℕ) (v : ValidityFields) → length serial' ≡ 20 → IsMoment v.not_before → IsMoment v.not_after → AreReadable mode (made_fields own issuing key serial' v)
+pub made_readable : (mode : Mode) (own : Bool) (issuing key : KeyFields) (serial' : List ℕ) (v : ValidityFields) → length serial' ≡ 20 → IsMoment v.not_before → IsMoment v.not_after → AreReadable mode (made_fields own issuing key serial' v)
 made_readable mode own issuing key serial' v l p q = record {
   serial = l;
   issuer = name_is_read mode issuing;

@@ -31,7 +31,7 @@ text_size : (seconds : ℤ) (b : Bool) → length (spelling (if b then primitive
 text_size seconds true = let n : length (utc_text (civil_at seconds)) ≡ 13 = refl in omega (arith, n, primitive_size utc_time_tag (utc_text (civil_at seconds)))
 text_size seconds false = let n : length (generalized_text (civil_at seconds)) ≡ 15 = refl in omega (arith, n, primitive_size generalized_time_tag (generalized_text (civil_at seconds)))
 
-time_size : (seconds : ℤ) → length (der_time seconds) ≤ 32
+pub time_size : (seconds : ℤ) → length (der_time seconds) ≤ 32
 unfolding der_time time_value
 time_size seconds = text_size seconds (is_utc_year (civil_at seconds).year)
 

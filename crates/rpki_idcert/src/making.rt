@@ -13,7 +13,9 @@ ghost use Rattle.rpki_idcert.specs.Spelling.{spelled_tbs, CanBeSpelled};
 use crate::id_cert::IdCert;
 use crate::tbs::TbsIdCert;
 use bytes::Bytes;
-use rpki_base::{PublicKey, RpkiSignatureAlgorithm, Scheme, Serial, Signature, SignedData, Validity};
+use rpki_base::{
+    PublicKey, RpkiSignatureAlgorithm, Scheme, Serial, Signature, SignedData, Validity,
+};
 use rpki_der::{OutOfMemory, Writer};
 use rpki_signer::{MakeError, Signer, key_within_limit, random_serial, sign_within_limit};
 use std::alloc::Global;

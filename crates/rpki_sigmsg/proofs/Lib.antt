@@ -11,3 +11,6 @@ pub mod InTurn
 pub mod Rewriting
 pub mod HeldMessages
 pub mod Again
+pub mod Assembling
+pub mod Created
+pub mod MadeMessages

@@ -66,7 +66,7 @@ pub record IsHeld (mode : Mode) (m : MessageFields) : Type 0 where
 
 -- ---- tags
 
-is_set : IsTag set
+pub is_set : IsTag set
 is_set = ((λ e. omega (arith, e), λ e. omega (arith, e), λ e. omega (arith, e)), refl)
 
 is_context_1 : IsTag (context 1)
@@ -150,7 +150,7 @@ unfolding first done ◌>>=◌
 content_reads mode v w x e f = rw (e, f) refl
 
 content_piece : (mode : Mode) (content : List ℕ) → length (der_primitive oid_tag xml_content ++ der_constructed (context 0) (der_primitive octet_string_tag content)) < 4294967296 → Piece mode (encapsulated_content mode) (spec.spelled_content content) (der_primitive octet_string_tag content, content)
-unfolding encapsulated_content
+unfolding encapsulated_content spec.spelled_content
 content_piece mode content h =
     let inner : length (der_primitive octet_string_tag content) < 4294967296 = omega (arith, h, length-append (der_primitive oid_tag xml_content) (der_constructed (context 0) (der_primitive octet_string_tag content)), content_within (context 0) (der_primitive octet_string_tag content)) in
     let t = xml_type mode in
@@ -274,6 +274,7 @@ pub record Fits (m : MessageFields) : Type 0 where
   pub signature : length m.signature.value < 4294967296
 
 all_fit : (m : MessageFields) → spec.CanBeSpelled m → Fits m
+unfolding spec.message_parts spec.signed_data_fields spec.spelled_signer
 all_fit m h =
     let a0 = der_primitive oid_tag signed_data_type in
     let f = spec.signed_data_fields m in
@@ -326,7 +327,7 @@ pub record SignerPiece (mode : Mode) (m : MessageFields) (octets : List ℕ) : T
   pub piece : Piece mode (signer_info mode) (spec.spelled_signer m) fields
 
 signer_piece : (mode : Mode) (m : MessageFields) (h : IsHeld mode m) → Fits m → SignerPiece mode m h.octets
-unfolding signer_info
+unfolding signer_info spec.spelled_signer
 signer_piece mode m h f =
     let is : spec.under_context m.covered ≡ der_constructed (context 0) h.octets = ap spec.under_context h.covers in
     let short : length h.octets < 4294967296 = omega (arith, f.attributes, ap (λ (o : List ℕ). length o) is, content_within (context 0) h.octets) in
@@ -386,7 +387,7 @@ same_message : (m : MessageFields) (crls : List CrlFields) (s : SignerFields) (o
 same_message m crls s octets e f g a k c = rw (e, f, g, k, ap covered a, sym c) refl
 
 view_piece : (mode : Mode) (m : MessageFields) → IsHeld mode m → spec.CanBeSpelled m → ViewPiece mode m
-unfolding spec.rewritten viewed_message signed_parts
+unfolding spec.rewritten spec.message_parts spec.signed_data_fields spec.spelled_content viewed_message signed_parts
 view_piece mode m h k =
     let f = all_fit m k in
     let p1 = three mode in

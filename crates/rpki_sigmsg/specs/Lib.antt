@@ -17,5 +17,5 @@ pub mod Message
 pub mod Checks
 pub mod Places
 pub mod Spelling
--- pub mod Making
+pub mod Making
 pub mod Errors

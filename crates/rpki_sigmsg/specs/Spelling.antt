@@ -63,7 +63,7 @@ unfoldable pub spelled_digest_algorithm : List ℕ
 spelled_digest_algorithm = der_constructed sequence (der_primitive oid_tag sha256_name)
 
 -- the content as one OCTET STRING (RFC 5652, 5.2)
-abbrev pub spelled_content : List ℕ → List ℕ
+unfoldable pub spelled_content : List ℕ → List ℕ
 spelled_content content = der_constructed sequence
     (der_primitive oid_tag xml_content ++ der_constructed (context 0)
     (der_primitive octet_string_tag content))
@@ -82,10 +82,10 @@ signer_fields m =
     ++ (spelled_cms m.signature.algorithm
     ++ der_primitive octet_string_tag m.signature.value))))
 
-abbrev pub spelled_signer : MessageFields → List ℕ
+unfoldable pub spelled_signer : MessageFields → List ℕ
 spelled_signer m = der_constructed sequence (signer_fields m)
 
-abbrev pub signed_data_fields : MessageFields → List ℕ
+unfoldable pub signed_data_fields : MessageFields → List ℕ
 signed_data_fields m =
     der_primitive integer_tag (3 ∷ [])
     ++ (der_constructed set spelled_digest_algorithm
@@ -94,7 +94,7 @@ signed_data_fields m =
     ++ (der_constructed (context 1) (spelled_crls m.crls)
     ++ der_constructed set (spelled_signer m)))))
 
-abbrev pub message_parts : MessageFields → List ℕ
+unfoldable pub message_parts : MessageFields → List ℕ
 message_parts m = der_primitive oid_tag signed_data_type
     ++ der_constructed (context 0) (der_constructed sequence (signed_data_fields m))
 

@@ -11,7 +11,7 @@ ghost use Rattle.rpki_sigmsg.specs.Crl.{revocation_list};
 
 use crate::tbs_crl::{SignedMessageTbsCrl, take_held};
 use bytes::Bytes;
-use rpki_base::{RpkiSignatureAlgorithm, SignedData, leave_signature};
+use rpki_base::{RpkiSignatureAlgorithm, Signature, SignedData, leave_signature};
 use rpki_der::{Cursor, DecodeError, Mode, OutOfMemory, Steps, Tag};
 use std::alloc::Global;
 use std::marker::{Brand, Model};
@@ -34,6 +34,23 @@ impl Model for SignedMessageCrl {
     ghost view = { λ c. record { signed = c.signed; tbs = c.tbs } };
 
     ghost inverse = { λ c. record { signed = c.signed; tbs = c.tbs } };
+}
+
+impl SignedMessageCrl {
+    // The CRL of these parts.
+    pub(crate) fn from_parts(
+        slice: Bytes,
+        signature: Signature<RpkiSignatureAlgorithm>,
+        tbs: SignedMessageTbsCrl,
+    ) -> SignedMessageCrl
+        ensures { result ≡ record {
+          signed = record { slice = slice; signature = signature };
+          tbs = tbs;
+        } }
+    {
+        let signed = SignedData::new(slice, signature);
+        SignedMessageCrl { signed, tbs }
+    }
 }
 
 /// # Data access

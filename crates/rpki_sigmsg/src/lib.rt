@@ -12,6 +12,7 @@ mod algorithm;
 mod attributes;
 mod content;
 mod create_error;
+mod creating;
 mod crl;
 mod crl_extensions;
 mod crl_validation;
@@ -25,7 +26,9 @@ mod revoked;
 mod signer;
 mod spelling;
 mod tbs_crl;
+mod unsigned;
 mod validation;
+mod window;
 
 pub use create_error::CreateError;
 pub use crl::SignedMessageCrl;
@@ -39,7 +42,9 @@ pub use reference::SignedMessageRef;
 pub use revoked::{CrlEntry, RevokedCertificates, equal_entries_are_the_same};
 pub use rpki_der::{DecodeError, OutOfMemory};
 pub use tbs_crl::SignedMessageTbsCrl;
+pub use unsigned::{UnsignedContent, UnsignedCrl, UnsignedMessage};
 pub use validation::{
     believed_moments_are_one_span, moments_are_one_span, more_keys_believe, one_key_is_validated,
     questions_of_each_key_decide, three_questions_decide,
 };
+pub use window::Window;

@@ -194,6 +194,7 @@ fn write_attributes(covered: &[u8], out: &mut Writer) -> Result<(), OutOfMemory>
 }
 
 // Appends the content under its type.
+#[tactic(auto, unfolding(crate::specs::Spelling::spelled_content))]
 fn write_content(content: &[u8], out: &mut Writer) -> Result<(), OutOfMemory>
     ensures ok { OnOk result (out.new ≡ out.old ++ spec.spelled_content content.now) }
 {
@@ -220,6 +221,7 @@ impl SignedMessage {
     }
 
     // Appends the set of the one signer.
+    #[tactic(auto, unfolding(crate::specs::Spelling::spelled_signer))]
     fn write_signers(&self, out: &mut Writer) -> Result<(), OutOfMemory>
         ensures ok { OnOk result
             (out.new ≡ out.old ++ der_constructed set (spec.spelled_signer self.now)) }
@@ -252,6 +254,7 @@ impl SignedMessage {
     }
 
     // Appends the fields of the signed data.
+    #[tactic(auto, unfolding(crate::specs::Spelling::signed_data_fields))]
     fn write_fields(&self, out: &mut Writer) -> Result<(), OutOfMemory>
         ensures ok { OnOk result (out.new ≡ out.old ++ spec.signed_data_fields self.now) }
     {
@@ -264,6 +267,7 @@ impl SignedMessage {
     }
 
     // Appends the type and the signed data.
+    #[tactic(auto, unfolding(crate::specs::Spelling::message_parts))]
     fn write_parts(&self, out: &mut Writer) -> Result<(), OutOfMemory>
         ensures ok { OnOk result (out.new ≡ out.old ++ spec.message_parts self.now) }
     {

@@ -5,11 +5,15 @@ ghost use Rattle.rpki_der.specs.Held.{with_octets};
 ghost use Rattle.rpki_der.specs.Takes.{Takes};
 ghost use Rattle.rpki_der.specs.Ticks.{TakesCounted};
 ghost use Rattle.rpki_der.specs.Whole.{HoldsOne};
+ghost use Rattle.rpki_sigmsg.specs.Making.{made_crl};
 ghost use Rattle.rpki_sigmsg.specs.TbsCrl.{tbs_crl};
 
 use crate::crl_extensions::take_extensions;
 use crate::revoked::{RevokedCertificates, take_opt_revoked};
-use rpki_base::{KeyIdentifier, Name, RpkiSignatureAlgorithm, Serial, Time, take_algorithm};
+use crate::window::Window;
+use rpki_base::{
+    KeyIdentifier, Name, PublicKey, RpkiSignatureAlgorithm, Serial, Time, take_algorithm,
+};
 use rpki_der::{Cursor, DecodeError, Mode, OutOfMemory, Steps, Tag, take_integer_if_counted};
 use std::alloc::Global;
 use std::marker::{Brand, Model};
@@ -55,6 +59,30 @@ impl Model for SignedMessageTbsCrl {
       authority_key_id = t.authority_key_id;
       crl_number = t.crl_number;
     } };
+}
+
+/// # Making
+impl SignedMessageTbsCrl {
+    /// A CRL of the issuing key without entries, for the time around a moment, whose number is that moment in thousandths of a
+    /// second.
+    pub fn new(
+        alloc: Global,
+        issuing_key: &PublicKey,
+        window: Window,
+    ) -> Result<SignedMessageTbsCrl, OutOfMemory>
+        ensures { IfOk result (λ t. t ≡ made_crl issuing_key.now window) }
+    {
+        let validity = window.validity();
+        Ok(SignedMessageTbsCrl {
+            algorithm: RpkiSignatureAlgorithm::default(),
+            issuer: Name::from_pub_key(alloc, issuing_key)?,
+            this_update: validity.not_before(),
+            next_update: validity.not_after(),
+            revoked: RevokedCertificates::empty(alloc),
+            authority_key_id: Some(issuing_key.key_identifier()),
+            crl_number: Some(window.crl_number()),
+        })
+    }
 }
 
 /// # Data access

@@ -1,0 +1,194 @@
+-- How signed messages are made (RFC 5652, 5.4 and 11; RFC 5280, 5.1; RFC 6492, 3.1).
+use Rattle.std.specs.Prelude.{false, ◌≡◌, ◌≢◌, ◌≤ℤ◌, ◌≤◌, ◌<◌, ◌^◌, ◌*◌, ◌⊎◌, ⊤, ℕ, ℤ, pos, ◌+ℤ◌, ◌-ℤ◌, unsigned_abs, Option, Some, List, [], ◌∷◌, ◌++◌, length}
+use Rattle.sha1.specs.Sha1.{sha1}
+use Rattle.sha2.specs.Sha256.{sha256}
+use Rattle.rpki_common.specs.Causes.{Rose}
+use Rattle.rpki_der.specs.Tags.{sequence, set, oid_tag, octet_string_tag}
+use Rattle.rpki_der.specs.Writing.{der_primitive, der_constructed}
+use Rattle.rpki_base.specs.declared.algorithm.SigningAlgorithm.TheVariants.{RsaSha256}
+use Rattle.rpki_base.specs.Checks.{IsSigned}
+use Rattle.rpki_base.specs.PublicKey.{KeyFields}
+use Rattle.rpki_base.specs.RpkiSignatureAlgorithm.{RpkiAlgorithm}
+use Rattle.rpki_base.specs.Signature.{SignatureParts}
+use Rattle.rpki_base.specs.Scheme.{Relation}
+use Rattle.rpki_base.specs.Serial.{serial_of}
+use Rattle.rpki_base.specs.TimeText.{der_time}
+use Rattle.rpki_base.specs.Validity.{ValidityFields}
+use Rattle.rpki_signer.specs.declared.errors.SigningError.TheVariants as signing
+use Rattle.rpki_signer.specs.Limits.{default_algorithm, IsShort, IsShortSignature, Keeps}
+use Rattle.rpki_signer.specs.Serials.{without_first_bit}
+use Rattle.rpki_signer.specs.Signer.{SignerState, Holds, SigningFails}
+use Rattle.rpki_idcert.specs.IdCert.{CertificateFields}
+use Rattle.rpki_idcert.specs.Making.{name_of_key, made_fields, IsMadeFor, IsIssued}
+use Rattle.rpki_idcert.specs.Spelling.{spelled_tbs}
+use Rattle.rpki_idcert.specs.TbsIdCert.{TbsFields}
+use Rattle.rpki_sigmsg.specs.declared.create_error.CreateError.{CreateError}
+use Rattle.rpki_sigmsg.specs.declared.create_error.CreateError.TheVariants as create
+use Rattle.rpki_sigmsg.specs.Attributes.{covered}
+use Rattle.rpki_sigmsg.specs.Crl.{CrlFields}
+use Rattle.rpki_sigmsg.specs.Message.{MessageFields}
+use Rattle.rpki_sigmsg.specs.ObjectIdentifiers.{content_type, message_digest, signing_time, xml_content}
+use Rattle.rpki_sigmsg.specs.RevokedCertificates.{none_revoked}
+use Rattle.rpki_sigmsg.specs.Spelling.{spelled_tbs_crl}
+use Rattle.rpki_sigmsg.specs.TbsCrl.{TbsCrlFields}
+
+-- ---- the moment
+
+-- from 300 seconds before it to 300 seconds after it
+abbrev pub window : ℤ → ValidityFields
+window now = record { not_before = now -ℤ pos 300; not_after = now +ℤ pos 300 }
+
+-- which begins in 1970 or later, and ends in the year 9999 or before
+pub record HasWindow (now : ℤ) : Type 0 where
+  pub first : pos 0 ≤ℤ (now -ℤ pos 300)
+  pub last : (now +ℤ pos 300) ≤ℤ pos 253402300799
+
+-- ---- what is signed
+
+unfoldable pub spelled_attribute : List ℕ → List ℕ → List ℕ
+spelled_attribute identifier value =
+    der_constructed sequence (der_primitive oid_tag identifier ++ der_constructed set value)
+
+-- contentType, signingTime, messageDigest (11.1 to 11.3)
+abbrev pub made_attributes : List ℕ → ℤ → List ℕ
+made_attributes digest now =
+    spelled_attribute content_type (der_primitive oid_tag xml_content)
+    ++ (spelled_attribute signing_time (der_time now)
+    ++ spelled_attribute message_digest (der_primitive octet_string_tag digest))
+
+-- of a content and a moment
+unfoldable pub made_covered : List ℕ → ℤ → List ℕ
+made_covered content now = covered (made_attributes (sha256 content) now)
+
+-- a CRL of the issuing key without entries, whose number is the moment in thousandths of a second
+abbrev pub made_crl : KeyFields → ℤ → TbsCrlFields
+made_crl issuing now = record {
+  algorithm = default_algorithm;
+  issuer = name_of_key issuing;
+  this_update = (window now).not_before;
+  next_update = (window now).not_after;
+  revoked = none_revoked;
+  authority_key_id = Some (sha1 issuing.bits);
+  crl_number = Some (serial_of (unsigned_abs now * 1000));
+}
+
+-- the fields in DER, with a signature under the issuing key
+pub record IsCrlMade (scheme : Relation) (issuing : KeyFields) (now : ℤ) (c : CrlFields) : Type 0
+  where
+    pub fields : c.tbs ≡ made_crl issuing now
+    pub slice : c.signed.slice ≡ spelled_tbs_crl c.tbs
+    pub algorithm : c.signed.signature.algorithm ≡ default_algorithm
+    pub signed : IsSigned scheme c issuing
+
+-- the same, as the signer's call gives it
+pub record IsCrlSigned {Id : Type 0} (scheme : Relation) (issuing : KeyFields) (now : ℤ) (id : Id)
+    (before after : SignerState Id) (c : CrlFields) : Type 0 where
+  pub fields : c.tbs ≡ made_crl issuing now
+  pub slice : c.signed.slice ≡ spelled_tbs_crl c.tbs
+  pub algorithm : c.signed.signature.algorithm ≡ default_algorithm
+  pub signed : IsShortSignature scheme RsaSha256 id (spelled_tbs_crl c.tbs) before after
+      c.signed.signature.value
+
+-- the CRL of the issuing key, and the certificate that it issues for this key with the serial number that was drawn
+pub record IsCertified {Id : Type 0} (scheme : Relation) (issuing key : KeyFields) (now : ℤ)
+    (before after : SignerState Id) (crl : CrlFields) (certificate : CertificateFields) : Type 0
+  where
+    pub crl_made : IsCrlMade scheme issuing now crl
+    pub fields : IsMadeFor issuing key (without_first_bit after.random) (window now) certificate.tbs
+    pub issued : IsIssued scheme issuing certificate
+    pub keeps : Keeps before after
+    pub drawn : after.drawn ≡ before.drawn
+
+-- a content, and the moment at which it is signed
+pub record ContentFields : Type 0 where
+  pub content : List ℕ
+  pub moment : ℤ
+
+-- ---- the message
+
+-- of a content with the signature of its attributes, a certificate and a CRL
+abbrev pub assembled : ContentFields → SignatureParts RpkiAlgorithm → CertificateFields → CrlFields
+    → MessageFields
+assembled c signature certificate crl = record {
+  content = c.content;
+  signer = certificate.tbs.subject_key_id;
+  digest = sha256 c.content;
+  signing_time = Some c.moment;
+  covered = made_covered c.content c.moment;
+  signature = signature;
+  certificate = certificate;
+  crls = crl ∷ [];
+}
+
+-- what is to be signed of it
+pub record UnsignedFields : Type 0 where
+  pub content : ContentFields
+  pub crl : TbsCrlFields
+  pub certificate : TbsFields
+
+pub record IsUnsignedFor (content : List ℕ) (now : ℤ) (serial : List ℕ) (key issuing : KeyFields)
+    (u : UnsignedFields) : Type 0 where
+  pub content_is : u.content ≡ record { content = content; moment = now }
+  pub crl : u.crl ≡ made_crl issuing now
+  pub certificate : IsMadeFor issuing key serial (window now) u.certificate
+
+-- and the message with the three signatures
+abbrev pub signed_message_of : UnsignedFields → SignatureParts RpkiAlgorithm
+    → SignatureParts RpkiAlgorithm → SignatureParts RpkiAlgorithm → MessageFields
+signed_message_of u attributes crl certificate = assembled u.content attributes
+    (record {
+      signed = record { slice = spelled_tbs u.certificate; signature = certificate };
+      tbs = u.certificate;
+    })
+    (record { signed = record { slice = spelled_tbs_crl u.crl; signature = crl }; tbs = u.crl })
+
+-- It has this content, says this moment as the time of signing, and is signed under this key, for which the issuing key issued a
+-- certificate and a CRL.
+pub record IsMessageMade (scheme : Relation) (content : List ℕ) (now : ℤ)
+    (issuing key : KeyFields) (serial : List ℕ) (m : MessageFields) : Type 0 where
+  pub signature : SignatureParts RpkiAlgorithm
+  pub certificate : CertificateFields
+  pub crl : CrlFields
+  pub is : m ≡ assembled (record { content = content; moment = now }) signature certificate crl
+  pub algorithm : signature.algorithm ≡ default_algorithm
+  pub signed : scheme RsaSha256 key (made_covered content now) signature.value
+  pub fields : certificate.tbs ≡ made_fields false issuing key serial (window now)
+  pub issued : IsIssued scheme issuing certificate
+  pub crl_made : IsCrlMade scheme issuing now crl
+
+-- The key for this one use is the one that the signer drew, and not the issuing key; the serial number is what it drew last.
+pub record IsCreated {Id : Type 0} (scheme : Relation) (content : List ℕ) (now : ℤ) (id : Id)
+    (before after : SignerState Id) (m : MessageFields) : Type 0 where
+  pub window_is : HasWindow now
+  pub issuing : KeyFields
+  pub holds : Holds before.keyring id issuing
+  pub key : KeyFields
+  pub drawn : after.drawn ≡ Some key
+  pub other : key ≢ issuing
+  pub made : IsMessageMade scheme content now issuing key (without_first_bit after.random) m
+
+-- ---- why nothing is created
+
+-- the key that the signer gave for one use is the issuing key, and it told so by its count
+pub record IsReused {Id : Type 0} (id : Id) (before after : SignerState Id) : Type 0 where
+  pub issuing : KeyFields
+  pub holds : Holds before.keyring id issuing
+  pub drawn : after.drawn ≡ Some issuing
+  pub told : Rose before.reused after.reused
+
+-- the content is too long, or a key or a signature was, and the signer told so by its count
+abbrev pub IsTooLong : {Id : Type 0} → List ℕ → SignerState Id → SignerState Id → Type 0
+IsTooLong content before after =
+    (2 ^ 31 < length content)
+    ⊎ ((length content ≤ 2 ^ 31) × Rose before.overlong after.overlong)
+
+-- of want of memory nothing is said, and no refusal of the signer stands for it
+abbrev pub CreateFails : {Id E : Type 0} → List ℕ → ℤ → Id → SignerState Id → SignerState Id
+    → CreateError E → Type 0
+CreateFails content now id before after create.Moment = HasWindow now → ⊥
+CreateFails content now id before after create.TooLong =
+    HasWindow now × IsTooLong content before after
+CreateFails content now id before after create.KeyReused = HasWindow now × IsReused id before after
+CreateFails content now id before after (create.Signing error) =
+    HasWindow now × (error ≢ signing.OutOfMemory) × SigningFails RsaSha256 id before after error
+CreateFails content now id before after create.OutOfMemory = ⊤

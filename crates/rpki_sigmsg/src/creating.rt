@@ -1,0 +1,112 @@
+//! Creating signed messages.
+
+ghost use Rattle.std.specs.Prelude.{◌≡◌, ◌++◌, ◌≤ℤ◌, ◌↔◌, ◌<◌, ◌≤◌, ◌^◌, ◌+ℤ◌, ◌-ℤ◌, ℕ, ℤ, List, pos, length, Decides, IsTrue, IsOk, IfOk, OnOk, IsErrOf, MatchResult};
+ghost use Rattle.rpki_der.specs.declared.mode.Mode.{Mode};
+ghost use Rattle.rpki_der.specs.Takes.{BeginsAs};
+ghost use Rattle.rpki_base.specs.PublicKey.{KeyFields};
+ghost use Rattle.rpki_base.specs.declared.algorithm.SigningAlgorithm.TheVariants.{RsaSha256};
+ghost use Rattle.rpki_signer.specs.Limits.{Keeps, MakeFails};
+ghost use Rattle.rpki_signer.specs.Signer.{Holds, Stays, AreDistinct};
+ghost use Rattle.rpki_sigmsg.specs.Checks.{IsBelieved};
+ghost use Rattle.rpki_sigmsg.specs.Making as spec;
+ghost use Rattle.rpki_sigmsg.specs.Message.{signed_message};
+ghost use Rattle.rpki_sigmsg.specs.Spelling.{rewritten, CanBeSpelled};
+
+use crate::create_error::CreateError;
+use crate::crl::SignedMessageCrl;
+use crate::message::SignedMessage;
+use crate::unsigned::{UnsignedContent, UnsignedCrl};
+use crate::window::Window;
+use bytes::Bytes;
+use rpki_base::{PublicKey, Scheme, Time};
+use rpki_idcert::IdCert;
+use rpki_signer::{
+    MakeError, Signer, key_within_limit, sign_once_within_limit, sign_within_limit,
+};
+use std::alloc::Global;
+
+/// The most octets that a content may have.
+const CONTENT_LIMIT: usize = 1 << 31;
+
+fn is_too_long(content: &[u8]) -> bool
+    ensures { IsTrue result ↔ (2 ^ 31 < length content.now) }
+{
+    content.len() > CONTENT_LIMIT
+}
+
+fn is_same(a: &PublicKey, b: &PublicKey) -> bool
+    ensures { Decides result (a.now ≡ b.now) }
+{
+    a == b
+}
+
+// The CRL of the issuing key, signed.
+fn sign_crl<P: Scheme, S: Signer<P>>(
+    alloc: Global,
+    issuing_key: &PublicKey,
+    window: Window,
+    issuing_key_id: &S::KeyId,
+    signer: &mut S,
+) -> Result<SignedMessageCrl, MakeError<S::Error>>
+    ensures signed { MatchResult result
+        (spec.IsCrlSigned P.checks issuing_key.now window issuing_key_id.now
+        (S.state signer.old) (S.state signer.new))
+        (λ e. Stays (S.state signer.old) (S.state signer.new)
+        × MakeFails RsaSha256 issuing_key_id.now (S.state signer.old) (S.state signer.new) e) }
+    ensures distinct { IsOk result → AreDistinct (S.state signer.new).keyring }
+{
+    let crl = UnsignedCrl::new(alloc, issuing_key, window)?;
+    let signature = sign_within_limit(alloc, issuing_key_id, crl.as_slice(), signer)?;
+    Ok(crl.with_signature(signature))
+}
+
+// The CRL of the issuing key, and its certificate for another key, with a serial number that the signer draws.
+fn certify<P: Scheme, S: Signer<P>>(
+    alloc: Global,
+    issuing_key: &PublicKey,
+    key: &PublicKey,
+    window: Window,
+    issuing_key_id: &S::KeyId,
+    signer: &mut S,
+) -> Result<(SignedMessageCrl, IdCert), MakeError<S::Error>>
+    requires holds { Holds (S.state signer.old).keyring issuing_key_id.now issuing_key.now }
+    requires distinct { AreDistinct (S.state signer.old).keyring }
+    ensures { MatchResult result
+        (λ r. spec.IsCertified P.checks issuing_key.now key.now window
+        (S.state signer.old) (S.state signer.new) r.0 r.1)
+        (λ e. Keeps (S.state signer.old) (S.state signer.new)
+        × ((S.state signer.new).drawn ≡ (S.state signer.old).drawn)
+        × MakeFails RsaSha256 issuing_key_id.now (S.state signer.old) (S.state signer.new) e) }
+{
+    let crl = sign_crl(alloc, issuing_key, window, issuing_key_id, signer)?;
+    let certificate = IdCert::new_ee(alloc, key, window.validity(), issuing_key_id, signer)?;
+    Ok((crl, certificate))
+}
+
+// The message with this content, at the moment of the window.
+fn create_within<P: Scheme, S: Signer<P>>(
+    alloc: Global,
+    content: Bytes,
+    window: Window,
+    issuing_key_id: &S::KeyId,
+    signer: &mut S,
+) -> Result<SignedMessage, CreateError<S::Error>>
+    requires has_window { spec.HasWindow window }
+    requires short { length content ≤ 2 ^ 31 }
+    ensures created { MatchResult result
+        (spec.IsCreated P.checks content window issuing_key_id.now
+        (S.state signer.old) (S.state signer.new))
+        (spec.CreateFails content window issuing_key_id.now
+        (S.state signer.old) (S.state signer.new)) }
+    ensures keeps { Keeps (S.state signer.old) (S.state signer.new) }
+{
+    let content = UnsignedContent::new(alloc, content, window.moment())?;
+    let (signature, key) = sign_once_within_limit(alloc, content.as_slice(), signer)?;
+    let issuing_key = key_within_limit(alloc, issuing_key_id, signer)?;
+    if is_same(&key, &issuing_key) {
+        return Err(CreateError::KeyReused);
+    }
+    let (crl, certificate) =
+        certify(alloc, &issuing_key, &key, window, issuing_key_id, signer)?;
+    Ok(content.into_message(alloc, signature, certificate, crl)?)
+}
