@@ -80,6 +80,7 @@ end_entity_made scheme key id validity a b e serial cert n m =
       issuing = m.issuing;
       holds = subst (λ r. Holds r id m.issuing) n.drawn.keyring m.holds;
       short = m.short;
+      twenty = subst (λ o. length o ≡ 20) (sym (m.stays.random ∙ n.drawn.random)) n.twenty;
       fields = subst (λ o. IsMadeFor m.issuing key o validity cert.tbs) drawn' m.fields;
       issued = m.issued;
       keeps = keeps_then a b e first (stays_keeps b e m.stays);

@@ -1,5 +1,5 @@
 -- How identity certificates are made (RFC 5280, 4.1.2 and 4.2.1).
-use Rattle.std.specs.Prelude.{◌≡◌, ◌≤ℤ◌, Decides, ℕ, ℤ, Bool, true, false, Option, None, Some, Ok, List, ◌++◌}
+use Rattle.std.specs.Prelude.{◌≡◌, ◌≤ℤ◌, Decides, ℕ, ℤ, Bool, true, false, Option, None, Some, Ok, List, ◌++◌, length}
 use Rattle.hex.specs.Hex.{encode_upper}
 use Rattle.sha1.specs.Sha1.{sha1}
 use Rattle.rpki_der.specs.declared.mode.Mode.{Mode}
@@ -101,6 +101,7 @@ pub record IsEndEntityMade {Id : Type 0} (scheme : Relation) (key : KeyFields) (
     pub issuing : KeyFields
     pub holds : Holds before.keyring id issuing
     pub short : IsShort issuing.bits
+    pub twenty : length after.random ≡ 20
     pub fields : IsMadeFor issuing key (without_first_bit after.random) validity c.tbs
     pub issued : IsIssued scheme issuing c
     pub keeps : Keeps before after

@@ -47,6 +47,7 @@ certified scheme issuing key now id a b c crl cert d e h s m =
     let same : m.issuing ≡ issuing = one_key b.keyring id m.issuing issuing e m.holds k in
     record {
       crl_made = crl_made scheme issuing now id a b crl d h s;
+      twenty = m.twenty;
       fields = subst (λ (i : KeyFields). IsMadeFor i key (without_first_bit c.random) (window now) cert.tbs) same m.fields;
       issued = subst (λ (i : KeyFields). IsIssued scheme i cert) same m.issued;
       keeps = keeps_then a b c (stays_keeps a b s.signed.is.stays) m.keeps;
@@ -113,6 +114,7 @@ created scheme content now id a b c d signature key issuing crl cert m w g o k n
   key = key;
   drawn = t.drawn ∙ (k.is.stays.drawn ∙ o.is.drawn);
   other = n;
+  twenty = t.twenty;
   made = record {
     signature = signature;
     certificate = cert;

@@ -94,6 +94,7 @@ pub record IsCertified {Id : Type 0} (scheme : Relation) (issuing key : KeyField
     (before after : SignerState Id) (crl : CrlFields) (certificate : CertificateFields) : Type 0
   where
     pub crl_made : IsCrlMade scheme issuing now crl
+    pub twenty : length after.random ≡ 20
     pub fields : IsMadeFor issuing key (without_first_bit after.random) (window now) certificate.tbs
     pub issued : IsIssued scheme issuing certificate
     pub keeps : Keeps before after
@@ -165,6 +166,7 @@ pub record IsCreated {Id : Type 0} (scheme : Relation) (content : List ℕ) (now
   pub key : KeyFields
   pub drawn : after.drawn ≡ Some key
   pub other : key ≢ issuing
+  pub twenty : length after.random ≡ 20
   pub made : IsMessageMade scheme content now issuing key (without_first_bit after.random) m
 
 -- ---- why nothing is created
