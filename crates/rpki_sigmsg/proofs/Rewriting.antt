@@ -77,10 +77,10 @@ is_context_1 = ((λ e. omega (arith, e), λ e. omega (arith, e), λ e. omega (ar
 primitive_within : (tag content : List ℕ) → length content ≤ length (der_primitive tag content)
 primitive_within tag content = omega (arith, length-append tag (der_length (length content) ++ content), length-append (der_length (length content)) content)
 
-data_fits : (slice : List ℕ) (a : RpkiAlgorithm) (value : List ℕ) → length (der_constructed sequence (slice ++ (spelled_x509 a ++ spelled_bits value))) < 4294967296 → length (slice ++ (spelled_x509 a ++ spelled_bits value)) < 4294967296
+pub data_fits : (slice : List ℕ) (a : RpkiAlgorithm) (value : List ℕ) → length (der_constructed sequence (slice ++ (spelled_x509 a ++ spelled_bits value))) < 4294967296 → length (slice ++ (spelled_x509 a ++ spelled_bits value)) < 4294967296
 data_fits slice a value h = omega (arith, h, content_within sequence (slice ++ (spelled_x509 a ++ spelled_bits value)))
 
-first_fits : (c : CrlFields) (more : List CrlFields) → length (spec.spelled_crls (c ∷ more)) < 4294967296 → DataCanBeSpelled spelled_x509 c.signed
+pub first_fits : (c : CrlFields) (more : List CrlFields) → length (spec.spelled_crls (c ∷ more)) < 4294967296 → DataCanBeSpelled spelled_x509 c.signed
 first_fits c more h = data_fits c.signed.slice c.signed.signature.algorithm c.signed.signature.value (omega (arith, h, length-append (spelled_data spelled_x509 c.signed) (spec.spelled_crls more)))
 
 second_fits : (c d : CrlFields) → length (spec.spelled_crls (c ∷ d ∷ [])) < 4294967296 → DataCanBeSpelled spelled_x509 d.signed
@@ -113,7 +113,7 @@ unfolding key_identifier_under octets_under joined so ◌>>=◌
 name_read Ber id l = rw (eq-eqb (length id) 20 l) refl
 name_read Der id l = rw (eq-eqb (length id) 20 l) refl
 
-signer_name : (mode : Mode) (id : List ℕ) → length id ≡ 20 → Piece mode (key_identifier_under (context 0) mode) (der_primitive (context 0) id) id
+pub signer_name : (mode : Mode) (id : List ℕ) → length id ≡ 20 → Piece mode (key_identifier_under (context 0) mode) (der_primitive (context 0) id) id
 signer_name mode id l = record { value = primitive_value (context 0) id; spells = spells_primitive mode (context 0) id is_context_0 (omega (arith, l)); reads = name_read mode id l }
 
 abbrev digest_fields : Values → Option (Unit {0})
@@ -273,7 +273,7 @@ pub record Fits (m : MessageFields) : Type 0 where
   pub attributes : length (spec.under_context m.covered) < 4294967296
   pub signature : length m.signature.value < 4294967296
 
-all_fit : (m : MessageFields) → spec.CanBeSpelled m → Fits m
+pub all_fit : (m : MessageFields) → spec.CanBeSpelled m → Fits m
 unfolding spec.message_parts spec.signed_data_fields spec.spelled_signer
 all_fit m h =
     let a0 = der_primitive oid_tag signed_data_type in
@@ -345,8 +345,8 @@ signer_piece mode m h f =
       attributes = refl;
       signature = refl;
       piece = constructed mode sequence (spec.signer_fields m) (signer_in mode) (p1.value ▸ p2.value ▸ p3.value ▸ p4.value ▸ p5.value ▸ p6.value ▸ End) _ is_sequence f.signer_fields
-        (spells_followed mode _ _ _ _ p1.spells (spells_followed mode _ _ _ _ p2.spells (spells_followed mode _ _ _ _ p3.spells (spells_followed mode _ _ _ _ p4.spells (spells_followed mode _ _ _ _ p5.spells p6.spells)))))
-        (signer_reads mode p1.value p2.value p3.value p4.value p5.value p6.value m.signer (h.octets, s) m.signature.algorithm (der_primitive octet_string_tag m.signature.value, m.signature.value) p1.reads p2.reads p3.reads p4.reads p5.reads p6.reads);
+          (spells_followed mode _ _ _ _ p1.spells (spells_followed mode _ _ _ _ p2.spells (spells_followed mode _ _ _ _ p3.spells (spells_followed mode _ _ _ _ p4.spells (spells_followed mode _ _ _ _ p5.spells p6.spells)))))
+          (signer_reads mode p1.value p2.value p3.value p4.value p5.value p6.value m.signer (h.octets, s) m.signature.algorithm (der_primitive octet_string_tag m.signature.value, m.signature.value) p1.reads p2.reads p3.reads p4.reads p5.reads p6.reads);
     }
 
 -- ---- the message
@@ -400,9 +400,9 @@ view_piece mode m h k =
     let p6 = wrapping mode set (spec.spelled_signer m) (signer_info mode) s6.fields is_set f.signer s6.piece in
     let view' = view_of (der_primitive octet_string_tag m.content, m.content) (spelled_data spelled_x509 m.certificate.signed, m.certificate) s5.crl_set' s6.fields in
     let parts : Piece mode (within sequence (parts_in mode)) (der_constructed sequence (spec.signed_data_fields m)) view' =
-        constructed mode sequence (spec.signed_data_fields m) (parts_in mode) (p1.value ▸ p2.value ▸ p3.value ▸ p4.value ▸ s5.piece.value ▸ p6.value ▸ End) view' is_sequence f.fields
-          (spells_followed mode _ _ _ _ p1.spells (spells_followed mode _ _ _ _ p2.spells (spells_followed mode _ _ _ _ p3.spells (spells_followed mode _ _ _ _ p4.spells (spells_followed mode _ _ _ _ s5.piece.spells p6.spells)))))
-          (parts_read mode p1.value p2.value p3.value p4.value s5.piece.value p6.value _ _ s5.crl_set' s6.fields p1.reads p2.reads p3.reads p4.reads s5.piece.reads p6.reads) in
+    constructed mode sequence (spec.signed_data_fields m) (parts_in mode) (p1.value ▸ p2.value ▸ p3.value ▸ p4.value ▸ s5.piece.value ▸ p6.value ▸ End) view' is_sequence f.fields
+    (spells_followed mode _ _ _ _ p1.spells (spells_followed mode _ _ _ _ p2.spells (spells_followed mode _ _ _ _ p3.spells (spells_followed mode _ _ _ _ p4.spells (spells_followed mode _ _ _ _ s5.piece.spells p6.spells)))))
+    (parts_read mode p1.value p2.value p3.value p4.value s5.piece.value p6.value _ _ s5.crl_set' s6.fields p1.reads p2.reads p3.reads p4.reads s5.piece.reads p6.reads) in
     let t = signed_type mode in
     let w = wrapping mode (context 0) (der_constructed sequence (spec.signed_data_fields m)) (signed_parts mode) view' is_context_0 f.data' parts in
     record {

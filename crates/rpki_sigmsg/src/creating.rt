@@ -3,12 +3,14 @@
 ghost use Rattle.std.specs.Prelude.{◌≡◌, ◌++◌, ◌≤ℤ◌, ◌↔◌, ◌<◌, ◌≤◌, ◌^◌, ◌+ℤ◌, ◌-ℤ◌, ℕ, ℤ, List, pos, length, Decides, IsTrue, IsOk, IfOk, OnOk, IsErrOf, MatchResult};
 ghost use Rattle.rpki_der.specs.declared.mode.Mode.{Mode};
 ghost use Rattle.rpki_der.specs.Takes.{BeginsAs};
+ghost use Rattle.rpki_base.specs.Civil.{IsMoment};
 ghost use Rattle.rpki_base.specs.PublicKey.{KeyFields};
 ghost use Rattle.rpki_base.specs.declared.algorithm.SigningAlgorithm.TheVariants.{RsaSha256};
 ghost use Rattle.rpki_signer.specs.Limits.{Keeps, MakeFails};
 ghost use Rattle.rpki_signer.specs.Signer.{Holds, Stays, AreDistinct};
 ghost use Rattle.rpki_sigmsg.specs.Checks.{IsBelieved};
 ghost use Rattle.rpki_sigmsg.specs.Making as spec;
+ghost use Rattle.rpki_sigmsg.specs.declared.create_error.CreateError.TheVariants as create;
 ghost use Rattle.rpki_sigmsg.specs.Message.{signed_message};
 ghost use Rattle.rpki_sigmsg.specs.Spelling.{rewritten, CanBeSpelled};
 
@@ -20,9 +22,7 @@ use crate::window::Window;
 use bytes::Bytes;
 use rpki_base::{PublicKey, Scheme, Time};
 use rpki_idcert::IdCert;
-use rpki_signer::{
-    MakeError, Signer, key_within_limit, sign_once_within_limit, sign_within_limit,
-};
+use rpki_signer::{MakeError, Signer, key_within_limit, sign_once_within_limit, sign_within_limit};
 use std::alloc::Global;
 
 /// The most octets that a content may have.
@@ -38,6 +38,18 @@ fn is_same(a: &PublicKey, b: &PublicKey) -> bool
     ensures { Decides result (a.now ≡ b.now) }
 {
     a == b
+}
+
+// The moment and both ends of its window are in the years 0 to 9999.
+fn are_moments(window: Window)
+    ensures moment { IsMoment window }
+    ensures first { IsMoment (spec.window window).not_before }
+    ensures last { IsMoment (spec.window window).not_after }
+{
+    let validity = window.validity();
+    let _ = window.moment().seconds();
+    let _ = validity.not_before().seconds();
+    let _ = validity.not_after().seconds();
 }
 
 // The CRL of the issuing key, signed.
@@ -99,6 +111,7 @@ fn create_within<P: Scheme, S: Signer<P>>(
         (spec.CreateFails content window issuing_key_id.now
         (S.state signer.old) (S.state signer.new)) }
     ensures keeps { Keeps (S.state signer.old) (S.state signer.new) }
+    ensures distinct { IsOk result → AreDistinct (S.state signer.old).keyring }
 {
     let content = UnsignedContent::new(alloc, content, window.moment())?;
     let (signature, key) = sign_once_within_limit(alloc, content.as_slice(), signer)?;
@@ -106,7 +119,58 @@ fn create_within<P: Scheme, S: Signer<P>>(
     if is_same(&key, &issuing_key) {
         return Err(CreateError::KeyReused);
     }
-    let (crl, certificate) =
-        certify(alloc, &issuing_key, &key, window, issuing_key_id, signer)?;
+    let (crl, certificate) = certify(alloc, &issuing_key, &key, window, issuing_key_id, signer)?;
     Ok(content.into_message(alloc, signature, certificate, crl)?)
+}
+
+/// # Making
+impl SignedMessage {
+    /// A message with this content, signed at the moment by the holder of a key that is made for this one use, for which the issuing
+    /// key issues a certificate and a CRL. They are valid from 300 seconds before the moment to 300 seconds after it.
+    ///
+    /// The signer signs the attributes, gives the issuing key, signs the CRL, draws the certificate's serial number, gives the issuing
+    /// key again and signs the certificate; its first refusal decides. Moment and the length of the content, at most 2^31 octets,
+    /// are tested before, the lengths of each key and signature, at most 2^16 octets, at once, and that the two keys differ when both
+    /// are there.
+    pub fn create<P: Scheme, S: Signer<P>>(
+        alloc: Global,
+        content: Bytes,
+        now: Time,
+        issuing_key_id: &S::KeyId,
+        signer: &mut S,
+    ) -> Result<SignedMessage, CreateError<S::Error>>
+        // What is created, and why nothing is.
+        ensures created { MatchResult result
+            (spec.IsCreated P.checks content now issuing_key_id.now
+            (S.state signer.old) (S.state signer.new))
+            (spec.CreateFails content now issuing_key_id.now
+            (S.state signer.old) (S.state signer.new)) }
+
+        // It is believed under the issuing key at each second of the window.
+        ensures believed { IfOk result (λ m. (key : KeyFields)
+            → Holds (S.state signer.old).keyring issuing_key_id.now key
+            → (when : ℤ) → (spec.window now).not_before ≤ℤ when
+            → when ≤ℤ (spec.window now).not_after → IsBelieved P.checks m key when) }
+
+        // What is written of it is read again, in both modes, whatever stands behind it.
+        ensures again { IfOk result (λ m. (mode : Mode) (rest : List ℕ) → CanBeSpelled m
+            → BeginsAs (signed_message mode) mode (rewritten m ++ rest) m) }
+
+        // Moment and a content that is too long are told in any case, before the signer is asked.
+        ensures moment { (spec.HasWindow now → ⊥) → IsErrOf result create.Moment }
+        ensures too_long { spec.HasWindow now → 2 ^ 31 < length content
+            → IsErrOf result create.TooLong }
+
+        // The signer holds the same keys, whatever the answer.
+        ensures keeps { Keeps (S.state signer.old) (S.state signer.new) }
+    {
+        let Some(window) = Window::new(now) else {
+            return Err(CreateError::Moment);
+        };
+        if is_too_long(content.as_slice()) {
+            return Err(CreateError::TooLong);
+        }
+        are_moments(window);
+        create_within(alloc, content, window, issuing_key_id, signer)
+    }
 }

@@ -24,9 +24,7 @@ const CRL_VERSION: [u8; 3] = [0x02, 0x01, 0x01];
 const CMS_VERSION: [u8; 3] = [0x02, 0x01, 0x03];
 
 // SHA-256, without parameters.
-const DIGEST_ALGORITHM: [u8; 13] = [
-    0x30, 11, 6, 9, 96, 134, 72, 1, 101, 3, 4, 2, 1,
-];
+const DIGEST_ALGORITHM: [u8; 13] = [0x30, 11, 6, 9, 96, 134, 72, 1, 101, 3, 4, 2, 1];
 
 /// # Encoding
 impl CrlEntry {

@@ -16,9 +16,7 @@ use crate::object_identifiers::{CONTENT_TYPE, CT_XML, MESSAGE_DIGEST, SIGNING_TI
 use crate::tbs_crl::SignedMessageTbsCrl;
 use crate::window::Window;
 use bytes::Bytes;
-use rpki_base::{
-    PublicKey, RpkiSignatureAlgorithm, Serial, Signature, Time, write_constructed,
-};
+use rpki_base::{PublicKey, RpkiSignatureAlgorithm, Serial, Signature, Time, write_constructed};
 use rpki_der::{OutOfMemory, Tag, Writer};
 use rpki_idcert::{IdCert, TbsIdCert, UnsignedIdCert};
 use sha2::{Digest, Sha256};
@@ -27,11 +25,7 @@ use std::marker::Model;
 
 // Appends an attribute with this one value.
 #[tactic(auto, unfolding(crate::specs::Making::spelled_attribute))]
-fn write_attribute(
-    identifier: &[u8],
-    value: &Writer,
-    out: &mut Writer,
-) -> Result<(), OutOfMemory>
+fn write_attribute(identifier: &[u8], value: &Writer, out: &mut Writer) -> Result<(), OutOfMemory>
     requires { length identifier.now < 2 ^ 16 }
     ensures ok { OnOk result
         (out.new ≡ out.old ++ spec.spelled_attribute identifier.now value.now) }
@@ -282,6 +276,7 @@ impl UnsignedMessage {
     {
         let certificate = self.certificate.with_signature(certificate);
         let crl = self.crl.with_signature(crl);
-        self.content.into_message(alloc, attributes, certificate, crl)
+        self.content
+            .into_message(alloc, attributes, certificate, crl)
     }
 }

@@ -2,6 +2,7 @@ use Rattle.std.proofs.Common.{◌≡◌, ◌∙◌, refl, ap, subst, sym}
 use Rattle.std.proofs.lemmas.Bool.Decides.{not_from_Decides}
 use Rattle.rpki_base.specs.declared.algorithm.SigningAlgorithm.TheVariants.{RsaSha256}
 use Rattle.rpki_signer.specs.Limits.{IsShortOneOff}
+use Rattle.rpki_signer.specs.Signer.{AreDistinct}
 use Rattle.rpki_sigmsg.specs.Making.{ContentFields, made_covered, assembled}
 use Rattle.rpki_sigmsg.specs.Message.{MessageFields}
 use Rattle.rpki_sigmsg.proofs.Created.{handed_on, no_key, reused, uncreated, created}
@@ -23,3 +24,6 @@ returns-clause-created g c =
     let once = subst (λ o. IsShortOneOff g.P.Scheme.checks RsaSha256 o (g.S.Signer.state c.args.signer.now) (g.S.Signer.state c.sign_once_within_limit.new.signer) c.in_ok-signature.signature.value c.in_ok-signature.key) message c.in_ok-signature.ensures.signed in
     let is = c.in_ok-into_message.ensures ∙ ap (λ (f : ContentFields). assembled f c.in_ok-signature.signature c.in_ok-crl.certificate c.in_ok-crl.crl) content in
     created _ _ _ _ _ _ _ _ c.in_ok-signature.signature c.in_ok-signature.key c.in_ok-issuing_key.issuing_key c.in_ok-crl.crl c.in_ok-crl.certificate c.in_ok-into_message.field-0 c.requires.has_window c.in_ok-signature.ensures.algorithm once c.in_ok-issuing_key.ensures.key (not_from_Decides c.is_same.result c.is_same.ensures c.if-is_same.false) c.in_ok-crl.ensures is
+
+pub returns-clause-distinct : goal.returns-clause-distinct
+returns-clause-distinct g c = λ _. subst AreDistinct c.in_ok-signature.ensures.signed.is.keyring c.sign_once_within_limit.ensures.distinct
