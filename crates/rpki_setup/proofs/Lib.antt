@@ -1,0 +1,10 @@
+pub mod Read
+pub mod Services
+pub mod Transfers
+pub mod Characters
+pub mod Roots
+pub mod Base64s
+pub mod Texts
+pub mod Plain
+pub mod Again
+pub mod Spelt

@@ -1,0 +1,137 @@
+//! Parts of messages are written, by the tables of specs/: the one spelling of an element, in pieces and without memory.
+
+ghost use Rattle.std.specs.Char.{encode_utf8};
+ghost use Rattle.std.specs.Fmt.{WritesOnOk};
+ghost use Rattle.std.specs.Option.{option_copied};
+ghost use Rattle.rpki_xml.specs.Draft.{optional_attribute};
+ghost use Rattle.rpki_xml.specs.Spelling.{spelled, spelled_value, spelled_attribute, spelled_attributes, spelled_end};
+ghost use Rattle.rpki_setup.specs.RepoInfo.{repo_info_attributes};
+ghost use Rattle.rpki_setup.specs.Root.{certificate_element};
+ghost use Rattle.rpki_setup.specs.Writing.{start_text, inside_text};
+
+use crate::repo_info::RepoInfo;
+use rpki_text::Base64;
+use std::fmt;
+
+// A character of a value: `&`, `<`, `>`, `"` and `'` as entities, every other one as itself.
+fn write_character<W: fmt::Write>(f: &mut fmt::Formatter<W>, c: char) -> fmt::Result
+    ensures { WritesOnOk W.write_str_gives f.old result (spelled_value (encode_utf8 c)) f.new }
+{
+    match c {
+        '"' => f.write_str("&quot;"),
+        '\'' => f.write_str("&apos;"),
+        '&' => f.write_str("&amp;"),
+        '<' => f.write_str("&lt;"),
+        '>' => f.write_str("&gt;"),
+        _ => f.write_char(c),
+    }
+}
+
+// A value.
+fn write_value<W: fmt::Write>(f: &mut fmt::Formatter<W>, value: &str) -> fmt::Result
+    ensures { WritesOnOk W.write_str_gives f.old result (spelled_value value.now) f.new }
+{
+    for c in value.chars() {
+        write_character(f, c)?;
+    }
+    Ok(())
+}
+
+/// An attribute.
+pub(crate) fn write_attribute<W: fmt::Write>(
+    f: &mut fmt::Formatter<W>,
+    name: &str,
+    value: &str,
+) -> fmt::Result
+    ensures { WritesOnOk W.write_str_gives f.old result
+        (spelled_attribute name.now value.now) f.new }
+{
+    f.write_str(" ")?;
+    f.write_str(name)?;
+    f.write_str("=\"")?;
+    write_value(f, value)?;
+    f.write_str("\"")
+}
+
+/// An attribute, where there is a value.
+pub(crate) fn write_optional<W: fmt::Write>(
+    f: &mut fmt::Formatter<W>,
+    name: &str,
+    value: Option<&str>,
+) -> fmt::Result
+    ensures { let attributes = optional_attribute name.now (option_copied value.entry) in
+        WritesOnOk W.write_str_gives f.old result (spelled_attributes attributes) f.new }
+{
+    match value {
+        None => Ok(()),
+        Some(value) => write_attribute(f, name, value),
+    }
+}
+
+// An element that holds a certificate.
+fn write_certificate<W: fmt::Write>(
+    f: &mut fmt::Formatter<W>,
+    name: &str,
+    certificate: &Base64,
+) -> fmt::Result
+    ensures { WritesOnOk W.write_str_gives f.old result
+        (spelled (certificate_element name.now certificate.now)) f.new }
+{
+    let text = certificate.as_str();
+    f.write_str("<")?;
+    f.write_str(name)?;
+    if text.is_empty() {
+        return f.write_str("/>");
+    }
+    f.write_str(">")?;
+    f.write_str(text)?;
+    write_end(f, name)
+}
+
+// The end of an element.
+fn write_end<W: fmt::Write>(f: &mut fmt::Formatter<W>, name: &str) -> fmt::Result
+    ensures { WritesOnOk W.write_str_gives f.old result (spelled_end name.now) f.new }
+{
+    f.write_str("</")?;
+    f.write_str(name)?;
+    f.write_str(">")
+}
+
+/// The start of a root of this name, before its further attributes.
+pub(crate) fn write_start<W: fmt::Write>(f: &mut fmt::Formatter<W>, name: &str) -> fmt::Result
+    ensures { WritesOnOk W.write_str_gives f.old result (start_text name.now) f.new }
+{
+    f.write_str("<")?;
+    f.write_str(name)?;
+    f.write_str(" xmlns=\"http://www.hactrn.net/uris/rpki/rpki-setup/\" version=\"1\"")
+}
+
+/// What stands in a root of this name, behind its attributes, and its end.
+pub(crate) fn write_inside<W: fmt::Write>(
+    f: &mut fmt::Formatter<W>,
+    name: &str,
+    child: &str,
+    certificate: &Base64,
+) -> fmt::Result
+    ensures { WritesOnOk W.write_str_gives f.old result
+        (inside_text name.now child.now certificate.now) f.new }
+{
+    f.write_str(">")?;
+    write_certificate(f, child, certificate)?;
+    write_end(f, name)
+}
+
+/// The attributes that say where objects are found.
+pub(crate) fn write_repo_info<W: fmt::Write>(
+    f: &mut fmt::Formatter<W>,
+    info: &RepoInfo,
+) -> fmt::Result
+    ensures { WritesOnOk W.write_str_gives f.old result
+        (spelled_attributes (repo_info_attributes info.now)) f.new }
+{
+    write_attribute(f, "sia_base", info.base_uri().as_str())?;
+    match info.rpki_notify() {
+        None => Ok(()),
+        Some(uri) => write_attribute(f, "rrdp_notification_uri", uri.as_str()),
+    }
+}
