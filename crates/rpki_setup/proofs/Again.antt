@@ -39,9 +39,10 @@ child_plain c h None b i t =
     b
 child_plain c h (Some tag) b i t =
     element_plain (codes "child_request") (attribute (codes "child_handle") h ∷ attribute (codes "tag") tag ∷ []) (codes "child_bpki_ta") c
-    (record { lawful = refl; octets = refl; plain = refl })
-    (attribute_plain (codes "child_handle") h (record { lawful = refl; octets = refl; plain = refl }) refl (handle_octets h i),
-    (attribute_plain (codes "tag") tag (record { lawful = refl; octets = refl; plain = refl }) refl t, tt))
+    (record { lawful = refl; octets = refl; plain = refl }) (
+      attribute_plain (codes "child_handle") h (record { lawful = refl; octets = refl; plain = refl }) refl (handle_octets h i),
+      (attribute_plain (codes "tag") tag (record { lawful = refl; octets = refl; plain = refl }) refl t, tt),
+    )
     refl
     (record { lawful = refl; octets = refl; plain = refl })
     b

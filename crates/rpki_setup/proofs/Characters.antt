@@ -45,10 +45,13 @@ encode_high c h =
   where
     two : list_all is_high ((192 + c / 64) ∷ (128 + c % 64) ∷ []) ≡ true
     two = rw (is_high-add 192 (c / 64) (omega arith), is_high-add 128 (c % 64) (omega arith)) refl
+
     three : list_all is_high ((224 + c / 4096) ∷ (128 + c / 64 % 64) ∷ (128 + c % 64) ∷ []) ≡ true
     three = rw (is_high-add 224 (c / 4096) (omega arith), is_high-add 128 (c / 64 % 64) (omega arith), is_high-add 128 (c % 64) (omega arith)) refl
+
     four : list_all is_high ((240 + c / 262144) ∷ (128 + c / 4096 % 64) ∷ (128 + c / 64 % 64) ∷ (128 + c % 64) ∷ []) ≡ true
     four = rw (is_high-add 240 (c / 262144) (omega arith), is_high-add 128 (c / 4096 % 64) (omega arith), is_high-add 128 (c / 64 % 64) (omega arith), is_high-add 128 (c % 64) (omega arith)) refl
+
     by_two : (x y : Bool)
         → list_all is_high (cond x ((192 + c / 64) ∷ (128 + c % 64) ∷ []) (cond y ((224 + c / 4096) ∷ (128 + c / 64 % 64) ∷ (128 + c % 64) ∷ []) ((240 + c / 262144) ∷ (128 + c / 4096 % 64) ∷ (128 + c / 64 % 64) ∷ (128 + c % 64) ∷ []))) ≡ true
     by_two true y = two
@@ -60,10 +63,18 @@ encode_high c h =
 low_spelled : (c : ℕ) → nat_eq c 34 ≡ false → nat_eq c 39 ≡ false → nat_eq c 38 ≡ false → nat_eq c 60 ≡ false → nat_eq c 62 ≡ false → flat_map value_character (c ∷ []) ≡ c ∷ []
 low_spelled c a d e f g = rw (a, d, e, f, g) refl
 
+unequal : (c n : ℕ) → c ≢ n → nat_eq c n ≡ false
+unequal c n h = grind (arith, nat_tests)
+
 pub other_spelled : (c : ℕ) → c ≢ 34 → c ≢ 39 → c ≢ 38 → c ≢ 60 → c ≢ 62 → encode c ≡ spelled_value (encode c)
 unfolding spelled_value
-other_spelled c h39 h38 h60 h62 h34 = go (nat_lt c 128) refl
+other_spelled c a b d e f = go (nat_lt c 128) refl
   where
     go : (x : Bool) → nat_lt c 128 ≡ x → encode c ≡ flat_map value_character (encode c)
-    go true e = ?
-    go false e = ?
+    go true t =
+        let low : c < 128 = grind (arith, nat_tests) in
+        let is = encode_ascii c low in
+        is ∙ sym (low_spelled c (unequal c 34 a) (unequal c 39 b) (unequal c 38 d) (unequal c 60 e) (unequal c 62 f)) ∙ sym (ap (flat_map value_character) is)
+    go false t =
+        let high : 128 ≤ c = grind (arith, nat_tests) in
+        sym (high_text (encode c) (encode_high c high))

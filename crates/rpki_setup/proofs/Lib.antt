@@ -8,3 +8,7 @@ pub mod Texts
 pub mod Plain
 pub mod Again
 pub mod Spelt
+pub mod Certificates
+pub mod Shown
+pub mod Repositories
+pub mod Responses

@@ -23,3 +23,8 @@ no_message table b x xml.Malformed document fails = (refl, λ m r. none_some m (
 -- octets are at most one message of the table
 pub one_message : {M : Type 0} (table : Element → Option M) (b : List ℕ) (m n : M) → ReadsAs table b m → ReadsAs table b n → m ≡ n
 one_message table b m n p q = same_some m n (sym p.message ∙ ap table (one_document b p.element q.element p.document q.document) ∙ q.message)
+
+-- what is nothing makes nothing of the whole
+pub none_through : {X Y : Type 0} (e : XmlError) (part : Option X) (whole : Option Y) → (part ≡ None → whole ≡ None) → Fails e part → Fails e whole
+none_through xml.OutOfMemory part whole none fails = tt
+none_through xml.Malformed part whole none fails = none fails

@@ -53,22 +53,40 @@ uri_octets kind u h = all_weaker is_uri_octet is_octet uri_octet u (lawful_parts
 unlike : (n : ℕ) → nat_eq n 115 ≡ true → nat_eq n 58 ≡ false
 unlike n h = grind (arith, nat_tests)
 
-abbrev lower : ℕ → ℕ
-lower c = to_ascii_lowercase c
+first_true : (s t : Bool) → (s && t) ≡ true → s ≡ true
+first_true s t e = (both s t e).0
+
+rest_true : (s t : Bool) → (s && t) ≡ true → t ≡ true
+rest_true s t e = (both s t e).1
+
+never : false ≡ true → ⊥
+never e = cc
+
+abbrev begins : ℕ → ℕ → Bool
+begins c d = nat_eq (to_ascii_lowercase c) d
 
 not_http : (u : List ℕ) → has_scheme (codes "https://") u ≡ true → is_http u ≡ false
 not_http [] h = refl
-not_http (a ∷ []) h = absurd (let p = both _ _ h in cc)
-not_http (a ∷ b ∷ []) h = absurd (let p = both _ _ h in let q = both _ _ p.1 in cc)
-not_http (a ∷ b ∷ c ∷ []) h = absurd (let p = both _ _ h in let q = both _ _ p.1 in let r = both _ _ q.1 in cc)
-not_http (a ∷ b ∷ c ∷ d ∷ []) h = absurd (let p = both _ _ h in let q = both _ _ p.1 in let r = both _ _ q.1 in let s = both _ _ r.1 in cc)
+not_http (a ∷ []) h = absurd (never (rest_true (begins a 104) false h))
+not_http (a ∷ b ∷ []) h = absurd (never (rest_true (begins b 116) false (rest_true (begins a 104) (begins b 116 && false) h)))
+not_http (a ∷ b ∷ c ∷ []) h = absurd (never (rest_true (begins c 116) false (rest_true (begins b 116) (begins c 116 && false) (rest_true (begins a 104) (begins b 116 && (begins c 116 && false)) h))))
+not_http (a ∷ b ∷ c ∷ d ∷ []) h =
+    absurd (never (rest_true (begins d 112) false (rest_true (begins c 116) (begins d 112 && false) (rest_true (begins b 116) (begins c 116 && (begins d 112 && false)) (rest_true (begins a 104) (begins b 116 && (begins c 116 && (begins d 112 && false))) h)))))
 not_http (a ∷ b ∷ c ∷ d ∷ e ∷ rest) h =
-    let p = both _ _ h in
-    let q = both _ _ p.1 in
-    let r = both _ _ q.1 in
-    let s = both _ _ r.1 in
-    let t = both _ _ s.1 in
-    rw (p.0, q.0, r.0, s.0, unlike (lower e) t.0) refl
+    let more : Bool = pointwise nat_eq (map to_ascii_lowercase (take 3 rest)) (codes "://") in
+    let p = rest_true (begins a 104) (begins b 116 && (begins c 116 && (begins d 112 && (begins e 115 && more)))) h in
+    let q = rest_true (begins b 116) (begins c 116 && (begins d 112 && (begins e 115 && more))) p in
+    let r = rest_true (begins c 116) (begins d 112 && (begins e 115 && more)) q in
+    let s = rest_true (begins d 112) (begins e 115 && more) r in
+    let t = first_true (begins e 115) more s in
+    none_of (begins a 104) (begins b 116) (begins c 116) (begins d 112) (begins e 58) (pointwise nat_eq (map to_ascii_lowercase (take 2 rest)) (codes "//")) (unlike (to_ascii_lowercase e) t)
+  where
+    none_of : (a b c d e more : Bool) → e ≡ false → (a && (b && (c && (d && (e && more))))) ≡ false
+    none_of false b c d e more h = refl
+    none_of true false c d e more h = refl
+    none_of true true false d e more h = refl
+    none_of true true true false e more h = refl
+    none_of true true true true e more h = rw h refl
 
 -- ---- service URIs
 

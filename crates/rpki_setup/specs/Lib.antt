@@ -1,5 +1,5 @@
--- Said in contracts, and to be believed: all but Writing. Root, ChildRequest, ParentResponse, PublisherRequest, RepositoryResponse, RepoInfo
--- and ServiceUri are the tables, Reading and Answers what calls answer. Means for writers: Writing.
+-- Said in contracts, and to be believed: all but ResponseStep and Writing. Root, ChildRequest, ParentResponse, PublisherRequest, RepositoryResponse, RepoInfo
+-- and ServiceUri are the tables, Reading and Answers what calls answer. Means: ResponseStep for a loop, Writing for the writers.
 pub mod Answers
 pub mod ChildRequest
 pub mod ParentResponse
@@ -7,6 +7,7 @@ pub mod PublisherRequest
 pub mod Reading
 pub mod RepoInfo
 pub mod RepositoryResponse
+pub mod ResponseStep
 pub mod Root
 pub mod ServiceUri
 pub mod Writing

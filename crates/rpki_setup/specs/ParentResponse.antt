@@ -1,5 +1,5 @@
 -- The response of a parent to its child (RFC 8183, 5.2.2).
-use Rattle.std.specs.Prelude.{◌≡◌, ℕ, List, [], ◌∷◌, Bool, ◌||◌, ◌&&◌, Option, None, Some, IfSome, filter, if◌then◌else◌, codes}
+use Rattle.std.specs.Prelude.{◌≡◌, ℕ, List, [], ◌∷◌, Bool, ◌||◌, ◌&&◌, Option, None, Some, IfSome, filter, codes}
 use Rattle.base64.specs.GeneralPurpose.{IsBytes}
 use Rattle.rpki_common.specs.Chaining.{◌>>=◌}
 use Rattle.rpki_common.specs.Items as items
@@ -8,7 +8,7 @@ use Rattle.rpki_xml.specs.Draft.{optional_attribute}
 use Rattle.rpki_xml.specs.Element.{Elements, Element, listed, is_none}
 use Rattle.rpki_xml.specs.Lettered.{AreOctets}
 use Rattle.rpki_xml.specs.Spelling.{spelled}
-use Rattle.rpki_xml.specs.Tables.{require, is_named, optional}
+use Rattle.rpki_xml.specs.Tables.{is_named, optional}
 use Rattle.rpki_setup.specs.declared.service_uri.ServiceUri.{ServiceUri}
 use Rattle.rpki_setup.specs.Root.{attribute, certificate_element, root_element, root_in, handle_in, certificate_in}
 use Rattle.rpki_setup.specs.ServiceUri.{service_uri_in, service_text, IsWritableService}
@@ -48,13 +48,6 @@ may_stand e = holds_certificate e || is_passed_over e
 
 abbrev pub some_certificate : Element → Option (Option (List ℕ))
 some_certificate e = certificate_in (codes "parent_bpki_ta") e >>= λ octets. Some (Some octets)
-
--- what was found once one more element is looked at: the octets of the last certificate. A means for the loop
-abbrev pub response_step : Option (List ℕ) → Element → Option (Option (List ℕ))
-response_step found e =
-    if holds_certificate e
-    then some_certificate e
-    else (require (is_passed_over e) >>= λ _. Some found)
 
 -- any number of elements that may stand in a response, in any order, and among them one certificate at least. Each has to be
 -- lawful, and the last one counts

@@ -117,7 +117,6 @@ impl ChildRequest {
 /// # Reading and writing
 impl ChildRequest {
     // The request that an element is read as.
-    #[tactic(auto, unfolding(crate::specs::ChildRequest::child_request_in))]
     fn of_element(alloc: Global, root: &ElementRef<'_>) -> Result<ChildRequest, XmlError>
         ensures { Gives (child_request_in root.now) (λ m. m) result }
     {

@@ -3,6 +3,7 @@
 
 mod child_request;
 mod error;
+mod law;
 mod parent_response;
 mod publisher_request;
 mod reading;
@@ -16,6 +17,10 @@ mod writing;
 
 pub use child_request::ChildRequest;
 pub use error::Error;
+pub use law::{
+    at_most_one, equal_values_are_the_same, printed_service_uri_is_read, read_is_writable,
+    written_is_read,
+};
 pub use parent_response::ParentResponse;
 pub use publisher_request::PublisherRequest;
 pub use repo_info::RepoInfo;

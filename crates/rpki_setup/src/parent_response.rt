@@ -143,7 +143,6 @@ impl ParentResponse {
 /// # Reading and writing
 impl ParentResponse {
     // The response that an element is read as.
-    #[tactic(auto, unfolding(crate::specs::ParentResponse::parent_response_in))]
     fn of_element(alloc: Global, root: &ElementRef<'_>) -> Result<ParentResponse, XmlError>
         ensures { Gives (parent_response_in root.now) (λ m. m) result }
     {

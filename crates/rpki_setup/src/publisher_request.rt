@@ -132,7 +132,6 @@ impl PublisherRequest {
 /// # Reading and writing
 impl PublisherRequest {
     // The request that an element is read as.
-    #[tactic(auto, unfolding(crate::specs::PublisherRequest::publisher_request_in))]
     fn of_element(alloc: Global, root: &ElementRef<'_>) -> Result<PublisherRequest, XmlError>
         ensures { Gives (publisher_request_in root.now) (λ m. m) result }
     {

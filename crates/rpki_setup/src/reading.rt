@@ -7,8 +7,10 @@ ghost use Rattle.rpki_text.specs.Handle.{handle_of_text};
 ghost use Rattle.rpki_text.specs.Uri.{https};
 ghost use Rattle.rpki_xml.specs.Answers.{Gives, Matches};
 ghost use Rattle.rpki_xml.specs.Tables.{optional, optional_by};
-ghost use Rattle.rpki_setup.specs.ParentResponse.{is_passed_over, response_step, last_certificate_in};
+ghost use Rattle.rpki_setup.specs.Answers.{xml_of_uri};
+ghost use Rattle.rpki_setup.specs.ParentResponse.{is_passed_over, last_certificate_in};
 ghost use Rattle.rpki_setup.specs.RepoInfo.{repo_info_in};
+ghost use Rattle.rpki_setup.specs.ResponseStep.{response_step};
 ghost use Rattle.rpki_setup.specs.Root.{is_setup_namespace, root_in, handle_in, certificate_in, one_certificate_in};
 ghost use Rattle.rpki_setup.specs.ServiceUri.{uri_of_text, service_uri_of_text, service_uri_in};
 
@@ -55,8 +57,21 @@ fn uri_of<K: UriKind>(alloc: Global, text: &str) -> Result<Uri<K>, XmlError>
 {
     match Uri::from_str(alloc, text) {
         Ok(uri) => Ok(uri),
-        Err(uri::Error::OutOfMemory) => Err(XmlError::OutOfMemory),
-        Err(_) => Err(XmlError::Malformed),
+        Err(error) => Err(error_of(error)),
+    }
+}
+
+// A text that is no URI is malformed XML.
+fn error_of(error: uri::Error) -> XmlError
+    ensures { result ≡ xml_of_uri error }
+{
+    match error {
+        uri::Error::TooLong => XmlError::Malformed,
+        uri::Error::BadCharacter => XmlError::Malformed,
+        uri::Error::BadScheme => XmlError::Malformed,
+        uri::Error::BadUri => XmlError::Malformed,
+        uri::Error::DotSegments => XmlError::Malformed,
+        uri::Error::OutOfMemory => XmlError::OutOfMemory,
     }
 }
 
@@ -66,8 +81,8 @@ fn service_uri_of(alloc: Global, text: &str) -> Result<ServiceUri, XmlError>
 {
     match ServiceUri::from_str(alloc, text) {
         Ok(uri) => Ok(uri),
-        Err(Error::OutOfMemory) => Err(XmlError::OutOfMemory),
-        Err(_) => Err(XmlError::Malformed),
+        Err(Error::InvalidUri(_)) => Err(XmlError::Malformed),
+        Err(_) => Err(XmlError::OutOfMemory),
     }
 }
 
@@ -83,7 +98,6 @@ fn is_setup_namespace(uri: Option<&str>) -> bool
 }
 
 /// Whether an element is a root of this name.
-#[tactic(auto, unfolding(crate::specs::Root::root_in))]
 pub(crate) fn root_in(local: &str, root: &ElementRef<'_>) -> Result<(), Mismatch>
     ensures { Matches (root_in local.now root.now) (λ _. tt) result }
 {
@@ -94,7 +108,6 @@ pub(crate) fn root_in(local: &str, root: &ElementRef<'_>) -> Result<(), Mismatch
 }
 
 /// The handle in the attribute of this name.
-#[tactic(auto, unfolding(crate::specs::Root::handle_in))]
 pub(crate) fn handle_in<T>(
     alloc: Global,
     local: &str,
@@ -107,7 +120,6 @@ pub(crate) fn handle_in<T>(
 }
 
 /// The service URI of a root.
-#[tactic(auto, unfolding(crate::specs::ServiceUri::service_uri_in))]
 pub(crate) fn service_uri_in(alloc: Global, root: &ElementRef<'_>) -> Result<ServiceUri, XmlError>
     ensures { Gives (service_uri_in root.now.head) (λ s. s) result }
 {
@@ -128,7 +140,6 @@ pub(crate) fn tag_in(alloc: Global, root: &ElementRef<'_>) -> Result<Option<Text
 // ---- certificates
 
 /// The octets in an element of this name that holds a certificate.
-#[tactic(auto, unfolding(crate::specs::Root::certificate_in))]
 pub(crate) fn certificate_in(
     alloc: Global,
     local: &str,
@@ -142,7 +153,6 @@ pub(crate) fn certificate_in(
 }
 
 /// The octets in the one element, which holds a certificate.
-#[tactic(auto, unfolding(crate::specs::Root::one_certificate_in))]
 pub(crate) fn one_certificate_in(
     alloc: Global,
     local: &str,
@@ -205,7 +215,6 @@ fn notification_in(alloc: Global, root: &ElementRef<'_>) -> Result<Option<uri::H
 }
 
 /// Where the objects of a repository are found, from the attributes of its response.
-#[tactic(auto, unfolding(crate::specs::RepoInfo::repo_info_in))]
 pub(crate) fn repo_info_in(alloc: Global, root: &ElementRef<'_>) -> Result<RepoInfo, XmlError>
     ensures { Gives (repo_info_in root.now.head) (λ r. r) result }
 {

@@ -3,6 +3,7 @@
 ghost use Rattle.std.specs.Prelude.{◌≡◌, ◌≢◌, ◌++◌, Some, None, IfOk, IfErr, OnOk, codes};
 ghost use Rattle.std.specs.Option.{option_map};
 ghost use Rattle.rpki_text.specs.Uri.{rsync, fault_of, without_slash};
+ghost use Rattle.rpki_text.specs.declared.uri.Error.TheVariants as fault;
 ghost use Rattle.rpki_setup.specs.RepoInfo.{ca_repository_text, resolved_text};
 
 use rpki_common::OutOfMemory;
@@ -67,7 +68,7 @@ impl RepoInfo {
         ensures text { IfOk result (λ u. u ≡ ca_repository_text self.now name_space.now) }
         ensures accepted { OnOk result
             (fault_of rsync (ca_repository_text self.now name_space.now) ≡ None) }
-        ensures fault { IfErr result (λ e. e ≢ uri.Error.OutOfMemory
+        ensures fault { IfErr result (λ e. e ≢ fault.OutOfMemory
             → fault_of rsync (ca_repository_text self.now name_space.now) ≡ Some e) }
     {
         if name_space.is_empty() {
@@ -88,7 +89,7 @@ impl RepoInfo {
             u ≡ resolved_text self.now name_space.now file_name.now) }
         ensures accepted { OnOk result
             (fault_of rsync (resolved_text self.now name_space.now file_name.now) ≡ None) }
-        ensures fault { IfErr result (λ e. e ≢ uri.Error.OutOfMemory
+        ensures fault { IfErr result (λ e. e ≢ fault.OutOfMemory
             → fault_of rsync (resolved_text self.now name_space.now file_name.now) ≡ Some e) }
     {
         if name_space.is_empty() {

@@ -164,7 +164,6 @@ impl RepositoryResponse {
 /// # Reading and writing
 impl RepositoryResponse {
     // The response that an element is read as.
-    #[tactic(auto, unfolding(crate::specs::RepositoryResponse::repository_response_in))]
     fn of_element(alloc: Global, root: &ElementRef<'_>) -> Result<RepositoryResponse, XmlError>
         ensures { Gives (repository_response_in root.now) (λ m. m) result }
     {

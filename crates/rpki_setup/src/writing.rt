@@ -1,5 +1,6 @@
 //! Parts of messages are written, by the tables of specs/: the one spelling of an element, in pieces and without memory.
 
+ghost use Rattle.std.specs.Prelude.{◌≡◌};
 ghost use Rattle.std.specs.Char.{encode_utf8};
 ghost use Rattle.std.specs.Fmt.{WritesOnOk};
 ghost use Rattle.std.specs.Option.{option_copied};
@@ -17,14 +18,22 @@ use std::fmt;
 fn write_character<W: fmt::Write>(f: &mut fmt::Formatter<W>, c: char) -> fmt::Result
     ensures { WritesOnOk W.write_str_gives f.old result (spelled_value (encode_utf8 c)) f.new }
 {
-    match c {
-        '"' => f.write_str("&quot;"),
-        '\'' => f.write_str("&apos;"),
-        '&' => f.write_str("&amp;"),
-        '<' => f.write_str("&lt;"),
-        '>' => f.write_str("&gt;"),
-        _ => f.write_char(c),
+    if c == '"' {
+        return f.write_str("&quot;");
     }
+    if c == '\'' {
+        return f.write_str("&apos;");
+    }
+    if c == '&' {
+        return f.write_str("&amp;");
+    }
+    if c == '<' {
+        return f.write_str("&lt;");
+    }
+    if c == '>' {
+        return f.write_str("&gt;");
+    }
+    f.write_char(c)
 }
 
 // A value.
@@ -121,6 +130,16 @@ pub(crate) fn write_inside<W: fmt::Write>(
     write_end(f, name)
 }
 
+// The text of the URI where changes are notified, if they are.
+fn notification_of(info: &RepoInfo) -> Option<&str>
+    ensures { option_copied result ≡ info.now.rrdp_notification_uri }
+{
+    match info.rpki_notify() {
+        None => None,
+        Some(uri) => Some(uri.as_str()),
+    }
+}
+
 /// The attributes that say where objects are found.
 pub(crate) fn write_repo_info<W: fmt::Write>(
     f: &mut fmt::Formatter<W>,
@@ -130,8 +149,5 @@ pub(crate) fn write_repo_info<W: fmt::Write>(
         (spelled_attributes (repo_info_attributes info.now)) f.new }
 {
     write_attribute(f, "sia_base", info.base_uri().as_str())?;
-    match info.rpki_notify() {
-        None => Ok(()),
-        Some(uri) => write_attribute(f, "rrdp_notification_uri", uri.as_str()),
-    }
+    write_optional(f, "rrdp_notification_uri", notification_of(info))
 }
