@@ -12,3 +12,4 @@ pub mod Certificates
 pub mod Shown
 pub mod Repositories
 pub mod Responses
+pub mod Writable

@@ -7,7 +7,7 @@ use Rattle.rpki_setup.proofs.child_request.ChildRequest.of_element.Goals as goal
 
 pub returns-in_err-root_in : goal.returns-in_err-root_in
 unfolding child_request_in ◌>>=◌
-returns-in_err-root_in c = 
+returns-in_err-root_in c =
     let p = err_from_is_err_and c.from_residual.result c.from_residual.ensures.1 in
     rw (p.1, p.2) (rw c.in_err-root_in.ensures refl)
 
@@ -21,7 +21,7 @@ returns-in_err-child_handle c = search rules
 
 pub returns-in_err-tag : goal.returns-in_err-tag
 unfolding child_request_in ◌>>=◌
-returns-in_err-tag c = 
+returns-in_err-tag c =
     let p = err_from_is_err_and c.from_residual-in_err-tag.result c.from_residual-in_err-tag.ensures.1 in
     rw (p.1, p.2) (none_through _ _ _ (λ n. rw (c.in_ok-root_in.ensures, c.in_ok-only.ensures, c.in_ok-child_handle.ensures, n) refl) c.in_err-tag.ensures)
 
