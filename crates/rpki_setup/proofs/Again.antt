@@ -37,15 +37,19 @@ child_in c h (Some t) b i = rw (handle_of_text-some h i, base64_content-encode c
 child_plain : (c h : List ℕ) (tag : Option (List ℕ)) → IsBytes c → IsHandle h → IfSome tag AreOctets → ArePlain (alone (child_request_element (record { id_cert = c; child_handle = h; tag = tag })))
 unfolding child_request_element is_declaration
 child_plain c h None b i t =
-    element_plain (codes "child_request") (attribute (codes "child_handle") h ∷ []) (codes "child_bpki_ta") c (record { lawful = refl; octets = refl; plain = refl })
-    (attribute_plain (codes "child_handle") h (record { lawful = refl; octets = refl; plain = refl }) refl (handle_octets h i),
-    tt)
+    element_plain (codes "child_request") (attribute (codes "child_handle") h ∷ []) (codes "child_bpki_ta") c (record { lawful = refl; octets = refl; plain = refl }) (
+      attribute_plain (codes "child_handle") h (record { lawful = refl; octets = refl; plain = refl }) refl (handle_octets h i),
+      tt,
+    )
     refl (record { lawful = refl; octets = refl; plain = refl }) b
 child_plain c h (Some tag) b i t =
-    element_plain (codes "child_request") (attribute (codes "child_handle") h ∷ attribute (codes "tag") tag ∷ []) (codes "child_bpki_ta") c (record { lawful = refl; octets = refl; plain = refl })
-    (attribute_plain (codes "child_handle") h (record { lawful = refl; octets = refl; plain = refl }) refl (handle_octets h i),
-    (attribute_plain (codes "tag") tag (record { lawful = refl; octets = refl; plain = refl }) refl t,
-    tt))
+    element_plain (codes "child_request") (attribute (codes "child_handle") h ∷ attribute (codes "tag") tag ∷ []) (codes "child_bpki_ta") c (record { lawful = refl; octets = refl; plain = refl }) (
+      attribute_plain (codes "child_handle") h (record { lawful = refl; octets = refl; plain = refl }) refl (handle_octets h i),
+      (
+        attribute_plain (codes "tag") tag (record { lawful = refl; octets = refl; plain = refl }) refl t,
+        tt,
+      ),
+    )
     refl (record { lawful = refl; octets = refl; plain = refl }) b
 
 pub child_again : (m : ChildRequestFields) → IsWritableChildRequest m → ReadsAs child_request_in (child_request_text m) m
@@ -66,15 +70,19 @@ publisher_in c h (Some t) b i = rw (handle_of_text-some h i, base64_content-enco
 publisher_plain : (c h : List ℕ) (tag : Option (List ℕ)) → IsBytes c → IsHandle h → IfSome tag AreOctets → ArePlain (alone (publisher_request_element (record { id_cert = c; publisher_handle = h; tag = tag })))
 unfolding publisher_request_element is_declaration
 publisher_plain c h None b i t =
-    element_plain (codes "publisher_request") (attribute (codes "publisher_handle") h ∷ []) (codes "publisher_bpki_ta") c (record { lawful = refl; octets = refl; plain = refl })
-    (attribute_plain (codes "publisher_handle") h (record { lawful = refl; octets = refl; plain = refl }) refl (handle_octets h i),
-    tt)
+    element_plain (codes "publisher_request") (attribute (codes "publisher_handle") h ∷ []) (codes "publisher_bpki_ta") c (record { lawful = refl; octets = refl; plain = refl }) (
+      attribute_plain (codes "publisher_handle") h (record { lawful = refl; octets = refl; plain = refl }) refl (handle_octets h i),
+      tt,
+    )
     refl (record { lawful = refl; octets = refl; plain = refl }) b
 publisher_plain c h (Some tag) b i t =
-    element_plain (codes "publisher_request") (attribute (codes "publisher_handle") h ∷ attribute (codes "tag") tag ∷ []) (codes "publisher_bpki_ta") c (record { lawful = refl; octets = refl; plain = refl })
-    (attribute_plain (codes "publisher_handle") h (record { lawful = refl; octets = refl; plain = refl }) refl (handle_octets h i),
-    (attribute_plain (codes "tag") tag (record { lawful = refl; octets = refl; plain = refl }) refl t,
-    tt))
+    element_plain (codes "publisher_request") (attribute (codes "publisher_handle") h ∷ attribute (codes "tag") tag ∷ []) (codes "publisher_bpki_ta") c (record { lawful = refl; octets = refl; plain = refl }) (
+      attribute_plain (codes "publisher_handle") h (record { lawful = refl; octets = refl; plain = refl }) refl (handle_octets h i),
+      (
+        attribute_plain (codes "tag") tag (record { lawful = refl; octets = refl; plain = refl }) refl t,
+        tt,
+      ),
+    )
     refl (record { lawful = refl; octets = refl; plain = refl }) b
 
 pub publisher_again : (m : PublisherRequestFields) → IsWritablePublisherRequest m → ReadsAs publisher_request_in (publisher_request_text m) m
@@ -95,19 +103,31 @@ parent_in c p h s (Some t) b i j k = rw (handle_of_text-some p i, handle_of_text
 parent_plain : (c p h : List ℕ) (s : ServiceUri) (tag : Option (List ℕ)) → IsBytes c → IsHandle p → IsHandle h → IsWritableService s → IfSome tag AreOctets → ArePlain (alone (parent_response_element (record { id_cert = c; parent_handle = p; child_handle = h; service_uri = s; tag = tag })))
 unfolding parent_response_element is_declaration
 parent_plain c p h s None b i j k t =
-    element_plain (codes "parent_response") (attribute (codes "parent_handle") p ∷ attribute (codes "child_handle") h ∷ attribute (codes "service_uri") (service_text s) ∷ []) (codes "parent_bpki_ta") c (record { lawful = refl; octets = refl; plain = refl })
-    (attribute_plain (codes "parent_handle") p (record { lawful = refl; octets = refl; plain = refl }) refl (handle_octets p i),
-    (attribute_plain (codes "child_handle") h (record { lawful = refl; octets = refl; plain = refl }) refl (handle_octets h j),
-    (attribute_plain (codes "service_uri") (service_text s) (record { lawful = refl; octets = refl; plain = refl }) refl (service_octets s k),
-    tt)))
+    element_plain (codes "parent_response") (attribute (codes "parent_handle") p ∷ attribute (codes "child_handle") h ∷ attribute (codes "service_uri") (service_text s) ∷ []) (codes "parent_bpki_ta") c (record { lawful = refl; octets = refl; plain = refl }) (
+      attribute_plain (codes "parent_handle") p (record { lawful = refl; octets = refl; plain = refl }) refl (handle_octets p i),
+      (
+        attribute_plain (codes "child_handle") h (record { lawful = refl; octets = refl; plain = refl }) refl (handle_octets h j),
+        (
+          attribute_plain (codes "service_uri") (service_text s) (record { lawful = refl; octets = refl; plain = refl }) refl (service_octets s k),
+          tt,
+        ),
+      ),
+    )
     refl (record { lawful = refl; octets = refl; plain = refl }) b
 parent_plain c p h s (Some tag) b i j k t =
-    element_plain (codes "parent_response") (attribute (codes "parent_handle") p ∷ attribute (codes "child_handle") h ∷ attribute (codes "service_uri") (service_text s) ∷ attribute (codes "tag") tag ∷ []) (codes "parent_bpki_ta") c (record { lawful = refl; octets = refl; plain = refl })
-    (attribute_plain (codes "parent_handle") p (record { lawful = refl; octets = refl; plain = refl }) refl (handle_octets p i),
-    (attribute_plain (codes "child_handle") h (record { lawful = refl; octets = refl; plain = refl }) refl (handle_octets h j),
-    (attribute_plain (codes "service_uri") (service_text s) (record { lawful = refl; octets = refl; plain = refl }) refl (service_octets s k),
-    (attribute_plain (codes "tag") tag (record { lawful = refl; octets = refl; plain = refl }) refl t,
-    tt))))
+    element_plain (codes "parent_response") (attribute (codes "parent_handle") p ∷ attribute (codes "child_handle") h ∷ attribute (codes "service_uri") (service_text s) ∷ attribute (codes "tag") tag ∷ []) (codes "parent_bpki_ta") c (record { lawful = refl; octets = refl; plain = refl }) (
+      attribute_plain (codes "parent_handle") p (record { lawful = refl; octets = refl; plain = refl }) refl (handle_octets p i),
+      (
+        attribute_plain (codes "child_handle") h (record { lawful = refl; octets = refl; plain = refl }) refl (handle_octets h j),
+        (
+          attribute_plain (codes "service_uri") (service_text s) (record { lawful = refl; octets = refl; plain = refl }) refl (service_octets s k),
+          (
+            attribute_plain (codes "tag") tag (record { lawful = refl; octets = refl; plain = refl }) refl t,
+            tt,
+          ),
+        ),
+      ),
+    )
     refl (record { lawful = refl; octets = refl; plain = refl }) b
 
 pub parent_again : (m : ParentResponseFields) → IsWritableParentResponse m → ReadsAs parent_response_in (parent_response_text m) m
@@ -132,36 +152,64 @@ repository_plain : (c h : List ℕ) (s : ServiceUri) (u : List ℕ) (n tag : Opt
     → ArePlain (alone (repository_response_element (record { id_cert = c; publisher_handle = h; service_uri = s; repo_info = record { sia_base = u; rrdp_notification_uri = n }; tag = tag })))
 unfolding repository_response_element is_declaration
 repository_plain c h s u None None b i j k l t =
-    element_plain (codes "repository_response") (attribute (codes "publisher_handle") h ∷ attribute (codes "service_uri") (service_text s) ∷ attribute (codes "sia_base") u ∷ []) (codes "repository_bpki_ta") c (record { lawful = refl; octets = refl; plain = refl })
-    (attribute_plain (codes "publisher_handle") h (record { lawful = refl; octets = refl; plain = refl }) refl (handle_octets h i),
-    (attribute_plain (codes "service_uri") (service_text s) (record { lawful = refl; octets = refl; plain = refl }) refl (service_octets s j),
-    (attribute_plain (codes "sia_base") u (record { lawful = refl; octets = refl; plain = refl }) refl (uri_octets rsync u k),
-    tt)))
+    element_plain (codes "repository_response") (attribute (codes "publisher_handle") h ∷ attribute (codes "service_uri") (service_text s) ∷ attribute (codes "sia_base") u ∷ []) (codes "repository_bpki_ta") c (record { lawful = refl; octets = refl; plain = refl }) (
+      attribute_plain (codes "publisher_handle") h (record { lawful = refl; octets = refl; plain = refl }) refl (handle_octets h i),
+      (
+        attribute_plain (codes "service_uri") (service_text s) (record { lawful = refl; octets = refl; plain = refl }) refl (service_octets s j),
+        (
+          attribute_plain (codes "sia_base") u (record { lawful = refl; octets = refl; plain = refl }) refl (uri_octets rsync u k),
+          tt,
+        ),
+      ),
+    )
     refl (record { lawful = refl; octets = refl; plain = refl }) b
 repository_plain c h s u None (Some tag) b i j k l t =
-    element_plain (codes "repository_response") (attribute (codes "publisher_handle") h ∷ attribute (codes "service_uri") (service_text s) ∷ attribute (codes "sia_base") u ∷ attribute (codes "tag") tag ∷ []) (codes "repository_bpki_ta") c (record { lawful = refl; octets = refl; plain = refl })
-    (attribute_plain (codes "publisher_handle") h (record { lawful = refl; octets = refl; plain = refl }) refl (handle_octets h i),
-    (attribute_plain (codes "service_uri") (service_text s) (record { lawful = refl; octets = refl; plain = refl }) refl (service_octets s j),
-    (attribute_plain (codes "sia_base") u (record { lawful = refl; octets = refl; plain = refl }) refl (uri_octets rsync u k),
-    (attribute_plain (codes "tag") tag (record { lawful = refl; octets = refl; plain = refl }) refl t,
-    tt))))
+    element_plain (codes "repository_response") (attribute (codes "publisher_handle") h ∷ attribute (codes "service_uri") (service_text s) ∷ attribute (codes "sia_base") u ∷ attribute (codes "tag") tag ∷ []) (codes "repository_bpki_ta") c (record { lawful = refl; octets = refl; plain = refl }) (
+      attribute_plain (codes "publisher_handle") h (record { lawful = refl; octets = refl; plain = refl }) refl (handle_octets h i),
+      (
+        attribute_plain (codes "service_uri") (service_text s) (record { lawful = refl; octets = refl; plain = refl }) refl (service_octets s j),
+        (
+          attribute_plain (codes "sia_base") u (record { lawful = refl; octets = refl; plain = refl }) refl (uri_octets rsync u k),
+          (
+            attribute_plain (codes "tag") tag (record { lawful = refl; octets = refl; plain = refl }) refl t,
+            tt,
+          ),
+        ),
+      ),
+    )
     refl (record { lawful = refl; octets = refl; plain = refl }) b
 repository_plain c h s u (Some v) None b i j k l t =
-    element_plain (codes "repository_response") (attribute (codes "publisher_handle") h ∷ attribute (codes "service_uri") (service_text s) ∷ attribute (codes "sia_base") u ∷ attribute (codes "rrdp_notification_uri") v ∷ []) (codes "repository_bpki_ta") c (record { lawful = refl; octets = refl; plain = refl })
-    (attribute_plain (codes "publisher_handle") h (record { lawful = refl; octets = refl; plain = refl }) refl (handle_octets h i),
-    (attribute_plain (codes "service_uri") (service_text s) (record { lawful = refl; octets = refl; plain = refl }) refl (service_octets s j),
-    (attribute_plain (codes "sia_base") u (record { lawful = refl; octets = refl; plain = refl }) refl (uri_octets rsync u k),
-    (attribute_plain (codes "rrdp_notification_uri") v (record { lawful = refl; octets = refl; plain = refl }) refl (uri_octets https v l),
-    tt))))
+    element_plain (codes "repository_response") (attribute (codes "publisher_handle") h ∷ attribute (codes "service_uri") (service_text s) ∷ attribute (codes "sia_base") u ∷ attribute (codes "rrdp_notification_uri") v ∷ []) (codes "repository_bpki_ta") c (record { lawful = refl; octets = refl; plain = refl }) (
+      attribute_plain (codes "publisher_handle") h (record { lawful = refl; octets = refl; plain = refl }) refl (handle_octets h i),
+      (
+        attribute_plain (codes "service_uri") (service_text s) (record { lawful = refl; octets = refl; plain = refl }) refl (service_octets s j),
+        (
+          attribute_plain (codes "sia_base") u (record { lawful = refl; octets = refl; plain = refl }) refl (uri_octets rsync u k),
+          (
+            attribute_plain (codes "rrdp_notification_uri") v (record { lawful = refl; octets = refl; plain = refl }) refl (uri_octets https v l),
+            tt,
+          ),
+        ),
+      ),
+    )
     refl (record { lawful = refl; octets = refl; plain = refl }) b
 repository_plain c h s u (Some v) (Some tag) b i j k l t =
-    element_plain (codes "repository_response") (attribute (codes "publisher_handle") h ∷ attribute (codes "service_uri") (service_text s) ∷ attribute (codes "sia_base") u ∷ attribute (codes "rrdp_notification_uri") v ∷ attribute (codes "tag") tag ∷ []) (codes "repository_bpki_ta") c (record { lawful = refl; octets = refl; plain = refl })
-    (attribute_plain (codes "publisher_handle") h (record { lawful = refl; octets = refl; plain = refl }) refl (handle_octets h i),
-    (attribute_plain (codes "service_uri") (service_text s) (record { lawful = refl; octets = refl; plain = refl }) refl (service_octets s j),
-    (attribute_plain (codes "sia_base") u (record { lawful = refl; octets = refl; plain = refl }) refl (uri_octets rsync u k),
-    (attribute_plain (codes "rrdp_notification_uri") v (record { lawful = refl; octets = refl; plain = refl }) refl (uri_octets https v l),
-    (attribute_plain (codes "tag") tag (record { lawful = refl; octets = refl; plain = refl }) refl t,
-    tt)))))
+    element_plain (codes "repository_response") (attribute (codes "publisher_handle") h ∷ attribute (codes "service_uri") (service_text s) ∷ attribute (codes "sia_base") u ∷ attribute (codes "rrdp_notification_uri") v ∷ attribute (codes "tag") tag ∷ []) (codes "repository_bpki_ta") c (record { lawful = refl; octets = refl; plain = refl }) (
+      attribute_plain (codes "publisher_handle") h (record { lawful = refl; octets = refl; plain = refl }) refl (handle_octets h i),
+      (
+        attribute_plain (codes "service_uri") (service_text s) (record { lawful = refl; octets = refl; plain = refl }) refl (service_octets s j),
+        (
+          attribute_plain (codes "sia_base") u (record { lawful = refl; octets = refl; plain = refl }) refl (uri_octets rsync u k),
+          (
+            attribute_plain (codes "rrdp_notification_uri") v (record { lawful = refl; octets = refl; plain = refl }) refl (uri_octets https v l),
+            (
+              attribute_plain (codes "tag") tag (record { lawful = refl; octets = refl; plain = refl }) refl t,
+              tt,
+            ),
+          ),
+        ),
+      ),
+    )
     refl (record { lawful = refl; octets = refl; plain = refl }) b
 
 pub repository_again : (m : RepositoryResponseFields) → IsWritableRepositoryResponse m → ReadsAs repository_response_in (repository_response_text m) m

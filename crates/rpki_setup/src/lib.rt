@@ -11,6 +11,8 @@ mod repo_info;
 mod repository_response;
 mod service_uri;
 mod tag;
+#[cfg(test)]
+mod tests;
 mod transfer;
 mod validation;
 mod writing;
@@ -25,7 +27,7 @@ pub use parent_response::ParentResponse;
 pub use publisher_request::PublisherRequest;
 pub use repo_info::RepoInfo;
 pub use repository_response::RepositoryResponse;
-pub use rpki_common::OutOfMemory;
+pub use rpki_common::{OutOfMemory, Text};
 pub use rpki_text::{
     CaHandle, Child, ChildHandle, Handle, InvalidHandle, MyHandle, Myself, Parent, ParentHandle,
     Publisher, PublisherHandle, Recipient, RecipientHandle, Repository, RepositoryHandle, Sender,
