@@ -63,16 +63,8 @@ of_reading read.OutOfMemory = errors.OutOfMemory
 abbrev pub RefusesServiceUri : List ℕ → Error → Type 0
 RefusesServiceUri text (errors.InvalidUri e) =
     (is_http text ≡ false) × (e ≢ uri.OutOfMemory) × (fault_of https text ≡ Some e)
-RefusesServiceUri text (errors.InvalidXml e) = ⊥
-RefusesServiceUri text errors.InvalidVersion = ⊥
-RefusesServiceUri text errors.InvalidHandle = ⊥
-RefusesServiceUri text errors.InvalidTaBase64 = ⊥
-RefusesServiceUri text errors.InvalidTaCertEncoding = ⊥
-RefusesServiceUri text errors.InvalidTaCert = ⊥
-RefusesServiceUri text errors.Read = ⊥
-RefusesServiceUri text errors.Write = ⊥
-RefusesServiceUri text errors.TooLong = ⊥
 RefusesServiceUri text errors.OutOfMemory = ⊤
+RefusesServiceUri text _ = ⊥
 
 -- ---- messages from octets
 
@@ -80,16 +72,8 @@ RefusesServiceUri text errors.OutOfMemory = ⊤
 -- other one comes.
 abbrev pub RefusesMessage : {M : Type 0} → (Element → Option M) → List ℕ → Error → Type 0
 RefusesMessage table octets (errors.InvalidXml e) = (e ≡ xml.Malformed) × IsNoMessage table octets
-RefusesMessage table octets (errors.InvalidUri e) = ⊥
-RefusesMessage table octets errors.InvalidVersion = ⊥
-RefusesMessage table octets errors.InvalidHandle = ⊥
-RefusesMessage table octets errors.InvalidTaBase64 = ⊥
-RefusesMessage table octets errors.InvalidTaCertEncoding = ⊥
-RefusesMessage table octets errors.InvalidTaCert = ⊥
-RefusesMessage table octets errors.Read = ⊥
-RefusesMessage table octets errors.Write = ⊥
-RefusesMessage table octets errors.TooLong = ⊥
 RefusesMessage table octets errors.OutOfMemory = ⊤
+RefusesMessage table octets _ = ⊥
 
 -- ---- messages from a source
 
@@ -97,31 +81,16 @@ RefusesMessage table octets errors.OutOfMemory = ⊤
 -- malformed XML, only where these are no message of the table. OutOfMemory says nothing, and no other one comes.
 abbrev pub RefusesSource : {M : Type 0} → (Element → Option M) → Option (List ℕ) → ℕ → ℕ → Error → Type 0
 RefusesSource table rest faults now (errors.InvalidXml e) = (e ≡ xml.Malformed) × IfSome rest (IsNoMessage table)
-RefusesSource table rest faults now (errors.InvalidUri e) = ⊥
-RefusesSource table rest faults now errors.InvalidVersion = ⊥
-RefusesSource table rest faults now errors.InvalidHandle = ⊥
-RefusesSource table rest faults now errors.InvalidTaBase64 = ⊥
-RefusesSource table rest faults now errors.InvalidTaCertEncoding = ⊥
-RefusesSource table rest faults now errors.InvalidTaCert = ⊥
 RefusesSource table rest faults now errors.Read = Rose faults now
-RefusesSource table rest faults now errors.Write = ⊥
 RefusesSource table rest faults now errors.TooLong = IfSome rest (λ octets. 2 ^ 31 < length octets)
 RefusesSource table rest faults now errors.OutOfMemory = ⊤
+RefusesSource table rest faults now _ = ⊥
 
 -- the answer says that all that the source had to give was read: it is a message, or that it is none
 abbrev pub IsOfAll : {M : Type 0} → Result M Error → Type 0
 IsOfAll (Ok m) = ⊤
 IsOfAll (Err (errors.InvalidXml e)) = ⊤
-IsOfAll (Err (errors.InvalidUri e)) = ⊥
-IsOfAll (Err errors.InvalidVersion) = ⊥
-IsOfAll (Err errors.InvalidHandle) = ⊥
-IsOfAll (Err errors.InvalidTaBase64) = ⊥
-IsOfAll (Err errors.InvalidTaCertEncoding) = ⊥
-IsOfAll (Err errors.InvalidTaCert) = ⊥
-IsOfAll (Err errors.Read) = ⊥
-IsOfAll (Err errors.Write) = ⊥
-IsOfAll (Err errors.TooLong) = ⊥
-IsOfAll (Err errors.OutOfMemory) = ⊥
+IsOfAll _ = ⊥
 
 -- What a call answers that reads a source to its end and takes what it gives for a message of the table: by what the source had still
 -- to give, before and after, and by its count of faults.
@@ -142,17 +111,10 @@ pub record Parses {M : Type 0} (table : Element → Option M) (rest left : Optio
 -- The answer is TooLong only where the text has more than 2^31 octets, and nothing was written; Write only where the sink's faults rose,
 -- and a part from the front was written. After OutOfMemory nothing was written. No other one comes.
 abbrev pub RefusesSink : List ℕ → Option (List ℕ) → Option (List ℕ) → ℕ → ℕ → Error → Type 0
-RefusesSink text written after faults now (errors.InvalidXml e) = ⊥
-RefusesSink text written after faults now (errors.InvalidUri e) = ⊥
-RefusesSink text written after faults now errors.InvalidVersion = ⊥
-RefusesSink text written after faults now errors.InvalidHandle = ⊥
-RefusesSink text written after faults now errors.InvalidTaBase64 = ⊥
-RefusesSink text written after faults now errors.InvalidTaCertEncoding = ⊥
-RefusesSink text written after faults now errors.InvalidTaCert = ⊥
-RefusesSink text written after faults now errors.Read = ⊥
 RefusesSink text written after faults now errors.Write = Rose faults now × AppendsPart written after text × (length text ≤ 2 ^ 31)
 RefusesSink text written after faults now errors.TooLong = (2 ^ 31 < length text) × (after ≡ written)
 RefusesSink text written after faults now errors.OutOfMemory = after ≡ written
+RefusesSink text written after faults now _ = ⊥
 
 -- What a call answers that writes a text to a sink: by what was written, before and after, and by the sink's count of faults.
 pub record WritesText (text : List ℕ) (written after : Option (List ℕ)) (faults now : ℕ) (result : Result (Unit {0}) Error) : Type 0 where
@@ -184,14 +146,7 @@ pub record IsBelievedIn (scheme : Relation) (octets : List ℕ) (when : ℤ) (ce
 -- The answer is InvalidTaCertEncoding exactly where the octets begin with no identity certificate, and InvalidTaCert exactly where they
 -- begin with one of which a check of a trust anchor fails at the moment. OutOfMemory says nothing, and no other one comes.
 abbrev pub RefusesCertificate : Relation → List ℕ → ℤ → Error → Type 0
-RefusesCertificate scheme octets when (errors.InvalidXml e) = ⊥
-RefusesCertificate scheme octets when (errors.InvalidUri e) = ⊥
-RefusesCertificate scheme octets when errors.InvalidVersion = ⊥
-RefusesCertificate scheme octets when errors.InvalidHandle = ⊥
-RefusesCertificate scheme octets when errors.InvalidTaBase64 = ⊥
 RefusesCertificate scheme octets when errors.InvalidTaCertEncoding = (c : CertificateFields) → BeginsCertificate octets c → ⊥
 RefusesCertificate scheme octets when errors.InvalidTaCert = HoldsUnbelieved scheme octets when
-RefusesCertificate scheme octets when errors.Read = ⊥
-RefusesCertificate scheme octets when errors.Write = ⊥
-RefusesCertificate scheme octets when errors.TooLong = ⊥
 RefusesCertificate scheme octets when errors.OutOfMemory = ⊤
+RefusesCertificate scheme octets when _ = ⊥
