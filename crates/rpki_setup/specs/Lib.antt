@@ -10,4 +10,5 @@ pub mod RepositoryResponse
 pub mod ResponseStep
 pub mod Root
 pub mod ServiceUri
+pub mod Shown
 pub mod Writing

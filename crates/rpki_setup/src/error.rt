@@ -10,46 +10,60 @@ use rpki_der::DecodeError;
 use rpki_idcert::ValidationError;
 use rpki_text::{ReadAllError, uri};
 use rpki_xml::{Mismatch, XmlError};
-use thiserror::Error as Thiserror;
+use std::fmt;
 
 /// Why a setup message was not read, written or believed. `InvalidVersion`, `InvalidHandle` and `InvalidTaBase64` are never
 /// answered: what is no message is `InvalidXml`.
-#[derive(Clone, Copy, Debug, PartialEq, Eq, Thiserror)]
+#[derive(Clone, Copy, Debug, PartialEq, Eq)]
 pub enum Error {
     /// The text is not the message that was asked for. What is inside is never `OutOfMemory`.
-    #[error("{0}")]
     InvalidXml(XmlError),
     /// Never answered.
-    #[error("Invalid version")]
     InvalidVersion,
     /// Never answered.
-    #[error("Invalid handle")]
     InvalidHandle,
     /// Never answered.
-    #[error("Invalid base64 of a TA cert")]
     InvalidTaBase64,
     /// The octets begin with no identity certificate.
-    #[error("Cannot decode TA cert")]
     InvalidTaCertEncoding,
     /// A check of a trust anchor fails.
-    #[error("Invalid TA cert")]
     InvalidTaCert,
     /// A text is no service URI. What is inside is never `OutOfMemory`.
-    #[error("{0}")]
     InvalidUri(uri::Error),
     /// The source failed.
-    #[error("reading failed")]
     Read,
     /// The sink failed.
-    #[error("writing failed")]
     Write,
     /// The text has more than 2^31 octets.
-    #[error("too long")]
     TooLong,
     /// Memory ran out.
-    #[error("out of memory")]
     OutOfMemory,
 }
+
+impl fmt::Display for Error {
+    ghost use Rattle.rpki_setup.specs.Shown.{shown_error};
+
+    ghost output = { shown_error };
+
+    fn fmt<W: fmt::Write>(&self, f: &mut fmt::Formatter<W>) -> fmt::Result {
+        match self {
+            Error::InvalidXml(XmlError::Malformed) => f.write_str("malformed XML"),
+            Error::InvalidXml(XmlError::OutOfMemory) => f.write_str("out of memory"),
+            Error::InvalidVersion => f.write_str("Invalid version"),
+            Error::InvalidHandle => f.write_str("Invalid handle"),
+            Error::InvalidTaBase64 => f.write_str("Invalid base64 of a TA cert"),
+            Error::InvalidTaCertEncoding => f.write_str("Cannot decode TA cert"),
+            Error::InvalidTaCert => f.write_str("Invalid TA cert"),
+            Error::InvalidUri(error) => error.fmt(f),
+            Error::Read => f.write_str("reading failed"),
+            Error::Write => f.write_str("writing failed"),
+            Error::TooLong => f.write_str("too long"),
+            Error::OutOfMemory => f.write_str("out of memory"),
+        }
+    }
+}
+
+impl std::error::Error for Error {}
 
 impl From<XmlError> for Error {
     ghost from_gives = { λ error e. e ≡ of_xml error };
