@@ -25,7 +25,7 @@ use Rattle.rpki_setup.specs.ServiceUri.{service_uri_in, service_text, IsWritable
 use Rattle.rpki_setup.specs.declared.service_uri.ServiceUri.{ServiceUri}
 use Rattle.rpki_setup.proofs.Plain.{attribute_plain, element_plain}
 use Rattle.rpki_setup.proofs.Services.{uri_is}
-use Rattle.rpki_setup.proofs.Texts.{handle_octets, service_again, service_octets, uri_octets}
+use Rattle.rpki_setup.proofs.Lawful.{handle_octets, service_again, service_octets, uri_octets}
 
 -- ---- child_request
 

@@ -4,7 +4,7 @@ pub mod Transfers
 pub mod Characters
 pub mod Roots
 pub mod Base64s
-pub mod Texts
+pub mod Lawful
 pub mod Plain
 pub mod Again
 pub mod Spelt

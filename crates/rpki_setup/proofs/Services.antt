@@ -8,8 +8,9 @@ use Rattle.rpki_text.specs.Uri.{Kind, https, has_scheme, is_uri_octet, fault_of}
 use Rattle.rpki_text.specs.declared.uri.Error.{Error as UriError}
 use Rattle.rpki_text.specs.declared.uri.Error.TheVariants as uri
 use Rattle.rpki_xml.specs.Answers.{Fails}
-use Rattle.rpki_setup.specs.Answers.{of_uri, xml_of_uri, RefusesServiceUri}
-use Rattle.rpki_setup.specs.ServiceUri.{uri_of_text, where_lawful, is_http, service_uri_of_text}
+use Rattle.rpki_setup.specs.Answers.{of_uri, RefusesServiceUri}
+use Rattle.rpki_setup.specs.ServiceUri.{is_http, service_uri_of_text}
+use Rattle.rpki_setup.specs.UriText.{uri_of_text, where_lawful, xml_of_uri}
 use Rattle.rpki_setup.specs.declared.service_uri.ServiceUri.TheVariants.{Https, Http}
 
 -- the first rule that is broken is passed on

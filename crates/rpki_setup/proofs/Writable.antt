@@ -21,12 +21,13 @@ use Rattle.rpki_setup.specs.Reading.{ReadsAs}
 use Rattle.rpki_setup.specs.RepoInfo.{RepoInfoFields, repo_info_in, IsWritableRepoInfo}
 use Rattle.rpki_setup.specs.RepositoryResponse.{RepositoryResponseFields, repository_response_in, IsWritableRepositoryResponse}
 use Rattle.rpki_setup.specs.Root.{handle_in, certificate_in, one_certificate_in}
-use Rattle.rpki_setup.specs.ServiceUri.{where_lawful, uri_of_text, is_http, service_uri_of_text, service_uri_in, service_text, IsWritableService}
+use Rattle.rpki_setup.specs.UriText.{where_lawful, uri_of_text}
+use Rattle.rpki_setup.specs.ServiceUri.{is_http, service_uri_of_text, service_uri_in, service_text, IsWritableService}
 use Rattle.rpki_setup.specs.declared.service_uri.ServiceUri.{ServiceUri}
 use Rattle.rpki_setup.specs.declared.service_uri.ServiceUri.TheVariants.{Https, Http}
 use Rattle.rpki_setup.proofs.Services.{kept}
 use Rattle.rpki_setup.proofs.Spelt.{content_bytes}
-use Rattle.rpki_setup.proofs.Texts.{https_again}
+use Rattle.rpki_setup.proofs.Lawful.{https_again}
 
 -- what is read in steps was read at the first of them
 then_some : {X Y : Type 0} (a : Option X) (f : X → Option Y) (y : Y) → (a >>= f) ≡ Some y → (x : X) × (a ≡ Some x) × (f x ≡ Some y)

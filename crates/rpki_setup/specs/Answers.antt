@@ -38,15 +38,6 @@ of_uri uri.BadUri = errors.InvalidUri uri.BadUri
 of_uri uri.DotSegments = errors.InvalidUri uri.DotSegments
 of_uri uri.OutOfMemory = errors.OutOfMemory
 
--- in a message a text that is no URI is malformed XML
-abbrev pub xml_of_uri : UriError → XmlError
-xml_of_uri uri.TooLong = xml.Malformed
-xml_of_uri uri.BadCharacter = xml.Malformed
-xml_of_uri uri.BadScheme = xml.Malformed
-xml_of_uri uri.BadUri = xml.Malformed
-xml_of_uri uri.DotSegments = xml.Malformed
-xml_of_uri uri.OutOfMemory = xml.OutOfMemory
-
 abbrev pub of_der : DecodeError → Error
 of_der der.Malformed = errors.InvalidTaCertEncoding
 of_der der.OutOfMemory = errors.OutOfMemory

@@ -1,5 +1,5 @@
--- Said in contracts, and to be believed: all but ResponseStep and Writing. Root, ChildRequest, ParentResponse, PublisherRequest, RepositoryResponse, RepoInfo
--- and ServiceUri are the tables, Reading and Answers what calls answer. Means: ResponseStep for a loop, Writing for the writers.
+-- Said in contracts, and to be believed: all but ResponseStep and Writing. Root, ChildRequest, ParentResponse, PublisherRequest, RepositoryResponse, RepoInfo,
+-- ServiceUri and UriText are the tables, Reading, Answers and Shown what calls answer and errors print. Means: ResponseStep for a loop, Writing for the writers.
 pub mod Answers
 pub mod ChildRequest
 pub mod ParentResponse
@@ -11,4 +11,5 @@ pub mod ResponseStep
 pub mod Root
 pub mod ServiceUri
 pub mod Shown
+pub mod UriText
 pub mod Writing

@@ -1,22 +1,13 @@
 -- Where a service is reached (RFC 8183, 5.2.2 and 5.2.4).
 use Rattle.std.specs.Prelude.{◌≡◌, ℕ, List, Bool, true, Option, None, Some, if◌then◌else◌, codes}
 use Rattle.rpki_common.specs.Chaining.{◌>>=◌}
-use Rattle.rpki_text.specs.Uri.{Kind, https, has_scheme, fault_of}
-use Rattle.rpki_text.specs.declared.uri.Error.{Error}
+use Rattle.rpki_text.specs.Uri.{https, has_scheme, fault_of}
 use Rattle.rpki_xml.specs.Element.{Head}
 use Rattle.rpki_xml.specs.Lettered.{AreOctets}
 use Rattle.rpki_xml.specs.Tables.{required}
+use Rattle.rpki_setup.specs.UriText.{uri_of_text}
 use Rattle.rpki_setup.specs.declared.service_uri.ServiceUri.{ServiceUri}
 use Rattle.rpki_setup.specs.declared.service_uri.ServiceUri.TheVariants.{Https, Http}
-
--- a text that breaks no rule
-abbrev pub where_lawful : List ℕ → Option Error → Option (List ℕ)
-where_lawful text None = Some text
-where_lawful text (Some fault) = None
-
--- the URI of this kind that a text is
-unfoldable pub uri_of_text : Kind → List ℕ → Option (List ℕ)
-uri_of_text kind text = where_lawful text (fault_of kind text)
 
 -- a text begins with `http://`, in any case
 abbrev pub is_http : List ℕ → Bool

@@ -9,11 +9,12 @@ ghost use Rattle.rpki_setup.specs.ChildRequest.{child_request_in, child_request_
 ghost use Rattle.rpki_setup.specs.Reading.{ReadsAs};
 
 use crate::error::Error;
+use crate::printing::{write_attribute, write_optional};
 use crate::reading::{handle_in, one_certificate_in, root_in, tag_in};
 use crate::tag::{cloned, handed_out, lent, shared};
 use crate::transfer::{MOST_OCTETS, write_octets};
 use crate::validation::validate_idcert_at;
-use crate::writing::{write_attribute, write_inside, write_optional, write_start};
+use crate::writing::{write_inside, write_start};
 use rpki_base::{Scheme, Time, Verifier};
 use rpki_common::{OutOfMemory, Text};
 use rpki_idcert::IdCert;

@@ -9,12 +9,13 @@ ghost use Rattle.rpki_setup.specs.ParentResponse.{parent_response_in, parent_res
 ghost use Rattle.rpki_setup.specs.Reading.{ReadsAs};
 
 use crate::error::Error;
+use crate::printing::{write_attribute, write_optional};
 use crate::reading::{handle_in, last_certificate_in, root_in, service_uri_in, tag_in};
 use crate::service_uri::ServiceUri;
 use crate::tag::{cloned, lent, shared, taken_in};
 use crate::transfer::{MOST_OCTETS, write_octets};
 use crate::validation::validate_idcert_at;
-use crate::writing::{write_attribute, write_inside, write_optional, write_start};
+use crate::writing::{write_inside, write_start};
 use rpki_base::{Scheme, Time, Verifier};
 use rpki_common::{OutOfMemory, Text};
 use rpki_idcert::IdCert;

@@ -2,78 +2,28 @@
 
 ghost use Rattle.std.specs.Prelude.{◌≡◌, Some, codes};
 ghost use Rattle.std.specs.Option.{option_copied};
-ghost use Rattle.rpki_text.specs.Base64.{base64_content};
-ghost use Rattle.rpki_text.specs.Handle.{handle_of_text};
 ghost use Rattle.rpki_text.specs.Uri.{https};
 ghost use Rattle.rpki_xml.specs.Answers.{Gives, Matches};
 ghost use Rattle.rpki_xml.specs.Tables.{optional, optional_by};
-ghost use Rattle.rpki_setup.specs.Answers.{xml_of_uri};
 ghost use Rattle.rpki_setup.specs.ParentResponse.{is_passed_over, last_certificate_in};
 ghost use Rattle.rpki_setup.specs.RepoInfo.{repo_info_in};
 ghost use Rattle.rpki_setup.specs.ResponseStep.{response_step};
 ghost use Rattle.rpki_setup.specs.Root.{is_setup_namespace, root_in, handle_in, certificate_in, one_certificate_in};
-ghost use Rattle.rpki_setup.specs.ServiceUri.{uri_of_text, service_uri_of_text, service_uri_in};
+ghost use Rattle.rpki_setup.specs.ServiceUri.{service_uri_of_text, service_uri_in};
+ghost use Rattle.rpki_setup.specs.UriText.{uri_of_text};
 
 use crate::error::Error;
 use crate::repo_info::RepoInfo;
 use crate::service_uri::ServiceUri;
+use crate::texts::{base64_of, handle_of, uri_of};
 use rpki_common::Text;
-use rpki_text::uri::{Uri, UriKind};
-use rpki_text::{Base64, Base64Error, Handle, InvalidHandle, uri};
+use rpki_text::{Base64, Handle, uri};
 use rpki_xml::{Children, ElementRef, Mismatch, XmlError, require};
 use std::alloc::Global;
 
 const NAMESPACE: &str = "http://www.hactrn.net/uris/rpki/rpki-setup/";
 
 const NAMESPACE_BARE: &str = "http://www.hactrn.net/uris/rpki/rpki-setup";
-
-// ---- texts
-
-// The octets of a base64 text.
-fn base64_of(alloc: Global, text: &str) -> Result<Base64, XmlError>
-    ensures { Gives (base64_content text.now) (λ b. b) result }
-{
-    match Base64::from_str(alloc, text) {
-        Ok(octets) => Ok(octets),
-        Err(Base64Error::Malformed) => Err(XmlError::Malformed),
-        Err(Base64Error::OutOfMemory) => Err(XmlError::OutOfMemory),
-    }
-}
-
-// The handle that a text is.
-fn handle_of<T>(alloc: Global, text: &str) -> Result<Handle<T>, XmlError>
-    ensures { Gives (handle_of_text text.now) (λ h. h) result }
-{
-    match Handle::from_str(alloc, text) {
-        Ok(handle) => Ok(handle),
-        Err(InvalidHandle::Pattern) => Err(XmlError::Malformed),
-        Err(InvalidHandle::OutOfMemory) => Err(XmlError::OutOfMemory),
-    }
-}
-
-// The URI that a text is.
-fn uri_of<K: UriKind>(alloc: Global, text: &str) -> Result<Uri<K>, XmlError>
-    ensures { Gives (uri_of_text K.kind text.now) (λ u. u) result }
-{
-    match Uri::from_str(alloc, text) {
-        Ok(uri) => Ok(uri),
-        Err(error) => Err(error_of(error)),
-    }
-}
-
-// A text that is no URI is malformed XML.
-fn error_of(error: uri::Error) -> XmlError
-    ensures { result ≡ xml_of_uri error }
-{
-    match error {
-        uri::Error::TooLong => XmlError::Malformed,
-        uri::Error::BadCharacter => XmlError::Malformed,
-        uri::Error::BadScheme => XmlError::Malformed,
-        uri::Error::BadUri => XmlError::Malformed,
-        uri::Error::DotSegments => XmlError::Malformed,
-        uri::Error::OutOfMemory => XmlError::OutOfMemory,
-    }
-}
 
 // The service URI that a text is.
 fn service_uri_of(alloc: Global, text: &str) -> Result<ServiceUri, XmlError>

@@ -9,6 +9,7 @@ ghost use Rattle.rpki_setup.specs.RepositoryResponse.{repository_response_in, re
 ghost use Rattle.rpki_setup.specs.Reading.{ReadsAs};
 
 use crate::error::Error;
+use crate::printing::{write_attribute, write_optional};
 use crate::reading::{
     handle_in, one_certificate_in, repo_info_in, root_in, service_uri_in, tag_in,
 };
@@ -17,7 +18,7 @@ use crate::service_uri::ServiceUri;
 use crate::tag::{cloned, lent, shared, taken_in};
 use crate::transfer::{MOST_OCTETS, write_octets};
 use crate::validation::validate_idcert_at;
-use crate::writing::{write_attribute, write_inside, write_optional, write_repo_info, write_start};
+use crate::writing::{write_inside, write_repo_info, write_start};
 use rpki_base::{Scheme, Time, Verifier};
 use rpki_common::{OutOfMemory, Text};
 use rpki_idcert::IdCert;

@@ -1,81 +1,17 @@
-//! Parts of messages are written, by the tables of specs/: the one spelling of an element, in pieces and without memory.
+//! The parts of messages are written, by the tables of specs/: the one spelling of an element, in pieces and without memory.
 
 ghost use Rattle.std.specs.Prelude.{◌≡◌};
-ghost use Rattle.std.specs.Char.{encode_utf8};
 ghost use Rattle.std.specs.Fmt.{WritesOnOk};
 ghost use Rattle.std.specs.Option.{option_copied};
-ghost use Rattle.rpki_xml.specs.Draft.{optional_attribute};
-ghost use Rattle.rpki_xml.specs.Spelling.{spelled, spelled_value, spelled_attribute, spelled_attributes, spelled_end};
+ghost use Rattle.rpki_xml.specs.Spelling.{spelled, spelled_attributes};
 ghost use Rattle.rpki_setup.specs.RepoInfo.{repo_info_attributes};
 ghost use Rattle.rpki_setup.specs.Root.{certificate_element};
 ghost use Rattle.rpki_setup.specs.Writing.{start_text, inside_text};
 
+use crate::printing::{write_attribute, write_end, write_optional};
 use crate::repo_info::RepoInfo;
 use rpki_text::Base64;
 use std::fmt;
-
-// A character of a value: `&`, `<`, `>`, `"` and `'` as entities, every other one as itself.
-fn write_character<W: fmt::Write>(f: &mut fmt::Formatter<W>, c: char) -> fmt::Result
-    ensures { WritesOnOk W.write_str_gives f.old result (spelled_value (encode_utf8 c)) f.new }
-{
-    if c == '"' {
-        return f.write_str("&quot;");
-    }
-    if c == '\'' {
-        return f.write_str("&apos;");
-    }
-    if c == '&' {
-        return f.write_str("&amp;");
-    }
-    if c == '<' {
-        return f.write_str("&lt;");
-    }
-    if c == '>' {
-        return f.write_str("&gt;");
-    }
-    f.write_char(c)
-}
-
-// A value.
-fn write_value<W: fmt::Write>(f: &mut fmt::Formatter<W>, value: &str) -> fmt::Result
-    ensures { WritesOnOk W.write_str_gives f.old result (spelled_value value.now) f.new }
-{
-    for c in value.chars() {
-        write_character(f, c)?;
-    }
-    Ok(())
-}
-
-/// An attribute.
-pub(crate) fn write_attribute<W: fmt::Write>(
-    f: &mut fmt::Formatter<W>,
-    name: &str,
-    value: &str,
-) -> fmt::Result
-    ensures { WritesOnOk W.write_str_gives f.old result
-        (spelled_attribute name.now value.now) f.new }
-{
-    f.write_str(" ")?;
-    f.write_str(name)?;
-    f.write_str("=\"")?;
-    write_value(f, value)?;
-    f.write_str("\"")
-}
-
-/// An attribute, where there is a value.
-pub(crate) fn write_optional<W: fmt::Write>(
-    f: &mut fmt::Formatter<W>,
-    name: &str,
-    value: Option<&str>,
-) -> fmt::Result
-    ensures { let attributes = optional_attribute name.now (option_copied value.entry) in
-        WritesOnOk W.write_str_gives f.old result (spelled_attributes attributes) f.new }
-{
-    match value {
-        None => Ok(()),
-        Some(value) => write_attribute(f, name, value),
-    }
-}
 
 // An element that holds a certificate.
 fn write_certificate<W: fmt::Write>(
@@ -95,15 +31,6 @@ fn write_certificate<W: fmt::Write>(
     f.write_str(">")?;
     f.write_str(text)?;
     write_end(f, name)
-}
-
-// The end of an element.
-fn write_end<W: fmt::Write>(f: &mut fmt::Formatter<W>, name: &str) -> fmt::Result
-    ensures { WritesOnOk W.write_str_gives f.old result (spelled_end name.now) f.new }
-{
-    f.write_str("</")?;
-    f.write_str(name)?;
-    f.write_str(">")
 }
 
 /// The start of a root of this name, before its further attributes.

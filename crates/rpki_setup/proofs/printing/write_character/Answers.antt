@@ -2,7 +2,7 @@ use Rattle.std.proofs.Output.{has_written_of_eq}
 use Rattle.std.proofs.Math.Utf8.{encode}
 use Rattle.rpki_xml.specs.Spelling.{spelled_value}
 use Rattle.rpki_setup.proofs.Characters.{other_spelled}
-use Rattle.rpki_setup.proofs.writing.write_character.Goals as goal
+use Rattle.rpki_setup.proofs.printing.write_character.Goals as goal
 
 pub returns-then-c-eq34 : goal.returns-then-c-eq34
 unfolding spelled_value encode
