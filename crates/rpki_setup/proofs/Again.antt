@@ -1,5 +1,5 @@
 -- What is written of a writable message is read again.
-use Rattle.std.proofs.Common.{◌≡◌, ℕ, List, [], ◌∷◌, ◌++◌, Some, None, Option, refl, IfSome}
+use Rattle.std.proofs.Common.{◌≡◌, ℕ, List, [], ◌∷◌, Some, None, Option, refl, IfSome}
 use Rattle.std.specs.Prelude.{codes}
 use Rattle.base64.specs.GeneralPurpose.{IsBytes}
 use Rattle.rpki_common.specs.Chaining.{◌>>=◌}
@@ -18,7 +18,7 @@ use Rattle.rpki_setup.specs.ChildRequest.{ChildRequestFields, child_request_elem
 use Rattle.rpki_setup.specs.ParentResponse.{ParentResponseFields, parent_response_element, parent_response_text, parent_response_in, last_certificate_in, IsWritableParentResponse}
 use Rattle.rpki_setup.specs.PublisherRequest.{PublisherRequestFields, publisher_request_element, publisher_request_text, publisher_request_in, IsWritablePublisherRequest}
 use Rattle.rpki_setup.specs.Reading.{ReadsAs}
-use Rattle.rpki_setup.specs.RepoInfo.{RepoInfoFields, repo_info_in, IsWritableRepoInfo}
+use Rattle.rpki_setup.specs.RepoInfo.{repo_info_in}
 use Rattle.rpki_setup.specs.RepositoryResponse.{RepositoryResponseFields, repository_response_element, repository_response_text, repository_response_in, IsWritableRepositoryResponse}
 use Rattle.rpki_setup.specs.Root.{attribute, root_in, handle_in, certificate_in, one_certificate_in}
 use Rattle.rpki_setup.specs.ServiceUri.{service_uri_in, service_text, IsWritableService}

@@ -1,5 +1,5 @@
 -- Octets that begin with no certificate that is believed.
-use Rattle.std.proofs.Common.{◌≡◌, ℕ, List, Some, None, sym, ◌∙◌}
+use Rattle.std.proofs.Common.{ℕ, List, sym, ◌∙◌}
 use Rattle.std.specs.Prelude.{ℤ}
 use Rattle.rpki_base.specs.Scheme.{Relation}
 use Rattle.rpki_common.proofs.Truths.{none_some}

@@ -1,5 +1,5 @@
 -- The characters of a value or a text, and what they are spelled as.
-use Rattle.std.proofs.Common.{◌≡◌, ◌≢◌, ℕ, ◌+◌, ◌/◌, ◌%◌, ◌<◌, ◌≤◌, Bool, true, false, ◌&&◌, cond, List, [], ◌∷◌, ◌++◌, refl, sym, ap, ◌∙◌, arith}
+use Rattle.std.proofs.Common.{◌≡◌, ◌≢◌, ℕ, ◌+◌, ◌/◌, ◌%◌, ◌<◌, ◌≤◌, Bool, true, false, cond, List, [], ◌∷◌, ◌++◌, refl, sym, ap, ◌∙◌, arith}
 use Rattle.std.specs.Prelude.{nat_eq, nat_le, nat_lt}
 use Rattle.std.specs.List.{list_all, flat_map}
 use Rattle.std.proofs.Math.Utf8.{encode}
@@ -7,7 +7,7 @@ use Rattle.std.proofs.lemmas.Str.{encode_ascii}
 use Rattle.std.proofs.lemmas.Bool.Decides.{nat_tests}
 use Rattle.std.proofs.lemmas.Grind.{flat_map-append}
 use Rattle.rpki_common.proofs.Truths.{both}
-use Rattle.rpki_xml.specs.Spelling.{text_character, value_character, spelled_text, spelled_value}
+use Rattle.rpki_xml.specs.Spelling.{value_character, spelled_value}
 
 -- a value in two parts
 pub spelled_value-append : (a b : List ℕ) → spelled_value (a ++ b) ≡ spelled_value a ++ spelled_value b

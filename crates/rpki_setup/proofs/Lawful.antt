@@ -1,6 +1,6 @@
 -- Texts that are lawful consist of octets that a document may have, and are read as themselves.
-use Rattle.std.proofs.Common.{◌≡◌, ℕ, ◌≤◌, Bool, true, false, ◌&&◌, not, cond, List, [], ◌∷◌, Option, Some, None, length, map, take, refl, sym, ap, ◌∙◌, arith, IfSome}
-use Rattle.std.specs.Prelude.{codes, nat_eq, nat_lt, nat_le, if◌then◌else◌}
+use Rattle.std.proofs.Common.{◌≡◌, ℕ, Bool, true, false, ◌&&◌, not, List, [], ◌∷◌, Option, Some, None, length, map, take, refl, arith}
+use Rattle.std.specs.Prelude.{codes, nat_eq, nat_lt, if◌then◌else◌}
 use Rattle.std.specs.List.{list_all}
 use Rattle.std.specs.Char.{to_ascii_lowercase}
 use Rattle.std.specs.Cmp.Lexicographic.{pointwise}
@@ -8,7 +8,7 @@ use Rattle.std.proofs.lemmas.Bool.Decides.{nat_tests}
 use Rattle.std.proofs.lemmas.List.Sums.{list_all-from_AllPass}
 use Rattle.rpki_common.proofs.Truths.{both}
 use Rattle.rpki_text.specs.Handle.{is_handle_octet, IsHandle}
-use Rattle.rpki_text.specs.Uri.{Kind, https, has_scheme, is_uri_octet, uri_fault, parts_fault, parts_behind, fault_of}
+use Rattle.rpki_text.specs.Uri.{Kind, https, has_scheme, is_uri_octet, parts_fault, parts_behind, fault_of}
 use Rattle.rpki_text.specs.declared.uri.Error.{Error as UriError}
 use Rattle.rpki_text.specs.declared.uri.Error.TheVariants as uri
 use Rattle.rpki_xml.specs.Lettered.{AreOctets}

@@ -1,8 +1,7 @@
 -- The texts of repositories and of the files in them.
-use Rattle.std.proofs.Common.{◌≡◌, ◌≢◌, ℕ, zero, suc, ◌+◌, ◌-◌, Bool, true, false, cond, List, [], ◌∷◌, ◌++◌, length, drop, refl, sym, ap, ◌∙◌, append_assoc, arith}
-use Rattle.std.specs.Prelude.{codes, nat_eq, if◌then◌else◌, ◌==◌}
-use Rattle.std.specs.List.{ends_with}
-use Rattle.std.proofs.lemmas.List.{append-nil, length-append}
+use Rattle.std.proofs.Common.{◌≡◌, ℕ, ◌-◌, Bool, true, false, cond, List, [], ◌∷◌, ◌++◌, length, drop, refl, sym, ap, ◌∙◌, append_assoc, arith}
+use Rattle.std.specs.Prelude.{codes, if◌then◌else◌, ◌==◌}
+use Rattle.std.proofs.lemmas.List.{length-append}
 use Rattle.rpki_text.specs.Uri.{is_slash, ends_with_slash, without_slash, joined}
 use Rattle.rpki_setup.specs.RepoInfo.{RepoInfoFields, ca_repository_text, resolved_text}
 

@@ -1,11 +1,11 @@
 -- What a root is spelled as, in the parts that it is written in.
-use Rattle.std.proofs.Common.{◌≡◌, Bool, true, false, length, ℕ, List, [], ◌∷◌, ◌++◌, Some, refl, sym, ap, ◌∙◌, append_assoc}
+use Rattle.std.proofs.Common.{◌≡◌, true, false, length, ℕ, List, [], ◌∷◌, ◌++◌, Some, refl, sym, ap, ◌∙◌, append_assoc}
 use Rattle.std.proofs.lemmas.List.{append-nil}
 use Rattle.std.specs.Prelude.{codes, ◌==◌}
 use Rattle.base64.specs.Engines.{standard}
 use Rattle.base64.specs.GeneralPurpose.{encode_of}
-use Rattle.rpki_xml.specs.Element.{Attribute, alone, is_nil}
-use Rattle.rpki_xml.specs.Spelling.{spelled, spelled_text, spelled_all, spelled_attribute, spelled_attributes, spelled_namespace, spelled_end}
+use Rattle.rpki_xml.specs.Element.{Attribute, is_nil}
+use Rattle.rpki_xml.specs.Spelling.{spelled, spelled_text, spelled_attribute, spelled_attributes, spelled_namespace, spelled_end}
 use Rattle.rpki_setup.specs.Root.{setup_namespace, certificate_element, root_element}
 use Rattle.rpki_setup.specs.Writing.{start_text, inside_text}
 use Rattle.rpki_setup.proofs.Base64s.{spelled_text-encode}

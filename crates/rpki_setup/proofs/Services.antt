@@ -1,16 +1,13 @@
 -- Service URIs, and the two schemes of their texts.
-use Rattle.std.proofs.Common.{◌≡◌, ◌≢◌, ℕ, List, [], ◌∷◌, ◌++◌, Bool, true, false, ◌&&◌, not, Option, Some, None, if◌then◌else◌, refl, sym, ap, ◌∙◌}
-use Rattle.std.specs.Prelude.{codes, nat_lt}
-use Rattle.std.specs.List.{list_all}
+use Rattle.std.proofs.Common.{◌≡◌, ◌≢◌, ℕ, List, true, false, Some, None, refl}
 use Rattle.rpki_common.specs.Chaining.{◌>>=◌}
-use Rattle.rpki_common.proofs.Truths.{both}
-use Rattle.rpki_text.specs.Uri.{Kind, https, has_scheme, is_uri_octet, fault_of}
+use Rattle.rpki_text.specs.Uri.{Kind, https, fault_of}
 use Rattle.rpki_text.specs.declared.uri.Error.{Error as UriError}
 use Rattle.rpki_text.specs.declared.uri.Error.TheVariants as uri
 use Rattle.rpki_xml.specs.Answers.{Fails}
 use Rattle.rpki_setup.specs.Answers.{of_uri, RefusesServiceUri}
 use Rattle.rpki_setup.specs.ServiceUri.{is_http, service_uri_of_text}
-use Rattle.rpki_setup.specs.UriText.{uri_of_text, where_lawful, xml_of_uri}
+use Rattle.rpki_setup.specs.UriText.{uri_of_text, xml_of_uri}
 use Rattle.rpki_setup.specs.declared.service_uri.ServiceUri.TheVariants.{Https, Http}
 
 -- the first rule that is broken is passed on

@@ -1,5 +1,5 @@
 -- What messages print is what they are spelled as.
-use Rattle.std.proofs.Common.{◌≡◌, ℕ, List, [], ◌∷◌, ◌++◌, Option, sym, ap, ◌∙◌, append_assoc}
+use Rattle.std.proofs.Common.{◌≡◌, ℕ, List, ◌∷◌, ◌++◌, Option, sym, ap, ◌∙◌, append_assoc}
 use Rattle.std.specs.Prelude.{codes}
 use Rattle.rpki_xml.specs.Draft.{optional_attribute}
 use Rattle.rpki_xml.specs.Spelling.{spelled_attribute, spelled_attributes}

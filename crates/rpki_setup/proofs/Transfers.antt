@@ -1,16 +1,15 @@
 -- What is read from a source, and written to a sink.
-use Rattle.std.proofs.Common.{◌≡◌, ℕ, ◌+◌, ◌^◌, ◌<◌, ◌≤◌, List, ◌++◌, length, Option, Some, None, Result, Ok, Err, IfOk, IfErr, IfSome, OnOk, OnErr, refl, sym, ap, subst, ◌∙◌, arith, length-append}
+use Rattle.std.proofs.Common.{◌≡◌, ℕ, ◌+◌, ◌^◌, ◌<◌, ◌≤◌, List, length, Option, Some, None, Result, Ok, Err, IfOk, IfErr, IfSome, refl, sym, ap, subst, arith, length-append}
 use Rattle.std.specs.Prelude.{IsErrOf, MatchResult}
-use Rattle.std.specs.Io.KnownBytes.{Consumes, Appends, IsAtEnd}
-use Rattle.rpki_common.specs.Causes.{Rose, HasCause}
-use Rattle.rpki_text.specs.Sink.{AppendsPart}
+use Rattle.std.specs.Io.KnownBytes.{IsAtEnd}
+use Rattle.rpki_common.specs.Causes.{Rose}
 use Rattle.rpki_text.specs.Source.{Takes, TakesAtMost}
 use Rattle.rpki_text.specs.declared.reading.ReadAllError.{ReadAllError}
 use Rattle.rpki_text.specs.declared.reading.ReadAllError.TheVariants as read
 use Rattle.rpki_xml.specs.Element.{Element}
 use Rattle.rpki_setup.specs.declared.error.Error.{Error}
 use Rattle.rpki_setup.specs.declared.error.Error.TheVariants as errors
-use Rattle.rpki_setup.specs.Answers.{of_reading, RefusesMessage, RefusesSource, Parses, IsOfAll, RefusesSink, WritesText}
+use Rattle.rpki_setup.specs.Answers.{of_reading, RefusesMessage, RefusesSource, Parses}
 use Rattle.rpki_setup.specs.Reading.{ReadsAs}
 
 -- ---- from a source

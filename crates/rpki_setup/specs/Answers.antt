@@ -1,5 +1,5 @@
 -- What calls answer.
-use Rattle.std.specs.Prelude.{◌≡◌, ◌≢◌, ◌≤◌, ◌<◌, ◌^◌, ◌+◌, ℕ, ℤ, List, length, Bool, false, Result, Ok, Err, Option, Some, IfOk, IfErr, IfSome, OnOk, IsErrOf, ⊤}
+use Rattle.std.specs.Prelude.{◌≡◌, ◌≢◌, ◌≤◌, ◌<◌, ◌^◌, ◌+◌, ℕ, ℤ, List, length, false, Result, Ok, Err, Option, Some, IfOk, IfErr, IfSome, OnOk, IsErrOf, ⊤}
 use Rattle.std.specs.Io.KnownBytes.{Appends, IsAtEnd}
 use Rattle.rpki_base.specs.Scheme.{Relation}
 use Rattle.rpki_common.specs.Causes.{Rose}

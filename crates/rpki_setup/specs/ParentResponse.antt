@@ -1,5 +1,5 @@
 -- The response of a parent to its child (RFC 8183, 5.2.2).
-use Rattle.std.specs.Prelude.{◌≡◌, ℕ, List, [], ◌∷◌, Bool, ◌||◌, ◌&&◌, Option, None, Some, IfSome, filter, codes}
+use Rattle.std.specs.Prelude.{ℕ, List, ◌∷◌, Bool, ◌||◌, ◌&&◌, Option, None, Some, IfSome, filter, codes}
 use Rattle.base64.specs.GeneralPurpose.{IsBytes}
 use Rattle.rpki_common.specs.Chaining.{◌>>=◌}
 use Rattle.rpki_common.specs.Items as items

@@ -1,4 +1,4 @@
-use Rattle.std.proofs.Common.{refl, rules}
+use Rattle.std.proofs.Common.{refl}
 use Rattle.std.proofs.lemmas.Result.{err_from_is_err_and}
 use Rattle.rpki_common.specs.Chaining.{◌>>=◌}
 use Rattle.rpki_setup.specs.ParentResponse.{parent_response_in}

@@ -1,4 +1,4 @@
-use Rattle.std.proofs.Common.{◌≡◌, ◌≢◌, ℕ, List, ◌++◌, Some, None, IfOk, IfErr, OnOk, subst, sym, ap, ◌∙◌, append-nil}
+use Rattle.std.proofs.Common.{◌≡◌, ℕ, List, ◌++◌, None, IfOk, OnOk, subst, sym, ap, ◌∙◌, append-nil}
 use Rattle.std.specs.Prelude.{codes}
 use Rattle.rpki_text.specs.Uri.{rsync, fault_of, joined}
 use Rattle.rpki_setup.specs.RepoInfo.{RepoInfoFields, ca_repository_text}
