@@ -74,7 +74,8 @@ parent_response_in e = do
     tag = tag;
   })
 
--- What can be written so that it is read again.
+-- What can be written so that it is read again: the handles have the pattern, the service URI is one, and the tag consists of octets
+-- that a document may have. That octets are octets is kept by the types of these fields.
 pub record IsWritableParentResponse (m : ParentResponseFields) : Type 0 where
   pub id_cert : IsBytes m.id_cert
   pub parent_handle : IsHandle m.parent_handle

@@ -51,7 +51,8 @@ repository_response_in e = do
     tag = tag;
   })
 
--- What can be written so that it is read again.
+-- What can be written so that it is read again: the handle has the pattern, the service URI is one, and the tag consists of octets
+-- that a document may have. That octets are octets, and that URIs are lawful, is kept by the types of these fields.
 pub record IsWritableRepositoryResponse (m : RepositoryResponseFields) : Type 0 where
   pub id_cert : IsBytes m.id_cert
   pub publisher_handle : IsHandle m.publisher_handle

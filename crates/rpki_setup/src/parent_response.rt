@@ -191,14 +191,14 @@ impl ParentResponse {
         write_octets(sink, &text)
     }
 
-    /// The octets of the response, a document of XML without white space.
+    /// The octets of the response, a document of XML without added white space.
     pub fn to_xml_vec(&self, alloc: Global) -> Result<Vec<u8>, OutOfMemory>
         ensures { IfOk result (λ octets. octets.items ≡ parent_response_text self.now) }
     {
         Ok(self.to_xml_string(alloc)?.into_bytes())
     }
 
-    /// The text of the response, a document of XML without white space.
+    /// The text of the response, a document of XML without added white space.
     pub fn to_xml_string(&self, alloc: Global) -> Result<String, OutOfMemory>
         ensures { IfOk result (λ text. string_bytes text ≡ parent_response_text self.now) }
     {

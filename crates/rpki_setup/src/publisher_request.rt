@@ -177,14 +177,14 @@ impl PublisherRequest {
         write_octets(sink, &text)
     }
 
-    /// The octets of the request, a document of XML without white space.
+    /// The octets of the request, a document of XML without added white space.
     pub fn to_xml_vec(&self, alloc: Global) -> Result<Vec<u8>, OutOfMemory>
         ensures { IfOk result (λ octets. octets.items ≡ publisher_request_text self.now) }
     {
         Ok(self.to_xml_string(alloc)?.into_bytes())
     }
 
-    /// The text of the request, a document of XML without white space.
+    /// The text of the request, a document of XML without added white space.
     pub fn to_xml_string(&self, alloc: Global) -> Result<String, OutOfMemory>
         ensures { IfOk result (λ text. string_bytes text ≡ publisher_request_text self.now) }
     {
