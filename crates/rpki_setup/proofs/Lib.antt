@@ -1,0 +1,15 @@
+pub mod Read
+pub mod Services
+pub mod Transfers
+pub mod Characters
+pub mod Roots
+pub mod Base64s
+pub mod Lawful
+pub mod Plain
+pub mod Again
+pub mod Spelt
+pub mod Certificates
+pub mod Shown
+pub mod Repositories
+pub mod Responses
+pub mod Writable

@@ -1,0 +1,23 @@
+use Rattle.std.proofs.Common.{◌∙◌}
+use Rattle.std.proofs.lemmas.Result.{err_from_is_err_and}
+use Rattle.rpki_xml.specs.Element.{listed}
+use Rattle.rpki_setup.specs.ResponseStep.{response_step}
+use Rattle.rpki_setup.proofs.Read.{none_through}
+use Rattle.rpki_setup.proofs.Responses.{step_more, step_none, none_read, all_read}
+use Rattle.rpki_setup.proofs.reading.last_certificate_in.Goals as goal
+
+pub returns-in_err-found : goal.returns-in_err-found
+returns-in_err-found c =
+    let p = err_from_is_err_and c.from_residual.result c.from_residual.ensures.1 in
+    rw (p.1, p.2) (none_through c.in_err-found.field-0.0 (response_step c.elements.found c.in-Some.e) _
+    (λ n. none_read c.args.children (step_none c.elements.found (listed c.elements.children) (listed c.next.new.self) c.in-Some.e _ c.in-Some.ensures.steps n c.elements.invariant)) c.in_err-found.ensures)
+
+pub elements-preserved : goal.elements-preserved
+elements-preserved c =
+    step_more c.elements.found c.in_ok-found.found (listed c.elements.children) (listed c.next.new.self) c.in-Some.e _ c.in-Some.ensures.steps c.in_ok-found.ensures c.elements.invariant
+
+pub returns-in-None : goal.returns-in-None
+returns-in-None c = all_read c.args.children c.elements.found (listed c.elements.children) c.in_default.ensures.steps.0 c.elements.invariant ∙ c.in-None.is
+
+pub returns-in-Some-found : goal.returns-in-Some-found
+returns-in-Some-found c = all_read c.args.children c.elements.found (listed c.elements.children) c.in_default.ensures.steps.0 c.elements.invariant ∙ c.in-Some-found.is

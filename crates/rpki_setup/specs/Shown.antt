@@ -1,0 +1,13 @@
+-- What errors print; nothing is said of the texts of the others.
+use Rattle.std.specs.Prelude.{ℕ, List, Option, None, Some, codes}
+use Rattle.rpki_xml.specs.declared.error.XmlError.TheVariants as xml
+use Rattle.rpki_setup.specs.declared.error.Error.{Error}
+use Rattle.rpki_setup.specs.declared.error.Error.TheVariants as errors
+
+abbrev pub shown_error : Error → Option (List ℕ)
+shown_error (errors.InvalidXml xml.Malformed) = Some (codes "malformed XML")
+shown_error errors.InvalidVersion = Some (codes "Invalid version")
+shown_error errors.InvalidHandle = Some (codes "Invalid handle")
+shown_error errors.InvalidTaCertEncoding = Some (codes "Cannot decode TA cert")
+shown_error errors.InvalidTaCert = Some (codes "Invalid TA cert")
+shown_error _ = None

@@ -1,0 +1,221 @@
+//! The request of a publisher.
+
+ghost use Rattle.std.specs.Prelude.{◌≡◌, Some, IfOk, MatchResult, string_bytes};
+ghost use Rattle.std.specs.Option.{option_map};
+ghost use Rattle.std.specs.Rc.{rc_str_bytes};
+ghost use Rattle.rpki_xml.specs.Answers.{Gives};
+ghost use Rattle.rpki_setup.specs.Answers.{Parses, WritesText, RefusesMessage, IsBelievedIn, RefusesCertificate};
+ghost use Rattle.rpki_setup.specs.PublisherRequest.{publisher_request_in, publisher_request_text};
+ghost use Rattle.rpki_setup.specs.Reading.{ReadsAs};
+
+use crate::error::Error;
+use crate::printing::{write_attribute, write_optional};
+use crate::reading::{handle_in, one_certificate_in, root_in, tag_in};
+use crate::tag::{cloned, handed_out, lent, shared, taken_in};
+use crate::transfer::{MOST_OCTETS, write_octets};
+use crate::validation::validate_idcert_at;
+use crate::writing::{write_inside, write_start};
+use rpki_base::{Scheme, Time, Verifier};
+use rpki_common::{OutOfMemory, Text};
+use rpki_idcert::IdCert;
+use rpki_text::{Base64, PublisherHandle, Sink, Source, read_all};
+use rpki_xml::{ElementRef, XmlError, read_document};
+use std::alloc::Global;
+use std::fmt;
+use std::marker::Model;
+use std::rc::RcStr;
+
+/// What a publisher sends to a repository (RFC 8183, 5.2.3): its BPKI trust anchor, the handle by which it wants to be known, and a
+/// tag that the sender may choose. In a clause it is the record of its fields, and the certificate the list of its octets.
+#[derive(Debug, Drop, PartialEq, Eq)]
+pub struct PublisherRequest {
+    id_cert: Base64,
+    publisher_handle: PublisherHandle,
+    tag: Option<Text>,
+}
+
+impl Model for PublisherRequest {
+    ghost use Rattle.rpki_setup.specs.PublisherRequest.{PublisherRequestFields};
+
+    ghost Value = { PublisherRequestFields };
+
+    ghost view = { λ m. record {
+      id_cert = m.id_cert;
+      publisher_handle = m.publisher_handle;
+      tag = m.tag;
+    } };
+
+    ghost inverse = { λ m. record {
+      id_cert = m.id_cert;
+      publisher_handle = m.publisher_handle;
+      tag = m.tag;
+    } };
+}
+
+/// # Data access
+impl PublisherRequest {
+    /// A request of these parts.
+    pub fn new(
+        id_cert: Base64,
+        publisher_handle: PublisherHandle,
+        tag: Option<RcStr>,
+    ) -> PublisherRequest
+        ensures { result ≡ record {
+          id_cert = id_cert;
+          publisher_handle = publisher_handle;
+          tag = option_map rc_str_bytes tag;
+        } }
+    {
+        PublisherRequest {
+            id_cert,
+            publisher_handle,
+            tag: taken_in(tag),
+        }
+    }
+
+    /// The certificate, the handle and the tag.
+    pub fn unpack(self) -> (Base64, PublisherHandle, Option<RcStr>)
+        ensures id_cert { result.0 ≡ self.id_cert }
+        ensures publisher_handle { result.1 ≡ self.publisher_handle }
+        ensures tag { option_map rc_str_bytes result.2 ≡ self.tag }
+    {
+        let PublisherRequest {
+            id_cert,
+            publisher_handle,
+            tag,
+        } = self;
+        (id_cert, publisher_handle, handed_out(tag))
+    }
+
+    /// The publisher's BPKI trust anchor.
+    pub fn id_cert(&self) -> &Base64
+        ensures { result.now ≡ self.now.id_cert }
+    {
+        &self.id_cert
+    }
+
+    /// The handle by which the publisher wants to be known.
+    pub fn publisher_handle(&self) -> &PublisherHandle
+        ensures { result.now ≡ self.now.publisher_handle }
+    {
+        &self.publisher_handle
+    }
+
+    /// Replaces the handle by which the publisher wants to be known.
+    pub fn set_publisher_handle(&mut self, handle: PublisherHandle)
+        ensures { self.new ≡ record self.old { publisher_handle = handle } }
+    {
+        self.publisher_handle = handle;
+    }
+
+    /// The tag, where there is one.
+    pub fn tag(&self) -> Option<&RcStr>
+        ensures { option_map (λ t. rc_str_bytes t.now) result ≡ self.now.tag }
+    {
+        shared(&self.tag)
+    }
+
+    /// An equal request, whose texts are shared with this one.
+    pub fn clone(&self, alloc: Global) -> Result<PublisherRequest, OutOfMemory>
+        ensures { IfOk result (λ m. m ≡ self.now) }
+    {
+        let id_cert = self.id_cert.clone(alloc)?;
+        let publisher_handle = self.publisher_handle.clone(alloc)?;
+        let tag = cloned(alloc, &self.tag)?;
+        Ok(PublisherRequest {
+            id_cert,
+            publisher_handle,
+            tag,
+        })
+    }
+}
+
+/// # Reading and writing
+impl PublisherRequest {
+    // The request that an element is read as.
+    fn of_element(alloc: Global, root: &ElementRef<'_>) -> Result<PublisherRequest, XmlError>
+        ensures { Gives (publisher_request_in root.now) (λ m. m) result }
+    {
+        root_in("publisher_request", root)?;
+        root.only(&["version", "publisher_handle", "tag"])?;
+        let publisher_handle = handle_in(alloc, "publisher_handle", root)?;
+        let tag = tag_in(alloc, root)?;
+        let id_cert = one_certificate_in(alloc, "publisher_bpki_ta", root.children())?;
+        Ok(PublisherRequest {
+            id_cert,
+            publisher_handle,
+            tag,
+        })
+    }
+
+    /// The request that all that a source has to give is: a document of XML of at most 2^31 octets. InvalidXml exactly where it is
+    /// none, TooLong where it is longer, Read only where the source failed.
+    pub fn parse<I: Source>(alloc: Global, source: &mut I) -> Result<PublisherRequest, Error>
+        ensures { Parses publisher_request_in (I.rest source.old) (I.rest source.new)
+            (I.faults source.old) (I.faults source.new) result }
+    {
+        let octets = read_all(alloc, source, MOST_OCTETS)?;
+        PublisherRequest::parse_slice(alloc, &octets)
+    }
+
+    /// The request that the octets are, a document of XML. InvalidXml exactly where they are none.
+    pub fn parse_slice(alloc: Global, octets: &[u8]) -> Result<PublisherRequest, Error>
+        ensures { MatchResult result (ReadsAs publisher_request_in octets.now)
+            (RefusesMessage publisher_request_in octets.now) }
+    {
+        let document = read_document(alloc, octets)?;
+        Ok(PublisherRequest::of_element(alloc, &document.as_ref())?)
+    }
+
+    /// Writes the request as a document of XML. TooLong exactly where that has more than 2^31 octets, Write only where the sink failed;
+    /// want of memory comes before the first write.
+    pub fn write_xml<O: Sink>(&self, alloc: Global, sink: &mut O) -> Result<(), Error>
+        ensures { WritesText (publisher_request_text self.now) (O.written sink.old)
+            (O.written sink.new) (O.faults sink.old) (O.faults sink.new) result }
+    {
+        let text = self.to_xml_vec(alloc)?;
+        write_octets(sink, &text)
+    }
+
+    /// The octets of the request, a document of XML without added white space.
+    pub fn to_xml_vec(&self, alloc: Global) -> Result<Vec<u8>, OutOfMemory>
+        ensures { IfOk result (λ octets. octets.items ≡ publisher_request_text self.now) }
+    {
+        Ok(self.to_xml_string(alloc)?.into_bytes())
+    }
+
+    /// The text of the request, a document of XML without added white space.
+    pub fn to_xml_string(&self, alloc: Global) -> Result<String, OutOfMemory>
+        ensures { IfOk result (λ text. string_bytes text ≡ publisher_request_text self.now) }
+    {
+        Ok(self.to_string(alloc)?)
+    }
+}
+
+impl fmt::Display for PublisherRequest {
+    ghost output = { λ m. Some (publisher_request_text m) };
+
+    fn fmt<W: fmt::Write>(&self, f: &mut fmt::Formatter<W>) -> fmt::Result {
+        write_start(f, "publisher_request")?;
+        write_attribute(f, "publisher_handle", self.publisher_handle.as_str())?;
+        write_optional(f, "tag", lent(&self.tag))?;
+        write_inside(f, "publisher_request", "publisher_bpki_ta", &self.id_cert)
+    }
+}
+
+/// # Validation
+impl PublisherRequest {
+    /// The publisher's BPKI trust anchor, believed at the moment, in seconds since 1970. InvalidTaCertEncoding exactly where the octets
+    /// begin with no identity certificate, InvalidTaCert exactly where a check of a trust anchor fails.
+    pub fn validate_at<P: Scheme, V: Verifier<P>>(
+        &self,
+        alloc: Global,
+        verifier: &V,
+        when: Time,
+    ) -> Result<IdCert, Error>
+        ensures { MatchResult result (IsBelievedIn P.checks self.now.id_cert when)
+            (RefusesCertificate P.checks self.now.id_cert when) }
+    {
+        validate_idcert_at(alloc, &self.id_cert, verifier, when)
+    }
+}

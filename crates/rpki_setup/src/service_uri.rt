@@ -1,0 +1,71 @@
+//! Where a service is reached.
+
+ghost use Rattle.std.specs.Prelude.{◌≡◌, Some, IfOk, IfErr};
+ghost use Rattle.rpki_setup.specs.Answers.{RefusesServiceUri};
+ghost use Rattle.rpki_setup.specs.ServiceUri.{service_uri_of_text, service_text, is_http};
+
+use crate::error::Error;
+use rpki_common::{OutOfMemory, Text};
+use rpki_text::uri;
+use std::alloc::Global;
+use std::fmt;
+
+/// Where the service of a parent or a repository is reached (RFC 8183, 5.2.2 and 5.2.4).
+#[derive(Debug, Drop, PartialEq, Eq)]
+pub enum ServiceUri {
+    /// An https URI.
+    Https(uri::Https),
+    /// A text that begins with `http://`, in any case, kept as it is.
+    Http(Text),
+}
+
+impl ServiceUri {
+    /// The service URI that a text is: with `http://` at its beginning, in any case, any text; else an https URI. InvalidUri, with
+    /// the first rule that the text breaks, exactly where it is neither.
+    pub fn from_str(alloc: Global, text: &str) -> Result<ServiceUri, Error>
+        ensures value { IfOk result (λ s. service_uri_of_text text.now ≡ Some s) }
+        ensures refused { IfErr result (RefusesServiceUri text.now) }
+    {
+        if is_http(text) {
+            return Ok(ServiceUri::Http(Text::from_str(alloc, text)?));
+        }
+        Ok(ServiceUri::Https(uri::Https::from_str(alloc, text)?))
+    }
+
+    /// The text, as it was read.
+    pub fn as_str(&self) -> &str
+        ensures { result.now ≡ service_text self.now }
+    {
+        match self {
+            ServiceUri::Https(uri) => uri.as_str(),
+            ServiceUri::Http(text) => text.as_str(),
+        }
+    }
+
+    /// An equal service URI, whose text is shared with this one.
+    pub fn clone(&self, alloc: Global) -> Result<ServiceUri, OutOfMemory>
+        ensures { IfOk result (λ s. s ≡ self.now) }
+    {
+        match self {
+            ServiceUri::Https(uri) => Ok(ServiceUri::Https(uri.clone(alloc)?)),
+            ServiceUri::Http(text) => Ok(ServiceUri::Http(text.clone(alloc)?)),
+        }
+    }
+}
+
+/// Whether a text begins with `http://`, in any case.
+fn is_http(text: &str) -> bool
+    ensures { result ≡ is_http text.now }
+{
+    let text = text.as_bytes();
+    let end = text.len().min(7);
+    text[..end].eq_ignore_ascii_case(b"http://")
+}
+
+impl fmt::Display for ServiceUri {
+    ghost output = { λ s. Some (service_text s) };
+
+    fn fmt<W: fmt::Write>(&self, f: &mut fmt::Formatter<W>) -> fmt::Result {
+        f.write_str(self.as_str())
+    }
+}

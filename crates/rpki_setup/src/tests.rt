@@ -1,0 +1,88 @@
+//! What no clause shows: texts from outside, and faults in mid-stream. The octets in the certificates' places are 0, 1 and 2.
+
+use crate::*;
+use rpki_text::{Base64, MemorySink, MemorySource, uri};
+use std::alloc::Global;
+use std::test::Fail;
+
+const CHILD: &str =
+    "<?xml version=\"1.0\"?>\n<child_request tag=\"&lt;A&gt;\" child_handle=\"Carol\"
+    xmlns=\"http://www.hactrn.net/uris/rpki/rpki-setup\">
+    <!-- TA --><child_bpki_ta hash=\"x\">\n AA<!-- -->E\nC </child_bpki_ta> </child_request>\n";
+
+const CHILD_WRITTEN: &str =
+    "<child_request xmlns=\"http://www.hactrn.net/uris/rpki/rpki-setup/\" version=\"1\" child_handle=\"Carol\" tag=\"&lt;A&gt;\"><child_bpki_ta>AAEC</child_bpki_ta></child_request>";
+
+const PARENT: &str = "<parent_response valid_until=\"2012-06-13T00:00:00Z\" parent_handle=\"Bob\"
+    child_handle=\"Carol\" service_uri=\"HTTP://h/a b\"><offer/><parent_bpki_ta>AQ==</parent_bpki_ta>
+    <referral referrer=\"Alice\">text</referral><parent_bpki_ta>AA==</parent_bpki_ta></parent_response>";
+
+const PARENT_WRITTEN: &str =
+    "<parent_response xmlns=\"http://www.hactrn.net/uris/rpki/rpki-setup/\" version=\"1\" parent_handle=\"Bob\" child_handle=\"Carol\" service_uri=\"HTTP://h/a b\"><parent_bpki_ta>AA==</parent_bpki_ta></parent_response>";
+
+const REPOSITORY: &str =
+    "<repository_response xmlns=\"http://www.hactrn.net/uris/rpki/rpki-setup/\" version=\"1\" publisher_handle=\"A/B\" service_uri=\"https://h/\" sia_base=\"rsync://h/m/\" rrdp_notification_uri=\"https://h/n.xml\" tag=\"\"><repository_bpki_ta/></repository_response>";
+
+#[test]
+fn a_child_request_is_written_anew(rt: HostRuntime) -> Result<(), Fail> {
+    let request = ChildRequest::parse_slice(rt.alloc(), CHILD.as_bytes())?;
+    assert_eq!(rt; request.to_xml_string(rt.alloc())?.as_str(), CHILD_WRITTEN);
+    Ok(())
+}
+
+#[test]
+fn the_last_certificate_of_a_parent_counts(rt: HostRuntime) -> Result<(), Fail> {
+    let response = ParentResponse::parse_slice(rt.alloc(), PARENT.as_bytes())?;
+    assert_eq!(rt;
+        response.to_xml_string(rt.alloc())?.as_str(),
+        PARENT_WRITTEN
+    );
+    Ok(())
+}
+
+#[test]
+fn a_repository_response_is_written_anew(rt: HostRuntime) -> Result<(), Fail> {
+    let response = RepositoryResponse::parse_slice(rt.alloc(), REPOSITORY.as_bytes())?;
+    assert_eq!(rt; response.to_xml_string(rt.alloc())?.as_str(), REPOSITORY);
+    Ok(())
+}
+
+#[test]
+fn another_message_is_none(rt: HostRuntime) {
+    assert!(rt; PublisherRequest::parse_slice(rt.alloc(), CHILD.as_bytes()).is_err());
+}
+
+fn info(alloc: Global) -> Result<RepoInfo, uri::Error> {
+    let base = uri::Rsync::from_str(alloc, "rsync://localhost/repo/")?;
+    Ok(RepoInfo::new(base, None))
+}
+
+#[test]
+fn a_file_is_resolved(rt: HostRuntime) -> Result<(), Fail> {
+    let file = info(rt.alloc())?.resolve(rt.alloc(), "ca", "f.cer")?;
+    assert_eq!(rt; file.as_str(), "rsync://localhost/repo/ca/f.cer");
+    Ok(())
+}
+
+fn request(alloc: Global) -> Result<ChildRequest, Error> {
+    let octets = Base64::from_content(alloc, [0u8, 1, 2].as_slice())?;
+    let name = Text::from_str(alloc, "a")?.into_rc_str();
+    Ok(ChildRequest::new(octets, Handle::new(name)))
+}
+
+#[test]
+fn a_fault_of_the_source_is_told(rt: HostRuntime) -> Result<(), Fail> {
+    let mut source = MemorySource::new(rt.alloc(), CHILD.as_bytes(), 7, [2u64].as_slice())?;
+    let result = ChildRequest::parse(rt.alloc(), &mut source);
+    assert!(rt; matches!(result, Err(Error::Read)));
+    Ok(())
+}
+
+#[test]
+fn a_fault_of_the_sink_is_told(rt: HostRuntime) -> Result<(), Fail> {
+    let mut sink = MemorySink::new(rt.alloc(), 1000, 7, [2u64].as_slice())?;
+    let result = request(rt.alloc())?.write_xml(rt.alloc(), &mut sink);
+    assert!(rt; matches!(result, Err(Error::Write)));
+    assert_eq!(rt; sink.written(), b"<child_request".as_slice());
+    Ok(())
+}
