@@ -15,8 +15,6 @@ mod idcert;
 #[cfg(test)]
 mod outside;
 #[cfg(test)]
-mod sets;
-#[cfg(test)]
 mod signer;
 #[cfg(test)]
 mod texts;

@@ -1,5 +1,6 @@
 //! The calls that cases name, and what they answer.
 
+use crate::{same, sets};
 use rpki_common::OutOfMemory;
 use rpki_text::uri::{self, HttpsKind, RsyncKind, Uri, UriKind};
 use rpki_text::{
@@ -20,19 +21,19 @@ pub enum Answer {
     Refused(&'static str),
 }
 
-fn out_of_memory<T>() -> io::Result<T> {
+pub(crate) fn out_of_memory<T>() -> io::Result<T> {
     Err(io::Error::from(ErrorKind::OutOfMemory))
 }
 
-fn given(alloc: Global, octets: &[u8]) -> io::Result<Answer> {
+pub(crate) fn given(alloc: Global, octets: &[u8]) -> io::Result<Answer> {
     Ok(Answer::Given(octets.to_vec(alloc)?))
 }
 
-fn told(alloc: Global, holds: bool) -> io::Result<Answer> {
+pub(crate) fn told(alloc: Global, holds: bool) -> io::Result<Answer> {
     given(alloc, if holds { b"true" } else { b"false" })
 }
 
-fn refused(name: &'static str) -> io::Result<Answer> {
+pub(crate) fn refused(name: &'static str) -> io::Result<Answer> {
     Ok(Answer::Refused(name))
 }
 
@@ -201,6 +202,30 @@ fn of_text(alloc: Global, call: &str, text: &str, second: &[u8]) -> io::Result<O
     Ok(Some(answer))
 }
 
+// The calls that take two texts, of which the second may be none.
+fn of_texts(alloc: Global, call: &str, first: &str, second: &[u8]) -> io::Result<Option<Answer>> {
+    let Ok(second) = std::str::from_utf8(second) else {
+        return Ok(None);
+    };
+    match same::answer_to(alloc, call, first, second)? {
+        Some(answer) => Ok(Some(answer)),
+        None => sets::answer_to(alloc, call, first, second),
+    }
+}
+
+// The calls that take a text, and maybe another.
+fn of_first_text(
+    alloc: Global,
+    call: &str,
+    first: &str,
+    second: &[u8],
+) -> io::Result<Option<Answer>> {
+    match of_text(alloc, call, first, second)? {
+        Some(answer) => Ok(Some(answer)),
+        None => of_texts(alloc, call, first, second),
+    }
+}
+
 /// What a call answers to its inputs; None where no call has this name.
 pub fn answer_to(
     alloc: Global,
@@ -214,7 +239,7 @@ pub fn answer_to(
         "read_all" => Ok(Some(octets_read(alloc, first, second.len())?)),
         "write_all" => Ok(Some(octets_written(alloc, first, second.len())?)),
         _ => match std::str::from_utf8(first) {
-            Ok(text) => match of_text(alloc, call, text, second)? {
+            Ok(text) => match of_first_text(alloc, call, text, second)? {
                 Some(answer) => Ok(Some(answer)),
                 None => of_content(alloc, call, first),
             },

@@ -1,12 +1,14 @@
-//! Calls `rpki_text` on stored cases, and says how many answers differ from the expected.
+//! Calls `rpki_text` and `rpki_sets` on stored cases, and says how many answers differ from the expected.
 //!
-//! A line of data/cases.txt is `NAME CALL ANSWER INPUT INPUT`. CALL is one of `answer_to` in
-//! calls.rt. ANSWER is `=` and the octets that are given, or the name of a refusal. Octets are
+//! A line of data/cases.txt is `NAME CALL ANSWER INPUT INPUT`. CALL is one of an `answer_to` in
+//! calls.rt, same.rt or sets.rt. ANSWER is `=` and the octets that are given, or the name of a refusal. Octets are
 //! pieces with `+` between; a piece is in hexadecimal, or with `*` and a number behind it stands
 //! that often; `-` is no octets. tools/text_cases.py writes the file.
 #![tactic(auto)]
 
 mod calls;
+mod same;
+mod sets;
 
 use calls::{Answer, answer_to};
 use std::alloc::Global;
