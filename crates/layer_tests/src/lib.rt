@@ -9,8 +9,6 @@ mod common;
 #[cfg(test)]
 mod der;
 #[cfg(test)]
-mod documents;
-#[cfg(test)]
 mod idcert;
 #[cfg(test)]
 mod outside;
