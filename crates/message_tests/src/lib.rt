@@ -5,8 +5,6 @@
 #[cfg(test)]
 mod built_checks;
 #[cfg(test)]
-mod built_receipts;
-#[cfg(test)]
 mod crls;
 #[cfg(test)]
 mod publication;

@@ -35,8 +35,6 @@ const QUERY: &str =
     07d32b911bb49de486efae423fd3db80300d06092a864886f70d01010105000420f38bb9e3ce558a61ab8b\
     5a0f288b3e3b4042a65b15bbcaf67bce22ba6b3f7d51";
 
-const KEY: &str = "3022300d06092a864886f70d010101050003110000000000000000010000000000000000";
-
 const NOW: i64 = 1_700_000_000;
 
 fn octets_of(alloc: Global, digits: &str) -> Result<Vec<u8>, Fail> {
@@ -222,128 +220,6 @@ fn errors_print(rt: HostRuntime) -> Result<(), Fail> {
     ] {
         assert_eq!(rt; error.to_string(alloc)?.as_str(), text);
     }
-    Ok(())
-}
-
-fn words_of(alloc: Global, words: &[&str]) -> Result<Words, Fail> {
-    let mut all = Words::new(alloc);
-    for word in words {
-        all.push(word)?;
-    }
-    Ok(all)
-}
-
-#[test]
-fn moments_are_read_of_words(rt: HostRuntime) -> Result<(), Fail> {
-    let alloc = rt.alloc();
-    let rows: [(&str, Option<i64>); 12] = [
-        ("0", Some(0)),
-        ("1700000000", Some(NOW)),
-        ("253402300799", Some(253_402_300_799)),
-        ("253402300800", None),
-        ("99999999999999999999", None),
-        ("00", None),
-        ("01", None),
-        ("+1", None),
-        ("-1", None),
-        ("-0", None),
-        ("1 ", None),
-        ("", None),
-    ];
-    for (word, seconds) in rows {
-        let words = words_of(alloc, &["receive", word])?;
-        let moment = match words.moment(1) {
-            Some(when) => Some(when.seconds()),
-            None => None,
-        };
-        assert!(rt; moment == seconds, "{word}");
-    }
-    let words = words_of(alloc, &["0"])?;
-    assert!(rt; words.moment(1).is_none());
-    Ok(())
-}
-
-// Whether the word is the key with this number, of seed 1.
-fn is_key(alloc: Global, word: &str, number: Option<u64>) -> Result<bool, Fail> {
-    let words = words_of(alloc, &[word])?;
-    let key = words.key(alloc, 0)?;
-    match number {
-        None => Ok(key.is_none()),
-        Some(number) => Ok(key == Some(ToyScheme::key(alloc, 1, number)?)),
-    }
-}
-
-#[test]
-fn keys_are_read_of_words(rt: HostRuntime) -> Result<(), Fail> {
-    let alloc = rt.alloc();
-    let rows: [(&str, Option<u64>); 8] = [
-        (KEY, Some(0)),
-        (
-            "3022300D06092A864886F70D010101050003110000000000000000010000000000000009",
-            Some(9),
-        ),
-        (
-            "3020300b06092a864886f70d01010103110000000000000000010000000000000000",
-            Some(0),
-        ),
-        (
-            "3022300d06092a864886f70d01010105000311000000000000000001000000000000000000",
-            None,
-        ),
-        (
-            "3022300d06092a864886f70d01010105000311000000000000000001000000000000000",
-            None,
-        ),
-        (
-            "308122300d06092a864886f70d010101050003110000000000000000010000000000000000",
-            None,
-        ),
-        ("zz", None),
-        ("", None),
-    ];
-    for (word, number) in rows {
-        assert!(rt; is_key(alloc, word, number)?, "{word}");
-    }
-    assert!(rt; words_of(alloc, &[])?.key(alloc, 0)?.is_none());
-    Ok(())
-}
-
-// Whether the words are those of `receive` at the moment 1, under these keys.
-fn is_receive(alloc: Global, words: &Words, wanted: &[PublicKey]) -> Result<bool, Fail> {
-    let Some(command) = words.command(alloc)? else {
-        return Ok(false);
-    };
-    match &command {
-        Command::Content => Ok(false),
-        Command::Receive { kind, when, keys } => {
-            Ok(*kind == Kind::Publication && when.seconds() == 1 && keys.as_slice() == wanted)
-        }
-    }
-}
-
-fn is_content(alloc: Global, words: &Words) -> Result<bool, Fail> {
-    let Some(command) = words.command(alloc)? else {
-        return Ok(false);
-    };
-    match &command {
-        Command::Content => Ok(true),
-        Command::Receive { .. } => Ok(false),
-    }
-}
-
-#[test]
-fn commands_are_read_of_words(rt: HostRuntime) -> Result<(), Fail> {
-    let alloc = rt.alloc();
-    let key = ToyScheme::key(alloc, 1, 0)?;
-    let words = words_of(alloc, &["receive", "publication", "1", KEY])?;
-    assert!(rt; is_receive(alloc, &words, &[key])?);
-    assert!(rt; !is_content(alloc, &words)?);
-    let key = ToyScheme::key(alloc, 1, 0)?;
-    let again = ToyScheme::key(alloc, 1, 0)?;
-    let words = words_of(alloc, &["receive", "publication", "1", KEY, KEY])?;
-    assert!(rt; is_receive(alloc, &words, &[key, again])?);
-    assert!(rt; is_content(alloc, &words_of(alloc, &["content"])?)?);
-    assert!(rt; words_of(alloc, &["contents"])?.command(alloc)?.is_none());
     Ok(())
 }
 

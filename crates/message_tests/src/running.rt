@@ -25,90 +25,6 @@ fn words_of(alloc: Global, words: &[&str]) -> Result<Words, Fail> {
     Ok(all)
 }
 
-// Whether `content` answers the input by this status and this line.
-fn answers(
-    alloc: Global,
-    words: &[&str],
-    input: &[u8],
-    status: u8,
-    line: &[u8],
-) -> Result<bool, Fail> {
-    let words = words_of(alloc, words)?;
-    let mut source = MemorySource::new(alloc, input, 1000, &[])?;
-    let mut sink = MemorySink::new(alloc, 1000, 7, &[])?;
-    let answer = run(alloc, &words, &mut source, &mut sink, &ToyVerifier);
-    Ok(answer == Status(status) && sink.written() == line)
-}
-
-// The message with its content, the octet 61, changed to 62.
-fn another_content(alloc: Global) -> Result<Vec<u8>, Fail> {
-    let mut input = MESSAGE.as_bytes().to_vec(alloc)?;
-    let mut found = None;
-    for (index, pair) in MESSAGE.as_bytes().windows(8).enumerate() {
-        if pair == b"03040161".as_slice() {
-            found = Some(index + 7);
-        }
-    }
-    match found {
-        Some(index) if index < input.len() => input[index] = b'2',
-        _ => return Err(Fail::new("the content")),
-    }
-    Ok(input)
-}
-
-#[test]
-fn the_content_is_written(rt: HostRuntime) -> Result<(), Fail> {
-    let alloc = rt.alloc();
-    assert!(rt; answers(alloc, &["content"], MESSAGE.as_bytes(), 0, b"a\n")?);
-    let upper = MESSAGE.to_ascii_uppercase(alloc)?;
-    assert!(rt; answers(alloc, &["content"], upper.as_bytes(), 0, b"a\n")?);
-    let mut line = MESSAGE.as_bytes().to_vec(alloc)?;
-    line.push(b'\n')?;
-    assert!(rt; answers(alloc, &["content"], &line, 0, b"a\n")?);
-    line.push(b'\n')?;
-    assert!(rt; answers(alloc, &["content"], &line, 3, b"Hex\n")?);
-    let changed = another_content(alloc)?;
-    assert!(rt; answers(alloc, &["content"], &changed, 6, b"Validation 2\n")?);
-    Ok(())
-}
-
-#[test]
-fn each_refusal_has_its_line(rt: HostRuntime) -> Result<(), Fail> {
-    let alloc = rt.alloc();
-    let rows: [(&[&str], &[u8], u8, &[u8]); 11] = [
-        (&["content"], b"", 4, b"CmsDecode\n"),
-        (&["content"], b"\n", 4, b"CmsDecode\n"),
-        (&["content"], b"3003020100", 4, b"CmsDecode\n"),
-        (&["content"], b"30030201", 4, b"CmsDecode\n"),
-        (&["content"], b"3", 3, b"Hex\n"),
-        (&["content"], b"3g", 3, b"Hex\n"),
-        (&["content"], b"30 03", 3, b"Hex\n"),
-        (&["content"], b"\n3003020100", 3, b"Hex\n"),
-        (&[], b"", 2, b"Usage\n"),
-        (&["Content"], b"", 2, b"Usage\n"),
-        (&["content", "content"], b"", 2, b"Usage\n"),
-    ];
-    for (words, input, status, line) in rows {
-        assert!(rt;
-            answers(alloc, words, input, status, line)?,
-            "status {status}"
-        );
-    }
-    Ok(())
-}
-
-#[test]
-fn words_are_kept_in_order(rt: HostRuntime) -> Result<(), Fail> {
-    let alloc = rt.alloc();
-    let words = words_of(alloc, &["receive", ""])?;
-    assert_eq!(rt; words.len(), 2);
-    assert!(rt; !words.is_empty());
-    assert_eq!(rt; words.get(0), Some("receive"));
-    assert_eq!(rt; words.get(1), Some(""));
-    assert!(rt; words.get(2).is_none());
-    Ok(())
-}
-
 #[test]
 fn a_failing_source_is_blamed(rt: HostRuntime) -> Result<(), Fail> {
     let alloc = rt.alloc();
@@ -199,16 +115,5 @@ fn reading_stops_behind_the_limit(rt: HostRuntime) -> Result<(), Fail> {
         );
         assert_eq!(rt; sink.written(), line);
     }
-    Ok(())
-}
-
-#[test]
-fn nested_values_are_refused_and_dropped(rt: HostRuntime) -> Result<(), Fail> {
-    let alloc = rt.alloc();
-    let mut input = Vec::new(alloc);
-    for _ in 0..100_000 {
-        input.extend_from_slice(b"3080")?;
-    }
-    assert!(rt; answers(alloc, &["content"], &input, 4, b"CmsDecode\n")?);
     Ok(())
 }
