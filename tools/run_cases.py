@@ -19,6 +19,10 @@ Or a line is `NAME CALL ANSWER WORD..`: what words say by themselves.
     moment      the seconds that the word at 1 names, or `none`
     key         the format and the bits of the key that the word at 0 spells, or `none`
     command     `content`, or kind, seconds and keys, or `none`
+
+Or it is `NAME faults ANSWER READ WRITE ROOM INPUT WORD..`: READ and WRITE say how many octets a call gives or takes, and behind a `/`
+which call fails, from 0; ROOM is how many octets the sink has room for. ANSWER is the status, what is written in hexadecimal, and
+how many calls of the source and of the sink failed, with `/` between.
 """
 
 import pathlib
@@ -263,6 +267,29 @@ def orders():
     yield "words-none", "words", (), "0/true"
 
 
+# ---- streams of which calls fail: name, answer, calls of the source and of the sink, room, input, words
+
+
+def fault_rows():
+    digits, words = CONTENT_A.encode(), ("content",)
+    assert 4 * 200 < len(digits) <= 5 * 200
+    for call in range(6):
+        yield f"read-{call}-fails", (10, b"ReadFault\n", 1, 0), f"200/{call}", "1000", 1000, digits.hex(), words
+    refused = b"CmsDecode\n"
+    for piece, calls in (1, 10), (5, 2), (1000, 1):
+        for call in range(calls):
+            answer = 11, refused[:call * piece], 0, 1
+            yield f"write-{call}-of-{piece}-fails", answer, "1", f"{piece}/{call}", 1000, b"00".hex(), words
+    yield "no-room-for-the-line-feed", (11, refused[:9], 0, 1), "1", "1000", 9, b"00".hex(), words
+    yield "no-word-no-read", (2, b"Usage\n", 0, 0), "1/0", "1000", 1000, b"00".hex(), ("receive",)
+
+
+def fault_case(name, answer, read, written, room, given, words):
+    status, octets, *faults = answer
+    said = "/".join((str(status), octets.hex(), *map(str, faults)))
+    return " ".join((name, "faults", said, read, written, str(room), given, *map(word_of, words)))
+
+
 def word_of(text):
     """A word as the cases have it."""
     plain = text not in ("", "-") and text.split() == [text] and not text.startswith("#")
@@ -281,6 +308,8 @@ def rows():
         yield case(name, words, given, status, text + b"\n")
     for name, call, words, answer in (*moments(), *keys(), *commands(), *orders()):
         yield " ".join((name, call, answer, *map(word_of, words)))
+    for row in fault_rows():
+        yield fault_case(*row)
 
 
 def cases_of(name, folder):

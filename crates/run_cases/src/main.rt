@@ -3,11 +3,12 @@
 //!
 //! A line of data/cases.txt is `NAME STATUS LINE INPUT WORD..`: LINE is what has to be written, and
 //! it and INPUT are octets as in other stored cases; `-` is an empty field. Or it is
-//! `NAME CALL ANSWER WORD..`, with a call of words.rt and the text that it says. tools/run_cases.py
+//! `NAME CALL ANSWER ..`, with a call of words.rt or faults.rt and the text that it says. tools/run_cases.py
 //! writes the file; its expected answers come from a model that was written apart from this tree, or
 //! are stated in the script.
 #![tactic(auto)]
 
+mod faults;
 mod words;
 
 use crate::words::words_of;
@@ -79,6 +80,14 @@ fn is_run(alloc: Global, line: &str) -> io::Result<bool> {
     Ok(is_answered(alloc, &case, 1 << 20)? && is_answered(alloc, &case, 1)?)
 }
 
+// What the call of a line says; None where the line has a status in its place.
+fn answer_to(alloc: Global, call: &str, line: &str) -> io::Result<Option<String>> {
+    match call {
+        "faults" => Ok(Some(faults::answer_to(alloc, line)?)),
+        _ => words::answer_to(alloc, call, &words_of(alloc, line, 3)?),
+    }
+}
+
 struct Runs;
 
 impl Cases for Runs {
@@ -87,7 +96,7 @@ impl Cases for Runs {
         let (Some(call), Some(expected)) = (fields.next(), fields.next()) else {
             return Err(invalid());
         };
-        match words::answer_to(alloc, call, &words_of(alloc, line, 3)?)? {
+        match answer_to(alloc, call, line)? {
             Some(answer) => Ok(answer.as_str() == expected),
             None => is_run(alloc, line),
         }
