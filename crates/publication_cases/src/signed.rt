@@ -2,13 +2,13 @@
 
 use rpki_base::Time;
 use rpki_der::DecodeError;
-use rpki_publication::{Error, PublicationCms};
+use rpki_publication::{Error, Message, PublicationCms};
 use rpki_signer::{ToyScheme, ToyVerifier};
 use std::alloc::Global;
 use stored_cases::Fields;
 
-// A refusal, as what is printed.
-fn refused(alloc: Global, error: Error) -> Result<Fields, DecodeError> {
+/// A refusal, as what is printed.
+pub fn refused(alloc: Global, error: Error) -> Result<Fields, DecodeError> {
     match error {
         Error::OutOfMemory => Err(DecodeError::OutOfMemory),
         _ => {
@@ -16,6 +16,19 @@ fn refused(alloc: Global, error: Error) -> Result<Fields, DecodeError> {
             fields.print(alloc, error)?;
             Ok(fields)
         }
+    }
+}
+
+/// A message as it is written.
+pub fn written(alloc: Global, message: &Message) -> Result<Fields, DecodeError> {
+    Ok(Fields::one(alloc, message.to_xml_bytes(alloc)?.as_slice())?)
+}
+
+/// The same of one that is read.
+pub fn read_shown(alloc: Global, read: Result<Message, Error>) -> Result<Fields, DecodeError> {
+    match read {
+        Ok(message) => written(alloc, &message),
+        Err(error) => refused(alloc, error),
     }
 }
 
@@ -57,10 +70,7 @@ pub fn message_shown(
     decoded: Result<PublicationCms, Error>,
 ) -> Result<Fields, DecodeError> {
     match decoded {
-        Ok(cms) => {
-            let message = cms.into_message();
-            Ok(Fields::one(alloc, message.to_xml_bytes(alloc)?.as_slice())?)
-        }
+        Ok(cms) => written(alloc, &cms.into_message()),
         Err(error) => refused(alloc, error),
     }
 }
