@@ -13,8 +13,8 @@ fn format_name(format: PublicKeyFormat) -> &'static str {
     }
 }
 
-// Appends a key identifier; where there is none, a field of no octets.
-fn append_identifier(
+/// Appends a key identifier; where there is none, a field of no octets.
+pub fn append_identifier(
     fields: &mut Fields,
     identifier: Option<KeyIdentifier>,
 ) -> Result<(), DecodeError> {

@@ -13,6 +13,4 @@ mod idcert;
 #[cfg(test)]
 mod outside;
 #[cfg(test)]
-mod signer;
-#[cfg(test)]
 mod texts;

@@ -3,14 +3,8 @@
 #![tactic(auto)]
 
 #[cfg(test)]
-mod built_checks;
-#[cfg(test)]
-mod crls;
-#[cfg(test)]
 mod publication;
 #[cfg(test)]
 mod receiving;
 #[cfg(test)]
 mod running;
-#[cfg(test)]
-mod vectors;
