@@ -3,14 +3,10 @@
 #![tactic(auto)]
 
 #[cfg(test)]
-mod base;
-#[cfg(test)]
-mod common;
-#[cfg(test)]
 mod der;
 #[cfg(test)]
-mod idcert;
+mod keys;
 #[cfg(test)]
 mod outside;
 #[cfg(test)]
-mod texts;
+mod printed;

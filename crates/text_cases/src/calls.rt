@@ -1,6 +1,6 @@
 //! The calls that cases name, and what they answer.
 
-use crate::{same, sets};
+use crate::{kept, same, sets};
 use rpki_common::OutOfMemory;
 use rpki_text::uri::{self, HttpsKind, RsyncKind, Uri, UriKind};
 use rpki_text::{
@@ -207,7 +207,10 @@ fn of_texts(alloc: Global, call: &str, first: &str, second: &[u8]) -> io::Result
     let Ok(second) = std::str::from_utf8(second) else {
         return Ok(None);
     };
-    match same::answer_to(alloc, call, first, second)? {
+    if let Some(answer) = same::answer_to(alloc, call, first, second)? {
+        return Ok(Some(answer));
+    }
+    match kept::answer_to(alloc, call, first, second)? {
         Some(answer) => Ok(Some(answer)),
         None => sets::answer_to(alloc, call, first, second),
     }
