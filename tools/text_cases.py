@@ -239,6 +239,14 @@ def same_rows():
         yield line(f"same-{number}", call, holds, one, other)
 
 
+def kept_rows():
+    for number, text in enumerate(("ripe-ncc", "", "any text")):
+        yield line(f"text-{number}", "text", text, text)
+        yield line(f"sequence-{number}", "sequence", text, text)
+        yield line(f"sequence-empty-{number}", "sequence_empty", "false" if text else "true", text)
+        yield line(f"handle-converted-{number}", "handle_converted", text, text)
+
+
 # Texts and the first rule that each breaks, by what RFC 5781 and RFC 9110 ask for.
 RSYNC = [
     ("rsync://localhost/repo/", None),
@@ -332,12 +340,20 @@ SAME = [
     ("handle_same", "Carol", "carol", "false"),
     ("hash_same", "abc", "abc", "true"),
     ("hash_same", "abc", "", "false"),
+    ("text_same", "ripe-ncc", "ripe-ncc", "true"),
+    ("text_same", "ripe-ncc", "apnic", "false"),
+    ("text_less", "apnic", "ripe-ncc", "true"),
+    ("text_less", "ripe-ncc", "apnic", "false"),
+    ("text_less", "apnic", "apnic", "false"),
+    ("sequence_same", "ab", "ab", "true"),
+    ("sequence_same", "ab", "ba", "false"),
 ]
 
 
 def main():
     lines = [
-        *uri_rows(), *hash_rows(), *base64_rows(), *handle_rows(), *ski_rows(), *piece_rows(), *set_rows(), *same_rows()]
+        *uri_rows(), *hash_rows(), *base64_rows(), *handle_rows(), *ski_rows(), *piece_rows(), *set_rows(), *same_rows(),
+        *kept_rows()]
     names = [line.split(" ")[0] for line in lines]
     assert len(names) == len(set(names))
     (CRATE / "data" / "cases.txt").write_text("".join(line + "\n" for line in lines))

@@ -3,8 +3,6 @@
 #![tactic(auto)]
 
 #[cfg(test)]
-mod publication;
-#[cfg(test)]
-mod receiving;
+mod printed;
 #[cfg(test)]
 mod running;

@@ -4,31 +4,22 @@ use rpki_text::{MemorySink, MemorySource};
 use std::alloc::Global;
 use std::test::Fail;
 
-fn words_of(alloc: Global, words: &[&str]) -> Result<Words, Fail> {
-    let mut all = Words::new(alloc);
-    for word in words {
-        all.push(word)?;
-    }
-    Ok(all)
+// Whether `content` answers so many digits by this status and this line.
+fn answers(alloc: Global, len: usize, status: u8, line: &[u8]) -> Result<bool, Fail> {
+    let mut words = Words::new(alloc);
+    words.push("content")?;
+    let octets = vec![in alloc; b'0'; len]?;
+    let mut source = MemorySource::new(alloc, &octets, 1 << 20, &[])?;
+    let mut sink = MemorySink::new(alloc, 1000, 1000, &[])?;
+    let answer = run(alloc, &words, &mut source, &mut sink, &ToyVerifier);
+    Ok(answer == Status(status) && sink.written() == line)
 }
 
+// The stored cases of run_cases run as Rattle's own compiler builds them too, which takes too long here.
 #[test]
 fn reading_stops_behind_the_limit(rt: HostRuntime) -> Result<(), Fail> {
     let alloc = rt.alloc();
-    let words = words_of(alloc, &["content"])?;
-    let rows: [(usize, u8, &[u8]); 2] = [
-        (1 << 26, 4, b"CmsDecode\n"),
-        ((1 << 26) + 1, 9, b"TooLong\n"),
-    ];
-    for (len, status, line) in rows {
-        let octets = vec![in alloc; b'0'; len]?;
-        let mut source = MemorySource::new(alloc, &octets, 1 << 20, &[])?;
-        let mut sink = MemorySink::new(alloc, 1000, 1000, &[])?;
-        assert_eq!(rt;
-            run(alloc, &words, &mut source, &mut sink, &ToyVerifier),
-            Status(status)
-        );
-        assert_eq!(rt; sink.written(), line);
-    }
+    assert!(rt; answers(alloc, 1 << 26, 4, b"CmsDecode\n")?);
+    assert!(rt; answers(alloc, (1 << 26) + 1, 9, b"TooLong\n")?);
     Ok(())
 }
