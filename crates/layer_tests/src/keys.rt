@@ -24,10 +24,8 @@ fn is_a_key<K: Eq + hash::Hash + Drop>(
 #[test]
 fn texts_are_keys(rt: HostRuntime) -> Result<(), Fail> {
     let alloc = rt.alloc();
-    let [key, again] = [
-        Text::from_str(alloc, "rsync")?,
-        Text::from_str(alloc, "rsync")?,
-    ];
+    let key = Text::from_str(alloc, "rsync")?;
+    let again = Text::from_str(alloc, "rsync")?;
     let other = Text::from_str(alloc, "https")?;
     assert!(rt; is_a_key(HashMap::new(alloc), key, &again, Some(&other))?);
     let key = Rsync::from_str(alloc, "rsync://localhost/repo/")?;
@@ -42,7 +40,8 @@ fn texts_are_keys(rt: HostRuntime) -> Result<(), Fail> {
 #[test]
 fn hashes_and_markers_are_keys(rt: HostRuntime) -> Result<(), Fail> {
     let alloc = rt.alloc();
-    let [hash, other] = [Hash::from_data(b"abc"), Hash::from_data(b"")];
+    let hash = Hash::from_data(b"abc");
+    let other = Hash::from_data(b"");
     assert!(rt; is_a_key(HashMap::new(alloc), hash, &hash, Some(&other))?);
     assert!(rt; is_a_key(HashMap::new(alloc), Sender, &Sender, None)?);
     Ok(())
