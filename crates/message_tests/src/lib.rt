@@ -1,5 +1,5 @@
-//! Tests of messages and of what builds them: what no clause says. They stand apart, since a crate with tests is proved a second time for
-//! them. Signed messages and what `run` answers have programs over stored cases besides.
+//! Tests of messages: what no clause says, and no program over stored cases. They stand apart, since a crate with tests is proved a
+//! second time for them.
 #![tactic(auto)]
 
 #[cfg(test)]
