@@ -27,13 +27,17 @@ fn tbs_shown(alloc: Global, tbs: &SignedMessageTbsCrl) -> Result<Fields, DecodeE
     Ok(fields)
 }
 
-// The same of a copy of the CRL, the signed octets, and the signature.
-fn crl_shown(alloc: Global, crl: &SignedMessageCrl) -> Result<Fields, DecodeError> {
-    let copy = crl.clone(alloc)?;
-    let mut fields = tbs_shown(alloc, copy.tbs())?;
-    fields.octets(copy.signed_data().slice().as_slice())?;
-    fields.octets(copy.signed_data().signature().value().as_slice())?;
+// The same of a CRL, the signed octets, and the signature.
+fn fields_shown(alloc: Global, crl: &SignedMessageCrl) -> Result<Fields, DecodeError> {
+    let mut fields = tbs_shown(alloc, crl.tbs())?;
+    fields.octets(crl.signed_data().slice().as_slice())?;
+    fields.octets(crl.signed_data().signature().value().as_slice())?;
     Ok(fields)
+}
+
+// The same of a copy of the CRL.
+fn crl_shown(alloc: Global, crl: &SignedMessageCrl) -> Result<Fields, DecodeError> {
+    fields_shown(alloc, &crl.clone(alloc)?)
 }
 
 // Appends the serial number, and the seconds of the date.

@@ -22,15 +22,27 @@ fn is_a_key<K: Eq + hash::Hash + Drop>(
 }
 
 #[test]
-fn texts_are_keys(rt: HostRuntime) -> Result<(), Fail> {
+fn a_text_is_a_key(rt: HostRuntime) -> Result<(), Fail> {
     let alloc = rt.alloc();
     let key = Text::from_str(alloc, "rsync")?;
-    let again = Text::from_str(alloc, "rsync")?;
     let other = Text::from_str(alloc, "https")?;
+    let again = key.clone(alloc)?;
     assert!(rt; is_a_key(HashMap::new(alloc), key, &again, Some(&other))?);
+    Ok(())
+}
+
+#[test]
+fn a_uri_is_a_key(rt: HostRuntime) -> Result<(), Fail> {
+    let alloc = rt.alloc();
     let key = Rsync::from_str(alloc, "rsync://localhost/repo/")?;
     let again = key.clone(alloc)?;
     assert!(rt; is_a_key(HashMap::new(alloc), key, &again, None)?);
+    Ok(())
+}
+
+#[test]
+fn a_handle_is_a_key(rt: HostRuntime) -> Result<(), Fail> {
+    let alloc = rt.alloc();
     let key = ChildHandle::from_str(alloc, "Carol")?;
     let again = key.clone(alloc)?;
     assert!(rt; is_a_key(HashMap::new(alloc), key, &again, None)?);
