@@ -26,7 +26,7 @@ fn a_text_is_a_key(rt: HostRuntime) -> Result<(), Fail> {
     let alloc = rt.alloc();
     let key = Text::from_str(alloc, "rsync")?;
     let other = Text::from_str(alloc, "https")?;
-    let again = key.clone(alloc)?;
+    let again = Text::from_str(alloc, "rsync")?;
     assert!(rt; is_a_key(HashMap::new(alloc), key, &again, Some(&other))?);
     Ok(())
 }

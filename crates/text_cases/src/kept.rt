@@ -70,21 +70,15 @@ fn converted(alloc: Global, text: &str) -> io::Result<Answer> {
     given(alloc, parent.into_name().as_str().as_bytes())
 }
 
-/// What a call answers to one or two texts; None where no call of this module has this name.
-pub fn answer_to(
-    alloc: Global,
-    call: &str,
-    first: &str,
-    second: &str,
-) -> io::Result<Option<Answer>> {
-    let answer = match call {
-        "text" => text(alloc, first)?,
-        "text_same" | "text_less" => texts(alloc, call, first, second)?,
+/// What a call answers to one or two texts.
+pub fn answer_to(alloc: Global, call: &str, first: &str, second: &str) -> io::Result<Answer> {
+    match call {
+        "text" => text(alloc, first),
+        "text_same" | "text_less" => texts(alloc, call, first, second),
         "sequence" | "sequence_same" | "sequence_empty" => {
-            sequence(alloc, call, first.as_bytes(), second.as_bytes())?
+            sequence(alloc, call, first.as_bytes(), second.as_bytes())
         }
-        "handle_converted" => converted(alloc, first)?,
-        _ => return Ok(None),
-    };
-    Ok(Some(answer))
+        "handle_converted" => converted(alloc, first),
+        _ => Ok(Answer::Unknown),
+    }
 }

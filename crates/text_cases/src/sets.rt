@@ -1,6 +1,6 @@
 //! The calls over sets of AS numbers and of IP addresses, and what they answer.
 
-use crate::calls::{Answer, given, out_of_memory, refused, told};
+use crate::calls::{Answer, counted, given, out_of_memory, refused, told};
 use rpki_common::OutOfMemory;
 use rpki_sets::{
     AsBlocks, AsNumbers, Blocks, BlocksError, Ipv4Addresses, Ipv4Blocks, Ipv6Addresses, Ipv6Blocks,
@@ -24,26 +24,21 @@ fn printed<N: Numbers>(alloc: Global, set: &Blocks<N>) -> io::Result<Answer> {
     }
 }
 
-fn counted(alloc: Global, count: usize) -> io::Result<Answer> {
-    Ok(Answer::Given(format!(in alloc; "{count}")?.into_bytes()))
-}
-
-// What is told of two sets; None where no call has this name.
+// What is told of two sets.
 fn of_sets<N: Numbers>(
     alloc: Global,
     call: &str,
     first: &Blocks<N>,
     second: &Blocks<N>,
-) -> io::Result<Option<Answer>> {
-    let answer = match call {
-        "" => printed(alloc, first)?,
-        "same" => told(alloc, *first == *second)?,
-        "contains" => told(alloc, first.contains(second))?,
-        "in_none" => told(alloc, Blocks::<N>::empty(alloc).contains(first))?,
-        "runs" => counted(alloc, first.runs().len())?,
-        _ => return Ok(None),
-    };
-    Ok(Some(answer))
+) -> io::Result<Answer> {
+    match call {
+        "" => printed(alloc, first),
+        "same" => told(alloc, *first == *second),
+        "contains" => told(alloc, first.contains(second)),
+        "in_none" => told(alloc, Blocks::<N>::empty(alloc).contains(first)),
+        "runs" => counted(alloc, first.runs().len()),
+        _ => Ok(Answer::Unknown),
+    }
 }
 
 // The same of the sets that texts stand for.
@@ -52,13 +47,13 @@ fn of_texts<N: Numbers>(
     call: &str,
     first: &str,
     second: &str,
-) -> io::Result<Option<Answer>> {
+) -> io::Result<Answer> {
     match (
         Blocks::<N>::from_str(alloc, first),
         Blocks::<N>::from_str(alloc, second),
     ) {
         (Ok(first), Ok(second)) => of_sets(alloc, call, &first, &second),
-        (Err(error), _) | (_, Err(error)) => Ok(Some(blocks_refused(error)?)),
+        (Err(error), _) | (_, Err(error)) => blocks_refused(error),
     }
 }
 
@@ -108,35 +103,24 @@ fn resources_same(alloc: Global, first: &str, second: &str) -> io::Result<Answer
     }
 }
 
-fn of_resources(
-    alloc: Global,
-    call: &str,
-    first: &str,
-    second: &str,
-) -> io::Result<Option<Answer>> {
-    let answer = match call {
-        "" => resources_printed(alloc, resources(alloc, first))?,
-        "changed" => resources_printed(alloc, resources_changed(alloc, first))?,
-        "default" => resources_printed(alloc, Ok(ResourceSet::default(alloc)))?,
-        "same" => resources_same(alloc, first, second)?,
-        _ => return Ok(None),
-    };
-    Ok(Some(answer))
+fn of_resources(alloc: Global, call: &str, first: &str, second: &str) -> io::Result<Answer> {
+    match call {
+        "" => resources_printed(alloc, resources(alloc, first)),
+        "changed" => resources_printed(alloc, resources_changed(alloc, first)),
+        "default" => resources_printed(alloc, Ok(ResourceSet::default(alloc))),
+        "same" => resources_same(alloc, first, second),
+        _ => Ok(Answer::Unknown),
+    }
 }
 
-/// What a call answers to one or two texts; None where no call over sets has this name.
-pub fn answer_to(
-    alloc: Global,
-    call: &str,
-    first: &str,
-    second: &str,
-) -> io::Result<Option<Answer>> {
+/// What a call answers to one or two texts.
+pub fn answer_to(alloc: Global, call: &str, first: &str, second: &str) -> io::Result<Answer> {
     let (kind, call) = call.split_once('_').unwrap_or((call, ""));
     match kind {
         "as" => of_texts::<AsNumbers>(alloc, call, first, second),
         "ipv4" => of_texts::<Ipv4Addresses>(alloc, call, first, second),
         "ipv6" => of_texts::<Ipv6Addresses>(alloc, call, first, second),
         "resources" => of_resources(alloc, call, first, second),
-        _ => Ok(None),
+        _ => Ok(Answer::Unknown),
     }
 }
