@@ -226,14 +226,24 @@ fn answer(alloc: Global, place: &mut Place<'_>, step: &Step<'_>) -> Option<Answe
     of_children(alloc, place, step.call, asked_for)
 }
 
-// What the document's element shows by its own calls: names, namespace, text, how many attributes and children.
+// Appends the names of the attributes and of the children of the document's element.
+fn append_names(fields: &mut Fields, element: &Element) -> Result<(), DecodeError> {
+    for attribute in element.attributes() {
+        fields.octets(attribute.name.as_bytes())?;
+    }
+    for child in element.children() {
+        fields.octets(child.name().as_bytes())?;
+    }
+    Ok(())
+}
+
+// What the document's element shows by its own calls: names, namespace, text, and these names.
 fn root(alloc: Global, element: &Element) -> Answer {
     let mut fields = Fields::one(alloc, element.name().as_bytes())?;
     fields.octets(element.local().as_bytes())?;
     fields.octets(element.namespace().unwrap_or("none").as_bytes())?;
     fields.octets(element.text().as_bytes())?;
-    fields.print(alloc, element.attributes().count())?;
-    fields.print(alloc, element.children().count())?;
+    append_names(&mut fields, element)?;
     Ok(fields)
 }
 
