@@ -10,7 +10,7 @@ they are no document. Octets are given in parts, joined by commas: `HEX`; `COUNT
 
 Or a line is `NAME DOCUMENT STEP..`, with the steps of tools/stored.py, which go from the element on:
 
-    root                      name, local name, namespace or `none`, text, how many attributes and how many children there are
+    root                      name, local name, namespace or `none`, text, and the names of the attributes and of the children
     name local text           one field
     namespace                 one field, or none
     named,LOCAL empty childless textless          whether it is so
@@ -286,8 +286,8 @@ CHILDREN = b"<a><b/><c><d/></c></a>"
 TEXTS = b"<a><b>1</b><c>2</c><d/></a>"
 
 ASKED = [
-    ("root", A_C_D, step("root", "p:a", "a", "urn:x", "", 1, 2)),
-    ("root-without", b"<a>x</a>", step("root", "a", "a", "none", "x", 0, 0)),
+    ("root", A_C_D, step("root", "p:a", "a", "urn:x", "", "q:b", "c", "d")),
+    ("root-without", b"<a>x</a>", step("root", "a", "a", "none", "x")),
     ("element", A_C_D, step("name", "p:a"), step("local", "a"), step("text", ""), step("namespace", "urn:x"),
         step("attributes", "q:b", "1&2"), step("named", True, argument="a"), step("named", False, argument="p:a"),
         step("empty", False), step("childless", False), step("textless", True)),
