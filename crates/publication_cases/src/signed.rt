@@ -3,6 +3,7 @@
 use rpki_base::Time;
 use rpki_der::DecodeError;
 use rpki_publication::{Error, Message, PublicationCms};
+use rpki_sigmsg::SignedMessage;
 use rpki_signer::{ToyScheme, ToyVerifier};
 use std::alloc::Global;
 use stored_cases::Fields;
@@ -32,19 +33,32 @@ pub fn read_shown(alloc: Global, read: Result<Message, Error>) -> Result<Fields,
     }
 }
 
+fn whole_fields(alloc: Global, cms: &PublicationCms) -> Result<Fields, DecodeError> {
+    let mut fields = Fields::one(alloc, cms.signed_message().content().as_slice())?;
+    fields.octets(cms.message().to_xml_bytes(alloc)?.as_slice())?;
+    Ok(fields)
+}
+
 /// The content, and the message as it is written.
 pub fn whole_shown(
     alloc: Global,
     decoded: Result<PublicationCms, Error>,
 ) -> Result<Fields, DecodeError> {
     match decoded {
-        Ok(cms) => {
-            let mut fields = Fields::one(alloc, cms.signed_message().content().as_slice())?;
-            fields.octets(cms.message().to_xml_bytes(alloc)?.as_slice())?;
-            Ok(fields)
-        }
+        Ok(cms) => whole_fields(alloc, &cms),
         Err(error) => refused(alloc, error),
     }
+}
+
+fn signed_fields(
+    alloc: Global,
+    signed: &SignedMessage,
+    message: &Message,
+) -> Result<Fields, DecodeError> {
+    let mut fields = Fields::one(alloc, signed.digest())?;
+    fields.octets(&[u8::from(signed.digest_holds())])?;
+    fields.octets(message.to_xml_bytes(alloc)?.as_slice())?;
+    Ok(fields)
 }
 
 /// The digest and whether it holds, and the message as it is written, by the call that gives both away.
@@ -55,10 +69,7 @@ pub fn signed_shown(
     match decoded {
         Ok(cms) => {
             let (signed, message) = cms.unpack();
-            let mut fields = Fields::one(alloc, signed.digest())?;
-            fields.octets(&[u8::from(signed.digest_holds())])?;
-            fields.octets(message.to_xml_bytes(alloc)?.as_slice())?;
-            Ok(fields)
+            signed_fields(alloc, &signed, &message)
         }
         Err(error) => refused(alloc, error),
     }
