@@ -9,6 +9,7 @@ use rpki_ca::{
 };
 use rpki_der::{DecodeError, Steps};
 use rpki_publication::{Error, PublicationCms};
+use rpki_sigmsg::SignedMessage;
 use rpki_signer::{ToyScheme, ToyVerifier};
 use std::alloc::Global;
 use std::sync::ledger::Ledger;
@@ -99,20 +100,45 @@ fn place_shown(alloc: Global, answer: Result<usize, Error>) -> Result<Fields, De
     }
 }
 
+fn place_in_message(
+    alloc: Global,
+    cms: &PublicationCms,
+    argument: &[u8],
+) -> Result<Fields, DecodeError> {
+    let asked = asked_of(alloc, argument)?;
+    let Some(keys) = few(&asked.keys) else {
+        return Err(DecodeError::Malformed);
+    };
+    place_shown(
+        alloc,
+        cms.validate_any_at(&ToyVerifier::new(), keys, asked.when),
+    )
+}
+
 /// The place of the key under which the message is believed.
 pub fn believed(
     alloc: Global,
     decoded: Result<PublicationCms, Error>,
     argument: &[u8],
 ) -> Result<Fields, DecodeError> {
+    match decoded {
+        Ok(cms) => place_in_message(alloc, &cms, argument),
+        Err(error) => refused(alloc, error),
+    }
+}
+
+fn place_in_signed(
+    alloc: Global,
+    signed: &SignedMessage,
+    argument: &[u8],
+) -> Result<Fields, DecodeError> {
     let asked = asked_of(alloc, argument)?;
-    match (decoded, few(&asked.keys)) {
-        (Ok(cms), Some(keys)) => place_shown(
-            alloc,
-            cms.validate_any_at(&ToyVerifier::new(), keys, asked.when),
-        ),
-        (Err(error), _) => refused(alloc, error),
-        (Ok(_), None) => Err(DecodeError::Malformed),
+    let Some(keys) = few(&asked.keys) else {
+        return Err(DecodeError::Malformed);
+    };
+    match signed.validate_any_at(&ToyVerifier::new(), keys, asked.when) {
+        Ok(place) => place_shown(alloc, Ok(place)),
+        Err(error) => place_shown(alloc, Err(Error::Validation(error))),
     }
 }
 
@@ -122,20 +148,9 @@ pub fn signed_believed(
     decoded: Result<PublicationCms, Error>,
     argument: &[u8],
 ) -> Result<Fields, DecodeError> {
-    let asked = asked_of(alloc, argument)?;
-    match (decoded, few(&asked.keys)) {
-        (Ok(cms), Some(keys)) => place_shown(
-            alloc,
-            match cms
-                .signed_message()
-                .validate_any_at(&ToyVerifier::new(), keys, asked.when)
-            {
-                Ok(place) => Ok(place),
-                Err(error) => Err(Error::Validation(error)),
-            },
-        ),
-        (Err(error), _) => refused(alloc, error),
-        (Ok(_), None) => Err(DecodeError::Malformed),
+    match decoded {
+        Ok(cms) => place_in_signed(alloc, cms.signed_message(), argument),
+        Err(error) => refused(alloc, error),
     }
 }
 

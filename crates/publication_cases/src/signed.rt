@@ -90,7 +90,10 @@ fn moment_of(argument: &[u8]) -> Option<Time> {
     Time::new(std::str::from_utf8(argument).ok()?.parse::<i64>().ok()?)
 }
 
-fn validated(alloc: Global, cms: &PublicationCms, when: Time) -> Result<Fields, DecodeError> {
+fn validated(alloc: Global, cms: &PublicationCms, argument: &[u8]) -> Result<Fields, DecodeError> {
+    let Some(when) = moment_of(argument) else {
+        return Err(DecodeError::Malformed);
+    };
     let key = ToyScheme::key(alloc, 1, 0)?;
     match cms.validate_at(&ToyVerifier::new(), &key, when) {
         Ok(()) => Ok(Fields::done(alloc)?),
@@ -104,11 +107,8 @@ pub fn checked(
     decoded: Result<PublicationCms, Error>,
     argument: &[u8],
 ) -> Result<Fields, DecodeError> {
-    let Some(when) = moment_of(argument) else {
-        return Err(DecodeError::Malformed);
-    };
     match decoded {
-        Ok(cms) => validated(alloc, &cms, when),
+        Ok(cms) => validated(alloc, &cms, argument),
         Err(error) => refused(alloc, error),
     }
 }
