@@ -1,5 +1,6 @@
 #!/usr/bin/env python3
-"""Writes identity certificates and what their calls have to answer: crates/certificate_cases/data/cases.txt, and the stdout beside it.
+"""Writes identity certificates and CRLs, and what their calls have to answer: crates/certificate_cases/data/cases.txt, and the
+stdout beside it.
 
 The certificates are put together here from RFC 5280, 4.1, and signed by the rules of the toy scheme in tools/messages.py; each
 expected answer is what they were put together from. Four were made by other software, and their fields are what that prints.
@@ -15,6 +16,18 @@ A line is `NAME MODE OCTETS STEP..`, with the steps of tools/stored.py; MODE is 
         ok, or kind, number and text of the failing check; within: its number where the first of an end entity's checks has number 4
     validity,.. named,..
         whether the moment is in the validity; ok where the key is named as the issuer's, else 7
+    crl whole_crl
+        the fields of tbs_crl; the signed octets and the signature
+    tbs_crl whole_tbs_crl
+        issuer, first and last second, the octets of the list's entries, the authority's key identifier, the number
+    list whole_list
+        the octets of the entries, and the number and second of each; whole_entry: those of one entry
+    lists,'NUMBER last_entry,ENTRY
+        whether the list has the number, and whether an empty one has it; whether this is the last entry
+    crl_check,FORMAT MOMENT
+        ok, or the number of the failing check, where every signature holds under a key of its format, which is 0 or 1
+    toy_signature,NUMBER toy_holds,KIND FORMAT NUMBER SIGNATURE
+        the bits of the key with this number and its signature of the octets; whether a signature holds under a key of this format
 """
 
 import hashlib
@@ -441,8 +454,96 @@ def of_cryptography():
             step("capture", MALFORMED))
 
 
+# ---- CRLs
+
+
+def crl_of(issuer=seq(), extensions=(), outer=ALGORITHM):
+    """A CRL without a list, whose signature is an octet of zero bits."""
+    tbs = seq(integer(1), ALGORITHM, issuer, time(FIRST), time(LAST), value(0xA0, seq(*extensions)))
+    return seq(tbs, outer, bits(b"\0"))
+
+
+OWN_AUTHORITY = authority_key(value(0x80, key_identifier(1, 0)))
+NUMBER = extension(oid("2.5.29.20"), integer(7))
+UNKNOWN_CRL = crl_of(extensions=[extension(oid("2.5.29.28"), NULL, TRUE), OWN_AUTHORITY])
+OVERLONG_CRL = crl_of(issuer=value(0x30, b"", lambda n: b"\x81\0"))
+
+# openssl ca -gencrl (3.0) with authorityKeyIdentifier = keyid, number 7, and two revoked certificates, the first with a reason
+OPENSSL_CRL = bytes.fromhex(
+    "3082013f3081a9020101300d06092a864886f70d01010b0500300c310a300806035504030c0141170d3233313131343232303832305a170d32333131313432"
+    "32313832305a30383020020101170d3233313131343232313030305a300c300a0603551d1504030a010130140203010203170d323331313134323231313030"
+    "5aa02f302d301f0603551d230418301680144820274d74f3d34eff7a40c3f9f495b701200b63300a0603551d140403020107300d06092a864886f70d01010b"
+    "0500038181003c1dcffd34e0911c6b83cc245b6e8320e0c6d5ad33dcce54ebef90aeaa20c28d9f8e2e33047bca67689599b1ea9ac9e0f20ddefd13c8045328"
+    "f19d6f3f76b31407c17207150efad4d5681dac90539375e15a08a791063228d350c7d954a05068c1894ca8f9c182576a32f667cf94c3cb86023a46bb2535b4"
+    "8f89c9c34f68fc91")
+OPENSSL_LIST = OPENSSL_CRL[OPENSSL_CRL.index(b"\x30\x38\x30\x20"):][:58]
+OPENSSL_AUTHORITY = bytes.fromhex("4820274d74f3d34eff7a40c3f9f495b701200b63")
+FIRST_ENTRY, LAST_ENTRY = (1, 1699999800), (0x10203, 1699999860)
+
+
+def crl_fields(octets, issuer=seq(), listed=b"", authority=b"", number=None):
+    """The fields of the CRL that the octets are, whose signed part and signature stand where their lengths say."""
+    at = 2 + (octets[1] & 127 if octets[1] > 127 else 0)
+    size = int.from_bytes(octets[at + 2:at + 2 + (octets[at + 1] & 127)], "big") + (octets[at + 1] & 127) if octets[
+        at + 1] > 127 else octets[at + 1]
+    signed = octets[at:at + 2 + size]
+    signature = octets[-1:] if octets[-4:-2] == b"\3\2" else octets[-128:]
+    number = b"" if number is None else number.to_bytes(20, "big")
+    return issuer, FIRST, LAST, listed, authority, number, signed, signature
+
+
+def crl_lines(label, octets, **fields):
+    shown = crl_fields(octets, **fields)
+    yield line(label, "both", octets, step("whole_crl", *shown), step("crl", *shown), step("capture", MALFORMED))
+    yield line(f"{label}-signed", "both", shown[6] + NULL, step("whole_tbs_crl", MALFORMED), step("tbs_crl", *shown[:6]),
+        step("capture", NULL))
+
+
+def crl_cases():
+    yield from crl_lines("crl", crl_of())
+    yield from crl_lines("crl-of-openssl", OPENSSL_CRL, issuer=seq(relative(attribute(oid("2.5.4.3"), value(12, b"A")))),
+        listed=OPENSSL_LIST[2:], authority=OPENSSL_AUTHORITY, number=7)
+    yield from crl_lines("crl-with-an-unknown-extension", UNKNOWN_CRL, authority=key_identifier(1, 0))
+    for label, octets in (
+            ("crl-with-two-authorities", crl_of(extensions=[OWN_AUTHORITY] * 2)),
+            ("crl-with-two-numbers", crl_of(extensions=[NUMBER] * 2)), ("crl-with-an-overlong-issuer", OVERLONG_CRL)):
+        yield line(label, "both", octets, step("whole_crl", MALFORMED), step("crl", MALFORMED))
+    overlong_fields = crl_fields(OVERLONG_CRL, issuer=b"\x30\x81\0")
+    yield line("crl-signed-with-an-overlong-issuer", "ber", overlong_fields[6], step("whole_tbs_crl", *overlong_fields[:6]))
+    number = lambda entry: (entry[0].to_bytes(20, "big"), entry[1])
+    shown = OPENSSL_LIST[2:], *number(FIRST_ENTRY), *number(LAST_ENTRY)
+    yield line("list-of-openssl", "both", OPENSSL_LIST, step("whole_list", *shown),
+        *[step("lists", listed, False, argument=n) for n, listed in ((0, False), (1, True), (2, False), (0x10203, True))],
+        step("last_entry", True, argument=OPENSSL_LIST[36:]), step("last_entry", False, argument=OPENSSL_LIST[2:36]),
+        step("list", *shown), step("capture", MALFORMED))
+    yield line("entry-of-openssl", "both", OPENSSL_LIST[36:], step("whole_entry", *number(LAST_ENTRY)))
+    yield line("entry-with-a-reason", "both", OPENSSL_LIST[2:36], step("whole_entry", *number(FIRST_ENTRY)))
+    yield line("entry-behind", "both", OPENSSL_LIST[2:], step("whole_entry", MALFORMED))
+    another = crl_of(outer=seq(RSA_SHA256))
+    for label, octets, form, moment, check in (
+            ("crl", crl_of(), 0, FIRST, DONE), ("unknown", UNKNOWN_CRL, 0, LAST, DONE),
+            ("another-algorithm", another, 1, FIRST - 1, 9), ("another-format", crl_of(), 1, FIRST - 1, 10),
+            ("early", OPENSSL_CRL, 0, FIRST - 1, 11), ("late", OPENSSL_CRL, 0, LAST + 1, 12), ("named", OPENSSL_CRL, 0, NOW, 13)):
+        yield line(f"crl-check-{label}", "both", octets, step("crl_check", check, argument=bytes([form]) + str(moment).encode()))
+
+
+def toy_cases():
+    held = sign(1, 0, b"abc")
+    for number in 0, 1:
+        yield line(f"toy-signature-{number}", "both", b"abc",
+            step("toy_signature", key_bits(1, number), sign(1, number, b"abc"), argument=bytes([number])))
+    for label, octets, form, kind, number, signature, holds in (
+            ("rightly", b"abc", 0, 0, 0, held, True), ("of-another-kind", b"abc", 0, 1, 0, held, False),
+            ("of-another-text", b"abd", 0, 0, 0, held, False), ("cut", b"abc", 0, 0, 0, held[:31], False),
+            ("under-another-key", b"abc", 0, 0, 1, held, False), ("of-another-format", b"abc", 1, 0, 0, held, False),
+            ("on-a-curve", b"abc", 1, 1, 0, held, True)):
+        yield line(f"toy-signed-{label}", "both", octets,
+            step("toy_holds", holds, argument=bytes([kind, form, number]) + signature))
+
+
 def lines():
-    for cases in (good_cases, extension_cases, malformed_cases, ber_cases, size_cases, check_cases, elsewhere_cases):
+    for cases in (good_cases, extension_cases, malformed_cases, ber_cases, size_cases, check_cases, elsewhere_cases, crl_cases,
+            toy_cases):
         yield from cases()
 
 

@@ -8,12 +8,31 @@ added white space, its own namespace as `xmlns`, `"` round values, entities for 
 they are no document. Octets are given in parts, joined by commas: `HEX`; `COUNT*HEX`, these octets so often in a row;
 `COUNT#HEX/HEX`, each number below COUNT in decimal between these octets.
 
+Or a line is `NAME DOCUMENT STEP..`, with the steps of tools/stored.py, which go from the element on:
+
+    root                      name, local name, namespace or `none`, text, and the names of the attributes and of the children
+    name local text           one field
+    namespace                 one field, or none
+    named,LOCAL empty childless textless          whether it is so
+    attributes                the name and the value of each
+    required,LOCAL            the attribute's value; malformed where there is none, or more than one
+    optional,LOCAL            the same, or no field where there is none
+    number,LOCAL              the same, by the rule that it is a number below 256
+    only,LOCAL/LOCAL          ok where all attributes have these local names
+    given,LOCAL/VALUE         ok where the attribute has this value, or there is none
+    with_attribute,NAME/VALUE what is written of an element `a` with this attribute, and with no `absent`
+    pass enter                the name of the child that comes next, which is passed, or is where the steps go on
+    texts                     the texts of the children that are not passed
+    the_one at_most_one no_more none_left first_named,LOCAL        what is told of these children
+
 What a document is stands here a second time, as a tokenizer over regular expressions; no expected spelling comes from the program
 under test. Whether a row of the tables is a document is said by the table that it stands in, and compared.
 """
 
 import pathlib
 import re
+
+from stored import DONE, MALFORMED, NOTHING, step
 
 CRATE = pathlib.Path(__file__).resolve().parent.parent / "crates" / "document_cases"
 SIZES = [127, 128, 255, 256, 65535, 65536]
@@ -172,6 +191,7 @@ LAWFUL = [
     b"<a><??></a>",
     b"<a> \t\r\n</a>",
     b"<a>~</a>",
+    b"<a b=\"1&amp;2\" c=\"&lt;&apos;&quot;&gt;\" e=\"\"><f/><g>x &lt; y &gt; z &amp; \"'</g></a>",
 ]
 
 UNLAWFUL = [
@@ -257,6 +277,52 @@ UNLAWFUL = [
 ]
 
 
+# ---- what is asked of elements: the document, and the steps
+
+A_C_D = b"<p:a xmlns:p='urn:x' q:b='1&amp;2'> <c/><d > x &lt; y<?i?> </d ></p:a>"
+ASKED_FOR = b"<a b=' 1 ' p:c='2' q:c='3' xmlns='urn:x'/>"
+NUMBERS = b"<a b='12' c='x' d='256'/>"
+CHILDREN = b"<a><b/><c><d/></c></a>"
+TEXTS = b"<a><b>1</b><c>2</c><d/></a>"
+
+ASKED = [
+    ("root", A_C_D, step("root", "p:a", "a", "urn:x", "", "q:b", "c", "d")),
+    ("root-without", b"<a>x</a>", step("root", "a", "a", "none", "x")),
+    ("element", A_C_D, step("name", "p:a"), step("local", "a"), step("text", ""), step("namespace", "urn:x"),
+        step("attributes", "q:b", "1&2"), step("named", True, argument="a"), step("named", False, argument="p:a"),
+        step("empty", False), step("childless", False), step("textless", True)),
+    ("first-child", A_C_D, step("first_named", True, argument="c"), step("first_named", False, argument="d"), step("enter", "c"),
+        step("named", True, argument="c"), step("empty", True), step("childless", True), step("textless", True),
+        step("attributes", NOTHING), step("namespace", NOTHING), step("none_left", True), step("first_named", False, argument="c")),
+    ("second-child", A_C_D, step("pass", "c"), step("first_named", True, argument="d"), step("none_left", False),
+        step("enter", "d"), step("text", "x < y"), step("textless", False), step("childless", True), step("empty", False)),
+    ("children-passed", A_C_D, step("pass", "c"), step("pass", "d"), step("none_left", True), step("pass", NOTHING),
+        step("enter", MALFORMED)),
+    ("required", ASKED_FOR, step("required", " 1 ", argument="b"), step("required", MALFORMED, argument="d"),
+        step("required", MALFORMED, argument="c")),
+    ("optional", ASKED_FOR, step("optional", " 1 ", argument="b"), step("optional", NOTHING, argument="d"),
+        step("optional", MALFORMED, argument="c")),
+    ("only", ASKED_FOR, step("only", DONE, argument="c/b"), step("only", MALFORMED, argument="c")),
+    ("given", ASKED_FOR, step("given", DONE, argument="b/ 1 "), step("given", DONE, argument="d/1"),
+        step("given", MALFORMED, argument="b/1"), step("given", MALFORMED, argument="c/2")),
+    ("number", NUMBERS, step("number", 12, argument="b"), step("number", MALFORMED, argument="c"),
+        step("number", MALFORMED, argument="d"), step("number", NOTHING, argument="e")),
+    ("the-one", CHILDREN, step("the_one", MALFORMED), step("pass", "b"), step("the_one", "c"), step("pass", "c"),
+        step("the_one", MALFORMED)),
+    ("at-most-one", CHILDREN, step("at_most_one", MALFORMED), step("pass", "b"), step("at_most_one", "c"), step("pass", "c"),
+        step("at_most_one", NOTHING)),
+    ("no-more", CHILDREN, step("no_more", MALFORMED), step("pass", "b"), step("no_more", MALFORMED), step("pass", "c"),
+        step("no_more", DONE)),
+    ("child-with-none", CHILDREN, step("enter", "b"), step("the_one", MALFORMED), step("at_most_one", NOTHING),
+        step("no_more", DONE)),
+    ("child-with-one", CHILDREN, step("pass", "b"), step("enter", "c"), step("the_one", "d"), step("at_most_one", "d"),
+        step("no_more", MALFORMED)),
+    ("texts", TEXTS, step("texts", "1", "2", ""), step("pass", "b"), step("texts", "2", "")),
+    ("textless", TEXTS, step("enter", "b"), step("textless", False)),
+    ("with-attribute", b"<a/>", step("with_attribute", '<a e=""/>', argument="e/"),
+        step("with_attribute", '<a e="&lt;"/>', argument="e/<")),
+]
+
 
 def each_octet():
     """Each octet in a text, a value, a comment and an instruction"""
@@ -323,6 +389,9 @@ def cases():
             if (element is not None) != (table is LAWFUL):
                 raise SystemExit(f"{kind}-{number}: {octets} reads as {element}")
             yield f"{kind}-{number}", octets.hex(), element.hex() if element is not None else "-"
+    for name, octets, *steps in ASKED:
+        assert element_of(octets) is not None
+        yield f"asked-{name}", octets.hex(), *steps
     for number, octets in enumerate(each_octet()):
         element = element_of(octets)
         yield f"octet-{number // 4}-{number % 4}", octets.hex(), element.hex() if element is not None else "-"

@@ -3,7 +3,6 @@
 
     tools/messages.py            writes both files
     tools/messages.py MESSAGE    compares the builder with a message in hex, octet by octet, and says whether they are equal
-    tools/messages.py --built    writes the SHA-256 of the messages that the tests of crates/rpki_vectors build
 
 The envelopes are written here from the formats (RFC 5652, RFC 5280, RFC 6492) and by the rules of the toy scheme, with nothing of
 the crates: no octet and no expected answer comes from the program under test.
@@ -11,6 +10,9 @@ the crates: no octet and no expected answer comes from the program under test.
 A line is `NAME MODE FORMAT SEED MOMENT EXPECTED HEX`: MODE `strict` or `loose`; FORMAT `rsa` or `ec`, the format of the issuer's
 key, whose bits are SEED and number 0; MOMENT in seconds since 1970; EXPECTED `ok`, `malformed`, or `inspection-N` or
 `verification-N` for the first check that fails.
+
+Or a line is `NAME built MOMENT SEED REVOKED CONTENT MESSAGE`: of what parts crates/rpki_vectors builds the message, or `moment` where
+it builds none; REVOKED has commas between its numbers, and `-` stands for an empty field.
 
 The toy scheme: a key's bits are its seed and its number, eight octets each, the most significant first. A signature is the SHA-256
 of the key's bits and what is signed behind them. A key identifier is the SHA-1 of the bits.
@@ -579,26 +581,55 @@ def built(content, moment, seed, revoked):
         crl_number=max(moment, 0) * 1000)
 
 
-def write_built():
-    for parts in (
-            (QUERY, NOW, 1, (2,)),
-            (b"", NOW, (1 << 64) - 1, (0, 127, 128, 255, 256, 32768, (1 << 63) - 1, 1 << 63, (1 << 64) - 1)),
-            (b"\0\xff", 0, 0, ()),
-            (QUERY, -62167218900, 3, (5,)),
-            (QUERY, -631152000, 9, ()),
-            (QUERY, 2524607999, 9, (1,)),
-            (QUERY, 253402300499, 3, (5,))):
-        print(hashlib.sha256(built(*parts)).hexdigest(), *parts[1:])
+# The first and the last moment of which a message is built.
+FIRST_BUILT, LAST_BUILT = -62167218900, 253402300499
+LARGEST = (1 << 64) - 1
+BUILT = {
+    "query": (QUERY, NOW, 1, ()),
+    "with-another-listed": (QUERY, NOW, 1, (2,)),
+    "with-its-own-listed": (QUERY, NOW, 1, (1,)),
+    "with-others-listed": (QUERY, NOW, 1, (0, 256, 257, 1 << 63, LARGEST)),
+    "with-numbers-of-all-sizes": (b"", NOW, LARGEST, (0, 127, 128, 255, 256, 32768, (1 << 63) - 1, 1 << 63, LARGEST)),
+    "in-1970": (b"\0\xff", 0, 0, ()),
+    "at-the-first-moment": (QUERY, FIRST_BUILT, 3, (5,)),
+    "where-utc-times-begin": (QUERY, -631152000, 9, ()),
+    "where-utc-times-end": (QUERY, 2524607999, 9, (1,)),
+    "at-the-last-moment": (QUERY, LAST_BUILT, 3, (5,)),
+}
+
+
+def built_line(label, parts, expected):
+    content, moment, seed, revoked = parts
+    listed = ",".join(map(str, revoked))
+    return " ".join((f"built-{label}", "built", str(moment), str(seed), listed or "-", content.hex() or "-", expected))
+
+
+def built_cases():
+    for label, parts in BUILT.items():
+        yield built_line(label, parts, built(*parts).hex())
+    for label, moment in (("smallest", -1 << 63), ("early", FIRST_BUILT - 1), ("late", LAST_BUILT + 1), ("greatest", (1 << 63) - 1)):
+        yield built_line(f"too-{label}", (QUERY, moment, 1, ()), "moment")
+    for label, answer, seed, moment in (
+            ("query", "ok", 1, NOW), ("query", "ok", 1, FIRST), ("query", "ok", 1, LAST), ("query", "verification-5", 1, FIRST - 1),
+            ("query", "verification-5", 1, LAST + 1), ("query", "verification-6", 2, NOW), ("with-its-own-listed",
+                "verification-14", 1, NOW), ("with-another-listed", "ok", 1, NOW), ("with-others-listed", "ok", 1, NOW)):
+        octets = built(*BUILT[label])
+        yield from case(f"built-{label}-at-{moment}-under-{seed}", octets, answer, seed=seed, moment=moment)
+
+
+def agree_elsewhere():
+    """The message that was made elsewhere has another serial number: it is the same from the certificate's algorithm to its
+    signature, and from the CRL on."""
+    own, other = built(QUERY, NOW, 1, ()), bytes.fromhex(QUERY_MESSAGE)
+    assert own[181:456] == other[200:475] and own[488:] == other[507:]
 
 
 def main():
-    if sys.argv[1:] == ["--built"]:
-        write_built()
-        return
     if len(sys.argv) > 1:
         compare(bytes.fromhex(pathlib.Path(sys.argv[1]).read_text()))
         return
-    written = list(lines())
+    agree_elsewhere()
+    written = [*lines(), *built_cases()]
     names = [line.split(" ")[0] for line in written]
     assert len(names) == len(set(names))
     (CRATE / "data" / "cases.txt").write_text("".join(line + "\n" for line in written))

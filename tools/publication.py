@@ -10,6 +10,11 @@ A line is `NAME ber OCTETS STEP..`, with the steps of tools/stored.py. What the 
     signed                            the digest, whether it holds, and the message as it is written
     message                           the message as it is written
     checked,'MOMENT                   ok under key 0 of seed 1
+    text                              the message as which the octets read as a text, as it is written
+    list_query success                these messages as they are written, whatever the octets are
+    received,'MOMENT/NUMBER           the message as it is written, received under the key with this number of seed 1
+    received_any,'MOMENT/NUMBER..     the same under one of these keys, and its place
+    believed,.. signed_believed,..    the place of the key under which the message is believed, and the signed message
 """
 
 import hashlib
@@ -28,6 +33,25 @@ SPELLED = {
         b"<p:msg xmlns:p='urn:p' version='4' type='query'><p:list/></p:msg>"],
     REPLY: [b"<msg type='reply' version='4'>\n  <success />\n</msg>"],
 }
+# Texts by themselves, besides.
+MORE_QUERIES = [b"<msg xmlns='urn:other' type='query' version='4'><list/></msg>"]
+NO_TEXTS = [
+    b"<msg version='' type='query'><list/></msg>",
+    b"<msg version='4'><list/></msg>",
+    b"<msg version='4' type='error'><list/></msg>",
+    b"<message version='4' type='query'><list/></message>",
+    b"<msg version='4' type='query' tag='a'><list/></msg>",
+    b"<msg version='4' p:version='4' type='query'><list/></msg>",
+    b"<msg version='4' type='query'/>",
+    b"<msg version='4' type='query'>list</msg>",
+    b"<msg version='4' type='query'><list/></msg>.",
+    b"<msg version='4' type='query'><list/><list/></msg>",
+    b"<msg version='4' type='query'><list/><withdraw/></msg>",
+    b"<msg version='4' type='query'><list tag='a'/></msg>",
+    b"<msg version='4' type='query'><list>a</list></msg>",
+    b"<msg version='4' type='query'><list><a/></list></msg>",
+    b"<msg version='4' type='reply'><list/></msg>",
+]
 NO_MESSAGES = [b"", b"a", b"<msg version='4' type='query'><success/></msg>", b"<msg version='5' type='query'><list/></msg>",
     QUERY + b"."]
 NO_XML, NO_CMS = ("refused", "malformed XML"), ("refused", "Could not decode CMS")
@@ -42,6 +66,43 @@ def read(label, octets, content, written):
     return line(
         label, octets, step("decoded", content, written), step("signed", digest, True, written), step("message", written),
         step("checked", DONE, argument=NOW))
+
+
+def text_lines():
+    yield line("written", b"", step("list_query", QUERY), step("success", REPLY))
+    for written, texts in (QUERY, [*SPELLED[QUERY], *MORE_QUERIES, QUERY]), (REPLY, [*SPELLED[REPLY], REPLY]):
+        kind = "reply" if written == REPLY else "query"
+        for number, text in enumerate(texts):
+            yield line(f"text-of-{kind}-{number}", text, step("text", written))
+    for number, text in enumerate([*NO_MESSAGES, *NO_TEXTS]):
+        yield line(f"no-text-{number}", text, step("text", *NO_XML))
+
+
+def under(call, *fields, moment=NOW, keys):
+    return step(call, *fields, argument="/".join(map(str, (moment, *keys))))
+
+
+def received(label, octets, *answer, moment=NOW, key=0):
+    """Received under the one key, and under it and another."""
+    placed = (*answer, 1) if len(answer) == 1 else answer
+    return line(label, octets, under("received", *answer, moment=moment, keys=[key]),
+        under("received_any", *placed, moment=moment, keys=[9, key]))
+
+
+def received_lines():
+    query = bytes.fromhex(QUERY_MESSAGE)
+    failing = lambda check: ("refused", f"CMS is not valid: check {check} failed")
+    for moment, *answer in ((FIRST - 1, *failing(5)), (FIRST, QUERY), (NOW, QUERY), (LAST, QUERY), (LAST + 1, *failing(5))):
+        yield received(f"received-at-{moment}", query, *answer, moment=moment)
+    yield received("received-under-another", query, *failing(6), key=9)
+    yield received("received-reply", message(content=REPLY), REPLY)
+    yield received("received-cut", query[:-1], *NO_CMS)
+    yield received("received-content-a", bytes.fromhex(CONTENT_A), "refused", "the content is no message of this kind")
+    yield received("received-listed", message(entries=(1,)), *failing(14))
+    for call in "believed", "signed_believed":
+        yield line(f"{call}-under-two", query, under(call, 1, keys=[9, 0]), under(call, 0, keys=[0, 9]),
+            under(call, *failing(5), moment=LAST + 1, keys=[9, 0]), under(call, *failing(6), keys=[9, 9]),
+            under(call, 7, keys=[9] * 7 + [0]))
 
 
 def lines():
@@ -65,6 +126,8 @@ def lines():
         yield line(f"at-{moment}", message(), step("checked", *answer, argument=moment))
     for check in BREAKS:
         yield line(f"check-{check}", broken(check), step("checked", *failing(check), argument=NOW))
+    yield from text_lines()
+    yield from received_lines()
 
 
 if __name__ == "__main__":

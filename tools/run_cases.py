@@ -10,14 +10,26 @@ input) and case-N.expected (the status in decimal, a line feed, then what is wri
 apart. The rows of this script are made of examples/query-list.hex, of examples/content.hex and of what stands here. No expected
 answer comes from the program under test.
 
-A line is `NAME STATUS LINE INPUT WORD..`: the status in decimal, what is written and the input in hexadecimal, and the words as
-they are. A `-` stands for an empty field.
+A line is `NAME STATUS LINE INPUT WORD..`: the status in decimal, what is written and the input in terms of hexadecimal, and the
+words as they are, or behind a `#` in hexadecimal. A `-` stands for an empty field.
+
+Or a line is `NAME CALL ANSWER WORD..`: what words say by themselves.
+
+    words       how many they are, whether there is none, and each
+    moment      the seconds that the word at 1 names, or `none`
+    key         the format and the bits of the key that the word at 0 spells, or `none`
+    command     `content`, or kind, seconds and keys, or `none`
+
+Or it is `NAME faults ANSWER READ WRITE ROOM INPUT WORD..`: READ and WRITE say how many octets a call gives or takes, and behind a `/`
+which call fails, from 0; ROOM is how many octets the sink has room for. ANSWER is the status, what is written in hexadecimal, and
+how many calls of the source and of the sink failed, with `/` between.
 """
 
 import pathlib
 import sys
 
-from messages import QUERY, indefinite, own_crl, overlong, segmented, value
+from messages import CONTENT_A, NOW, QUERY, built, indefinite, key_bits, own_crl, overlong, segmented, value
+from stored import terms
 
 ROOT = pathlib.Path(__file__).resolve().parent.parent
 CRATE = ROOT / "crates" / "run_cases"
@@ -28,6 +40,7 @@ SETS = "ber", "two"
 MOMENT = "1700000000"
 KEY = "3022300d06092a864886f70d010101050003110000000000000000010000000000000000"
 OTHER_KEY = KEY[:-2] + "09"
+REPLY = b'<msg xmlns="http://www.hactrn.net/uris/rpki/publication-spec/" version="4" type="reply"><success/></msg>'
 RECEIVED = 0, QUERY
 USAGE, HEX, CMS_DECODE, XML_ERROR = (2, b"Usage"), (3, b"Hex"), (4, b"CmsDecode"), (5, b"XmlError")
 
@@ -185,16 +198,118 @@ def crl_rows():
     yield "second-crl-lists-under-keys", receive(KEY, OTHER_KEY), line(lambda crl: crl + listing), validation(14)
 
 
+def content_rows():
+    digits = CONTENT_A.encode()
+    changed_digits = digits.replace(b"03040161", b"03040162")
+    for label, given, answer in (
+            ("content-a", digits, (0, b"a")), ("content-a-in-upper-case", digits.upper(), (0, b"a")),
+            ("content-a-with-line-feed", digits + b"\n", (0, b"a")), ("content-a-with-two-line-feeds", digits + b"\n\n", HEX),
+            ("content-a-changed", changed_digits, validation(2)), ("content-of-nothing", b"", CMS_DECODE),
+            ("content-of-a-line-feed", b"\n", CMS_DECODE), ("content-of-another-value", b"3003020100", CMS_DECODE),
+            ("content-of-half-a-value", b"30030201", CMS_DECODE), ("content-of-half-an-octet", b"3", HEX),
+            ("content-of-no-digit", b"3g", HEX), ("content-with-a-space", b"30 03", HEX),
+            ("content-behind-a-line-feed", b"\n3003020100", HEX), ("content-of-100000-levels", b"3080" * 100000, CMS_DECODE)):
+        yield label, ("content",), given, answer
+    for label, words in ("no-words", ()), ("content-with-a-capital", ("Content",)), ("content-twice", ("content", "content")):
+        yield label, words, b"", USAGE
+
+
+def key_word(seed):
+    return KEY[:-32] + key_bits(seed, 0).hex()
+
+
+def built_rows():
+    """Messages that `build` of crates/rpki_vectors makes, too."""
+    for label, content, revoked, seed, answer in (
+            ("query", QUERY, (), 1, (0, QUERY)), ("query-with-another-listed", QUERY, (2,), 1, (0, QUERY)),
+            ("reply", REPLY, (), 1, (0, REPLY)), ("query-listed", QUERY, (1,), 1, validation(14)),
+            ("query-under-another-seed", QUERY, (), 2, validation(6)), ("another-content", b"<msg/>", (), 1, XML_ERROR)):
+        message = built(content, NOW, 1, revoked)
+        yield f"built-{label}", receive(key_word(seed)), message.hex().encode(), answer
+
+
+# ---- what words say by themselves: name, call, words, answer
+
+
+def moments():
+    last = "253402300799"
+    for word in "0", MOMENT, last:
+        yield f"moment-of-{word}", "moment", ("receive", word), word
+    for number, word in enumerate(("253402300800", "99999999999999999999", "00", "01", "+1", "-1", "-0", "1 ", "")):
+        yield f"no-moment-{number}", "moment", ("receive", word), "none"
+    yield "no-moment-behind-the-words", "moment", ("0",), "none"
+
+
+def bits_of(number):
+    return "rsa:" + key_bits(1, number).hex()
+
+
+def keys():
+    yield "key", "key", (KEY,), bits_of(0)
+    yield "key-of-upper-case", "key", (OTHER_KEY.upper(),), bits_of(9)
+    yield "key-without-null", "key", ("3020300b06092a864886f70d01010103110000000000000000010000000000000000",), bits_of(0)
+    for label, word in (
+            ("with-an-octet-behind", KEY + "00"), ("with-a-digit-behind", KEY + "0"),
+            ("with-an-overlong-length", KEY.replace("3022", "308122", 1)), ("of-no-digits", "zz"), ("of-nothing", "")):
+        yield f"no-key-{label}", "key", (word,), "none"
+    yield "no-key-behind-the-words", "key", (), "none"
+
+
+def commands():
+    yield "command-of-one-key", "command", receive(moment="1"), f"publication/1/{bits_of(0)}"
+    yield "command-of-two-keys", "command", receive(KEY, KEY, moment="1"), f"publication/1/{bits_of(0)}/{bits_of(0)}"
+    yield "command-content", "command", ("content",), "content"
+    yield "no-command", "command", ("contents",), "none"
+
+
+def orders():
+    yield "words-two", "words", ("receive", ""), "2/false/receive/"
+    yield "words-none", "words", (), "0/true"
+
+
+# ---- streams of which calls fail: name, answer, calls of the source and of the sink, room, input, words
+
+
+def fault_rows():
+    digits, words = CONTENT_A.encode(), ("content",)
+    assert 4 * 200 < len(digits) <= 5 * 200
+    for call in range(6):
+        yield f"read-{call}-fails", (10, b"ReadFault\n", 1, 0), f"200/{call}", "1000", 1000, digits.hex(), words
+    refused = b"CmsDecode\n"
+    for piece, calls in (1, 10), (5, 2), (1000, 1):
+        for call in range(calls):
+            answer = 11, refused[:call * piece], 0, 1
+            yield f"write-{call}-of-{piece}-fails", answer, "1", f"{piece}/{call}", 1000, b"00".hex(), words
+    yield "no-room-for-the-line-feed", (11, refused[:9], 0, 1), "1", "1000", 9, b"00".hex(), words
+    yield "no-word-no-read", (2, b"Usage\n", 0, 0), "1/0", "1000", 1000, b"00".hex(), ("receive",)
+
+
+def fault_case(name, answer, read, written, room, given, words):
+    status, octets, *faults = answer
+    said = "/".join((str(status), octets.hex(), *map(str, faults)))
+    return " ".join((name, "faults", said, read, written, str(room), given, *map(word_of, words)))
+
+
+def word_of(text):
+    """A word as the cases have it."""
+    plain = text not in ("", "-") and text.split() == [text] and not text.startswith("#")
+    return text if plain else "#" + text.encode().hex() if text else "-"
+
+
 def case(name, words, given, status, written):
-    assert all(word != "-" and word.split() in ([], [word]) for word in words)
-    fields = [name, str(status), written.hex(), given.hex(), *words]
+    octets = given.hex() if len(given) < 65536 else terms(given)
+    fields = [name, str(status), written.hex(), octets, *map(word_of, words)]
     return " ".join(field or "-" for field in fields)
 
 
 def rows():
-    for row in (*moment_rows(), *key_rows(), *list_rows(), *word_rows(), *input_rows(), *crl_rows()):
+    for row in (*moment_rows(), *key_rows(), *list_rows(), *word_rows(), *input_rows(), *crl_rows(), *content_rows(), *built_rows()):
         name, words, given, (status, text) = row
         yield case(name, words, given, status, text + b"\n")
+    for name, call, words, answer in (*moments(), *keys(), *commands(), *orders()):
+        yield " ".join((name, call, answer, *map(word_of, words)))
+    for row in fault_rows():
+        yield fault_case(*row)
 
 
 def cases_of(name, folder):

@@ -1,8 +1,8 @@
 #!/usr/bin/env python3
-"""Writes the cases on which crates/text_cases calls rpki_text: its data/cases.txt, and the stdout beside it.
+"""Writes the cases on which crates/text_cases calls rpki_text and rpki_sets: its data/cases.txt, and the stdout beside it.
 
-The expected answers come from Python's base64, hashlib, json and re, and where no library says it from the rows below. None
-comes from the program under test.
+The expected answers come from Python's base64, hashlib, ipaddress, json and re, and where no library says it from the rows below
+and in tools/sets.py. None comes from the program under test.
 
 A line is `NAME CALL ANSWER INPUT INPUT`, as crates/text_cases/src/main.rt says.
 """
@@ -12,6 +12,8 @@ import hashlib
 import json
 import pathlib
 import re
+
+import sets
 
 ROOT = pathlib.Path(__file__).resolve().parent.parent
 CRATE = ROOT / "crates" / "text_cases"
@@ -207,6 +209,44 @@ def piece_rows():
             yield line(f"write-{size}-by-{piece}", "write_all", kept, octets, b"\x00" * piece)
 
 
+def set_rows():
+    for kind, rows, none in sets.kinds():
+        for number, (text, printed) in enumerate(rows):
+            yield line(f"{kind}-{number}", kind, printed, text)
+            yield line(f"{kind}-{number}-is-its-print", f"{kind}_same", "true", text, printed)
+        for number, text in enumerate(none):
+            yield line(f"no-{kind}-{number}", kind, Refused("Malformed"), text)
+    for number, (whole, part, holds) in enumerate(CONTAINED):
+        yield line(f"ipv4-contains-{number}", "ipv4_contains", holds, whole, part)
+    for number, (text, count) in enumerate(((PARTS, "3"), (PART, "3"), ("", "0"))):
+        yield line(f"ipv4-runs-{number}", "ipv4_runs", count, text)
+    yield line("ipv4-same", "ipv4_same", "true", PARTS, PARTS)
+    yield line("ipv4-of-a-part", "ipv4_same", "false", PARTS, PART)
+    yield line("ipv4-of-none", "ipv4_in_none", "true", "")
+    yield line("ipv4-of-some", "ipv4_in_none", "false", PART)
+    resources, printed = "AS1-3;10.0.0.0/8;2001:DB8::/32", "asn: '1-3', ipv4: '10.0.0.0/8', ipv6: '2001:db8::/32'"
+    yield line("resources", "resources", printed, resources)
+    yield line("resources-changed", "resources_changed", printed, resources)
+    yield line("resources-of-none", "resources", "asn: '', ipv4: '', ipv6: ''", ";;")
+    yield line("resources-by-default", "resources_default", "asn: '', ipv4: '', ipv6: ''", ";;")
+    for number, (one, other, holds) in enumerate(RESOURCES):
+        yield line(f"resources-same-{number}", "resources_same", holds, one, other)
+
+
+def same_rows():
+    """Of two values whether they are equal."""
+    for number, (call, one, other, holds) in enumerate(SAME):
+        yield line(f"same-{number}", call, holds, one, other)
+
+
+def kept_rows():
+    for number, text in enumerate(("ripe-ncc", "", "any text")):
+        yield line(f"text-{number}", "text", text, text)
+        yield line(f"sequence-{number}", "sequence", text, text)
+        yield line(f"sequence-empty-{number}", "sequence_empty", "false" if text else "true", text)
+        yield line(f"handle-converted-{number}", "handle_converted", text, text)
+
+
 # Texts and the first rule that each breaks, by what RFC 5781 and RFC 9110 ask for.
 RSYNC = [
     ("rsync://localhost/repo/", None),
@@ -269,10 +309,51 @@ JSON = [
     ' "Y\\nQ\\u003d=" ', '"????????"', '"YR=="', "YQ==", '["YQ=="]', "1.5", "null", '"YQ==', '"YQ==" x', "",
     '"Carol\\/1"', '"Ca rol"', "Carol", '{"a":"Carol"}', "true", '""', '"\\u0043arol"',
 ]
+PARTS = "10.0.0.0/8,192.0.2.0/24,198.51.100.7"
+PART = "10.1.0.0/16,192.0.2.1-192.0.2.9,198.51.100.7"
+CONTAINED = [
+    (PARTS, PARTS, "true"),
+    (PARTS, PART, "true"),
+    (PART, PARTS, "false"),
+    (PARTS, "10.0.0.0/8,192.0.3.0", "false"),
+    (PARTS, "9.255.255.255-10.0.0.1", "false"),
+    (PARTS, "", "true"),
+    ("", PART, "false"),
+    ("", "", "true"),
+]
+RESOURCES = [
+    ("AS1-3;10.0.0.0/8;2001:DB8::/32", "1-3;10.0.0.0/9,10.128.0.0/9;2001:db8::/32", "true"),
+    ("AS1-3;10.0.0.0/8;2001:DB8::/32", "AS1-4;10.0.0.0/8;2001:DB8::/32", "false"),
+    ("AS1-3;10.0.0.0/8;2001:DB8::/32", "AS1-3;10.0.0.0/9;2001:DB8::/32", "false"),
+    ("AS1-3;10.0.0.0/8;2001:DB8::/32", "AS1-3;10.0.0.0/8;2001:DB8::/33", "false"),
+    ("AS1-3;10.0.0.0/8;2001:DB8::/32", ";;", "false"),
+    (";;", ";;", "true"),
+]
+SAME = [
+    ("rsync_same", "rsync://localhost/repo/", "rsync://localhost/repo/", "true"),
+    ("rsync_same", "rsync://localhost/repo/", "RSYNC://localhost/repo/", "false"),
+    ("https_same", "https://localhost", "https://localhost", "true"),
+    ("https_same", "https://localhost", "https://localhost/", "false"),
+    ("base64_same", "YQ==", "Y Q = =", "true"),
+    ("base64_same", "YQ==", "YWI=", "false"),
+    ("handle_same", "Carol", "Carol", "true"),
+    ("handle_same", "Carol", "carol", "false"),
+    ("hash_same", "abc", "abc", "true"),
+    ("hash_same", "abc", "", "false"),
+    ("text_same", "ripe-ncc", "ripe-ncc", "true"),
+    ("text_same", "ripe-ncc", "apnic", "false"),
+    ("text_less", "apnic", "ripe-ncc", "true"),
+    ("text_less", "ripe-ncc", "apnic", "false"),
+    ("text_less", "apnic", "apnic", "false"),
+    ("sequence_same", "ab", "ab", "true"),
+    ("sequence_same", "ab", "ba", "false"),
+]
 
 
 def main():
-    lines = [*uri_rows(), *hash_rows(), *base64_rows(), *handle_rows(), *ski_rows(), *piece_rows()]
+    lines = [
+        *uri_rows(), *hash_rows(), *base64_rows(), *handle_rows(), *ski_rows(), *piece_rows(), *set_rows(), *same_rows(),
+        *kept_rows()]
     names = [line.split(" ")[0] for line in lines]
     assert len(names) == len(set(names))
     (CRATE / "data" / "cases.txt").write_text("".join(line + "\n" for line in lines))

@@ -1,4 +1,4 @@
-//! Reads, writes and checks the identity certificates of stored cases, and says how many answers differ from the expected.
+//! Reads, writes and checks the identity certificates and the CRLs of stored cases, and says how many answers differ from the expected.
 //!
 //! A line of data/cases.txt is `NAME MODE OCTETS STEP..`: MODE is `der`, `ber`, or `both` for one after the other. Each line is run
 //! twice, the second time by the counted calls, where there are such. tools/certificates.py writes the file, by the formats and the
@@ -6,14 +6,35 @@
 #![tactic(auto)]
 
 mod checking;
+mod crls;
 mod reading;
 mod shown;
+mod signing;
 
-use rpki_der::{Cursor, DecodeError, Steps};
+use rpki_der::{Cursor, DecodeError, Mode, Steps};
 use std::alloc::Global;
 use std::io;
 use std::sync::ledger::Ledger;
 use stored_cases::{Calls, Fields, Step, Walks, run};
+
+// What is asked of octets; None where the step is none.
+fn of_octets(
+    alloc: Global,
+    mode: Mode,
+    octets: &[u8],
+    step: &Step<'_>,
+) -> Option<Result<Fields, DecodeError>> {
+    if let Some(answer) = reading::whole_answer(alloc, mode, octets, step.call) {
+        return Some(answer);
+    }
+    if let Some(answer) = crls::whole_answer(alloc, mode, octets, step) {
+        return Some(answer);
+    }
+    if let Some(answer) = signing::answer(alloc, mode, octets, step) {
+        return Some(answer);
+    }
+    checking::answer(alloc, mode, octets, step)
+}
 
 struct Certificates;
 
@@ -27,15 +48,10 @@ impl Calls for Certificates {
         if let Some(answer) = reading::answer(alloc, cursor, step.call) {
             return Some(answer);
         }
-        if let Some(answer) = reading::whole_answer(
-            alloc,
-            cursor.mode(),
-            cursor.here(),
-            step.call,
-        ) {
+        if let Some(answer) = crls::answer(alloc, cursor, step.call) {
             return Some(answer);
         }
-        checking::answer(alloc, cursor.mode(), cursor.here(), step)
+        of_octets(alloc, cursor.mode(), cursor.here(), step)
     }
 
     fn counted_answer<L: Ledger>(
@@ -45,7 +61,10 @@ impl Calls for Certificates {
         step: &Step<'_>,
         steps: &mut Steps<L>,
     ) -> Option<Result<Fields, DecodeError>> {
-        reading::counted_answer(alloc, cursor, step.call, steps)
+        match reading::counted_answer(alloc, cursor, step.call, steps) {
+            Some(answer) => Some(answer),
+            None => crls::counted_answer(alloc, cursor, step.call, steps),
+        }
     }
 }
 

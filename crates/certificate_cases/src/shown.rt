@@ -13,8 +13,8 @@ fn format_name(format: PublicKeyFormat) -> &'static str {
     }
 }
 
-// Appends a key identifier; where there is none, a field of no octets.
-fn append_identifier(
+/// Appends a key identifier; where there is none, a field of no octets.
+pub fn append_identifier(
     fields: &mut Fields,
     identifier: Option<KeyIdentifier>,
 ) -> Result<(), DecodeError> {
@@ -93,15 +93,25 @@ fn written_certificate(alloc: Global, cert: &IdCert) -> Result<Writer, DecodeErr
     Ok(out)
 }
 
-/// The fields of what is signed, then the signed octets, the signature, and what a copy of the certificate writes.
-pub fn certificate_shown(alloc: Global, cert: &IdCert) -> Result<Fields, DecodeError> {
-    let copy = cert.clone(alloc)?;
-    if copy != *cert || copy.tbs().clone(alloc)? != *cert.tbs() {
+// Whether a copy is equal, and what is signed in it.
+fn is_copied(alloc: Global, cert: &IdCert, copy: &IdCert) -> Result<bool, DecodeError> {
+    let tbs = copy.tbs().clone(alloc)?;
+    Ok(*copy == *cert && tbs == *cert.tbs())
+}
+
+// The fields of a certificate and of its copy.
+fn both_shown(alloc: Global, cert: &IdCert, copy: &IdCert) -> Result<Fields, DecodeError> {
+    if !is_copied(alloc, cert, copy)? {
         return Err(DecodeError::Malformed);
     }
     let mut fields = tbs_shown(alloc, copy.tbs())?;
     fields.octets(cert.signed_data().slice().as_slice())?;
     fields.octets(cert.signed_data().signature().value().as_slice())?;
-    fields.octets(written_certificate(alloc, &copy)?.as_slice())?;
+    fields.octets(written_certificate(alloc, copy)?.as_slice())?;
     Ok(fields)
+}
+
+/// The fields of what is signed, then the signed octets, the signature, and what a copy of the certificate writes.
+pub fn certificate_shown(alloc: Global, cert: &IdCert) -> Result<Fields, DecodeError> {
+    both_shown(alloc, cert, &cert.clone(alloc)?)
 }

@@ -2,9 +2,13 @@
 //!
 //! A line of data/cases.txt is `NAME DOCUMENT ELEMENT`: the octets, and the one spelling of the element that they are a document of,
 //! or `-` where they are no document; tools/document_cases.py, which writes the file by the rules of documents alone, says how
-//! octets are given. What is read is written, and the octets are compared.
+//! octets are given. What is read is written, and the octets are compared. Or it is `NAME DOCUMENT STEP..`: what is asked of the
+//! element, by the calls in asking.rt.
 #![tactic(auto)]
 
+mod asking;
+
+use crate::asking::are_met;
 use rpki_common::OutOfMemory;
 use rpki_xml::{ElementRef, ElementWriter, XmlError, read_document};
 use std::alloc::Global;
@@ -107,9 +111,22 @@ fn is_as_expected(alloc: Global, document: &[u8], expected: Option<&[u8]>) -> io
     }
 }
 
+// Whether the steps are answered as expected by a copy of what the document is read as.
+fn is_asked(alloc: Global, document: &[u8], steps: &str) -> io::Result<bool> {
+    let Ok(element) = read_document(alloc, document) else {
+        return Ok(false);
+    };
+    let copy = element.clone(alloc).map_err(out_of_memory)?;
+    drop(element);
+    are_met(alloc, &copy, steps)
+}
+
 // Whether the case on a line holds, whose name is left out.
 fn holds(alloc: Global, document: &str, element: &str) -> io::Result<bool> {
     let document = field_octets(alloc, document)?;
+    if element.contains('=') {
+        return is_asked(alloc, &document, element);
+    }
     if element == "-" {
         return is_as_expected(alloc, &document, None);
     }

@@ -34,13 +34,3 @@ fn takes_marked<L: Ledger>(alloc: Global, blank: Blank) -> Result<(), DecodeErro
 fn an_indefinite_value_of_one_ticks_three_times(rt: HostRuntime) {
     assert!(rt; takes_marked::<Brand>(rt.alloc(), Blank::new(1)).is_ok());
 }
-
-#[test]
-fn errors_are_printed(rt: HostRuntime) -> Result<(), Fail> {
-    let alloc = rt.alloc();
-    let malformed = DecodeError::Malformed.to_string(alloc)?;
-    assert_eq!(rt; malformed.as_str(), "malformed value");
-    let memory = DecodeError::OutOfMemory.to_string(alloc)?;
-    assert_eq!(rt; memory.as_str(), "out of memory");
-    Ok(())
-}

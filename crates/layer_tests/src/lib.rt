@@ -1,22 +1,12 @@
-//! Tests of the layers by themselves: what no clause says, as printed texts and answers from outside. They stand apart, since a crate
-//! with tests is proved a second time for them. Values, certificates, texts and documents have programs over stored cases besides.
+//! Tests of the layers by themselves: what no clause says, and no program over stored cases. They stand apart, since a crate with tests
+//! is proved a second time for them.
 #![tactic(auto)]
 
 #[cfg(test)]
-mod base;
-#[cfg(test)]
-mod common;
-#[cfg(test)]
 mod der;
 #[cfg(test)]
-mod documents;
-#[cfg(test)]
-mod idcert;
+mod keys;
 #[cfg(test)]
 mod outside;
 #[cfg(test)]
-mod sets;
-#[cfg(test)]
-mod signer;
-#[cfg(test)]
-mod texts;
+mod printed;

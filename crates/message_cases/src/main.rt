@@ -1,8 +1,11 @@
 //! Decodes and validates stored signed messages, and says how many answers differ from the expected.
 //!
-//! A line of data/cases.txt is `NAME MODE FORMAT SEED MOMENT EXPECTED HEX`; tools/messages.py, which writes the file by the formats
-//! and by the toy rules alone, says what the words are. Of a message that is read, the view is compared too.
+//! A line of data/cases.txt is `NAME MODE FORMAT SEED MOMENT EXPECTED HEX`, or `NAME built MOMENT SEED REVOKED CONTENT MESSAGE`;
+//! tools/messages.py, which writes the file by the formats and by the toy rules alone, says what the words are. Of a message that is
+//! read, the view is compared too.
 #![tactic(auto)]
+
+mod building;
 
 use rpki_base::{PublicKey, PublicKeyFormat, Time};
 use rpki_idcert::{ValidationError, ValidationKind};
@@ -164,16 +167,24 @@ fn is_as_expected(alloc: Global, case: &Case<'_>, octets: &[u8]) -> io::Result<b
     }
 }
 
+fn is_validated(alloc: Global, line: &str) -> io::Result<bool> {
+    let Some(case) = case_of(line) else {
+        return Err(invalid());
+    };
+    match hex::decode(alloc, case.message) {
+        Ok(octets) => is_as_expected(alloc, &case, &octets),
+        Err(_) => Err(invalid()),
+    }
+}
+
 struct Messages;
 
 impl Cases for Messages {
     fn holds(&self, alloc: Global, line: &str) -> io::Result<bool> {
-        let Some(case) = case_of(line) else {
-            return Err(invalid());
-        };
-        match hex::decode(alloc, case.message) {
-            Ok(octets) => is_as_expected(alloc, &case, &octets),
-            Err(_) => Err(invalid()),
+        if line.split_whitespace().nth(1) == Some("built") {
+            building::holds(alloc, line)
+        } else {
+            is_validated(alloc, line)
         }
     }
 }

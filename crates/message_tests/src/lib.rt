@@ -1,18 +1,8 @@
-//! Tests of messages and of what builds them: what no clause says. They stand apart, since a crate with tests is proved a second time for
-//! them. Signed messages and what `run` answers have programs over stored cases besides.
+//! Tests of messages: what no clause says, and no program over stored cases. They stand apart, since a crate with tests is proved a
+//! second time for them.
 #![tactic(auto)]
 
 #[cfg(test)]
-mod built_checks;
-#[cfg(test)]
-mod built_receipts;
-#[cfg(test)]
-mod crls;
-#[cfg(test)]
-mod publication;
-#[cfg(test)]
-mod receiving;
+mod printed;
 #[cfg(test)]
 mod running;
-#[cfg(test)]
-mod vectors;

@@ -1,18 +1,66 @@
-//! Decodes and checks the signed messages of the publication protocol of stored cases, and says how many answers differ from the expected.
+//! Decodes, checks and receives the messages of the publication protocol of stored cases, and says how many answers differ from the
+//! expected.
 //!
-//! A line of data/cases.txt is `NAME ber OCTETS STEP..`, run twice, the second time by the counted call. tools/publication.py writes the
+//! A line of data/cases.txt is `NAME ber OCTETS STEP..`, run twice, the second time by the counted calls. tools/publication.py writes the
 //! file, by the formats and the rules of the toy scheme alone, and says what the calls are.
 #![tactic(auto)]
 
+mod receiving;
 mod signed;
 
-use crate::signed::{checked, message_shown, signed_shown, whole_shown};
+use crate::receiving::{
+    believed, received, received_any, received_any_counted, received_counted, signed_believed,
+};
+use crate::signed::{checked, message_shown, read_shown, signed_shown, whole_shown, written};
 use rpki_der::{Cursor, DecodeError, Steps};
-use rpki_publication::PublicationCms;
+use rpki_publication::{Message, PublicationCms};
 use std::alloc::Global;
 use std::io;
 use std::sync::ledger::Ledger;
 use stored_cases::{Calls, Fields, Step, Walks, run};
+
+// What is asked of octets at a moment under keys; None where the step is none of these.
+fn of_keys(alloc: Global, octets: &[u8], step: &Step<'_>) -> Option<Result<Fields, DecodeError>> {
+    match step.call {
+        "received" => Some(received(alloc, octets, &step.argument)),
+        "received_any" => Some(received_any(alloc, octets, &step.argument)),
+        "believed" => Some(believed(alloc, PublicationCms::decode(alloc, octets), &step.argument)),
+        "signed_believed" => Some(signed_believed(
+            alloc,
+            PublicationCms::decode(alloc, octets),
+            &step.argument,
+        )),
+        _ => None,
+    }
+}
+
+// The same by the counted calls.
+fn of_keys_counted<L: Ledger>(
+    alloc: Global,
+    octets: &[u8],
+    step: &Step<'_>,
+    steps: &mut Steps<L>,
+) -> Option<Result<Fields, DecodeError>> {
+    match step.call {
+        "received" => Some(received_counted(alloc, octets, &step.argument, steps)),
+        "received_any" => Some(received_any_counted(alloc, octets, &step.argument, steps)),
+        _ => None,
+    }
+}
+
+// What is asked of a message or of a text; None where the step is none of these.
+fn of_octets(alloc: Global, octets: &[u8], step: &Step<'_>) -> Option<Result<Fields, DecodeError>> {
+    match step.call {
+        "decoded" => Some(whole_shown(alloc, PublicationCms::decode(alloc, octets))),
+        "signed" => Some(signed_shown(alloc, PublicationCms::decode(alloc, octets))),
+        "message" => Some(message_shown(alloc, PublicationCms::decode(alloc, octets))),
+        "checked" => Some(checked(alloc, PublicationCms::decode(alloc, octets), &step.argument)),
+        "text" => Some(read_shown(alloc, Message::decode_slice(alloc, octets))),
+        "list_query" => Some(written(alloc, &Message::list_query())),
+        "success" => Some(written(alloc, &Message::success())),
+        _ => None,
+    }
+}
 
 struct Publications;
 
@@ -23,14 +71,10 @@ impl Calls for Publications {
         cursor: &mut Cursor<'_>,
         step: &Step<'_>,
     ) -> Option<Result<Fields, DecodeError>> {
-        let decoded = PublicationCms::decode(alloc, cursor.here());
-        match step.call {
-            "decoded" => Some(whole_shown(alloc, decoded)),
-            "signed" => Some(signed_shown(alloc, decoded)),
-            "message" => Some(message_shown(alloc, decoded)),
-            "checked" => Some(checked(alloc, decoded, &step.argument)),
-            _ => None,
+        if let Some(answer) = of_octets(alloc, cursor.here(), step) {
+            return Some(answer);
         }
+        of_keys(alloc, cursor.here(), step)
     }
 
     fn counted_answer<L: Ledger>(
@@ -40,13 +84,11 @@ impl Calls for Publications {
         step: &Step<'_>,
         steps: &mut Steps<L>,
     ) -> Option<Result<Fields, DecodeError>> {
-        match step.call {
-            "decoded" => {
-                let decoded = PublicationCms::decode_counted(alloc, cursor.here(), steps);
-                Some(whole_shown(alloc, decoded))
-            }
-            _ => None,
+        if step.call == "decoded" {
+            let decoded = PublicationCms::decode_counted(alloc, cursor.here(), steps);
+            return Some(whole_shown(alloc, decoded));
         }
+        of_keys_counted(alloc, cursor.here(), step, steps)
     }
 }
 

@@ -2,13 +2,14 @@
 
 use rpki_base::Time;
 use rpki_der::DecodeError;
-use rpki_publication::{Error, PublicationCms};
+use rpki_publication::{Error, Message, PublicationCms};
+use rpki_sigmsg::SignedMessage;
 use rpki_signer::{ToyScheme, ToyVerifier};
 use std::alloc::Global;
 use stored_cases::Fields;
 
-// A refusal, as what is printed.
-fn refused(alloc: Global, error: Error) -> Result<Fields, DecodeError> {
+/// A refusal, as what is printed.
+pub fn refused(alloc: Global, error: Error) -> Result<Fields, DecodeError> {
     match error {
         Error::OutOfMemory => Err(DecodeError::OutOfMemory),
         _ => {
@@ -19,19 +20,45 @@ fn refused(alloc: Global, error: Error) -> Result<Fields, DecodeError> {
     }
 }
 
+/// A message as it is written.
+pub fn written(alloc: Global, message: &Message) -> Result<Fields, DecodeError> {
+    Ok(Fields::one(alloc, message.to_xml_bytes(alloc)?.as_slice())?)
+}
+
+/// The same of one that is read.
+pub fn read_shown(alloc: Global, read: Result<Message, Error>) -> Result<Fields, DecodeError> {
+    match read {
+        Ok(message) => written(alloc, &message),
+        Err(error) => refused(alloc, error),
+    }
+}
+
+fn whole_fields(alloc: Global, cms: &PublicationCms) -> Result<Fields, DecodeError> {
+    let mut fields = Fields::one(alloc, cms.signed_message().content().as_slice())?;
+    fields.octets(cms.message().to_xml_bytes(alloc)?.as_slice())?;
+    Ok(fields)
+}
+
 /// The content, and the message as it is written.
 pub fn whole_shown(
     alloc: Global,
     decoded: Result<PublicationCms, Error>,
 ) -> Result<Fields, DecodeError> {
     match decoded {
-        Ok(cms) => {
-            let mut fields = Fields::one(alloc, cms.signed_message().content().as_slice())?;
-            fields.octets(cms.message().to_xml_bytes(alloc)?.as_slice())?;
-            Ok(fields)
-        }
+        Ok(cms) => whole_fields(alloc, &cms),
         Err(error) => refused(alloc, error),
     }
+}
+
+fn signed_fields(
+    alloc: Global,
+    signed: &SignedMessage,
+    message: &Message,
+) -> Result<Fields, DecodeError> {
+    let mut fields = Fields::one(alloc, signed.digest())?;
+    fields.octets(&[u8::from(signed.digest_holds())])?;
+    fields.octets(message.to_xml_bytes(alloc)?.as_slice())?;
+    Ok(fields)
 }
 
 /// The digest and whether it holds, and the message as it is written, by the call that gives both away.
@@ -42,10 +69,7 @@ pub fn signed_shown(
     match decoded {
         Ok(cms) => {
             let (signed, message) = cms.unpack();
-            let mut fields = Fields::one(alloc, signed.digest())?;
-            fields.octets(&[u8::from(signed.digest_holds())])?;
-            fields.octets(message.to_xml_bytes(alloc)?.as_slice())?;
-            Ok(fields)
+            signed_fields(alloc, &signed, &message)
         }
         Err(error) => refused(alloc, error),
     }
@@ -57,10 +81,7 @@ pub fn message_shown(
     decoded: Result<PublicationCms, Error>,
 ) -> Result<Fields, DecodeError> {
     match decoded {
-        Ok(cms) => {
-            let message = cms.into_message();
-            Ok(Fields::one(alloc, message.to_xml_bytes(alloc)?.as_slice())?)
-        }
+        Ok(cms) => written(alloc, &cms.into_message()),
         Err(error) => refused(alloc, error),
     }
 }
@@ -69,7 +90,10 @@ fn moment_of(argument: &[u8]) -> Option<Time> {
     Time::new(std::str::from_utf8(argument).ok()?.parse::<i64>().ok()?)
 }
 
-fn validated(alloc: Global, cms: &PublicationCms, when: Time) -> Result<Fields, DecodeError> {
+fn validated(alloc: Global, cms: &PublicationCms, argument: &[u8]) -> Result<Fields, DecodeError> {
+    let Some(when) = moment_of(argument) else {
+        return Err(DecodeError::Malformed);
+    };
     let key = ToyScheme::key(alloc, 1, 0)?;
     match cms.validate_at(&ToyVerifier::new(), &key, when) {
         Ok(()) => Ok(Fields::done(alloc)?),
@@ -83,11 +107,8 @@ pub fn checked(
     decoded: Result<PublicationCms, Error>,
     argument: &[u8],
 ) -> Result<Fields, DecodeError> {
-    let Some(when) = moment_of(argument) else {
-        return Err(DecodeError::Malformed);
-    };
     match decoded {
-        Ok(cms) => validated(alloc, &cms, when),
+        Ok(cms) => validated(alloc, &cms, argument),
         Err(error) => refused(alloc, error),
     }
 }

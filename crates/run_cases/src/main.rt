@@ -2,18 +2,24 @@
 //! expected.
 //!
 //! A line of data/cases.txt is `NAME STATUS LINE INPUT WORD..`: LINE is what has to be written, and
-//! it and INPUT are in hexadecimal; `-` is an empty field. tools/run_cases.py writes the file; its
-//! expected answers come from a model that was written apart from this tree, or are stated in the
-//! script.
+//! it and INPUT are octets as in other stored cases; `-` is an empty field. Or it is
+//! `NAME CALL ANSWER ..`, with a call of words.rt or faults.rt and the text that it says. tools/run_cases.py
+//! writes the file; its expected answers come from a model that was written apart from this tree, or
+//! are stated in the script.
 #![tactic(auto)]
 
+mod faults;
+mod words;
+
+use crate::words::words_of;
 use rpki_ca::{Status, Words};
+use rpki_common::OutOfMemory;
 use rpki_signer::ToyVerifier;
 use rpki_text::{MemorySink, MemorySource};
 use std::alloc::Global;
 use std::io;
 use std::io::ErrorKind;
-use stored_cases::{Cases, invalid, run};
+use stored_cases::{Cases, invalid, octets_of, run};
 
 #[derive(Drop)]
 struct Case {
@@ -23,30 +29,12 @@ struct Case {
     line: Vec<u8>,
 }
 
-fn out_of_memory() -> io::Error {
+fn out_of_memory(_: OutOfMemory) -> io::Error {
     io::Error::from(ErrorKind::OutOfMemory)
 }
 
 fn text_of(field: &str) -> &str {
     if field == "-" { "" } else { field }
-}
-
-fn octets_of(alloc: Global, field: &str) -> io::Result<Vec<u8>> {
-    match hex::decode(alloc, text_of(field)) {
-        Ok(octets) => Ok(octets),
-        Err(_) => Err(invalid()),
-    }
-}
-
-// The words behind the first four fields.
-fn words_of(alloc: Global, line: &str) -> io::Result<Words> {
-    let mut words = Words::new(alloc);
-    for field in line.split_whitespace().skip(4) {
-        if words.push(text_of(field)).is_err() {
-            return Err(out_of_memory());
-        }
-    }
-    Ok(words)
 }
 
 fn case_of(alloc: Global, line: &str) -> io::Result<Case> {
@@ -59,10 +47,10 @@ fn case_of(alloc: Global, line: &str) -> io::Result<Case> {
         return Err(invalid());
     };
     Ok(Case {
-        words: words_of(alloc, line)?,
-        input: octets_of(alloc, input)?,
+        words: words_of(alloc, line, 4)?,
+        input: octets_of(alloc, text_of(input))?,
         status,
-        line: octets_of(alloc, written)?,
+        line: octets_of(alloc, text_of(written))?,
     })
 }
 
@@ -74,7 +62,7 @@ fn is_answered(alloc: Global, case: &Case, piece: usize) -> io::Result<bool> {
         MemorySource::new(alloc, &case.input, piece, &[]),
         MemorySink::new(alloc, 1 << 20, piece, &[]),
     ) else {
-        return Err(out_of_memory());
+        return Err(out_of_memory(OutOfMemory));
     };
     let Status(status) = rpki_ca::run(
         alloc,
@@ -86,13 +74,32 @@ fn is_answered(alloc: Global, case: &Case, piece: usize) -> io::Result<bool> {
     Ok(status == case.status && sink.written() == case.line.as_slice())
 }
 
+// Whether the case is answered as expected, whole and an octet at a time.
+fn is_run(alloc: Global, line: &str) -> io::Result<bool> {
+    let case = case_of(alloc, line)?;
+    Ok(is_answered(alloc, &case, 1 << 20)? && is_answered(alloc, &case, 1)?)
+}
+
+// What the call of a line says; None where the line has a status in its place.
+fn answer_to(alloc: Global, call: &str, line: &str) -> io::Result<Option<String>> {
+    match call {
+        "faults" => Ok(Some(faults::answer_to(alloc, line)?)),
+        _ => words::answer_to(alloc, call, &words_of(alloc, line, 3)?),
+    }
+}
+
 struct Runs;
 
 impl Cases for Runs {
-    // Whether the case is answered as expected, whole and an octet at a time.
     fn holds(&self, alloc: Global, line: &str) -> io::Result<bool> {
-        let case = case_of(alloc, line)?;
-        Ok(is_answered(alloc, &case, 1 << 20)? && is_answered(alloc, &case, 1)?)
+        let mut fields = line.split_whitespace().skip(1);
+        let (Some(call), Some(expected)) = (fields.next(), fields.next()) else {
+            return Err(invalid());
+        };
+        match answer_to(alloc, call, line)? {
+            Some(answer) => Ok(answer.as_str() == expected),
+            None => is_run(alloc, line),
+        }
     }
 }
 

@@ -11,8 +11,8 @@ mod running;
 mod step;
 mod walk;
 
-pub use fields::Fields;
+pub use fields::{Fields, is_answered};
 pub use octets::{invalid, octets_of};
 pub use running::{Cases, run};
-pub use step::Step;
+pub use step::{Step, step_of};
 pub use walk::{Calls, Walks};

@@ -1,5 +1,6 @@
 //! The calls that cases name, and what they answer.
 
+use crate::{kept, same, sets};
 use rpki_common::OutOfMemory;
 use rpki_text::uri::{self, HttpsKind, RsyncKind, Uri, UriKind};
 use rpki_text::{
@@ -18,21 +19,27 @@ pub enum Answer {
     Given(Vec<u8>),
     /// The name of its refusal.
     Refused(&'static str),
+    /// No call has this name.
+    Unknown,
 }
 
-fn out_of_memory<T>() -> io::Result<T> {
+pub(crate) fn out_of_memory<T>() -> io::Result<T> {
     Err(io::Error::from(ErrorKind::OutOfMemory))
 }
 
-fn given(alloc: Global, octets: &[u8]) -> io::Result<Answer> {
+pub(crate) fn given(alloc: Global, octets: &[u8]) -> io::Result<Answer> {
     Ok(Answer::Given(octets.to_vec(alloc)?))
 }
 
-fn told(alloc: Global, holds: bool) -> io::Result<Answer> {
+pub(crate) fn told(alloc: Global, holds: bool) -> io::Result<Answer> {
     given(alloc, if holds { b"true" } else { b"false" })
 }
 
-fn refused(name: &'static str) -> io::Result<Answer> {
+pub(crate) fn counted(alloc: Global, count: usize) -> io::Result<Answer> {
+    Ok(Answer::Given(format!(in alloc; "{count}")?.into_bytes()))
+}
+
+pub(crate) fn refused(name: &'static str) -> io::Result<Answer> {
     Ok(Answer::Refused(name))
 }
 
@@ -163,60 +170,75 @@ fn octets_written(alloc: Global, octets: &[u8], piece: usize) -> io::Result<Answ
 }
 
 // The base64 text of octets, and what is told of it.
-fn of_content(alloc: Global, call: &str, content: &[u8]) -> io::Result<Option<Answer>> {
+fn of_content(alloc: Global, call: &str, content: &[u8]) -> io::Result<Answer> {
     let Ok(held) = Base64::from_content(alloc, content) else {
         return out_of_memory();
     };
-    let answer = match call {
-        "base64_of" => given(alloc, held.to_string(alloc)?.as_str().as_bytes())?,
-        "base64_size" => Answer::Given(format!(in alloc; "{}", held.size_approx())?.into_bytes()),
+    match call {
+        "base64_of" => given(alloc, held.to_string(alloc)?.as_str().as_bytes()),
+        "base64_size" => counted(alloc, held.size_approx()),
         "base64_hash" => match held.to_hash(alloc) {
-            Ok(hash) => hash_printed(alloc, Some(hash))?,
-            Err(OutOfMemory) => return out_of_memory(),
+            Ok(hash) => hash_printed(alloc, Some(hash)),
+            Err(OutOfMemory) => out_of_memory(),
         },
-        "base64_to_json" => printed(alloc, held.to_json(alloc))?,
-        _ => return Ok(None),
-    };
-    Ok(Some(answer))
+        "base64_to_json" => printed(alloc, held.to_json(alloc)),
+        _ => Ok(Answer::Unknown),
+    }
 }
 
 // The calls that take a text.
-fn of_text(alloc: Global, call: &str, text: &str, second: &[u8]) -> io::Result<Option<Answer>> {
-    let answer = match call {
-        "rsync" => uri_printed(alloc, uri::Rsync::from_str(alloc, text))?,
-        "rsync_join" => uri_joined::<RsyncKind>(alloc, text, second)?,
-        "rsync_is_dir" => is_directory::<RsyncKind>(alloc, text)?,
-        "https" => uri_printed(alloc, uri::Https::from_str(alloc, text))?,
-        "https_join" => uri_joined::<HttpsKind>(alloc, text, second)?,
-        "https_is_dir" => is_directory::<HttpsKind>(alloc, text)?,
-        "hash" => hash_printed(alloc, Hash::from_str(text))?,
-        "base64" => octets_of_base64(alloc, Base64::from_str(alloc, text))?,
-        "base64_json" => octets_of_base64_json(alloc, text)?,
-        "handle" => handle_printed(alloc, ChildHandle::from_str(alloc, text))?,
-        "handle_json" => handle_of_json(alloc, text)?,
-        "handle_to_json" => handle_as_json(alloc, text)?,
-        "ski" => octets_of_key_identifier(alloc, text)?,
-        _ => return Ok(None),
-    };
-    Ok(Some(answer))
+fn of_text(alloc: Global, call: &str, text: &str, second: &[u8]) -> io::Result<Answer> {
+    match call {
+        "rsync" => uri_printed(alloc, uri::Rsync::from_str(alloc, text)),
+        "rsync_join" => uri_joined::<RsyncKind>(alloc, text, second),
+        "rsync_is_dir" => is_directory::<RsyncKind>(alloc, text),
+        "https" => uri_printed(alloc, uri::Https::from_str(alloc, text)),
+        "https_join" => uri_joined::<HttpsKind>(alloc, text, second),
+        "https_is_dir" => is_directory::<HttpsKind>(alloc, text),
+        "hash" => hash_printed(alloc, Hash::from_str(text)),
+        "base64" => octets_of_base64(alloc, Base64::from_str(alloc, text)),
+        "base64_json" => octets_of_base64_json(alloc, text),
+        "handle" => handle_printed(alloc, ChildHandle::from_str(alloc, text)),
+        "handle_json" => handle_of_json(alloc, text),
+        "handle_to_json" => handle_as_json(alloc, text),
+        "ski" => octets_of_key_identifier(alloc, text),
+        _ => Ok(Answer::Unknown),
+    }
 }
 
-/// What a call answers to its inputs; None where no call has this name.
-pub fn answer_to(
-    alloc: Global,
-    call: &str,
-    first: &[u8],
-    second: &[u8],
-) -> io::Result<Option<Answer>> {
+// The calls that take two texts, of which the second may be none.
+fn of_texts(alloc: Global, call: &str, first: &str, second: &[u8]) -> io::Result<Answer> {
+    let Ok(second) = std::str::from_utf8(second) else {
+        return Ok(Answer::Unknown);
+    };
+    match same::answer_to(alloc, call, first, second)? {
+        Answer::Unknown => match kept::answer_to(alloc, call, first, second)? {
+            Answer::Unknown => sets::answer_to(alloc, call, first, second),
+            answer => Ok(answer),
+        },
+        answer => Ok(answer),
+    }
+}
+
+// The calls that take a text, and maybe another.
+fn of_first_text(alloc: Global, call: &str, first: &str, second: &[u8]) -> io::Result<Answer> {
+    match of_text(alloc, call, first, second)? {
+        Answer::Unknown => of_texts(alloc, call, first, second),
+        answer => Ok(answer),
+    }
+}
+
+/// What a call answers to its inputs.
+pub fn answer_to(alloc: Global, call: &str, first: &[u8], second: &[u8]) -> io::Result<Answer> {
     match call {
-        "hash_of" => Ok(Some(hash_printed(alloc, Some(Hash::from_data(first)))?)),
-        "ski_of" => Ok(Some(text_of_key_identifier(alloc, first)?)),
-        "read_all" => Ok(Some(octets_read(alloc, first, second.len())?)),
-        "write_all" => Ok(Some(octets_written(alloc, first, second.len())?)),
+        "hash_of" => hash_printed(alloc, Some(Hash::from_data(first))),
+        "ski_of" => text_of_key_identifier(alloc, first),
+        "read_all" => octets_read(alloc, first, second.len()),
+        "write_all" => octets_written(alloc, first, second.len()),
         _ => match std::str::from_utf8(first) {
-            Ok(text) => match of_text(alloc, call, text, second)? {
-                Some(answer) => Ok(Some(answer)),
-                None => of_content(alloc, call, first),
+            Ok(text) => match of_first_text(alloc, call, text, second)? {
+                Answer::Unknown => of_content(alloc, call, first),
+                answer => Ok(answer),
             },
             Err(_) => of_content(alloc, call, first),
         },

@@ -1,12 +1,15 @@
-//! Calls `rpki_text` on stored cases, and says how many answers differ from the expected.
+//! Calls `rpki_text` and `rpki_sets` on stored cases, and says how many answers differ from the expected.
 //!
-//! A line of data/cases.txt is `NAME CALL ANSWER INPUT INPUT`. CALL is one of `answer_to` in
-//! calls.rt. ANSWER is `=` and the octets that are given, or the name of a refusal. Octets are
+//! A line of data/cases.txt is `NAME CALL ANSWER INPUT INPUT`. CALL is one of an `answer_to` in
+//! calls.rt, kept.rt, same.rt or sets.rt. ANSWER is `=` and the octets that are given, or the name of a refusal. Octets are
 //! pieces with `+` between; a piece is in hexadecimal, or with `*` and a number behind it stands
 //! that often; `-` is no octets. tools/text_cases.py writes the file.
 #![tactic(auto)]
 
 mod calls;
+mod kept;
+mod same;
+mod sets;
 
 use calls::{Answer, answer_to};
 use std::alloc::Global;
@@ -67,6 +70,7 @@ fn is_answer(alloc: Global, answer: &Answer, field: &str) -> io::Result<bool> {
     match (answer, field.strip_prefix("=")) {
         (Answer::Given(octets), Some(expected)) => Ok(*octets == octets_of(alloc, expected)?),
         (Answer::Refused(name), None) => Ok(*name == field),
+        (Answer::Unknown, _) => Err(invalid()),
         _ => Ok(false),
     }
 }
@@ -80,9 +84,7 @@ impl Cases for Texts {
         };
         let first = octets_of(alloc, case.first)?;
         let second = octets_of(alloc, case.second)?;
-        let Some(answer) = answer_to(alloc, case.call, &first, &second)? else {
-            return Err(invalid());
-        };
+        let answer = answer_to(alloc, case.call, &first, &second)?;
         is_answer(alloc, &answer, case.answer)
     }
 }

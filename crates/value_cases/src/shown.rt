@@ -158,12 +158,18 @@ pub fn identifier_shown(
     Ok(fields)
 }
 
+// What is written of a name.
+fn written_name(alloc: Global, name: &Name) -> Result<Writer, OutOfMemory> {
+    let mut out = Writer::new(alloc);
+    name.encode_ref(&mut out)?;
+    Ok(out)
+}
+
 /// What a copy of the name writes.
 pub fn name_shown(alloc: Global, taken: Result<Name, DecodeError>) -> Result<Fields, DecodeError> {
     let name = taken?;
-    let mut out = Writer::new(alloc);
-    name.clone(alloc)?.encode_ref(&mut out)?;
-    if out.as_slice() != name.as_slice() {
+    let copy = name.clone(alloc)?;
+    if written_name(alloc, &copy)?.as_slice() != name.as_slice() {
         return Err(DecodeError::Malformed);
     }
     Ok(Fields::one(alloc, name.as_slice())?)
@@ -184,14 +190,18 @@ fn format_name(format: PublicKeyFormat) -> &'static str {
     }
 }
 
-/// The format, the bits, the key identifier, and what a copy of the key writes.
-pub fn key_fields(alloc: Global, key: &PublicKey) -> Result<Fields, DecodeError> {
-    let copy = key.clone(alloc)?;
+// The format, the bits, the key identifier, and what a copy of the key writes.
+fn both_fields(alloc: Global, key: &PublicKey, copy: &PublicKey) -> Result<Fields, DecodeError> {
     let mut fields = Fields::one(alloc, format_name(key.format()).as_bytes())?;
     fields.octets(key.bits_bytes().as_slice())?;
     fields.octets(key.key_identifier().as_slice())?;
-    fields.octets(written_key(alloc, &copy)?.as_slice())?;
+    fields.octets(written_key(alloc, copy)?.as_slice())?;
     Ok(fields)
+}
+
+/// The format, the bits, the key identifier, and what a copy of the key writes.
+pub fn key_fields(alloc: Global, key: &PublicKey) -> Result<Fields, DecodeError> {
+    both_fields(alloc, key, &key.clone(alloc)?)
 }
 
 /// The same of a key that was taken.
@@ -239,15 +249,29 @@ pub fn written_data<Alg: SignatureAlgorithm>(
     Ok(out)
 }
 
+// The signed octets, the signature, and what a copy of the signed data writes.
+fn data_fields<Alg: SignatureAlgorithm>(
+    alloc: Global,
+    data: &SignedData<Alg>,
+    copy: &SignedData<Alg>,
+) -> Result<Fields, DecodeError> {
+    let mut fields = Fields::one(alloc, data.slice().as_slice())?;
+    fields.octets(data.signature().value().as_slice())?;
+    fields.octets(written_data(alloc, copy)?.as_slice())?;
+    Ok(fields)
+}
+
+fn copied_shown<Alg: SignatureAlgorithm>(
+    alloc: Global,
+    data: &SignedData<Alg>,
+) -> Result<Fields, DecodeError> {
+    data_fields(alloc, data, &data.clone(alloc)?)
+}
+
 /// The signed octets, the signature, and what a copy of the signed data writes.
 pub fn data_shown<Alg: SignatureAlgorithm>(
     alloc: Global,
     taken: Result<SignedData<Alg>, DecodeError>,
 ) -> Result<Fields, DecodeError> {
-    let data = taken?;
-    let copy = data.clone(alloc)?;
-    let mut fields = Fields::one(alloc, data.slice().as_slice())?;
-    fields.octets(data.signature().value().as_slice())?;
-    fields.octets(written_data(alloc, &copy)?.as_slice())?;
-    Ok(fields)
+    copied_shown(alloc, &taken?)
 }

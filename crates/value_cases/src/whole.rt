@@ -2,7 +2,7 @@
 
 use crate::shown::{append_node, bits_shown, octets_shown, pair_shown, tag_of};
 use rpki_der::{
-    BitString, Children, DecodeError, Mode, Node, OctetString, Oid, Tag, read_tree,
+    BitString, Children, DecodeError, Mode, Node, OctetString, Oid, Tag, Tree, read_tree,
     take_whole_pair, take_whole_primitive,
 };
 use std::alloc::Global;
@@ -60,40 +60,63 @@ fn next_node<'a>(inside: &mut Vec<Children<'a>>) -> Option<Node<'a>> {
     None
 }
 
-// How many octets the value at the beginning has, and each node in it.
-fn tree(alloc: Global, mode: Mode, octets: &[u8]) -> Result<Fields, DecodeError> {
-    let (tree, size) = read_tree(alloc, mode, octets)?;
+// How many octets the value at the beginning has, and what its node shows.
+fn head_shown(alloc: Global, tree: &Tree, size: usize) -> Result<Fields, DecodeError> {
     let mut fields = Fields::new(alloc);
     fields.print(alloc, size)?;
     fields.octets(tree.tag().as_slice())?;
     fields.octets(&[u8::from(tree.is_constructed())])?;
     fields.octets(tree.content())?;
     fields.octets(tree.slice())?;
+    Ok(fields)
+}
+
+// Appends each node in a tree, of which there are at most so many.
+fn append_nodes(
+    alloc: Global,
+    fields: &mut Fields,
+    tree: &Tree,
+    most: usize,
+) -> Result<(), DecodeError> {
     let mut inside: Vec<Children<'_>> = Vec::new(alloc);
     inside.push(tree.children())?;
-    for _ in 0..octets.len() {
+    for _ in 0..most {
         let Some(node) = next_node(&mut inside) else {
-            return Ok(fields);
+            return Ok(());
         };
-        append_node(&mut fields, &node)?;
+        append_node(fields, &node)?;
         inside.push(node.children())?;
     }
+    Ok(())
+}
+
+// How many octets the value at the beginning has, and each node in it.
+fn tree(alloc: Global, mode: Mode, octets: &[u8]) -> Result<Fields, DecodeError> {
+    let (tree, size) = read_tree(alloc, mode, octets)?;
+    let mut fields = head_shown(alloc, &tree, size)?;
+    append_nodes(alloc, &mut fields, &tree, octets.len())?;
     Ok(fields)
+}
+
+// How many nodes there are, at most so many.
+fn nodes_of(alloc: Global, tree: &Tree, most: usize) -> Result<u64, DecodeError> {
+    let mut inside: Vec<Children<'_>> = Vec::new(alloc);
+    inside.push(tree.root().children())?;
+    let mut nodes = 1u64;
+    for _ in 0..most {
+        let Some(node) = next_node(&mut inside) else {
+            return Ok(nodes);
+        };
+        nodes = nodes.saturating_add(1);
+        inside.push(node.children())?;
+    }
+    Ok(nodes)
 }
 
 // How many octets the value at the beginning has, and how many nodes there are.
 fn tree_size(alloc: Global, mode: Mode, octets: &[u8]) -> Result<Fields, DecodeError> {
     let (tree, size) = read_tree(alloc, mode, octets)?;
-    let mut inside: Vec<Children<'_>> = Vec::new(alloc);
-    inside.push(tree.root().children())?;
-    let mut nodes = 1u64;
-    for _ in 0..octets.len() {
-        let Some(node) = next_node(&mut inside) else {
-            break;
-        };
-        nodes = nodes.saturating_add(1);
-        inside.push(node.children())?;
-    }
+    let nodes = nodes_of(alloc, &tree, octets.len())?;
     let mut fields = Fields::new(alloc);
     fields.print(alloc, size)?;
     fields.print(alloc, nodes)?;
