@@ -14,6 +14,9 @@ key, whose bits are SEED and number 0; MOMENT in seconds since 1970; EXPECTED `o
 Or a line is `NAME built MOMENT SEED REVOKED CONTENT MESSAGE`: of what parts crates/rpki_vectors builds the message, or `moment` where
 it builds none; REVOKED has commas between its numbers, and `-` stands for an empty field.
 
+Or a line is `NAME created MOMENT KEY FAILING CONTENT MESSAGE`: what `SignedMessage::create` makes with the toy signer of seed 1 under
+the key with this number, `moment`, `key_not_found` or `signer` where it refuses; FAILING lists the signer's calls that fail.
+
 The toy scheme: a key's bits are its seed and its number, eight octets each, the most significant first. A signature is the SHA-256
 of the key's bits and what is signed behind them. A key identifier is the SHA-1 of the bits.
 """
@@ -27,7 +30,8 @@ from types import SimpleNamespace
 
 from stored import SIZES
 
-CRATE = pathlib.Path(__file__).resolve().parent.parent / "crates" / "message_cases"
+ROOT = pathlib.Path(__file__).resolve().parent.parent
+CRATE = ROOT / "crates" / "message_cases"
 NOW = 1700000000
 FIRST, LAST = NOW - 300, NOW + 300
 
@@ -617,11 +621,51 @@ def built_cases():
         yield from case(f"built-{label}-at-{moment}-under-{seed}", octets, answer, seed=seed, moment=moment)
 
 
+# ---- messages that `SignedMessage::create` makes with a toy signer of seed 1, whose first call makes key 0
+
+# The calls behind it: sign_one_off, get_key_info, sign, rand, get_key_info, sign.
+CALLS = 6
+
+
+def drawn_serial(seed, number):
+    """Twenty octets that the toy signer draws with this number, without the first bit."""
+    octets = hashlib.sha256(key_bits(seed, number) + bytes(8)).digest()[:20]
+    return int.from_bytes(octets, "big") & ~(1 << 159)
+
+
+def created(content, moment):
+    window = moment - 300, moment + 300
+    return message(
+        content=content, serial=drawn_serial(1, 2), signed_at=moment, validity=window, updates=window, crl_number=moment * 1000)
+
+
+def created_line(label, content, moment, expected, key="0", failing="-"):
+    return " ".join((f"created-{label}", "created", str(moment), key, failing, content.hex() or "-", expected))
+
+
+def created_cases():
+    for n in (0, *SIZES):
+        content = varied(n)
+        yield created_line(f"of-{n}", content, NOW, created(content, NOW).hex())
+    for moment in (300, 2524607699, 2524607900, 2524607999, 2524608300, 253402300499):
+        yield created_line(f"at-{moment}", QUERY, moment, created(QUERY, moment).hex())
+    for moment in (-1, 0, 299, 253402300500):
+        yield created_line(f"at-{moment}", QUERY, moment, "moment")
+    for call in range(1, CALLS + 1):
+        yield created_line(f"failing-{call}", QUERY, NOW, "signer", failing=str(call))
+    yield created_line("failing-later", QUERY, NOW, created(QUERY, NOW).hex(), failing=str(CALLS + 1))
+    yield created_line("under-no-key", QUERY, NOW, "key_not_found", key="1")
+    for last in (NOW - 301, NOW - 300, NOW + 300, NOW + 301):
+        answer = "ok" if abs(last - NOW) <= 300 else "verification-5"
+        yield from case(f"created-at-{last}", created(QUERY, NOW), answer, moment=last)
+
+
 def agree_elsewhere():
     """The message that was made elsewhere has another serial number: it is the same from the certificate's algorithm to its
     signature, and from the CRL on."""
     own, other = built(QUERY, NOW, 1, ()), bytes.fromhex(QUERY_MESSAGE)
     assert own[181:456] == other[200:475] and own[488:] == other[507:]
+    assert created(QUERY, NOW).hex() == (ROOT / "examples" / "query-list.hex").read_text().strip()
 
 
 def main():
@@ -629,7 +673,7 @@ def main():
         compare(bytes.fromhex(pathlib.Path(sys.argv[1]).read_text()))
         return
     agree_elsewhere()
-    written = [*lines(), *built_cases()]
+    written = [*lines(), *built_cases(), *created_cases()]
     names = [line.split(" ")[0] for line in written]
     assert len(names) == len(set(names))
     (CRATE / "data" / "cases.txt").write_text("".join(line + "\n" for line in written))

@@ -6,12 +6,13 @@ use std::io;
 use std::io::ErrorKind;
 use stored_cases::{invalid, octets_of};
 
-fn text_of(field: &str) -> &str {
+/// What a field of octets says, in which `-` is none.
+pub fn text_of(field: &str) -> &str {
     if field == "-" { "" } else { field }
 }
 
-// The numbers that a field lists.
-fn numbers_of(alloc: Global, field: &str) -> io::Result<Vec<u64>> {
+/// The numbers that a field lists.
+pub fn numbers_of(alloc: Global, field: &str) -> io::Result<Vec<u64>> {
     let mut numbers = Vec::new(alloc);
     if field == "-" {
         return Ok(numbers);
