@@ -10,3 +10,5 @@ mod keys;
 mod outside;
 #[cfg(test)]
 mod printed;
+#[cfg(test)]
+mod setup;

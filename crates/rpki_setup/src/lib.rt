@@ -23,8 +23,6 @@ mod repo_info;
 mod repository_response;
 mod service_uri;
 mod tag;
-#[cfg(test)]
-mod tests;
 mod texts;
 mod transfer;
 mod validation;

@@ -26,8 +26,8 @@ pub fn views_are_of_messages()
         → signed_message mode v ≡ None }
 {}
 
-/// The parts of a view, five with one CRL and six with two, stand in the octets of its message, in the order in which they are read: each is a piece of these octets,
-/// between what stands before it and what stands behind it.
+/// The parts of a view, five with one CRL and six with two, stand in the octets of its message, in the order in which they are read:
+/// each is a piece of these octets, between what stands before it and what stands behind it.
 pub fn parts_stand_in_turn()
     ensures { (mode : Mode) (v : Value) (w : ViewFields) →
         viewed_message mode v ≡ Some w → StandInTurn (parts_of w) (spelling v) }
