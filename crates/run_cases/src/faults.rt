@@ -41,10 +41,10 @@ fn sink_of(alloc: Global, calls: &str, room: &str) -> io::Result<MemorySink> {
 fn ran(
     alloc: Global,
     words: &Words,
-    mut source: MemorySource,
-    mut sink: MemorySink,
+    source: &mut MemorySource,
+    sink: &mut MemorySink,
 ) -> io::Result<String> {
-    let Status(status) = rpki_ca::run(alloc, words, &mut source, &mut sink, &ToyVerifier::new());
+    let Status(status) = rpki_ca::run(alloc, words, source, sink, &ToyVerifier::new());
     let Ok(written) = hex::encode(alloc, sink.written()) else {
         return Err(out_of_memory(OutOfMemory));
     };
@@ -67,7 +67,8 @@ pub fn answer_to(alloc: Global, line: &str) -> io::Result<String> {
     ) else {
         return Err(invalid());
     };
-    let source = source_of(alloc, read, input)?;
-    let sink = sink_of(alloc, write, room)?;
-    ran(alloc, &words_of(alloc, line, 7)?, source, sink)
+    let words = words_of(alloc, line, 7)?;
+    let mut source = source_of(alloc, read, input)?;
+    let mut sink = sink_of(alloc, write, room)?;
+    ran(alloc, &words, &mut source, &mut sink)
 }
