@@ -6,7 +6,8 @@ use Rattle.rpki_der.specs.Level.{Level, Sized, Marked}
 use Rattle.rpki_der.specs.Ticks.{counts}
 use Rattle.rpki_der.specs.Item.{ItemFields, item}
 
--- A value stands at the beginning of the octets that shows these fields, and behind it rest; it ticked for all its headers and end marks but the first.
+-- A value stands at the beginning of the octets that shows these fields, and behind it rest; it ticked for all its headers and
+-- end marks but the first.
 abbrev pub ShowsWhole : Mode → List ℕ → List ℕ → ℕ → ℕ → ItemFields → Type 0
 ShowsWhole mode here rest before after fields =
     (v : Value) × Begins mode here v rest × (fields ≡ item v) × (after + 1 ≡ before + counts v)

@@ -82,7 +82,8 @@ unfoldable pub RefusesOptional : List ℕ → Position → DecodeError → Type 
 RefusesOptional tag old Malformed = (Absent tag old → ⊥) × NoValue old.mode old.here
 RefusesOptional tag old OutOfMemory = Absent tag old → ⊥
 
--- The answer is the value that stands next, which has this tag; or None, at the end of the level and where an identifier of another tag stands next; or Malformed, exactly where none of these is so.
+-- The answer is the value that stands next, which has this tag; or None, at the end of the level and where an identifier of
+-- another tag stands next; or Malformed, exactly where none of these is so.
 abbrev pub TakesOptional : List ℕ → Position → Position → Result (Option ItemFields) DecodeError
     → Type 0
 TakesOptional tag old new result =
@@ -110,13 +111,15 @@ TakesOptionalCounted c tag old new before after result =
 
 -- ---- the same, by what a grammar reads of the value
 
--- It isn't so that the level ends or another tag stands next; and the answer is Malformed only where the grammar reads no value that stands next.
+-- It isn't so that the level ends or another tag stands next; and the answer is Malformed only where the grammar reads no value
+-- that stands next.
 unfoldable pub RefusesOptionalAs : {X : Type 0} → List ℕ → (Value → Option X) → Position
     → DecodeError → Type 0
 RefusesOptionalAs tag grammar old Malformed = (Absent tag old → ⊥) × NoneStands grammar old
 RefusesOptionalAs tag grammar old OutOfMemory = Absent tag old → ⊥
 
--- The answer is what the grammar reads of the value that stands next, whatever follows it; or nothing, at the end of the level and where an identifier of another tag stands next; or Malformed, exactly where none of these is so.
+-- The answer is what the grammar reads of the value that stands next, whatever follows it; or nothing, at the end of the level
+-- and where an identifier of another tag stands next; or Malformed, exactly where none of these is so.
 abbrev pub TakesOptionalAs : {X Y : Type 0} → List ℕ → (Value → Option X) → (Y → Option X)
     → Position → Position → Result Y DecodeError → Type 0
 TakesOptionalAs tag grammar view old new result =

@@ -86,7 +86,8 @@ TakesPartCounted c k fields view old new before after result =
     MatchResult result (λ y. CountedFields c k fields old new before after (view y))
     (λ e. CountedRefusesFields c k fields old before after e)
 
--- A value that the grammar reads as x begins the octets. Each value in it ticked, and there were at most c ticks for each octet that was passed.
+-- A value that the grammar reads as x begins the octets. Each value in it ticked, and there were at most c ticks for each octet
+-- that was passed.
 pub record CountedBegins {X : Type 0} (c : ℕ) (grammar : Value → Option X) (mode : Mode)
     (octets : List ℕ) (before after : ℕ) (x : X) : Type 0 where
   pub begins : BeginsAs grammar mode octets x

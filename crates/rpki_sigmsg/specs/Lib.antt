@@ -1,6 +1,5 @@
--- Said in contracts, and to be believed: ObjectIdentifiers, Algorithm, Attributes, CrlExtensions, Signer, RevokedCertificates, TbsCrl, Crl, Message,
--- Places, CrlChecks, Checks, Spelling, Making, Errors.
--- Means for readers: Ahead, Gathered, CrlGathered.
+-- Said in contracts, and to be believed: ObjectIdentifiers, Algorithm, Attributes, CrlExtensions, Signer, RevokedCertificates,
+-- TbsCrl, Crl, Message, Places, CrlChecks, Checks, Spelling, Making, Errors. Means for readers: Ahead, Gathered, CrlGathered.
 pub mod ObjectIdentifiers
 pub mod Algorithm
 pub mod Attributes

@@ -115,9 +115,9 @@ impl<E> From<KeyError<E>> for SigningError<E> {
 
     fn from(error: KeyError<E>) -> SigningError<E> {
         match error {
-            KeyError::KeyNotFound => SigningError::KeyNotFound,
-            KeyError::Signer(error) => SigningError::Signer(error),
-            KeyError::OutOfMemory => SigningError::OutOfMemory,
+            KeyError::KeyNotFound => Self::KeyNotFound,
+            KeyError::Signer(error) => Self::Signer(error),
+            KeyError::OutOfMemory => Self::OutOfMemory,
         }
     }
 }
