@@ -4,8 +4,8 @@
     tools/run_cases.py               writes the rows of this script, and keeps the sets of cases that the file has
     tools/run_cases.py SET FOLDER    takes a set anew from a folder of cases
 
-The cases of a set are named SET-N. There are two: `ber`, messages with one CRL under one key in all spellings, and commands; and
-`two`, messages with one or two CRLs under one to eight keys. A case of a folder is case-N.words (one word a line), case-N.in (the
+The cases of a set are named SET-N. There are three: `ber`, messages with one CRL under one key in all spellings, and commands; `two`,
+messages with one or two CRLs under one to eight keys; and `made`, messages that `create` makes. A case of a folder is case-N.words (one word a line), case-N.in (the
 input) and case-N.expected (the status in decimal, a line feed, then what is written); they come from a model that was written
 apart. The rows of this script are made of examples/query-list.hex, of examples/content.hex and of what stands here. No expected
 answer comes from the program under test.
@@ -18,11 +18,17 @@ Or a line is `NAME CALL ANSWER WORD..`: what words say by themselves.
     words       how many they are, whether there is none, and each
     moment      the seconds that the word at 1 names, or `none`
     key         the format and the bits of the key that the word at 0 spells, or `none`
-    command     `content`, or kind, seconds and keys, or `none`
+    command     `content`, or kind, seconds and keys, or `create`, kind and seconds, or `none`
 
 Or it is `NAME faults ANSWER READ WRITE ROOM INPUT WORD..`: READ and WRITE say how many octets a call gives or takes, and behind a `/`
 which call fails, from 0; ROOM is how many octets the sink has room for. ANSWER is the status, what is written in hexadecimal, and
 how many calls of the source and of the sink failed, with `/` between.
+
+Or it is `NAME signed ANSWER SIGNER KEY,MOMENT.. INPUT WORD..`, with words of `create`. SIGNER is `rsa` for one with an RSA key, `ec`
+for one with a key of an elliptic curve, `reused` for one that gives its RSA key for one use too, `missing` where no key has the
+identifier, or a number: the call that fails, of which the first, 0, makes the key. ANSWER is the status, how often the signer failed,
+and what is written in hexadecimal; or where the status is 0 the status and the line, in hexadecimal, of `receive` of what was written,
+under the key at each of the moments. Behind it stands `left`, where some of the input was not read. All with `/` between.
 """
 
 import pathlib
@@ -35,7 +41,7 @@ ROOT = pathlib.Path(__file__).resolve().parent.parent
 CRATE = ROOT / "crates" / "run_cases"
 INPUT = (ROOT / "examples" / "query-list.hex").read_bytes()
 CONTENT_INPUT = (ROOT / "examples" / "content.hex").read_bytes()
-SETS = "ber", "two"
+SETS = "ber", "two", "made"
 
 MOMENT = "1700000000"
 KEY = "3022300d06092a864886f70d010101050003110000000000000000010000000000000000"
@@ -51,6 +57,10 @@ def validation(check):
 
 def receive(*keys, moment=MOMENT):
     return "receive", "publication", moment, *(keys or (KEY,))
+
+
+def create(moment=MOMENT):
+    return "create", "publication", moment
 
 
 # ---- DER: values with identifiers of one octet
@@ -198,6 +208,22 @@ def crl_rows():
     yield "second-crl-lists-under-keys", receive(KEY, OTHER_KEY), line(lambda crl: crl + listing), validation(14)
 
 
+def create_rows():
+    """The query of examples/query-list.hex, made again of its text, and words and texts that are refused."""
+    text = QUERY.replace(b'xmlns="http://www.hactrn.net/uris/rpki/publication-spec/" ', b"")
+    for label, given in ("with-namespace", QUERY), ("without-namespace", text), ("with-white-space", b" " + text + b"\n"):
+        yield f"create-{label}", create(), given, (0, INPUT.removesuffix(b"\n"))
+    yield "create-of-no-message", create(), b"<msg/>", XML_ERROR
+    yield "create-of-nothing", create(), b"", XML_ERROR
+    yield "create-of-a-signed-message", create(), INPUT, XML_ERROR
+    for moment in "0", "299", "253402300500", "253402300799":
+        yield f"create-at-{moment}", create(moment), QUERY, (8, b"Moment")
+    yield "create-of-no-message-at-299", create("299"), b"<msg/>", XML_ERROR
+    for label, words in (("alone", create()[:1]), ("without-moment", create()[:2]), ("with-a-key", (*create(), KEY)),
+                         ("provisioning", ("create", "provisioning", MOMENT)), ("at-no-moment", create("01"))):
+        yield f"create-{label}", words, QUERY, USAGE
+
+
 def content_rows():
     digits = CONTENT_A.encode()
     changed_digits = digits.replace(b"03040161", b"03040162")
@@ -259,6 +285,7 @@ def commands():
     yield "command-of-one-key", "command", receive(moment="1"), f"publication/1/{bits_of(0)}"
     yield "command-of-two-keys", "command", receive(KEY, KEY, moment="1"), f"publication/1/{bits_of(0)}/{bits_of(0)}"
     yield "command-content", "command", ("content",), "content"
+    yield "command-create", "command", create("7"), "create/publication/7"
     yield "no-command", "command", ("contents",), "none"
 
 
@@ -284,6 +311,34 @@ def fault_rows():
     yield "no-word-no-read", (2, b"Usage\n", 0, 0), "1/0", "1000", 1000, b"00".hex(), ("receive",)
 
 
+# ---- signers: name, answer, signer, key and moments, words
+
+
+def signer_rows():
+    received = 0, QUERY
+    for moment in 300, 1700000000, 2524607900, 253402300499:
+        moments = [moment - 300, moment, moment + 300, *(m for m in (moment + 301,) if m <= 253402300799)]
+        answers = [received if m <= moment + 300 else validation(5) for m in moments]
+        yield f"signs-at-{moment}", (0, 0, answers), "rsa", KEY, moments, create(str(moment))
+    for signer, word in ("reused", b"KeyReused"), ("ec", b"IncompatibleKey"), ("missing", b"KeyNotFound"):
+        yield f"signer-{signer}", (7, 0, word), signer, KEY, (), create()
+    for call in range(1, 7):
+        yield f"signer-call-{call}-fails", (7, 1, b"Signer"), str(call), KEY, (), create()
+    yield "signer-is-asked-six-times", (0, 0, [received]), "7", KEY, (1700000000,), create()
+    yield "signs-under-another-key", (0, 0, [validation(6)]), "rsa", OTHER_KEY, (1700000000,), create()
+
+
+def signed_case(name, answer, signer, key, moments, words):
+    status, faults, said = answer
+    ends = [line_of(said)] if isinstance(said, bytes) else [f"{end}/{line_of(text)}" for end, text in said]
+    answer = "/".join((str(status), str(faults), *ends))
+    return " ".join((name, "signed", answer, signer, ",".join((key, *map(str, moments))), QUERY.hex(), *map(word_of, words)))
+
+
+def line_of(text):
+    return (text + b"\n").hex()
+
+
 def fault_case(name, answer, read, written, room, given, words):
     status, octets, *faults = answer
     said = "/".join((str(status), octets.hex(), *map(str, faults)))
@@ -303,13 +358,16 @@ def case(name, words, given, status, written):
 
 
 def rows():
-    for row in (*moment_rows(), *key_rows(), *list_rows(), *word_rows(), *input_rows(), *crl_rows(), *content_rows(), *built_rows()):
+    for row in (*moment_rows(), *key_rows(), *list_rows(), *word_rows(), *input_rows(), *crl_rows(), *create_rows(), *content_rows(),
+                *built_rows()):
         name, words, given, (status, text) = row
         yield case(name, words, given, status, text + b"\n")
     for name, call, words, answer in (*moments(), *keys(), *commands(), *orders()):
         yield " ".join((name, call, answer, *map(word_of, words)))
     for row in fault_rows():
         yield fault_case(*row)
+    for row in signer_rows():
+        yield signed_case(*row)
 
 
 def cases_of(name, folder):

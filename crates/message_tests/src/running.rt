@@ -1,5 +1,5 @@
 use rpki_ca::*;
-use rpki_signer::ToyVerifier;
+use rpki_signer::{ToySigner, ToyVerifier};
 use rpki_text::{MemorySink, MemorySource};
 use std::alloc::Global;
 use std::test::Fail;
@@ -11,7 +11,9 @@ fn answers(alloc: Global, len: usize, status: u8, line: &[u8]) -> Result<bool, F
     let octets = vec![in alloc; b'0'; len]?;
     let mut source = MemorySource::new(alloc, &octets, 1 << 20, &[])?;
     let mut sink = MemorySink::new(alloc, 1000, 1000, &[])?;
-    let answer = run(alloc, &words, &mut source, &mut sink, &ToyVerifier);
+    let mut signer = ToySigner::new(alloc, 1, &[])?;
+    let verifier = ToyVerifier::new();
+    let answer = run(alloc, &words, &mut source, &mut sink, &verifier, &mut signer, &0);
     Ok(answer == Status(status) && sink.written() == line)
 }
 

@@ -2,29 +2,32 @@
 use Rattle.std.proofs.Common.{◌≡◌, ◌≢◌, ◌<◌, ◌≤◌, ◌^◌, ◌⊎◌, ℕ, inl, inr, Option, Some, None, Result, Ok, Err, List, length, refl, sym, ap, subst, ◌∙◌, arith}
 use Rattle.std.specs.Prelude.{IfSome, IfOk, IfErr, IsErrOf}
 use Rattle.rpki_ca.specs.declared.command.Command.{Command}
-use Rattle.rpki_ca.specs.declared.command.Command.TheVariants.{Content, Receive}
+use Rattle.rpki_ca.specs.declared.command.Command.TheVariants.{Content, Receive, Create}
 use Rattle.rpki_ca.specs.declared.refusals.Refusal.{Refusal}
 use Rattle.rpki_ca.specs.declared.refusals.Refusal.TheVariants as refusals
 use Rattle.rpki_ca.specs.Command.{IsCommand, IsNoCommand}
-use Rattle.rpki_ca.specs.Hexadecimal.{hexadecimal}
 use Rattle.rpki_base.specs.Scheme.{Relation}
 use Rattle.rpki_ca.specs.Refusal.{status_of}
-use Rattle.rpki_ca.specs.Seen.{Seen, IsSteady}
-use Rattle.rpki_ca.specs.Answer.{AnswersSpelled, IsAnswer, IsShown, IsAdmitted}
+use Rattle.rpki_ca.specs.Seen.{Seen, SignerSeen, IsSteady}
+use Rattle.rpki_ca.specs.Answer.{octets_in, AnswersSpelled, AnswersSigned, Performs, IsAnswer, IsGiven, IsShown, IsAdmitted}
 use Rattle.rpki_ca.proofs.Commands.{one_command}
 
 -- ---- the answer
 
-pub answers : (scheme : Relation) (words : List (List ℕ)) (input : List ℕ) (c : Command) (a : Result (List ℕ) Refusal) → IsCommand words c → length input ≤ 2 ^ 26 → AnswersSpelled scheme c (hexadecimal input) a → IsAnswer scheme words input a
+pub answers : (scheme : Relation) (words : List (List ℕ)) (input : List ℕ) (c : Command) (a : Result (List ℕ) Refusal) → IsCommand words c → length input ≤ 2 ^ 26 → AnswersSpelled scheme c (octets_in c input) a → IsAnswer scheme words input a
 answers scheme words input c a is l said =
     record {
       usage = λ n. absurd (n c is);
       long = λ d also m. absurd (never (length input) m l);
-      answers = λ d also m. subst (λ (x : Command). AnswersSpelled scheme x (hexadecimal input) a) (one_command words c d is also) said;
+      answers = λ d also m. subst (λ (x : Command). AnswersSpelled scheme x (octets_in x input) a) (one_command words c d is also) said;
     }
   where
     never : (n : ℕ) → 2 ^ 26 < n → n ≤ 2 ^ 26 → ⊥
     never n a b = omega (arith, a, b)
+
+given : {I : Type 0} (scheme : Relation) (words : List (List ℕ)) (signer : SignerSeen I) (input : List ℕ) (c : Command) (a : Result (List ℕ) Refusal) → IsCommand words c → length input ≤ 2 ^ 26 → Performs scheme c input signer a → IsGiven scheme words signer input a
+given scheme words signer input c a is l (inl said) = inl (answers scheme words input c a is l said)
+given scheme words signer input c a is l (inr said) = inr (record { command = c; is = is; within = l; answers = said })
 
 -- ---- the answer to input that was read
 
@@ -43,11 +46,11 @@ pub if_err : {X Y : Type 0} (r : Result X Y) (P Q : Y → Type 0) → ((e : Y) �
 if_err (Ok x) P Q f p = tt
 if_err (Err e) P Q f p = f e p
 
-pub shown : (scheme : Relation) (words : List (List ℕ)) (source : Seen) (octets : List ℕ) (c : Command) (a : Result (List ℕ) Refusal) → IsCommand words c
-    → IfSome source.before (λ input. (octets ≡ input) × (length input ≤ 2 ^ 26)) → IsSteady source → AnswersSpelled scheme c (hexadecimal octets) a → IsShown scheme words source a
-shown scheme words source octets c a is within steady said =
+pub shown : {I : Type 0} (scheme : Relation) (words : List (List ℕ)) (source : Seen) (signer : SignerSeen I) (octets : List ℕ) (c : Command) (a : Result (List ℕ) Refusal) → IsCommand words c
+    → IfSome source.before (λ input. (octets ≡ input) × (length input ≤ 2 ^ 26)) → IsSteady source → Performs scheme c octets signer a → IsShown scheme words source signer a
+shown scheme words source signer octets c a is within steady said =
     record {
-      shown = if_some source.before _ _ (λ input p. answers scheme words input c a is p.1 (subst (λ (o : List ℕ). AnswersSpelled scheme c (hexadecimal o) a) p.0 said)) within;
+      shown = if_some source.before _ _ (λ input p. given scheme words signer input c a is p.1 (subst (λ (o : List ℕ). Performs scheme c o signer a) p.0 said)) within;
       steady = steady;
     }
 
@@ -55,21 +58,27 @@ shown scheme words source octets c a is within steady said =
 usage_answer : (scheme : Relation) (words : List (List ℕ)) (input : List ℕ) → IsNoCommand words → IsAnswer scheme words input (Err refusals.Usage)
 usage_answer scheme words input none = record { usage = λ n. refl; long = λ c is l. absurd (none c is); answers = λ c is l. absurd (none c is) }
 
-pub usage_shown : (scheme : Relation) (words : List (List ℕ)) (source : Seen) → IsNoCommand words → IsSteady source → IsShown scheme words source (Err refusals.Usage)
-usage_shown scheme words source none steady = record { shown = always_some source.before _ (λ input. usage_answer scheme words input none); steady = steady }
+pub usage_shown : {I : Type 0} (scheme : Relation) (words : List (List ℕ)) (source : Seen) (signer : SignerSeen I) → IsNoCommand words → IsSteady source → IsShown scheme words source signer (Err refusals.Usage)
+usage_shown scheme words source signer none steady = record { shown = always_some source.before _ (λ input. inl (usage_answer scheme words input none)); steady = steady }
 
 -- ---- what no command answers
 
 abbrev err_of : Refusal → Result (List ℕ) Refusal
 err_of e = Err e
 
-pub no_usage : (scheme : Relation) (c : Command) (o : Option (List ℕ)) → AnswersSpelled scheme c o (Err refusals.Usage) → ⊥
+no_usage : (scheme : Relation) (c : Command) (o : Option (List ℕ)) → AnswersSpelled scheme c o (Err refusals.Usage) → ⊥
 no_usage scheme c None said = never said
   where
     never : err_of refusals.Usage ≡ err_of refusals.Hex → ⊥
     never k = cc
 no_usage scheme Content (Some octets) said = said
 no_usage scheme (Receive kind when keys) (Some octets) said = said
+no_usage scheme (Create kind when) (Some octets) said = said
+
+no_usage_signed : {I : Type 0} (scheme : Relation) (c : Command) (input : List ℕ) (signer : SignerSeen I) → AnswersSigned scheme c input signer (Err refusals.Usage) → ⊥
+no_usage_signed scheme Content input signer said = said
+no_usage_signed scheme (Receive kind when keys) input signer said = said
+no_usage_signed scheme (Create kind when) input signer said = said.signed
 
 no_fault : (scheme : Relation) (c : Command) (o : Option (List ℕ)) → AnswersSpelled scheme c o (Err refusals.ReadFault) → ⊥
 no_fault scheme c None said = never said
@@ -78,11 +87,25 @@ no_fault scheme c None said = never said
     never k = cc
 no_fault scheme Content (Some octets) said = said
 no_fault scheme (Receive kind when keys) (Some octets) said = said
+no_fault scheme (Create kind when) (Some octets) said = said
+
+no_fault_signed : {I : Type 0} (scheme : Relation) (c : Command) (input : List ℕ) (signer : SignerSeen I) → AnswersSigned scheme c input signer (Err refusals.ReadFault) → ⊥
+no_fault_signed scheme Content input signer said = said
+no_fault_signed scheme (Receive kind when keys) input signer said = said
+no_fault_signed scheme (Create kind when) input signer said = said.signed
+
+performs_no_usage : {I : Type 0} (scheme : Relation) (c : Command) (input : List ℕ) (signer : SignerSeen I) → Performs scheme c input signer (Err refusals.Usage) → ⊥
+performs_no_usage scheme c input signer (inl said) = no_usage scheme c (octets_in c input) said
+performs_no_usage scheme c input signer (inr said) = no_usage_signed scheme c input signer said
+
+performs_no_fault : {I : Type 0} (scheme : Relation) (c : Command) (input : List ℕ) (signer : SignerSeen I) → Performs scheme c input signer (Err refusals.ReadFault) → ⊥
+performs_no_fault scheme c input signer (inl said) = no_fault scheme c (octets_in c input) said
+performs_no_fault scheme c input signer (inr said) = no_fault_signed scheme c input signer said
 
 -- ---- what is admitted
 
-abbrev Shown : Relation → List (List ℕ) → Seen → Refusal → Type 0
-Shown scheme words source e = IsShown scheme words source (Err e)
+abbrev Shown : {I : Type 0} → Relation → List (List ℕ) → Seen → SignerSeen I → Refusal → Type 0
+Shown scheme words source signer e = IsShown scheme words source signer (Err e)
 
 -- a refusal is one of the two that input doesn't show, or another
 abbrev pub Sort : Refusal → Type 0
@@ -136,44 +159,89 @@ sort_of refusals.TooLong = other_than refusals.TooLong (λ k. a k) (λ k. b k)
 
     b : status_of refusals.TooLong ≡ 12 → ⊥
     b k = cc
+sort_of refusals.KeyNotFound = other_than refusals.KeyNotFound (λ k. a k) (λ k. b k)
+  where
+    a : status_of refusals.KeyNotFound ≡ 10 → ⊥
+    a k = cc
+
+    b : status_of refusals.KeyNotFound ≡ 12 → ⊥
+    b k = cc
+sort_of refusals.IncompatibleKey = other_than refusals.IncompatibleKey (λ k. a k) (λ k. b k)
+  where
+    a : status_of refusals.IncompatibleKey ≡ 10 → ⊥
+    a k = cc
+
+    b : status_of refusals.IncompatibleKey ≡ 12 → ⊥
+    b k = cc
+sort_of refusals.KeyReused = other_than refusals.KeyReused (λ k. a k) (λ k. b k)
+  where
+    a : status_of refusals.KeyReused ≡ 10 → ⊥
+    a k = cc
+
+    b : status_of refusals.KeyReused ≡ 12 → ⊥
+    b k = cc
+sort_of refusals.Signer = other_than refusals.Signer (λ k. a k) (λ k. b k)
+  where
+    a : status_of refusals.Signer ≡ 10 → ⊥
+    a k = cc
+
+    b : status_of refusals.Signer ≡ 12 → ⊥
+    b k = cc
+sort_of refusals.Moment = other_than refusals.Moment (λ k. a k) (λ k. b k)
+  where
+    a : status_of refusals.Moment ≡ 10 → ⊥
+    a k = cc
+
+    b : status_of refusals.Moment ≡ 12 → ⊥
+    b k = cc
 
 -- what is shown is admitted, but for these two
-by_shown : (scheme : Relation) (words : List (List ℕ)) (source : Seen) (e : Refusal) → e ≢ refusals.ReadFault → e ≢ refusals.OutOfMemory → Shown scheme words source e → IsAdmitted scheme words source (Err e)
-by_shown scheme words source refusals.ReadFault f m s = absurd (f refl)
-by_shown scheme words source refusals.OutOfMemory f m s = absurd (m refl)
-by_shown scheme words source refusals.Usage f m s = s
-by_shown scheme words source refusals.Hex f m s = s
-by_shown scheme words source refusals.CmsDecode f m s = s
-by_shown scheme words source refusals.XmlError f m s = s
-by_shown scheme words source (refusals.Validation n) f m s = s
-by_shown scheme words source refusals.TooLong f m s = s
+by_shown : {I : Type 0} (scheme : Relation) (words : List (List ℕ)) (source : Seen) (signer : SignerSeen I) (e : Refusal) → e ≢ refusals.ReadFault → e ≢ refusals.OutOfMemory → Shown scheme words source signer e → IsAdmitted scheme words source signer (Err e)
+by_shown scheme words source signer refusals.ReadFault f m s = absurd (f refl)
+by_shown scheme words source signer refusals.OutOfMemory f m s = absurd (m refl)
+by_shown scheme words source signer refusals.Usage f m s = s
+by_shown scheme words source signer refusals.Hex f m s = s
+by_shown scheme words source signer refusals.CmsDecode f m s = s
+by_shown scheme words source signer refusals.XmlError f m s = s
+by_shown scheme words source signer (refusals.Validation n) f m s = s
+by_shown scheme words source signer refusals.TooLong f m s = s
+by_shown scheme words source signer refusals.KeyNotFound f m s = s
+by_shown scheme words source signer refusals.IncompatibleKey f m s = s
+by_shown scheme words source signer refusals.KeyReused f m s = s
+by_shown scheme words source signer refusals.Signer f m s = s
+by_shown scheme words source signer refusals.Moment f m s = s
 
 -- and what is admitted is shown, but for these two
-pub to_shown : (scheme : Relation) (words : List (List ℕ)) (source : Seen) (e : Refusal) → e ≢ refusals.ReadFault → e ≢ refusals.OutOfMemory → IsAdmitted scheme words source (Err e) → Shown scheme words source e
-to_shown scheme words source refusals.ReadFault f m s = absurd (f refl)
-to_shown scheme words source refusals.OutOfMemory f m s = absurd (m refl)
-to_shown scheme words source refusals.Usage f m s = s
-to_shown scheme words source refusals.Hex f m s = s
-to_shown scheme words source refusals.CmsDecode f m s = s
-to_shown scheme words source refusals.XmlError f m s = s
-to_shown scheme words source (refusals.Validation n) f m s = s
-to_shown scheme words source refusals.TooLong f m s = s
+pub to_shown : {I : Type 0} (scheme : Relation) (words : List (List ℕ)) (source : Seen) (signer : SignerSeen I) (e : Refusal) → e ≢ refusals.ReadFault → e ≢ refusals.OutOfMemory → IsAdmitted scheme words source signer (Err e) → Shown scheme words source signer e
+to_shown scheme words source signer refusals.ReadFault f m s = absurd (f refl)
+to_shown scheme words source signer refusals.OutOfMemory f m s = absurd (m refl)
+to_shown scheme words source signer refusals.Usage f m s = s
+to_shown scheme words source signer refusals.Hex f m s = s
+to_shown scheme words source signer refusals.CmsDecode f m s = s
+to_shown scheme words source signer refusals.XmlError f m s = s
+to_shown scheme words source signer (refusals.Validation n) f m s = s
+to_shown scheme words source signer refusals.TooLong f m s = s
+to_shown scheme words source signer refusals.KeyNotFound f m s = s
+to_shown scheme words source signer refusals.IncompatibleKey f m s = s
+to_shown scheme words source signer refusals.KeyReused f m s = s
+to_shown scheme words source signer refusals.Signer f m s = s
+to_shown scheme words source signer refusals.Moment f m s = s
 
-pub admitted : (scheme : Relation) (words : List (List ℕ)) (source : Seen) (octets : List ℕ) (c : Command) (e : Refusal) → IsCommand words c
-    → IfSome source.before (λ input. (octets ≡ input) × (length input ≤ 2 ^ 26)) → IsSteady source → (e ≢ refusals.OutOfMemory → AnswersSpelled scheme c (hexadecimal octets) (Err e))
-    → IsAdmitted scheme words source (Err e)
-admitted scheme words source octets c e is within steady said =
+pub admitted : {I : Type 0} (scheme : Relation) (words : List (List ℕ)) (source : Seen) (signer : SignerSeen I) (octets : List ℕ) (c : Command) (e : Refusal) → IsCommand words c
+    → IfSome source.before (λ input. (octets ≡ input) × (length input ≤ 2 ^ 26)) → IsSteady source → (e ≢ refusals.OutOfMemory → Performs scheme c octets signer (Err e))
+    → IsAdmitted scheme words source signer (Err e)
+admitted scheme words source signer octets c e is within steady said =
     elim (sort_of e) [
-      | inl fault ↦ absurd (no_fault scheme c (hexadecimal octets) (subst (λ (x : Refusal). AnswersSpelled scheme c (hexadecimal octets) (Err x)) fault (said (λ k. unlike (sym fault ∙ k)))))
-      | inr (inl memory) ↦ subst (λ (x : Refusal). IsAdmitted scheme words source (Err x)) (sym memory) steady
-      | inr (inr other) ↦ by_shown scheme words source e other.0 other.1 (shown scheme words source octets c (Err e) is within steady (said other.1))
+      | inl fault ↦ absurd (performs_no_fault scheme c octets signer (subst (λ (x : Refusal). Performs scheme c octets signer (Err x)) fault (said (λ k. unlike (sym fault ∙ k)))))
+      | inr (inl memory) ↦ subst (λ (x : Refusal). IsAdmitted scheme words source signer (Err x)) (sym memory) steady
+      | inr (inr other) ↦ by_shown scheme words source signer e other.0 other.1 (shown scheme words source signer octets c (Err e) is within steady (said other.1))
     ]
   where
     unlike : refusals.ReadFault ≡ refusals.OutOfMemory → ⊥
     unlike k = cc
 
-pub usage_of_none : {X : Type 0} (scheme : Relation) (words : List (List ℕ)) (c : Command) (o : Option (List ℕ)) (r : Result X Refusal) → IfErr r (λ e. e ≢ refusals.OutOfMemory → AnswersSpelled scheme c o (Err e)) → IsErrOf r refusals.Usage → IsNoCommand words
-usage_of_none {X = X} scheme words c o r said is = absurd (no_usage scheme c o (subst (λ (x : Result X Refusal). IfErr x (λ e. e ≢ refusals.OutOfMemory → AnswersSpelled scheme c o (Err e))) is said other))
+pub usage_of_none : {X I : Type 0} (scheme : Relation) (words : List (List ℕ)) (c : Command) (input : List ℕ) (signer : SignerSeen I) (r : Result X Refusal) → IfErr r (λ e. e ≢ refusals.OutOfMemory → Performs scheme c input signer (Err e)) → IsErrOf r refusals.Usage → IsNoCommand words
+usage_of_none {X = X} scheme words c input signer r said is = absurd (performs_no_usage scheme c input signer (subst (λ (x : Result X Refusal). IfErr x (λ e. e ≢ refusals.OutOfMemory → Performs scheme c input signer (Err e))) is said other))
   where
     other : refusals.Usage ≡ refusals.OutOfMemory → ⊥
     other k = cc

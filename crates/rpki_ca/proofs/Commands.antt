@@ -13,9 +13,9 @@ use Rattle.rpki_ca.specs.declared.receiving.Kind.TheVariants.{Publication}
 use Rattle.rpki_ca.specs.declared.command.Verb.{Verb}
 use Rattle.rpki_ca.specs.declared.command.Verb.TheVariants as verbs
 use Rattle.rpki_ca.specs.declared.command.Command.{Command}
-use Rattle.rpki_ca.specs.declared.command.Command.TheVariants.{Content, Receive}
+use Rattle.rpki_ca.specs.declared.command.Command.TheVariants.{Content, Receive, Create}
 use Rattle.rpki_ca.specs.Words.{IsMoment, IsMomentAt, key_of, key_at}
-use Rattle.rpki_ca.specs.Command.{kind_word, kind_of, kind_at, verb_word, verb_of, verb_in, AreKeys, IsReceive, AskToReceive, Ask, IsCommand, IsNoCommand, AskInVain, HasFewKeys}
+use Rattle.rpki_ca.specs.Command.{kind_word, kind_of, kind_at, verb_word, verb_of, verb_in, AreKeys, IsReceive, IsCreate, AreNoCreate, AsksSigner, AskToReceive, AskToCreate, Ask, IsCommand, IsNoCommand, AskInVain, HasFewKeys}
 
 abbrev some_word : List ℕ → Option (List ℕ)
 some_word w = Some w
@@ -60,11 +60,22 @@ named_kind word Publication e = cases (bytes_eq word (codes "publication")) refl
 named_verb : (word : List ℕ) (verb : Verb) → verb_of word ≡ Some verb → word ≡ verb_word verb
 named_verb word verb e = first (bytes_eq word (verb_word verbs.Content)) refl e
   where
-    second : (b : Bool) → bytes_eq word (verb_word verbs.Receive) ≡ b → (if b then Some verbs.Receive else None) ≡ some_verb verb → word ≡ verb_word verb
-    second true t e = let same : verbs.Receive ≡ verb = cc in (bytes_eq-Decides word (verb_word verbs.Receive)).0 t ∙ ap verb_word same
-    second false t e = cc
+    -- from the third verb on, and from the second
+    third_on : Option Verb
+    third_on = if bytes_eq word (verb_word verbs.Create) then Some verbs.Create else None
 
-    first : (b : Bool) → bytes_eq word (verb_word verbs.Content) ≡ b → (if b then Some verbs.Content else if bytes_eq word (verb_word verbs.Receive) then Some verbs.Receive else None) ≡ some_verb verb → word ≡ verb_word verb
+    second_on : Option Verb
+    second_on = if bytes_eq word (verb_word verbs.Receive) then Some verbs.Receive else third_on
+
+    third : (b : Bool) → bytes_eq word (verb_word verbs.Create) ≡ b → (if b then Some verbs.Create else None) ≡ some_verb verb → word ≡ verb_word verb
+    third true t e = let same : verbs.Create ≡ verb = cc in (bytes_eq-Decides word (verb_word verbs.Create)).0 t ∙ ap verb_word same
+    third false t e = cc
+
+    second : (b : Bool) → bytes_eq word (verb_word verbs.Receive) ≡ b → (if b then Some verbs.Receive else third_on) ≡ some_verb verb → word ≡ verb_word verb
+    second true t e = let same : verbs.Receive ≡ verb = cc in (bytes_eq-Decides word (verb_word verbs.Receive)).0 t ∙ ap verb_word same
+    second false t e = third (bytes_eq word (verb_word verbs.Create)) refl e
+
+    first : (b : Bool) → bytes_eq word (verb_word verbs.Content) ≡ b → (if b then Some verbs.Content else second_on) ≡ some_verb verb → word ≡ verb_word verb
     first true t e = let same : verbs.Content ≡ verb = cc in (bytes_eq-Decides word (verb_word verbs.Content)).0 t ∙ ap verb_word same
     first false t e = second (bytes_eq word (verb_word verbs.Receive)) refl e
 
@@ -83,6 +94,7 @@ pub ask_with : (verb : Verb) (words : List (List ℕ)) (c : Command) → Ask ver
 unfolding ◌>>=◌
 ask_with verbs.Content words c a = ap verb_in a.0
 ask_with verbs.Receive words c a = ap verb_in a.receive.are
+ask_with verbs.Create words c a = ap verb_in a.create.are
 
 one_verb : (words : List (List ℕ)) (v w : Verb) → verb_in words ≡ Some v → verb_in words ≡ Some w → v ≡ w
 one_verb words v w a b = same (sym a ∙ b)
@@ -256,6 +268,57 @@ received words kind when keys e l k m s =
       is = refl;
     }
 
+-- ---- `create`
+
+pub not_three : (words : List (List ℕ)) → (length words ≡ 3 → ⊥) → AskInVain verbs.Create words
+not_three words other c a = other (ap length a.create.are)
+
+pub no_kind_to_create : (words : List (List ℕ)) → None ≡ kind_at words 1 → AskInVain verbs.Create words
+unfolding ◌>>=◌
+no_kind_to_create words none c a =
+    let k : None ≡ Some a.kind = subst (λ (ws : List (List ℕ)). None ≡ kind_at ws 1) a.create.are none ∙ same_kind a.kind in absurd (never k)
+  where
+    never : None ≡ Some a.kind → ⊥
+    never k = cc
+
+pub no_moment_to_create : (words : List (List ℕ)) → ((when : ℤ) → IsMomentAt words 2 when → ⊥) → AskInVain verbs.Create words
+no_moment_to_create words none c a =
+    none a.when (record { word = a.create.moment_word; stands = ap (λ (ws : List (List ℕ)). slice_get ws 2) a.create.are; moment = a.create.moment })
+
+pub just_three : (words : List (List ℕ)) (first : List ℕ) (rest : List (List ℕ)) → words ≡ first ∷ rest → length words ≡ 3 → (b : List ℕ) × (c : List ℕ) × (words ≡ first ∷ b ∷ c ∷ [])
+just_three words first [] e l = absurd (never (ap length e))
+  where
+    never : length words ≡ 1 → ⊥
+    never n = omega (arith, n, l)
+just_three words first (b ∷ []) e l = absurd (never (ap length e))
+  where
+    never : length words ≡ 2 → ⊥
+    never n = omega (arith, n, l)
+just_three words first (b ∷ c ∷ []) e l = (b, c, e)
+just_three words first (b ∷ c ∷ d ∷ more) e l = absurd (never (ap length e))
+  where
+    never : length words ≡ suc (suc (suc (suc (length more)))) → ⊥
+    never n = omega (arith, n, l)
+
+pub created : (words : List (List ℕ)) (kind : Kind) (when : ℤ) → verb_in words ≡ Some verbs.Create → length words ≡ 3 → Some kind ≡ kind_at words 1 → IsMomentAt words 2 when → Ask verbs.Create words (Create kind when)
+unfolding ◌>>=◌
+created words kind when e l k m =
+    let f = begin_with words verbs.Create e in
+    let w = just_three words (codes "create") f.rest f.are l in
+    let b : w.0 ≡ kind_word kind = named_kind w.0 kind (k ∙ ap (λ (ws : List (List ℕ)). kind_at ws 1) w.2) in
+    let third : some_word m.word ≡ some_word w.1 = sym m.stands ∙ ap (λ (ws : List (List ℕ)). slice_get ws 2) w.2 in
+    let same : m.word ≡ w.1 = cc in
+    record {
+      kind = kind;
+      when = when;
+      create = record {
+        moment_word = w.1;
+        are = w.2 ∙ ap (λ (x : List ℕ). codes "create" ∷ x ∷ w.1 ∷ []) b;
+        moment = subst (λ (w : List ℕ). IsMoment w when) same m.moment;
+      };
+      is = refl;
+    }
+
 -- ---- one command
 
 one_moment : (word : List ℕ) (a b : ℤ) → IsMoment word a → IsMoment word b → a ≡ b
@@ -285,9 +348,17 @@ one_receive words a b s t k l p q =
     let ab : a ≡ b = one_kind a b in
     rw (ab, st, kl) refl
 
+one_create : (words : List (List ℕ)) (a b : Kind) (s t : ℤ) → IsCreate words a s → IsCreate words b t → Create a s ≡ Create b t
+one_create words a b s t p q =
+    let moment : p.moment_word ≡ q.moment_word = same_at 2 p.moment_word q.moment_word _ _ (sym p.are ∙ q.are) refl refl in
+    let st : s ≡ t = one_moment q.moment_word s t (subst (λ (w : List ℕ). IsMoment w s) moment p.moment) q.moment in
+    let ab : a ≡ b = one_kind a b in
+    rw (ab, st) refl
+
 asked_once : (verb : Verb) (words : List (List ℕ)) (c d : Command) → Ask verb words c → Ask verb words d → c ≡ d
 asked_once verbs.Content words c d p q = p.1 ∙ sym q.1
 asked_once verbs.Receive words c d p q = p.is ∙ one_receive words p.kind q.kind p.when q.when p.keys q.keys p.receive q.receive ∙ sym q.is
+asked_once verbs.Create words c d p q = p.is ∙ one_create words p.kind q.kind p.when q.when p.create q.create ∙ sym q.is
 
 pub one_command : (words : List (List ℕ)) (c d : Command) → IsCommand words c → IsCommand words d → c ≡ d
 one_command words c d p q =
@@ -299,6 +370,18 @@ one_command words c d p q =
 pub is_command : (words : List (List ℕ)) (kind : Kind) (when : ℤ) (keys : List KeyFields) → IsReceive words kind when keys → IsCommand words (Receive kind when keys)
 is_command words kind when keys r = record { verb = verbs.Receive; ask = record { kind = kind; when = when; keys = keys; receive = r; is = refl } }
 
+pub is_create : (words : List (List ℕ)) (kind : Kind) (when : ℤ) → IsCreate words kind when → IsCommand words (Create kind when)
+is_create words kind when r = record { verb = verbs.Create; ask = record { kind = kind; when = when; create = r; is = refl } }
+
+-- what asks for a signer is `create`
+pub asks_signer : (words : List (List ℕ)) (c : Command) → IsCommand words c → AsksSigner c → AreNoCreate words → ⊥
+asks_signer words c a asks none = by_verb a.verb a.ask
+  where
+    by_verb : (verb : Verb) → Ask verb words c → ⊥
+    by_verb verbs.Content p = subst AsksSigner p.1 asks
+    by_verb verbs.Receive p = subst AsksSigner p.is asks
+    by_verb verbs.Create p = none p.kind p.when p.create
+
 pub has_few : (words : List (List ℕ)) (c : Command) → IsCommand words c → HasFewKeys c
 has_few words c a = by_verb a.verb a.ask
   where
@@ -307,3 +390,4 @@ has_few words c a = by_verb a.verb a.ask
     by_verb verbs.Receive p =
         let n : length p.receive.key_words ≡ length p.keys = same_count key_of some_key p.receive.key_words p.keys p.receive.spell in
         subst HasFewKeys (sym p.is) (omega (arith, n, p.receive.some), omega (arith, n, p.receive.few))
+    by_verb verbs.Create p = subst HasFewKeys (sym p.is) tt

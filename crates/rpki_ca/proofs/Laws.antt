@@ -1,5 +1,5 @@
 -- One answer to octets, and what it asks of a scheme.
-use Rattle.std.proofs.Common.{◌≡◌, ◌≢◌, ◌^◌, ◌==◌, if◌then◌else◌, length, ℕ, ℤ, ◌⊎◌, inl, inr, Bool, true, false, Option, Some, None, Result, Ok, Err, List, [], ◌∷◌, refl, sym, ap, subst, ◌∙◌}
+use Rattle.std.proofs.Common.{◌≡◌, ◌≢◌, ◌^◌, ◌<◌, ◌≤◌, ◌==◌, if◌then◌else◌, length, arith, ℕ, ℤ, ◌⊎◌, inl, inr, Bool, true, false, Option, Some, None, Result, Ok, Err, List, [], ◌∷◌, ◌++◌, refl, sym, ap, subst, ◌∙◌}
 use Rattle.std.specs.Prelude.{◌↔◌, Decides, bytes_eq}
 use Rattle.std.proofs.lemmas.Bool.Decides.{eqb_tells, leb_tells}
 use Rattle.std.proofs.lemmas.Slice.Eq.{bytes_eq-Decides}
@@ -12,10 +12,13 @@ use Rattle.rpki_base.specs.declared.validation.ValidationError.{ValidationError}
 use Rattle.rpki_sigmsg.specs.Checks.{checks, kind_of, Asked, IsBelieved, IsBelievedUnder, IsUnbelieved, AreAmong, AreOutcomes, ranked, SameAnswersUnder, IsInSpan}
 use Rattle.rpki_sigmsg.proofs.AnyKey.{at_one, under_more, one_span_under, first_too, unbelieved_too, outcomes_too}
 use Rattle.rpki_sigmsg.specs.Message.{MessageFields, signed_message}
+use Rattle.rpki_sigmsg.specs.Spelling.{rewritten, CanBeSpelled}
+use Rattle.rpki_sigmsg.proofs.Again.{begins_loosely}
+use Rattle.rpki_sigmsg.proofs.HeldMessages.{message_held}
 use Rattle.rpki_publication.specs.Cms.{BeginsSigned}
 use Rattle.rpki_publication.proofs.Refused.{one_message}
 use Rattle.rpki_ca.specs.declared.command.Command.{Command}
-use Rattle.rpki_ca.specs.declared.command.Command.TheVariants.{Content, Receive}
+use Rattle.rpki_ca.specs.declared.command.Command.TheVariants.{Content, Receive, Create}
 use Rattle.rpki_ca.specs.declared.receiving.Kind.{Kind}
 use Rattle.rpki_ca.specs.declared.receiving.Kind.TheVariants as kinds
 use Rattle.rpki_ca.specs.declared.receiving.Received.{Received}
@@ -25,9 +28,10 @@ use Rattle.rpki_ca.specs.declared.receiving.ReceiveError.TheVariants as errors
 use Rattle.rpki_ca.specs.declared.refusals.Refusal.{Refusal}
 use Rattle.rpki_ca.specs.declared.refusals.Refusal.TheVariants as refusals
 use Rattle.rpki_ca.specs.Refusal.{status_of}
-use Rattle.rpki_ca.specs.Answer.{IsContent, FailsDigest, IsContentAnswer, FailsAt, IsTextAccepted, IsReceiveAnswer, AnswersSpelled, IsAnswer}
+use Rattle.rpki_ca.specs.Answer.{IsContent, FailsDigest, IsContentAnswer, FailsAt, IsTextAccepted, IsReceiveAnswer, octets_in, AnswersSpelled, AnswersSigned, IsAnswer, IsFromSigner}
 use Rattle.rpki_ca.specs.Command.{IsCommand, IsNoCommand}
-use Rattle.rpki_ca.specs.Hexadecimal.{hexadecimal}
+use Rattle.rpki_ca.specs.Creation.{IsNoMessage, HasNoWindow, HasLongText, IsCreateRefusal, IsSignersAnswer}
+use Rattle.rpki_ca.specs.Seen.{SignerSeen}
 use Rattle.rpki_base.specs.Scheme.{Relation}
 use Rattle.rpki_ca.specs.Acceptance.{ReadsAs, Accepted, HoldsNoSigned, HoldsNoMessage, IsReceivedUnder, text_of}
 
@@ -42,7 +46,7 @@ one_signed octets m n p q = same (sym (decoded_ok (signed_message Ber) Ber octet
     same : some_signed m ≡ some_signed n → m ≡ n
     same e = cc
 
-one_reading : (kind : Kind) (content : List ℕ) (m n : Received) → ReadsAs kind content m → ReadsAs kind content n → m ≡ n
+pub one_reading : (kind : Kind) (content : List ℕ) (m n : Received) → ReadsAs kind content m → ReadsAs kind content n → m ≡ n
 one_reading kinds.Publication content (received.Publication m) (received.Publication n) p q = ap received.Publication (one_message content m n p q)
 
 -- ---- what is believed under a key is not unbelieved
@@ -102,6 +106,11 @@ view scheme kind octets keys when (Err (refusals.Validation n)) r = inr (inr (in
 view scheme kind octets keys when (Err refusals.Usage) r = absurd r
 view scheme kind octets keys when (Err refusals.Hex) r = absurd r
 view scheme kind octets keys when (Err refusals.TooLong) r = absurd r
+view scheme kind octets keys when (Err refusals.KeyNotFound) r = absurd r
+view scheme kind octets keys when (Err refusals.IncompatibleKey) r = absurd r
+view scheme kind octets keys when (Err refusals.KeyReused) r = absurd r
+view scheme kind octets keys when (Err refusals.Signer) r = absurd r
+view scheme kind octets keys when (Err refusals.Moment) r = absurd r
 view scheme kind octets keys when (Err refusals.ReadFault) r = absurd r
 view scheme kind octets keys when (Err refusals.OutOfMemory) r = absurd r
 
@@ -157,6 +166,11 @@ content_view octets (Err refusals.XmlError) r = absurd r
 content_view octets (Err refusals.Usage) r = absurd r
 content_view octets (Err refusals.Hex) r = absurd r
 content_view octets (Err refusals.TooLong) r = absurd r
+content_view octets (Err refusals.KeyNotFound) r = absurd r
+content_view octets (Err refusals.IncompatibleKey) r = absurd r
+content_view octets (Err refusals.KeyReused) r = absurd r
+content_view octets (Err refusals.Signer) r = absurd r
+content_view octets (Err refusals.Moment) r = absurd r
 content_view octets (Err refusals.ReadFault) r = absurd r
 content_view octets (Err refusals.OutOfMemory) r = absurd r
 
@@ -175,16 +189,80 @@ one_content octets a b (inr (inr p)) (inl q) = absurd (one_digest octets q.0 q.2
 one_content octets a b (inr (inr p)) (inr (inl q)) = absurd (q.1 p.1.signed p.1.begins)
 one_content octets a b (inr (inr p)) (inr (inr q)) = p.0 ∙ sym q.0
 
+-- what a refusal of `create` is, where no signer is asked
+abbrev pub CreateView : Kind → List ℕ → ℤ → Result (List ℕ) Refusal → Type 0
+CreateView kind input when a =
+    ((a ≡ Err refusals.XmlError) × IsNoMessage kind input)
+    ⊎ (((a ≡ Err refusals.Moment) × HasNoWindow kind input when)
+    ⊎ ((a ≡ Err refusals.TooLong) × HasLongText kind input when))
+
+pub create_view : (kind : Kind) (input : List ℕ) (when : ℤ) (a : Result (List ℕ) Refusal) → IsCreateRefusal kind input when a → CreateView kind input when a
+create_view kind input when (Ok text) r = absurd r
+create_view kind input when (Err refusals.XmlError) r = inl (refl, r)
+create_view kind input when (Err refusals.Moment) r = inr (inl (refl, r))
+create_view kind input when (Err refusals.TooLong) r = inr (inr (refl, r))
+create_view kind input when (Err refusals.Usage) r = absurd r
+create_view kind input when (Err refusals.Hex) r = absurd r
+create_view kind input when (Err refusals.CmsDecode) r = absurd r
+create_view kind input when (Err (refusals.Validation n)) r = absurd r
+create_view kind input when (Err refusals.KeyNotFound) r = absurd r
+create_view kind input when (Err refusals.IncompatibleKey) r = absurd r
+create_view kind input when (Err refusals.KeyReused) r = absurd r
+create_view kind input when (Err refusals.Signer) r = absurd r
+create_view kind input when (Err refusals.ReadFault) r = absurd r
+create_view kind input when (Err refusals.OutOfMemory) r = absurd r
+
+one_refusal : (kind : Kind) (input : List ℕ) (when : ℤ) (a b : Result (List ℕ) Refusal) → CreateView kind input when a → CreateView kind input when b → a ≡ b
+one_refusal kind input when a b (inl p) (inl q) = p.0 ∙ sym q.0
+one_refusal kind input when a b (inl p) (inr (inl q)) = absurd (p.1 q.1.message q.1.reads)
+one_refusal kind input when a b (inl p) (inr (inr q)) = absurd (p.1 q.1.message q.1.reads)
+one_refusal kind input when a b (inr (inl p)) (inl q) = absurd (q.1 p.1.message p.1.reads)
+one_refusal kind input when a b (inr (inl p)) (inr (inl q)) = p.0 ∙ sym q.0
+one_refusal kind input when a b (inr (inl p)) (inr (inr q)) = absurd (p.1.none q.1.window_is)
+one_refusal kind input when a b (inr (inr p)) (inl q) = absurd (q.1 p.1.message p.1.reads)
+one_refusal kind input when a b (inr (inr p)) (inr (inl q)) = absurd (q.1.none p.1.window_is)
+one_refusal kind input when a b (inr (inr p)) (inr (inr q)) = p.0 ∙ sym q.0
+
+-- and where one is asked, there is none of these
+no_refusal : {I : Type 0} (scheme : Relation) (kind : Kind) (input : List ℕ) (when : ℤ) (signer : SignerSeen I) (a b : Result (List ℕ) Refusal) → CreateView kind input when a → IsSignersAnswer scheme kind input when signer b → ⊥
+no_refusal scheme kind input when signer a b (inl p) s = p.1 s.message s.reads
+no_refusal scheme kind input when signer a b (inr (inl p)) s = p.1.none s.window_is
+no_refusal scheme kind input when signer a b (inr (inr p)) s =
+    never (length (text_of s.message)) (subst (λ (m : Received). 2 ^ 31 < length (text_of m)) (one_reading kind input p.1.message s.message p.1.reads s.reads) p.1.long) s.fits
+  where
+    never : (n : ℕ) → 2 ^ 31 < n → n ≤ 2 ^ 31 → ⊥
+    never n l m = omega (arith, l, m)
+
 pub one_answer : (scheme : Relation) (command : Command) (octets : Option (List ℕ)) (a b : Result (List ℕ) Refusal) → AnswersSpelled scheme command octets a → AnswersSpelled scheme command octets b → a ≡ b
 one_answer scheme command None a b p q = p ∙ sym q
 one_answer scheme Content (Some octets) a b p q = one_content octets a b (content_view octets a p) (content_view octets b q)
 one_answer scheme (Receive kind when keys) (Some octets) a b p q = one_view scheme kind octets keys when a b (view scheme kind octets keys when a p) (view scheme kind octets keys when b q)
+one_answer scheme (Create kind when) (Some octets) a b p q = one_refusal kind octets when a b (create_view kind octets when a p) (create_view kind octets when b q)
+
+-- where the signer is asked, words and input show no answer
+signed_alone : {I : Type 0} (scheme : Relation) (c : Command) (input : List ℕ) (signer : SignerSeen I) (a b : Result (List ℕ) Refusal) → AnswersSpelled scheme c (octets_in c input) a → AnswersSigned scheme c input signer b → ⊥
+signed_alone scheme Content input signer a b p q = q
+signed_alone scheme (Receive kind when keys) input signer a b p q = q
+signed_alone scheme (Create kind when) input signer a b p q = no_refusal scheme kind input when signer a b (create_view kind input when a p) q
+
+pub from_signer_alone : {I : Type 0} (scheme : Relation) (words : List (List ℕ)) (signer : SignerSeen I) (input : List ℕ) (a b : Result (List ℕ) Refusal) → IsAnswer scheme words input a → IsFromSigner scheme words signer input b → ⊥
+from_signer_alone scheme words signer input a b p q = signed_alone scheme q.command input signer a b (p.answers q.command q.is q.within) q.answers
 
 -- ---- two answers are the same or not
 
 number_of : Refusal → ℕ
 number_of (refusals.Validation n) = n
+number_of refusals.IncompatibleKey = 1
+number_of refusals.KeyReused = 2
+number_of refusals.Signer = 3
 number_of other = 0
+
+with_seven : ℕ → Refusal
+with_seven number =
+    if number == 0 then refusals.KeyNotFound
+    else if number == 1 then refusals.IncompatibleKey
+    else if number == 2 then refusals.KeyReused
+    else refusals.Signer
 
 refusal_with : ℕ → ℕ → Refusal
 refusal_with status number =
@@ -193,18 +271,25 @@ refusal_with status number =
     else if status == 4 then refusals.CmsDecode
     else if status == 5 then refusals.XmlError
     else if status == 6 then refusals.Validation number
+    else if status == 7 then with_seven number
+    else if status == 8 then refusals.Moment
     else if status == 9 then refusals.TooLong
     else if status == 10 then refusals.ReadFault
     else refusals.OutOfMemory
 
 again : (r : Refusal) → refusal_with (status_of r) (number_of r) ≡ r
-unfolding refusal_with number_of
+unfolding refusal_with with_seven number_of
 again refusals.Usage = refl
 again refusals.Hex = refl
 again refusals.CmsDecode = refl
 again refusals.XmlError = refl
 again (refusals.Validation n) = refl
 again refusals.TooLong = refl
+again refusals.KeyNotFound = refl
+again refusals.IncompatibleKey = refl
+again refusals.KeyReused = refl
+again refusals.Signer = refl
+again refusals.Moment = refl
 again refusals.ReadFault = refl
 again refusals.OutOfMemory = refl
 
@@ -264,7 +349,7 @@ one_where_command : (scheme : Relation) (words : List (List ℕ)) (input : List 
     → (c : Command) → IsCommand words c → a ≡ b
 one_where_command scheme words input a b p q c is =
     elim (leb_tells (length input) (2 ^ 26)) [
-      | inl within ↦ one_answer scheme c (hexadecimal input) a b (p.answers c is within.1) (q.answers c is within.1)
+      | inl within ↦ one_answer scheme c (octets_in c input) a b (p.answers c is within.1) (q.answers c is within.1)
       | inr longer ↦ p.long c is longer.1 ∙ sym (q.long c is longer.1)
     ]
 
@@ -313,3 +398,33 @@ accepted_span scheme kind octets keys one message r =
         (λ i. record { signed = r.signed; begins = r.begins; believed = (span when).1 i; reads = r.reads }),
       ),
     )
+
+-- ---- other octets with the same message
+
+pub same_message : (scheme : Relation) (kind : Kind) (octets others : List ℕ) (signed : MessageFields) (keys : List KeyFields) (when : ℤ) (a : Result (Received × ℕ) ReceiveError)
+    → BeginsSigned octets signed → BeginsSigned others signed → IsReceivedUnder scheme kind octets keys when a → IsReceivedUnder scheme kind others keys when a
+same_message scheme kind octets others signed keys when (Ok (m, place)) b c r =
+    record { signed = r.signed; begins = subst (λ (s : MessageFields). BeginsSigned others s) (one_signed octets signed r.signed b r.begins) c; believed = r.believed; reads = r.reads }
+same_message scheme kind octets others signed keys when (Err errors.CmsDecode) b c r = absurd (r signed b)
+same_message scheme kind octets others signed keys when (Err errors.XmlError) b c r =
+    record { signed = r.signed; begins = subst (λ (s : MessageFields). BeginsSigned others s) (one_signed octets signed r.signed b r.begins) c; none = r.none }
+same_message scheme kind octets others signed keys when (Err (errors.Validation e)) b c r =
+    record {
+      signed = r.signed;
+      begins = subst (λ (s : MessageFields). BeginsSigned others s) (one_signed octets signed r.signed b r.begins) c;
+      message = r.message;
+      reads = r.reads;
+      none = r.none;
+      greatest = r.greatest;
+    }
+same_message scheme kind octets others signed keys when (Err errors.OutOfMemory) b c r = tt
+
+-- the DER of a message with which octets begin, whatever stands behind it
+written_begins : (octets rest : List ℕ) (signed : MessageFields) → BeginsSigned octets signed → CanBeSpelled signed → BeginsSigned (rewritten signed ++ rest) signed
+written_begins octets rest signed b k = begins_loosely Ber signed rest (message_held Ber b.value signed b.begins.lawful b.reads) k
+
+pub written_alike : (scheme : Relation) (kind : Kind) (octets rest : List ℕ) (signed : MessageFields) (keys : List KeyFields) (when : ℤ) (a : Result (Received × ℕ) ReceiveError)
+    → BeginsSigned octets signed → CanBeSpelled signed → IsReceivedUnder scheme kind octets keys when a ↔ IsReceivedUnder scheme kind (rewritten signed ++ rest) keys when a
+written_alike scheme kind octets rest signed keys when a b k =
+    let c = written_begins octets rest signed b k in
+    (same_message scheme kind octets (rewritten signed ++ rest) signed keys when a b c, same_message scheme kind (rewritten signed ++ rest) octets signed keys when a c b)

@@ -5,3 +5,4 @@ pub mod Accepting
 pub mod Answering
 pub mod Laws
 pub mod Runs
+pub mod Creating

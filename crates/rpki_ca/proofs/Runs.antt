@@ -1,35 +1,40 @@
 -- How a run ends.
-use Rattle.std.proofs.Common.{◌≡◌, ◌≢◌, ◌^◌, ◌⊎◌, inl, inr, ℕ, ℤ, Option, Some, None, Result, Ok, Err, List, [], ◌∷◌, ◌++◌, length, refl, sym, ap, subst, ◌∙◌, arith, lit<}
+use Rattle.std.proofs.Common.{◌≡◌, ◌≢◌, ◌^◌, ◌⊎◌, inl, inr, ℕ, ℤ, Option, Some, None, Result, Ok, Err, List, [], ◌∷◌, ◌++◌, length, ◌≤◌, refl, sym, ap, subst, ◌∙◌, arith, lit<}
 use Rattle.std.specs.Prelude.{IfSome, IfOk, IfErr, IsErrOf, MatchResult, ◌<◌}
 use Rattle.std.specs.Io.KnownBytes.{Appends, IsAtEnd}
 use Rattle.std.proofs.lemmas.Bool.Decides.{leb_tells}
+use Rattle.rpki_base.specs.Algorithm.{format_of}
 use Rattle.rpki_base.specs.PublicKey.{KeyFields}
-use Rattle.rpki_ca.specs.declared.command.Command.TheVariants.{Receive}
+use Rattle.rpki_base.specs.declared.algorithm.SigningAlgorithm.{SigningAlgorithm}
+use Rattle.rpki_ca.specs.declared.command.Command.{Command}
+use Rattle.rpki_ca.specs.declared.command.Command.TheVariants.{Receive, Create}
 use Rattle.rpki_ca.specs.declared.receiving.Kind.{Kind}
 use Rattle.rpki_ca.specs.declared.refusals.Refusal.{Refusal}
 use Rattle.rpki_ca.specs.declared.refusals.Refusal.TheVariants as refusals
-use Rattle.rpki_ca.specs.Command.{IsReceive, IsNoCommand}
+use Rattle.rpki_ca.specs.Command.{IsReceive, IsCreate, IsNoCommand}
+use Rattle.rpki_ca.specs.Creation.{Creates, CanCreate}
 use Rattle.rpki_ca.specs.Hexadecimal.{hexadecimal}
 use Rattle.rpki_ca.specs.Refusal.{status_of}
 use Rattle.rpki_base.specs.Scheme.{Relation}
 use Rattle.rpki_ca.specs.Acceptance.{text_of}
-use Rattle.rpki_ca.specs.Seen.{Seen, HasFailed, IsSteady}
-use Rattle.rpki_ca.specs.Answer.{AnswersSpelled, IsAnswer, IsShown, IsAdmitted, Ends, EndsAs, ReadsAll, Delivers, Holds, Succeeds}
-use Rattle.rpki_ca.proofs.Commands.{is_command}
+use Rattle.rpki_ca.specs.Seen.{Seen, SignerSeen, HasFailed, IsSteady}
+use Rattle.rpki_ca.specs.Answer.{AnswersSpelled, AnswersSigned, IsAnswer, IsFromSigner, IsGiven, IsShown, IsAdmitted, Ends, EndsAs, ReadsAll, Delivers, Holds, Succeeds}
+use Rattle.rpki_ca.proofs.Commands.{is_command, one_command}
 use Rattle.rpki_ca.proofs.Answering.{if_some, always_some, answers, sort_of, to_shown}
-use Rattle.rpki_ca.proofs.Laws.{one_answer_to_words}
+use Rattle.rpki_ca.proofs.Laws.{one_answer_to_words, from_signer_alone}
+use Rattle.rpki_ca.proofs.Creating.{creates, text_from_signer, not_refused}
 
 -- an admitted answer with which the call ended
-pub record Answered (scheme : Relation) (words : List (List ℕ)) (source sink : Seen) (status : ℕ) : Type 0 where
+pub record Answered {I : Type 0} (scheme : Relation) (words : List (List ℕ)) (source sink : Seen) (signer : SignerSeen I) (status : ℕ) : Type 0 where
   pub answer : Result (List ℕ) Refusal
-  pub admitted : IsAdmitted scheme words source answer
+  pub admitted : IsAdmitted scheme words source signer answer
   pub ends : Ends answer status sink
 
-pub answered : {L : Type 0} (E : L → List ℕ → Type 0) (scheme : Relation) (words : List (List ℕ)) (source sink : Seen) (status : ℕ) (r : Result L Refusal)
-    → IfOk r (λ line. (text : List ℕ) × IsShown scheme words source (Ok text) × E line text) → IfErr r (λ e. IsAdmitted scheme words source (Err e))
-    → IfOk r (λ line. (text : List ℕ) → E line text → Ends (Ok text) status sink) → IfErr r (λ e. Ends (Err e) status sink) → Answered scheme words source sink status
-answered E scheme words source sink status (Ok line) told a ends b = record { answer = Ok told.0; admitted = told.1; ends = ends told.0 told.2 }
-answered E scheme words source sink status (Err e) a told b ends = record { answer = Err e; admitted = told; ends = ends }
+pub answered : {L I : Type 0} (E : L → List ℕ → Type 0) (scheme : Relation) (words : List (List ℕ)) (source sink : Seen) (signer : SignerSeen I) (status : ℕ) (r : Result L Refusal)
+    → IfOk r (λ line. (text : List ℕ) × IsShown scheme words source signer (Ok text) × E line text) → IfErr r (λ e. IsAdmitted scheme words source signer (Err e))
+    → IfOk r (λ line. (text : List ℕ) → E line text → Ends (Ok text) status sink) → IfErr r (λ e. Ends (Err e) status sink) → Answered scheme words source sink signer status
+answered E scheme words source sink signer status (Ok line) told a ends b = record { answer = Ok told.0; admitted = told.1; ends = ends told.0 told.2 }
+answered E scheme words source sink signer status (Err e) a told b ends = record { answer = Err e; admitted = told; ends = ends }
 
 -- a status is one number
 not_both : (s m n : ℕ) → s ≡ m → s ≡ n → m < n ⊎ n < m → ⊥
@@ -39,9 +44,9 @@ not_both s m n a b (inr l) = omega (arith, a, b, l)
 -- ---- status 0
 
 -- an answer that ends with 0 is a text, and it was written
-pub record Written (scheme : Relation) (words : List (List ℕ)) (source sink : Seen) : Type 0 where
+pub record Written {I : Type 0} (scheme : Relation) (words : List (List ℕ)) (source sink : Seen) (signer : SignerSeen I) : Type 0 where
   pub text : List ℕ
-  pub shown : IfSome source.before (λ input. IsAnswer scheme words input (Ok text))
+  pub shown : IfSome source.before (λ input. IsGiven scheme words signer input (Ok text))
   pub written : Appends sink.before sink.after (text ++ 10 ∷ [])
 
 no_zero : (r : Refusal) → 0 ≡ status_of r → ⊥
@@ -51,21 +56,26 @@ no_zero refusals.CmsDecode k = cc
 no_zero refusals.XmlError k = cc
 no_zero (refusals.Validation n) k = cc
 no_zero refusals.TooLong k = cc
+no_zero refusals.KeyNotFound k = cc
+no_zero refusals.IncompatibleKey k = cc
+no_zero refusals.KeyReused k = cc
+no_zero refusals.Signer k = cc
+no_zero refusals.Moment k = cc
 no_zero refusals.ReadFault k = cc
 no_zero refusals.OutOfMemory k = cc
 
-by_answer : (scheme : Relation) (words : List (List ℕ)) (source sink : Seen) (a : Result (List ℕ) Refusal) → IsAdmitted scheme words source a → Ends a 0 sink → Written scheme words source sink
-by_answer scheme words source sink (Ok text) h (inl w) = record { text = text; shown = h.shown; written = w.1 }
-by_answer scheme words source sink (Err r) h (inl w) = absurd (no_zero r w.0)
-by_answer scheme words source sink a h (inr w) = absurd (not_both 0 0 11 refl w.0 (inl (lit< tt)))
+by_answer : {I : Type 0} (scheme : Relation) (words : List (List ℕ)) (source sink : Seen) (signer : SignerSeen I) (a : Result (List ℕ) Refusal) → IsAdmitted scheme words source signer a → Ends a 0 sink → Written scheme words source sink signer
+by_answer scheme words source sink signer (Ok text) h (inl w) = record { text = text; shown = h.shown; written = w.1 }
+by_answer scheme words source sink signer (Err r) h (inl w) = absurd (no_zero r w.0)
+by_answer scheme words source sink signer a h (inr w) = absurd (not_both 0 0 11 refl w.0 (inl (lit< tt)))
 
-pub written : (scheme : Relation) (words : List (List ℕ)) (source sink : Seen) (status : ℕ) → Answered scheme words source sink status → status ≡ 0 → Written scheme words source sink
-written scheme words source sink status a zero = by_answer scheme words source sink a.answer a.admitted (subst (λ (s : ℕ). Ends a.answer s sink) zero a.ends)
+pub written : {I : Type 0} (scheme : Relation) (words : List (List ℕ)) (source sink : Seen) (signer : SignerSeen I) (status : ℕ) → Answered scheme words source sink signer status → status ≡ 0 → Written scheme words source sink signer
+written scheme words source sink signer status a zero = by_answer scheme words source sink signer a.answer a.admitted (subst (λ (s : ℕ). Ends a.answer s sink) zero a.ends)
 
-pub done : (scheme : Relation) (words : List (List ℕ)) (source sink : Seen) (status : ℕ) → Answered scheme words source sink status → status ≡ 0
-    → IfSome source.before (λ rest. (text : List ℕ) × IsAnswer scheme words rest (Ok text) × Appends sink.before sink.after (text ++ 10 ∷ []))
-done scheme words source sink status a zero =
-    let w = written scheme words source sink status a zero in if_some source.before _ _ (λ rest is. (w.text, is, w.written)) w.shown
+pub done : {I : Type 0} (scheme : Relation) (words : List (List ℕ)) (source sink : Seen) (signer : SignerSeen I) (status : ℕ) → Answered scheme words source sink signer status → status ≡ 0
+    → IfSome source.before (λ rest. (text : List ℕ) × IsGiven scheme words signer rest (Ok text) × Appends sink.before sink.after (text ++ 10 ∷ []))
+done scheme words source sink signer status a zero =
+    let w = written scheme words source sink signer status a zero in if_some source.before _ _ (λ rest is. (w.text, is, w.written)) w.shown
 
 -- ---- what `receive` delivers
 
@@ -89,31 +99,45 @@ delivers scheme words kind keys when input text sink is w a =
       | inr longer ↦ absurd (unlike text refusals.TooLong (a.long (Receive kind when keys) (is_command words kind when keys is) longer.1))
     ]
 
-pub received : (scheme : Relation) (words : List (List ℕ)) (source sink : Seen) (status : ℕ) → Answered scheme words source sink status → (kind : Kind) (when : ℤ) (keys : List KeyFields)
+-- words of `receive` ask for no signer
+unsigned : {I : Type 0} (scheme : Relation) (c : Command) (kind : Kind) (when : ℤ) (keys : List KeyFields) (input : List ℕ) (signer : SignerSeen I) (a : Result (List ℕ) Refusal) → c ≡ Receive kind when keys → AnswersSigned scheme c input signer a → ⊥
+unsigned scheme c kind when keys input signer a e = rw e (λ h. h)
+
+given_delivers : {I : Type 0} (scheme : Relation) (words : List (List ℕ)) (signer : SignerSeen I) (kind : Kind) (keys : List KeyFields) (when : ℤ) (input text : List ℕ) (sink : Seen) → IsReceive words kind when keys
+    → Appends sink.before sink.after (text ++ 10 ∷ []) → IsGiven scheme words signer input (Ok text) → Delivers scheme kind keys when input sink
+given_delivers scheme words signer kind keys when input text sink is w (inl a) = delivers scheme words kind keys when input text sink is w a
+given_delivers scheme words signer kind keys when input text sink is w (inr a) =
+    absurd (unsigned scheme a.command kind when keys input signer (Ok text) (one_command words a.command (Receive kind when keys) a.is (is_command words kind when keys is)) a.answers)
+
+pub received : {I : Type 0} (scheme : Relation) (words : List (List ℕ)) (source sink : Seen) (signer : SignerSeen I) (status : ℕ) → Answered scheme words source sink signer status → (kind : Kind) (when : ℤ) (keys : List KeyFields)
     → IsReceive words kind when keys → status ≡ 0 → IfSome source.before (λ rest. Delivers scheme kind keys when rest sink)
-received scheme words source sink status a kind when keys is zero =
-    let w = written scheme words source sink status a zero in
-    if_some source.before _ _ (λ rest said. delivers scheme words kind keys when rest w.text sink is w.written said) w.shown
+received scheme words source sink signer status a kind when keys is zero =
+    let w = written scheme words source sink signer status a zero in
+    if_some source.before _ _ (λ rest said. given_delivers scheme words signer kind keys when rest w.text sink is w.written said) w.shown
 
 -- ---- the answer that words and input show
 
-by_admitted : (scheme : Relation) (words : List (List ℕ)) (source sink : Seen) (status : ℕ) (here a : Result (List ℕ) Refusal) → IsAdmitted scheme words source here → Ends here status sink
+-- the call ended with the one answer that words and input show, where they show one
+shown_once : {I : Type 0} (scheme : Relation) (words : List (List ℕ)) (source sink : Seen) (signer : SignerSeen I) (status : ℕ) (here a : Result (List ℕ) Refusal) (rest : List ℕ) → Ends here status sink → IsGiven scheme words signer rest here → IsAnswer scheme words rest a → EndsAs a status source sink
+shown_once scheme words source sink signer status here a rest ends (inl x) y = inl (subst (λ (b : Result (List ℕ) Refusal). Ends b status sink) (one_answer_to_words scheme words rest here a x y) ends)
+shown_once scheme words source sink signer status here a rest ends (inr x) y = absurd (from_signer_alone scheme words signer rest a here y x)
+
+by_admitted : {I : Type 0} (scheme : Relation) (words : List (List ℕ)) (source sink : Seen) (signer : SignerSeen I) (status : ℕ) (here a : Result (List ℕ) Refusal) → IsAdmitted scheme words source signer here → Ends here status sink
     → IfSome source.before (λ rest. IsAnswer scheme words rest a → EndsAs a status source sink)
-by_admitted scheme words source sink status (Ok text) a h ends =
-    if_some source.before _ _ (λ rest x y. inl (subst (λ (b : Result (List ℕ) Refusal). Ends b status sink) (one_answer_to_words scheme words rest (Ok text) a x y) ends)) h.shown
-by_admitted scheme words source sink status (Err r) a h ends =
+by_admitted scheme words source sink signer status (Ok text) a h ends = if_some source.before _ _ (λ rest x y. shown_once scheme words source sink signer status (Ok text) a rest ends x y) h.shown
+by_admitted scheme words source sink signer status (Err r) a h ends =
     elim (sort_of r) [
       | inl fault ↦
-          always_some source.before _ (λ rest y. inr (inr (subst (λ (e : Refusal). Ends (Err e) status sink) fault ends, subst (λ (e : Refusal). IsAdmitted scheme words source (Err e)) fault h)))
+          always_some source.before _ (λ rest y. inr (inr (subst (λ (e : Refusal). Ends (Err e) status sink) fault ends, subst (λ (e : Refusal). IsAdmitted scheme words source signer (Err e)) fault h)))
       | inr (inl memory) ↦ always_some source.before _ (λ rest y. inr (inl (subst (λ (e : Refusal). Ends (Err e) status sink) memory ends)))
       | inr (inr other) ↦
-          if_some source.before _ _ (λ rest x y. inl (subst (λ (b : Result (List ℕ) Refusal). Ends b status sink) (one_answer_to_words scheme words rest (Err r) a x y) ends))
-          (to_shown scheme words source r other.0 other.1 h).shown
+          if_some source.before _ _ (λ rest x y. shown_once scheme words source sink signer status (Err r) a rest ends x y)
+          (to_shown scheme words source signer r other.0 other.1 h).shown
     ]
 
-pub ends_as : (scheme : Relation) (words : List (List ℕ)) (source sink : Seen) (status : ℕ) → Answered scheme words source sink status → (a : Result (List ℕ) Refusal)
+pub ends_as : {I : Type 0} (scheme : Relation) (words : List (List ℕ)) (source sink : Seen) (signer : SignerSeen I) (status : ℕ) → Answered scheme words source sink signer status → (a : Result (List ℕ) Refusal)
     → IfSome source.before (λ rest. IsAnswer scheme words rest a → EndsAs a status source sink)
-ends_as scheme words source sink status h a = by_admitted scheme words source sink status h.answer a h.admitted h.ends
+ends_as scheme words source sink signer status h a = by_admitted scheme words source sink signer status h.answer a h.admitted h.ends
 
 if_each : {X A : Type 0} (o : Option X) (P : A → X → Type 0) (Q : X → Type 0) → ((x : X) → ((a : A) → P a x) → Q x) → ((a : A) → IfSome o (P a)) → IfSome o Q
 if_each None P Q f p = tt
@@ -134,12 +158,50 @@ holds_text scheme words kind keys when input h is =
     answers scheme words input (Receive kind when keys) (Ok (text_of h.message)) (is_command words kind when keys is) h.short
     (subst (λ (o : Option (List ℕ)). AnswersSpelled scheme (Receive kind when keys) o (Ok (text_of h.message))) (sym h.spells) said)
 
-pub succeeds : (scheme : Relation) (words : List (List ℕ)) (source sink : Seen) (status : ℕ) → Answered scheme words source sink status → (kind : Kind) (when : ℤ) (keys : List KeyFields)
+pub succeeds : {I : Type 0} (scheme : Relation) (words : List (List ℕ)) (source sink : Seen) (signer : SignerSeen I) (status : ℕ) → Answered scheme words source sink signer status → (kind : Kind) (when : ℤ) (keys : List KeyFields)
     → IsReceive words kind when keys → IfSome source.before (λ rest. Holds scheme kind keys when rest → Succeeds status source sink)
-succeeds scheme words source sink status a kind when keys is =
+succeeds scheme words source sink signer status a kind when keys is =
     if_each source.before (λ (b : Result (List ℕ) Refusal) rest. IsAnswer scheme words rest b → EndsAs b status source sink) _
     (λ rest each h. text_succeeds (text_of h.message) status source sink (each (Ok (text_of h.message)) (holds_text scheme words kind keys when rest h is)))
-    (ends_as scheme words source sink status a)
+    (ends_as scheme words source sink signer status a)
+
+-- ---- what `create` creates
+
+pub created : {I : Type 0} (scheme : Relation) → ((kind : SigningAlgorithm) (key : KeyFields) (message signature : List ℕ) → scheme kind key message signature → key.format ≡ format_of kind) → (words : List (List ℕ)) (source sink : Seen) (signer : SignerSeen I) (status : ℕ)
+    → Answered scheme words source sink signer status → (kind : Kind) (when : ℤ) → IsCreate words kind when → status ≡ 0 → IfSome source.before (λ rest. Creates scheme kind when rest signer sink)
+created scheme fit words source sink signer status a kind when is zero =
+    let w = written scheme words source sink signer status a zero in
+    if_some source.before _ _ (λ rest said. creates scheme fit kind when rest w.text signer sink (text_from_signer scheme words kind when rest w.text signer is said) w.written) w.shown
+
+ended : (text : List ℕ) (status : ℕ) (source sink : Seen) → Ends (Ok text) status sink → Succeeds status source sink
+ended text status source sink (inl w) = inl w.0
+ended text status source sink (inr w) = inr (inr (inr (w.0, w.2)))
+
+ended_memory : (status : ℕ) (source sink : Seen) → Ends (Err refusals.OutOfMemory) status sink → Succeeds status source sink
+ended_memory status source sink (inl w) = inr (inl w.0)
+ended_memory status source sink (inr w) = inr (inr (inr (w.0, w.2)))
+
+ended_fault : (status : ℕ) (source sink : Seen) → HasFailed source → Ends (Err refusals.ReadFault) status sink → Succeeds status source sink
+ended_fault status source sink failed (inl w) = inr (inr (inl (w.0, failed)))
+ended_fault status source sink failed (inr w) = inr (inr (inr (w.0, w.2)))
+
+can_succeed : {I : Type 0} (scheme : Relation) (words : List (List ℕ)) (source sink : Seen) (signer : SignerSeen I) (status : ℕ) (here : Result (List ℕ) Refusal) → IsAdmitted scheme words source signer here → Ends here status sink
+    → (kind : Kind) (when : ℤ) → IsCreate words kind when → IfSome source.before (λ rest. CanCreate kind when rest signer → Succeeds status source sink)
+can_succeed scheme words source sink signer status (Ok text) h ends kind when is = always_some source.before _ (λ rest can. ended text status source sink ends)
+can_succeed scheme words source sink signer status (Err r) h ends kind when is =
+    elim (sort_of r) [
+      | inl fault ↦
+          always_some source.before _ (λ rest can.
+          ended_fault status source sink (subst (λ (e : Refusal). IsAdmitted scheme words source signer (Err e)) fault h) (subst (λ (e : Refusal). Ends (Err e) status sink) fault ends))
+      | inr (inl memory) ↦ always_some source.before _ (λ rest can. ended_memory status source sink (subst (λ (e : Refusal). Ends (Err e) status sink) memory ends))
+      | inr (inr other) ↦
+          if_some source.before _ _ (λ rest said can. absurd (not_refused scheme words kind when rest signer r is can said))
+          (to_shown scheme words source signer r other.0 other.1 h).shown
+    ]
+
+pub can_create : {I : Type 0} (scheme : Relation) (words : List (List ℕ)) (source sink : Seen) (signer : SignerSeen I) (status : ℕ) → Answered scheme words source sink signer status → (kind : Kind) (when : ℤ)
+    → IsCreate words kind when → IfSome source.before (λ rest. CanCreate kind when rest signer → Succeeds status source sink)
+can_create scheme words source sink signer status a kind when is = can_succeed scheme words source sink signer status a.answer a.admitted a.ends kind when is
 
 -- ---- faults of the source
 
@@ -150,30 +212,35 @@ fault_alone refusals.CmsDecode k = cc
 fault_alone refusals.XmlError k = cc
 fault_alone (refusals.Validation n) k = cc
 fault_alone refusals.TooLong k = cc
+fault_alone refusals.KeyNotFound k = cc
+fault_alone refusals.IncompatibleKey k = cc
+fault_alone refusals.KeyReused k = cc
+fault_alone refusals.Signer k = cc
+fault_alone refusals.Moment k = cc
 fault_alone refusals.ReadFault k = refl
 fault_alone refusals.OutOfMemory k = cc
 
-ten : (scheme : Relation) (words : List (List ℕ)) (source sink : Seen) (a : Result (List ℕ) Refusal) → IsAdmitted scheme words source a → Ends a 10 sink → HasFailed source
-ten scheme words source sink (Ok text) h (inl w) = absurd (not_both 10 10 0 refl w.0 (inr (lit< tt)))
-ten scheme words source sink (Err r) h (inl w) = subst (λ (e : Refusal). IsAdmitted scheme words source (Err e)) (fault_alone r w.0) h
-ten scheme words source sink a h (inr w) = absurd (not_both 10 10 11 refl w.0 (inl (lit< tt)))
+ten : {I : Type 0} (scheme : Relation) (words : List (List ℕ)) (source sink : Seen) (signer : SignerSeen I) (a : Result (List ℕ) Refusal) → IsAdmitted scheme words source signer a → Ends a 10 sink → HasFailed source
+ten scheme words source sink signer (Ok text) h (inl w) = absurd (not_both 10 10 0 refl w.0 (inr (lit< tt)))
+ten scheme words source sink signer (Err r) h (inl w) = subst (λ (e : Refusal). IsAdmitted scheme words source signer (Err e)) (fault_alone r w.0) h
+ten scheme words source sink signer a h (inr w) = absurd (not_both 10 10 11 refl w.0 (inl (lit< tt)))
 
-pub read_fault : (scheme : Relation) (words : List (List ℕ)) (source sink : Seen) (status : ℕ) → Answered scheme words source sink status → status ≡ 10 → HasFailed source
-read_fault scheme words source sink status a e = ten scheme words source sink a.answer a.admitted (subst (λ (s : ℕ). Ends a.answer s sink) e a.ends)
+pub read_fault : {I : Type 0} (scheme : Relation) (words : List (List ℕ)) (source sink : Seen) (signer : SignerSeen I) (status : ℕ) → Answered scheme words source sink signer status → status ≡ 10 → HasFailed source
+read_fault scheme words source sink signer status a e = ten scheme words source sink signer a.answer a.admitted (subst (λ (s : ℕ). Ends a.answer s sink) e a.ends)
 
-steady : (scheme : Relation) (words : List (List ℕ)) (source sink : Seen) (status : ℕ) (a : Result (List ℕ) Refusal) → IsAdmitted scheme words source a → Ends a status sink
+steady : {I : Type 0} (scheme : Relation) (words : List (List ℕ)) (source sink : Seen) (signer : SignerSeen I) (status : ℕ) (a : Result (List ℕ) Refusal) → IsAdmitted scheme words source signer a → Ends a status sink
     → status ≢ 10 → status ≢ 11 → IsSteady source
-steady scheme words source sink status a h (inr w) ten eleven = absurd (eleven w.0)
-steady scheme words source sink status (Ok text) h (inl w) ten eleven = h.steady
-steady scheme words source sink status (Err r) h (inl w) ten eleven =
+steady scheme words source sink signer status a h (inr w) ten eleven = absurd (eleven w.0)
+steady scheme words source sink signer status (Ok text) h (inl w) ten eleven = h.steady
+steady scheme words source sink signer status (Err r) h (inl w) ten eleven =
     elim (sort_of r) [
       | inl fault ↦ absurd (ten (w.0 ∙ ap status_of fault))
-      | inr (inl memory) ↦ subst (λ (e : Refusal). IsAdmitted scheme words source (Err e)) memory h
-      | inr (inr other) ↦ (to_shown scheme words source r other.0 other.1 h).steady
+      | inr (inl memory) ↦ subst (λ (e : Refusal). IsAdmitted scheme words source signer (Err e)) memory h
+      | inr (inr other) ↦ (to_shown scheme words source signer r other.0 other.1 h).steady
     ]
 
-pub no_read_fault : (scheme : Relation) (words : List (List ℕ)) (source sink : Seen) (status : ℕ) → Answered scheme words source sink status → status ≢ 10 → status ≢ 11 → IsSteady source
-no_read_fault scheme words source sink status a ten eleven = steady scheme words source sink status a.answer a.admitted a.ends ten eleven
+pub no_read_fault : {I : Type 0} (scheme : Relation) (words : List (List ℕ)) (source sink : Seen) (signer : SignerSeen I) (status : ℕ) → Answered scheme words source sink signer status → status ≢ 10 → status ≢ 11 → IsSteady source
+no_read_fault scheme words source sink signer status a ten eleven = steady scheme words source sink signer status a.answer a.admitted a.ends ten eleven
 
 -- ---- statuses of refusals
 
@@ -184,6 +251,11 @@ usage_alone refusals.CmsDecode k = cc
 usage_alone refusals.XmlError k = cc
 usage_alone (refusals.Validation n) k = cc
 usage_alone refusals.TooLong k = cc
+usage_alone refusals.KeyNotFound k = cc
+usage_alone refusals.IncompatibleKey k = cc
+usage_alone refusals.KeyReused k = cc
+usage_alone refusals.Signer k = cc
+usage_alone refusals.Moment k = cc
 usage_alone refusals.ReadFault k = cc
 usage_alone refusals.OutOfMemory k = cc
 
@@ -209,12 +281,31 @@ usage_status {L = L} r s (inr u) st = elim (subst (λ (x : Result L Refusal). St
 
 neither : ReadsAll 11 → ⊥
 neither (inl k) = cc
-neither (inr (inl k)) = cc
-neither (inr (inr (inl k))) = cc
-neither (inr (inr (inr (inl k)))) = cc
-neither (inr (inr (inr (inr k)))) = cc
+neither (inr k) = let most : 11 ≤ 8 = k.1 in omega (arith, most)
 
 pub read_to_end : {L : Type 0} (r : Result L Refusal) (s : ℕ) (rest : Option (List ℕ)) → MatchResult r (λ _. IsAtEnd rest) (λ e. ReadsAll (status_of e) → IsAtEnd rest) → Status r s → ReadsAll s → IsAtEnd rest
 read_to_end (Ok line) s rest f st all = f
 read_to_end (Err r) s rest f (inl e) all = f (subst ReadsAll e all)
 read_to_end (Err r) s rest f (inr e) all = absurd (neither (subst ReadsAll e all))
+
+long_alone : (r : Refusal) → status_of r ≡ 9 → r ≡ refusals.TooLong
+long_alone refusals.TooLong k = refl
+long_alone refusals.Usage k = cc
+long_alone refusals.Hex k = cc
+long_alone refusals.CmsDecode k = cc
+long_alone refusals.XmlError k = cc
+long_alone (refusals.Validation n) k = cc
+long_alone refusals.KeyNotFound k = cc
+long_alone refusals.IncompatibleKey k = cc
+long_alone refusals.KeyReused k = cc
+long_alone refusals.Signer k = cc
+long_alone refusals.Moment k = cc
+long_alone refusals.ReadFault k = cc
+long_alone refusals.OutOfMemory k = cc
+
+pub long_to_end : {L : Type 0} (r : Result L Refusal) (s : ℕ) (before after : Option (List ℕ)) → (IsErrOf r refusals.TooLong → IfSome before (λ rest. length rest ≤ 2 ^ 26 → IsAtEnd after)) → Status r s → s ≡ 9
+    → IfSome before (λ rest. length rest ≤ 2 ^ 26 → IsAtEnd after)
+long_to_end (Ok line) s before after f (inl e) nine = absurd (not_both s 9 0 nine e (inr (lit< tt)))
+long_to_end (Ok line) s before after f (inr e) nine = absurd (not_both s 9 11 nine e (inl (lit< tt)))
+long_to_end (Err r) s before after f (inl e) nine = f (ap (λ (x : Refusal). Err x) (long_alone r (sym e ∙ nine)))
+long_to_end (Err r) s before after f (inr e) nine = absurd (not_both s 9 11 nine e (inl (lit< tt)))

@@ -23,6 +23,10 @@ use Rattle.rpki_ca.specs.declared.refusals.Refusal.TheVariants as refusals
 abbrev pub ReadsAs : Kind → List ℕ → Received → Type 0
 ReadsAs kinds.Publication octets (received.Publication m) = publication.Reads octets m
 
+-- the protocol of a message
+abbrev pub protocol_of : Received → Kind
+protocol_of (received.Publication m) = kinds.Publication
+
 -- the text of a message
 abbrev pub text_of : Received → List ℕ
 text_of (received.Publication m) = publication.text_of m

@@ -9,17 +9,18 @@ use Rattle.rpki_sigmsg.specs.Message.{MessageFields}
 use Rattle.rpki_publication.specs.Cms.{BeginsSigned}
 use Rattle.rpki_text.specs.Sink.{AppendsPart}
 use Rattle.rpki_ca.specs.declared.command.Command.{Command}
-use Rattle.rpki_ca.specs.declared.command.Command.TheVariants.{Content, Receive}
+use Rattle.rpki_ca.specs.declared.command.Command.TheVariants.{Content, Receive, Create}
 use Rattle.rpki_ca.specs.declared.receiving.Kind.{Kind}
 use Rattle.rpki_ca.specs.declared.receiving.Received.{Received}
 use Rattle.rpki_ca.specs.declared.refusals.Refusal.{Refusal}
 use Rattle.rpki_ca.specs.declared.refusals.Refusal.TheVariants as refusals
 use Rattle.rpki_ca.specs.Command.{IsCommand, IsNoCommand}
+use Rattle.rpki_ca.specs.Creation.{IsCreateRefusal, IsSignersAnswer}
 use Rattle.rpki_ca.specs.Hexadecimal.{hexadecimal}
 use Rattle.rpki_base.specs.Scheme.{Relation}
 use Rattle.rpki_ca.specs.Acceptance.{Accepted, HoldsNoSigned, HoldsNoMessage, FailsCheck, text_of}
 use Rattle.rpki_ca.specs.Refusal.{status_of, name_of}
-use Rattle.rpki_ca.specs.Seen.{Seen, HasFailed, IsSteady}
+use Rattle.rpki_ca.specs.Seen.{Seen, SignerSeen, HasFailed, IsSteady}
 
 -- ---- the commands
 
@@ -69,16 +70,39 @@ IsReceiveAnswer scheme kind octets keys when (Err (refusals.Validation n)) =
     FailsAt scheme kind octets keys when n
 IsReceiveAnswer scheme kind octets keys when (Err other) = ⊥
 
--- the answer of a command to octets
+-- the answer of a command to octets; that of `create` is a refusal, where it asks no signer
 abbrev pub Answers : Relation → Command → List ℕ → Result (List ℕ) Refusal → Type 0
 Answers scheme Content octets answer = IsContentAnswer octets answer
 Answers scheme (Receive kind when keys) octets answer =
     IsReceiveAnswer scheme kind octets keys when answer
+Answers scheme (Create kind when) octets answer = IsCreateRefusal kind octets when answer
 
--- the same, where the octets are given in hexadecimal
+-- the octets that a command takes from the input: those that are given in hexadecimal, and for
+-- `create` the input itself
+abbrev pub octets_in : Command → List ℕ → Option (List ℕ)
+octets_in Content input = hexadecimal input
+octets_in (Receive kind when keys) input = hexadecimal input
+octets_in (Create kind when) input = Some input
+
+-- the answer to these, where there are any
 abbrev pub AnswersSpelled : Relation → Command → Option (List ℕ) → Result (List ℕ) Refusal → Type 0
 AnswersSpelled scheme command None answer = answer ≡ Err refusals.Hex
 AnswersSpelled scheme command (Some octets) answer = Answers scheme command octets answer
+
+-- what comes of asking the signer, where the command does
+abbrev pub AnswersSigned : {Id : Type 0} → Relation → Command → List ℕ → SignerSeen Id
+    → Result (List ℕ) Refusal → Type 0
+AnswersSigned scheme Content input signer answer = ⊥
+AnswersSigned scheme (Receive kind when keys) input signer answer = ⊥
+AnswersSigned scheme (Create kind when) input signer answer =
+    IsSignersAnswer scheme kind input when signer answer
+
+-- the answer of a command to input, from the signer or not
+abbrev pub Performs : {Id : Type 0} → Relation → Command → List ℕ → SignerSeen Id
+    → Result (List ℕ) Refusal → Type 0
+Performs scheme command input signer answer =
+    AnswersSpelled scheme command (octets_in command input) answer
+    ⊎ AnswersSigned scheme command input signer answer
 
 -- ---- words and input
 
@@ -90,21 +114,39 @@ pub record IsAnswer (scheme : Relation) (words : List (List ℕ)) (input : List 
   pub long : (command : Command) → IsCommand words command → 2 ^ 26 < length input
       → answer ≡ Err refusals.TooLong
   pub answers : (command : Command) → IsCommand words command → length input ≤ 2 ^ 26
-      → AnswersSpelled scheme command (hexadecimal input) answer
+      → AnswersSpelled scheme command (octets_in command input) answer
 
--- Words and input show the answer, and the source didn't fail.
-pub record IsShown (scheme : Relation) (words : List (List ℕ)) (source : Seen)
-    (answer : Result (List ℕ) Refusal) : Type 0 where
-  pub shown : IfSome source.before (λ input. IsAnswer scheme words input answer)
+-- The words are those of a command, the input has at most 2^26 octets, and the answer is what came
+-- of asking the signer.
+pub record IsFromSigner {Id : Type 0} (scheme : Relation) (words : List (List ℕ))
+    (signer : SignerSeen Id) (input : List ℕ) (answer : Result (List ℕ) Refusal) : Type 0 where
+  pub command : Command
+  pub is : IsCommand words command
+  pub within : length input ≤ 2 ^ 26
+  pub answers : AnswersSigned scheme command input signer answer
+
+-- an answer that words and input show, or one that comes from the signer
+abbrev pub IsGiven : {Id : Type 0} → Relation → List (List ℕ) → SignerSeen Id → List ℕ
+    → Result (List ℕ) Refusal → Type 0
+IsGiven scheme words signer input answer =
+    IsAnswer scheme words input answer ⊎ IsFromSigner scheme words signer input answer
+
+-- Such an answer, and the source didn't fail.
+pub record IsShown {Id : Type 0} (scheme : Relation) (words : List (List ℕ)) (source : Seen)
+    (signer : SignerSeen Id) (answer : Result (List ℕ) Refusal) : Type 0 where
+  pub shown : IfSome source.before (λ input. IsGiven scheme words signer input answer)
   pub steady : IsSteady source
 
--- An answer is admitted exactly where words and input show it; that the source failed, where its
--- count rose; and want of memory. Every other than that the source failed leaves the count.
-abbrev pub IsAdmitted : Relation → List (List ℕ) → Seen → Result (List ℕ) Refusal → Type 0
-IsAdmitted scheme words source (Ok text) = IsShown scheme words source (Ok text)
-IsAdmitted scheme words source (Err refusals.ReadFault) = HasFailed source
-IsAdmitted scheme words source (Err refusals.OutOfMemory) = IsSteady source
-IsAdmitted scheme words source (Err refusal) = IsShown scheme words source (Err refusal)
+-- An answer is admitted exactly where words and input show it or it comes from the signer; that the
+-- source failed, where its count rose; and want of memory. Every other than that the source failed
+-- leaves the count.
+abbrev pub IsAdmitted : {Id : Type 0} → Relation → List (List ℕ) → Seen → SignerSeen Id
+    → Result (List ℕ) Refusal → Type 0
+IsAdmitted scheme words source signer (Ok text) = IsShown scheme words source signer (Ok text)
+IsAdmitted scheme words source signer (Err refusals.ReadFault) = HasFailed source
+IsAdmitted scheme words source signer (Err refusals.OutOfMemory) = IsSteady source
+IsAdmitted scheme words source signer (Err refusal) =
+    IsShown scheme words source signer (Err refusal)
 
 -- when an input isn't read whole: there was more than 2^26 octets of it, or the source failed, or
 -- memory ran out
@@ -149,7 +191,7 @@ EndsAs answer status source sink =
 -- the statuses that come when all of the input was read
 abbrev pub ReadsAll : ℕ → Type 0
 ReadsAll status =
-    (status ≡ 0) ⊎ ((status ≡ 3) ⊎ ((status ≡ 4) ⊎ ((status ≡ 5) ⊎ (status ≡ 6))))
+    (status ≡ 0) ⊎ ((3 ≤ status) × (status ≤ 8))
 
 -- The input spells octets that begin with an accepted message, and its text and a line feed were
 -- written.

@@ -7,7 +7,7 @@ use Rattle.rpki_ca.specs.declared.receiving.Kind.TheVariants.{Publication}
 use Rattle.rpki_ca.specs.declared.command.Verb.{Verb}
 use Rattle.rpki_ca.specs.declared.command.Verb.TheVariants as verbs
 use Rattle.rpki_ca.specs.declared.command.Command.{Command}
-use Rattle.rpki_ca.specs.declared.command.Command.TheVariants.{Content, Receive}
+use Rattle.rpki_ca.specs.declared.command.Command.TheVariants.{Content, Receive, Create}
 use Rattle.rpki_ca.specs.Words.{IsMoment, key_of}
 
 -- the word for a kind, and the kind that a word is for
@@ -36,17 +36,25 @@ pub record IsReceive (words : List (List ℕ)) (kind : Kind) (when : ℤ) (keys 
   pub moment : IsMoment moment_word when
   pub spell : AreKeys key_words keys
 
+-- `create`, the kind and a moment
+pub record IsCreate (words : List (List ℕ)) (kind : Kind) (when : ℤ) : Type 0 where
+  pub moment_word : List ℕ
+  pub are : words ≡ codes "create" ∷ kind_word kind ∷ moment_word ∷ []
+  pub moment : IsMoment moment_word when
+
 -- ---- all of them
 
 -- The first word says what is to be done. Each has one word, and a word says one of them or none.
 abbrev pub verb_word : Verb → List ℕ
 verb_word verbs.Content = codes "content"
 verb_word verbs.Receive = codes "receive"
+verb_word verbs.Create = codes "create"
 
 abbrev pub verb_of : List ℕ → Option Verb
 verb_of word =
     if bytes_eq word (verb_word verbs.Content) then Some verbs.Content
     else if bytes_eq word (verb_word verbs.Receive) then Some verbs.Receive
+    else if bytes_eq word (verb_word verbs.Create) then Some verbs.Create
     else None
 
 -- what the first word says, if it is one of these
@@ -61,11 +69,19 @@ pub record AskToReceive (words : List (List ℕ)) (command : Command) : Type 0 w
   pub receive : IsReceive words kind when keys
   pub is : command ≡ Receive kind when keys
 
+-- the words ask to create, by this command
+pub record AskToCreate (words : List (List ℕ)) (command : Command) : Type 0 where
+  pub kind : Kind
+  pub when : ℤ
+  pub create : IsCreate words kind when
+  pub is : command ≡ Create kind when
+
 -- the words ask for what the verb says, by this command
 abbrev pub Ask : Verb → List (List ℕ) → Command → Type 0
 Ask verbs.Content words command =
     (words ≡ verb_word verbs.Content ∷ []) × (command ≡ Content)
 Ask verbs.Receive words command = AskToReceive words command
+Ask verbs.Create words command = AskToCreate words command
 
 -- the words are those of the command
 pub record IsCommand (words : List (List ℕ)) (command : Command) : Type 0 where
@@ -80,6 +96,17 @@ IsNoCommand words = (c : Command) → IsCommand words c → ⊥
 abbrev pub HasFewKeys : Command → Type 0
 HasFewKeys Content = ⊤
 HasFewKeys (Receive kind when keys) = (1 ≤ length keys) × (length keys ≤ 8)
+HasFewKeys (Create kind when) = ⊤
+
+-- the words don't ask to create
+abbrev pub AreNoCreate : List (List ℕ) → Type 0
+AreNoCreate words = (kind : Kind) (when : ℤ) → IsCreate words kind when → ⊥
+
+-- the command asks for a signer
+abbrev pub AsksSigner : Command → Type 0
+AsksSigner Content = ⊥
+AsksSigner (Receive kind when keys) = ⊥
+AsksSigner (Create kind when) = ⊤
 
 -- the words don't ask for what the verb says
 abbrev pub AskInVain : Verb → List (List ℕ) → Type 0

@@ -1,8 +1,9 @@
--- Said in contracts, and to be believed: Refusal, Hexadecimal, Words, Command, Receipt, Answer.
+-- Said in contracts, and to be believed: Refusal, Hexadecimal, Words, Command, Acceptance, Seen, Creation, Answer.
 pub mod Refusal
 pub mod Hexadecimal
 pub mod Words
 pub mod Command
 pub mod Acceptance
 pub mod Seen
+pub mod Creation
 pub mod Answer

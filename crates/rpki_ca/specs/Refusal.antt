@@ -2,7 +2,9 @@
 use Rattle.std.specs.Prelude.{ℕ, List, ◌++◌, codes}
 use Rattle.std.specs.Fmt.{decimal}
 use Rattle.rpki_ca.specs.declared.refusals.Refusal.{Refusal}
-use Rattle.rpki_ca.specs.declared.refusals.Refusal.TheVariants.{Usage, Hex, CmsDecode, XmlError, Validation, TooLong, ReadFault, OutOfMemory}
+use Rattle.rpki_ca.specs.declared.refusals.Refusal.TheVariants.{Usage, Hex, CmsDecode, XmlError, Validation, TooLong}
+use Rattle.rpki_ca.specs.declared.refusals.Refusal.TheVariants.{KeyNotFound, IncompatibleKey, KeyReused, Signer, Moment}
+use Rattle.rpki_ca.specs.declared.refusals.Refusal.TheVariants.{ReadFault, OutOfMemory}
 
 abbrev pub status_of : Refusal → ℕ
 status_of Usage = 2
@@ -10,6 +12,11 @@ status_of Hex = 3
 status_of CmsDecode = 4
 status_of XmlError = 5
 status_of (Validation n) = 6
+status_of KeyNotFound = 7
+status_of IncompatibleKey = 7
+status_of KeyReused = 7
+status_of Signer = 7
+status_of Moment = 8
 status_of TooLong = 9
 status_of ReadFault = 10
 status_of OutOfMemory = 12
@@ -21,6 +28,11 @@ word_of Hex = codes "Hex"
 word_of CmsDecode = codes "CmsDecode"
 word_of XmlError = codes "XmlError"
 word_of (Validation n) = codes "Validation"
+word_of KeyNotFound = codes "KeyNotFound"
+word_of IncompatibleKey = codes "IncompatibleKey"
+word_of KeyReused = codes "KeyReused"
+word_of Signer = codes "Signer"
+word_of Moment = codes "Moment"
 word_of TooLong = codes "TooLong"
 word_of ReadFault = codes "ReadFault"
 word_of OutOfMemory = codes "OutOfMemory"

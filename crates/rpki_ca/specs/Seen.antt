@@ -1,6 +1,7 @@
--- What a call was seen to do to its source or its sink.
+-- What a call was seen to do to its source, its sink and its signer.
 use Rattle.std.specs.Prelude.{◌≡◌, ℕ, Option, List}
 use Rattle.rpki_common.specs.Causes.{Rose}
+use Rattle.rpki_signer.specs.Signer.{SignerState}
 
 -- The octets still to come or those written, where it tells them, and its count of faults, as the
 -- call began and as it ended.
@@ -25,3 +26,15 @@ HasFailed s = Rose s.faults_before s.faults_after
 -- its count stood still
 abbrev pub IsSteady : Seen → Type 0
 IsSteady s = s.faults_after ≡ s.faults_before
+
+-- ---- the signer
+
+-- The identifier of the issuing key, and what the signer held and had done, as the call began and
+-- as it ended.
+pub record SignerSeen (Id : Type 0) : Type 0 where
+  pub id : Id
+  pub before : SignerState Id
+  pub after : SignerState Id
+
+abbrev pub seen_signer : {Id : Type 0} → Id → SignerState Id → SignerState Id → SignerSeen Id
+seen_signer id before after = record { id = id; before = before; after = after }

@@ -26,6 +26,13 @@ pub enum Command {
         /// The keys, one to eight, under one of which its certificate has to be issued.
         keys: Sequence<PublicKey>,
     },
+    /// A signed message with the message of this kind that the input is, made at the moment.
+    Create {
+        /// The protocol.
+        kind: Kind,
+        /// The moment at which it is signed.
+        when: Time,
+    },
 }
 
 // What the first word says to do.
@@ -33,6 +40,7 @@ pub enum Command {
 enum Verb {
     Content,
     Receive,
+    Create,
 }
 
 fn verb_of(word: &str) -> Option<Verb>
@@ -41,6 +49,7 @@ fn verb_of(word: &str) -> Option<Verb>
     match word {
         "content" => Some(Verb::Content),
         "receive" => Some(Verb::Receive),
+        "create" => Some(Verb::Create),
         _ => None,
     }
 }
@@ -64,6 +73,7 @@ impl Words {
             None => Ok(None),
             Some(Verb::Content) => Ok(self.content()),
             Some(Verb::Receive) => self.receive(alloc),
+            Some(Verb::Create) => Ok(self.create()),
         }
     }
 
@@ -145,6 +155,24 @@ impl Words {
                 keys: Sequence::from_vec(keys),
             })),
             None => Ok(None),
+        }
+    }
+
+    // The command `create`, if the two words behind the first are of its form.
+    fn create(&self) -> Option<Command>
+        requires { verb_in self.now ≡ Some verbs.Create }
+        ensures command { IfSome result (Ask verbs.Create self.now) }
+        ensures none { IsNone result → AskInVain verbs.Create self.now }
+    {
+        if self.len() != 3 {
+            return None;
+        }
+        let Some(kind) = self.kind(1) else {
+            return None;
+        };
+        match self.moment(2) {
+            Some(when) => Some(Command::Create { kind, when }),
+            None => None,
         }
     }
 }

@@ -1,9 +1,10 @@
 //! What holds of every answer.
 
-ghost use Rattle.std.specs.Prelude.{◌≡◌, ◌↔◌, ℕ, ℤ, List, Option, Result};
+ghost use Rattle.std.specs.Prelude.{◌≡◌, ◌↔◌, ◌++◌, ℕ, ℤ, List, Option, Result};
 ghost use Rattle.rpki_base.specs.PublicKey.{KeyFields};
 ghost use Rattle.rpki_sigmsg.specs.Checks.{SameAnswersUnder, AreAmong, IsInSpan};
 ghost use Rattle.rpki_sigmsg.specs.Message.{MessageFields};
+ghost use Rattle.rpki_sigmsg.specs.Spelling.{rewritten, CanBeSpelled};
 ghost use Rattle.rpki_publication.specs.Cms.{BeginsSigned};
 ghost use Rattle.rpki_ca.specs.declared.command.Command.{Command};
 ghost use Rattle.rpki_ca.specs.declared.receiving.Kind.{Kind};
@@ -15,14 +16,14 @@ ghost use Rattle.rpki_ca.specs.Acceptance.{Accepted, IsReceivedUnder};
 
 use rpki_base::Scheme;
 
-/// A command has one answer to octets, memory aside.
+/// A command has one answer to octets, memory aside, as far as it asks no signer.
 pub fn one_answer<P: Scheme>()
     ensures { (command : Command) (octets : Option (List ℕ)) (a b : Result (List ℕ) Refusal)
         → AnswersSpelled P.checks command octets a → AnswersSpelled P.checks command octets b
         → a ≡ b }
 {}
 
-/// Words and input have one answer, memory and faults aside.
+/// Words and input have one answer, memory and faults aside, as far as no signer is asked.
 pub fn one_answer_to_words<P: Scheme>()
     ensures { (words : List (List ℕ)) (input : List ℕ) (a b : Result (List ℕ) Refusal)
         → IsAnswer P.checks words input a → IsAnswer P.checks words input b → a ≡ b }
@@ -38,6 +39,17 @@ pub fn receipts_ask_three_questions<P: Scheme, Q: Scheme>()
         → SameAnswersUnder P.checks Q.checks m keys)
         → IsReceivedUnder P.checks kind octets keys when answer
         → IsReceivedUnder Q.checks kind octets keys when answer }
+{}
+
+/// What is received of a message that is written again in DER, whatever stands behind it, is what is
+/// received of the octets that begin with it: the answers are the same under each kind, list of
+/// keys, moment and scheme.
+pub fn rewritten_is_received_alike<P: Scheme>()
+    ensures { (kind : Kind) (octets rest : List ℕ) (m : MessageFields) (keys : List KeyFields)
+        (when : ℤ) (answer : Result (Received × ℕ) ReceiveError)
+        → BeginsSigned octets m → CanBeSpelled m
+        → (IsReceivedUnder P.checks kind octets keys when answer
+        ↔ IsReceivedUnder P.checks kind (rewritten m ++ rest) keys when answer) }
 {}
 
 /// What is accepted under a list of keys is accepted under each list that holds these keys, in any

@@ -6,13 +6,17 @@
 //! - `receive publication MOMENT KEY..` writes the message of the publication protocol that a signed
 //!   message is, if one of the one to eight keys issued its certificate for the moment;
 //!   [`receive_any`] is the same for octets, and [`receive`] for one key.
+//! - `create publication MOMENT` reads a message of the publication protocol and writes a signed
+//!   message with it, which is received as that message at each second from 300 before the moment to
+//!   300 after it.
 //!
-//! What is accepted stands in specs/Acceptance.antt, and what is answered to words and input in
-//! specs/Answer.antt.
+//! What is accepted stands in specs/Acceptance.antt, what is created in specs/Creation.antt, and what
+//! is answered to words and input in specs/Answer.antt.
 #![tactic(auto)]
 
 mod command;
 mod content_line;
+mod create_line;
 mod hexadecimal;
 mod law;
 mod line;
@@ -25,7 +29,7 @@ mod words;
 pub use command::Command;
 pub use law::{
     accepted_moments_are_one_span, more_keys_accept, one_answer, one_answer_to_words,
-    receipts_ask_three_questions,
+    receipts_ask_three_questions, rewritten_is_received_alike,
 };
 pub use receiving::{
     Kind, ReceiveError, Received, receive, receive_any, receive_any_counted, receive_counted,

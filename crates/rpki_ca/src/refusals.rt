@@ -23,7 +23,18 @@ pub enum Refusal {
     XmlError,
     /// A check of the signed message failed: its number, from 1 to 14.
     Validation(u8),
-    /// There are more than 2^26 octets of input.
+    /// The signer holds no key with the identifier.
+    KeyNotFound,
+    /// The issuing key has another format than signatures need.
+    IncompatibleKey,
+    /// The key that the signer gave for one use is the issuing key.
+    KeyReused,
+    /// The signer failed.
+    Signer,
+    /// The 300 seconds before or after the moment leave the years 1970 to 9999.
+    Moment,
+    /// There are more than 2^26 octets of input; or a message's text has more than 2^31; or the
+    /// signer gave a key or a signature of more than 2^16.
     TooLong,
     /// The input failed.
     ReadFault,
@@ -42,6 +53,11 @@ impl Refusal {
             Refusal::CmsDecode => 4,
             Refusal::XmlError => 5,
             Refusal::Validation(_) => 6,
+            Refusal::KeyNotFound => 7,
+            Refusal::IncompatibleKey => 7,
+            Refusal::KeyReused => 7,
+            Refusal::Signer => 7,
+            Refusal::Moment => 8,
             Refusal::TooLong => 9,
             Refusal::ReadFault => 10,
             Refusal::OutOfMemory => 12,
@@ -65,7 +81,7 @@ impl Refusal {
     // The first word of the name.
     fn word(self) -> &'static str
         ensures word { result.now ≡ word_of self }
-        ensures short { length result.now ≤ 11 }
+        ensures short { length result.now ≤ 15 }
     {
         match self {
             Refusal::Usage => "Usage",
@@ -73,6 +89,11 @@ impl Refusal {
             Refusal::CmsDecode => "CmsDecode",
             Refusal::XmlError => "XmlError",
             Refusal::Validation(_) => "Validation",
+            Refusal::KeyNotFound => "KeyNotFound",
+            Refusal::IncompatibleKey => "IncompatibleKey",
+            Refusal::KeyReused => "KeyReused",
+            Refusal::Signer => "Signer",
+            Refusal::Moment => "Moment",
             Refusal::TooLong => "TooLong",
             Refusal::ReadFault => "ReadFault",
             Refusal::OutOfMemory => "OutOfMemory",

@@ -9,19 +9,23 @@ ghost use Rattle.rpki_text.specs.Source.{TakesAtMost};
 ghost use Rattle.rpki_ca.specs.declared.receiving.Kind.{Kind};
 ghost use Rattle.rpki_ca.specs.declared.refusals.Refusal.{Refusal};
 ghost use Rattle.rpki_ca.specs.Refusal.{status_of};
-ghost use Rattle.rpki_ca.specs.Command.{IsNoCommand, IsReceive, HasFewKeys};
-ghost use Rattle.rpki_ca.specs.Seen.{seen, HasFailed, IsSteady};
-ghost use Rattle.rpki_ca.specs.Answer.{Answers, AnswersSpelled, IsAnswer, IsShown, IsAdmitted, IsUnread};
+ghost use Rattle.rpki_ca.specs.Command.{IsNoCommand, IsReceive, IsCreate, AreNoCreate, AsksSigner};
+ghost use Rattle.rpki_ca.specs.Command.{HasFewKeys};
+ghost use Rattle.rpki_ca.specs.Creation.{Creates, CanCreate};
+ghost use Rattle.rpki_ca.specs.Seen.{seen, seen_signer, HasFailed, IsSteady};
+ghost use Rattle.rpki_ca.specs.Answer.{Performs, IsAnswer, IsGiven, IsShown, IsAdmitted, IsUnread};
 ghost use Rattle.rpki_ca.specs.Answer.{IsLineOf, Ends, EndsAs, ReadsAll, Delivers, Holds, Succeeds};
-ghost use Rattle.rpki_ca.specs.Hexadecimal.{hexadecimal};
+ghost use Rattle.rpki_signer.specs.Limits.{Keeps};
 
 use crate::command::Command;
 use crate::content_line::content_line;
+use crate::create_line::create_line;
 use crate::hexadecimal::input_octets;
 use crate::receive_line::receive_line;
 use crate::refusals::Refusal;
 use crate::words::Words;
 use rpki_base::{Scheme, Verifier};
+use rpki_signer::Signer;
 use rpki_text::{ReadAllError, Sink, Source, read_all, write_all};
 use std::alloc::Global;
 
@@ -32,42 +36,35 @@ pub struct Status(pub u8);
 /// The most octets of input that are read.
 const LIMIT: u64 = 1 << 26;
 
-// The line with what the command answers to the octets.
-fn perform<P: Scheme, V: Verifier<P>>(
-    alloc: Global,
-    command: &Command,
-    octets: &[u8],
-    verifier: &V,
-) -> Result<Vec<u8>, Refusal>
-    requires { HasFewKeys command.now }
-    ensures ok { IfOk result (λ line.
-        IsLineOf (Answers P.checks command.now octets.now) line.items) }
-    ensures err { IfErr result (λ e.
-        e ≢ Refusal.OutOfMemory → Answers P.checks command.now octets.now (Err e)) }
-{
-    match command {
-        Command::Content => content_line(alloc, octets),
-        Command::Receive { kind, when, keys } => {
-            receive_line(alloc, *kind, octets, keys.as_slice(), *when, verifier)
-        }
-    }
-}
-
-// The same, of the octets that the input spells.
-fn perform_spelled<P: Scheme, V: Verifier<P>>(
+// The line with what the command answers to the input.
+fn perform<P: Scheme, V: Verifier<P>, S: Signer<P>>(
     alloc: Global,
     command: &Command,
     input: &[u8],
     verifier: &V,
+    signer: &mut S,
+    key: &S::KeyId,
 ) -> Result<Vec<u8>, Refusal>
     requires { HasFewKeys command.now }
-    ensures ok { IfOk result (λ line.
-        IsLineOf (AnswersSpelled P.checks command.now (hexadecimal input.now)) line.items) }
+    ensures ok { IfOk result (λ line. IsLineOf (Performs P.checks command.now input.now
+        (seen_signer key.now (S.state signer.old) (S.state signer.new))) line.items) }
     ensures err { IfErr result (λ e. e ≢ Refusal.OutOfMemory
-        → AnswersSpelled P.checks command.now (hexadecimal input.now) (Err e)) }
+        → Performs P.checks command.now input.now
+        (seen_signer key.now (S.state signer.old) (S.state signer.new)) (Err e)) }
+    ensures keeps { Keeps (S.state signer.old) (S.state signer.new) }
+    ensures untouched { AsksSigner command.now ⊎ (signer.new ≡ signer.old) }
 {
-    let octets = input_octets(alloc, input)?;
-    perform(alloc, command, &octets, verifier)
+    match command {
+        Command::Content => {
+            let octets = input_octets(alloc, input)?;
+            content_line(alloc, &octets)
+        }
+        Command::Receive { kind, when, keys } => {
+            let octets = input_octets(alloc, input)?;
+            receive_line(alloc, *kind, &octets, keys.as_slice(), *when, verifier)
+        }
+        Command::Create { kind, when } => create_line(alloc, *kind, input, *when, key, signer),
+    }
 }
 
 // The whole input.
@@ -88,29 +85,37 @@ fn read_input<I: Source>(alloc: Global, input: &mut I) -> Result<Vec<u8>, Refusa
 }
 
 // The line with the text that the words ask for.
-fn answer<P: Scheme, I: Source, V: Verifier<P>>(
+fn answer<P: Scheme, I: Source, V: Verifier<P>, S: Signer<P>>(
     alloc: Global,
     words: &Words,
     input: &mut I,
     verifier: &V,
+    signer: &mut S,
+    key: &S::KeyId,
 ) -> Result<Vec<u8>, Refusal>
     ensures ok { IfOk result (λ line. IsLineOf
-        (IsShown P.checks words.now (seen I.rest I.faults input.old input.new)) line.items) }
+        (IsShown P.checks words.now (seen I.rest I.faults input.old input.new)
+        (seen_signer key.now (S.state signer.old) (S.state signer.new))) line.items) }
     ensures err { IfErr result (λ e.
-        IsAdmitted P.checks words.now (seen I.rest I.faults input.old input.new) (Err e)) }
+        IsAdmitted P.checks words.now (seen I.rest I.faults input.old input.new)
+        (seen_signer key.now (S.state signer.old) (S.state signer.new)) (Err e)) }
+    ensures keeps { Keeps (S.state signer.old) (S.state signer.new) }
+    ensures untouched { AreNoCreate words.now → signer.new ≡ signer.old }
     ensures usage { IsErrOf result Refusal.Usage → IsNoCommand words.now }
     ensures usage_always { IsNoCommand words.now
         → IsErrOf result Refusal.Usage ⊎ IsErrOf result Refusal.OutOfMemory }
     ensures unread { IsNoCommand words.now → input.new ≡ input.old }
     ensures whole { MatchResult result (λ _. IsAtEnd (I.rest input.new))
         (λ e. ReadsAll (status_of e) → IsAtEnd (I.rest input.new)) }
+    ensures long { IsErrOf result Refusal.TooLong → IfSome (I.rest input.old)
+        (λ rest. length rest ≤ 2 ^ 26 → IsAtEnd (I.rest input.new)) }
     ensures most { TakesAtMost (I.rest input.old) (I.rest input.new) (2 ^ 26 + 1) }
 {
     let Some(command) = words.command(alloc)? else {
         return Err(Refusal::Usage);
     };
     let octets = read_input(alloc, input)?;
-    perform_spelled(alloc, &command, &octets, verifier)
+    perform(alloc, &command, &octets, verifier, signer, key)
 }
 
 // Writes the line, and answers the status; or 11, where a write fails.
@@ -160,18 +165,22 @@ fn finish<O: Sink>(output: &mut O, answer: Result<Vec<u8>, Refusal>) -> Status
 /// Does what the words ask for with the input, writes one line, and answers the exit status: 0,
 /// that of a refusal, or 11 where a write failed.
 ///
-/// Both commands read a signed message in hexadecimal, an even number of digits of either case and
-/// at most one line feed behind them; octets behind the message are allowed, and reading stops
-/// behind 2^26 octets and one more. `content` writes its content. `receive publication MOMENT KEY..`
-/// writes the message that it is, where one of the one to eight keys issued its certificate for the
-/// moment and all fourteen checks hold under it: MOMENT in seconds since 1970, each KEY in DER and
-/// hexadecimal. The whole line is made before the first write.
-pub fn run<P: Scheme, I: Source, O: Sink, V: Verifier<P>>(
+/// `content` and `receive` read a signed message in hexadecimal, an even number of digits of either
+/// case and at most one line feed behind them; octets behind the message are allowed. `content`
+/// writes its content. `receive publication MOMENT KEY..` writes the message that it is, where one
+/// of the one to eight keys issued its certificate for the moment and all fourteen checks hold under
+/// it: MOMENT in seconds since 1970, each KEY in DER and hexadecimal. `create publication MOMENT`
+/// reads a message and writes, in hexadecimal, a signed message with it, which the signer makes
+/// under the issuing key with the identifier `key`. Reading stops behind 2^26 octets and one more.
+/// The whole line is made before the first write.
+pub fn run<P: Scheme, I: Source, O: Sink, V: Verifier<P>, S: Signer<P>>(
     alloc: Global,
     words: &Words,
     input: &mut I,
     output: &mut O,
     verifier: &V,
+    signer: &mut S,
+    key: &S::KeyId,
 ) -> Status
     // `receive` ends with 0 only where a message was accepted, whose text is the line that was
     // written.
@@ -188,6 +197,22 @@ pub fn run<P: Scheme, I: Source, O: Sink, V: Verifier<P>>(
         (seen I.rest I.faults input.old input.new)
         (seen O.written O.faults output.old output.new)) }
 
+    // `create` ends with 0 only where the input reads as a message, and what was written is received
+    // as that message under every list of keys that holds the issuing key, at each second from 300
+    // before the moment to 300 after it.
+    ensures created { (kind : Kind) (when : ℤ) → IsCreate words.now kind when → result.0 ≡ 0
+        → IfSome (I.rest input.old) (λ rest. Creates P.checks kind when rest
+        (seen_signer key.now (S.state signer.old) (S.state signer.new))
+        (seen O.written O.faults output.old output.new)) }
+
+    // And where it can be created it ends with 0, but for want of memory and for faults of source
+    // and sink.
+    ensures creates { (kind : Kind) (when : ℤ) → IsCreate words.now kind when
+        → IfSome (I.rest input.old) (λ rest. CanCreate kind when rest
+        (seen_signer key.now (S.state signer.old) (S.state signer.new)) → Succeeds result.0
+        (seen I.rest I.faults input.old input.new)
+        (seen O.written O.faults output.old output.new)) }
+
     // Where words and input show an answer, the call ends with it, but for want of memory and for
     // faults of source and sink.
     ensures shown { (answer : Result (List ℕ) Refusal) → IfSome (I.rest input.old) (λ rest.
@@ -195,17 +220,23 @@ pub fn run<P: Scheme, I: Source, O: Sink, V: Verifier<P>>(
         (seen I.rest I.faults input.old input.new)
         (seen O.written O.faults output.old output.new)) }
 
-    // Every status comes with an admitted answer: one that words and input show, that the source
-    // failed, or want of memory.
+    // Every status comes with an admitted answer: one that words and input show, one that comes from
+    // the signer by its cause, that the source failed, or want of memory.
     ensures answered { (answer : Result (List ℕ) Refusal)
-        × IsAdmitted P.checks words.now (seen I.rest I.faults input.old input.new) answer
+        × IsAdmitted P.checks words.now (seen I.rest I.faults input.old input.new)
+        (seen_signer key.now (S.state signer.old) (S.state signer.new)) answer
         × Ends answer result.0 (seen O.written O.faults output.old output.new) }
 
     // Status 0 comes only with the text that the words ask for of this input, as the line that was
     // written.
     ensures done { result.0 ≡ 0 → IfSome (I.rest input.old) (λ rest. (text : List ℕ)
-        × IsAnswer P.checks words.now rest (Ok text)
+        × IsGiven P.checks words.now
+        (seen_signer key.now (S.state signer.old) (S.state signer.new)) rest (Ok text)
         × Appends (O.written output.old) (O.written output.new) (text ++ 10 ∷ [])) }
+
+    // The signer holds the same keys, and words other than those of `create` leave it untouched.
+    ensures keeps { Keeps (S.state signer.old) (S.state signer.new) }
+    ensures untouched { AreNoCreate words.now → signer.new ≡ signer.old }
 
     // A fault of the source or of the sink is told, and nothing else is told as one.
     ensures read_fault { result.0 ≡ 10 → HasFailed (seen I.rest I.faults input.old input.new) }
@@ -223,10 +254,13 @@ pub fn run<P: Scheme, I: Source, O: Sink, V: Verifier<P>>(
         → (result.0 ≡ 2) ⊎ ((result.0 ≡ 11) ⊎ (result.0 ≡ 12)) }
     ensures unread { IsNoCommand words.now → input.new ≡ input.old }
 
-    // Where the input decided, nothing of it is left; and no more is read than the limit and one.
+    // Where the input decided or the signer, nothing of it is left; and no more is read than the
+    // limit and one.
     ensures whole { ReadsAll result.0 → IsAtEnd (I.rest input.new) }
+    ensures long { result.0 ≡ 9 → IfSome (I.rest input.old)
+        (λ rest. length rest ≤ 2 ^ 26 → IsAtEnd (I.rest input.new)) }
     ensures most { TakesAtMost (I.rest input.old) (I.rest input.new) (2 ^ 26 + 1) }
 {
-    let answer = answer(alloc, words, input, verifier);
+    let answer = answer(alloc, words, input, verifier, signer, key);
     finish(output, answer)
 }

@@ -1,23 +1,35 @@
 //! Signed messages of the publication protocol.
 
-ghost use Rattle.std.specs.Prelude.{◌≡◌, ◌↔◌, ◌<◌, ◌≤◌, ◌+◌, ◌*◌, ℕ, List, length, Result, Ok, Err, IfOk, MatchResult};
+ghost use Rattle.std.specs.Prelude.{◌≡◌, ◌↔◌, ◌<◌, ◌≤◌, ◌≤ℤ◌, ◌+◌, ◌++◌, ◌*◌, ◌^◌, ◌⊎◌, ℕ, ℤ, List, length};
+ghost use Rattle.std.specs.Prelude.{Result, Ok, Err, IfOk, OnOk, IsErrOf, MatchResult};
 ghost use Rattle.rpki_base.specs.Checks.{first_failure, failing};
+ghost use Rattle.rpki_base.specs.PublicKey.{KeyFields};
+ghost use Rattle.rpki_signer.specs.Limits.{Keeps};
+ghost use Rattle.rpki_signer.specs.Signer.{Holds};
 ghost use Rattle.rpki_sigmsg.specs.Checks as checks;
+ghost use Rattle.rpki_sigmsg.specs.Making as making;
+ghost use Rattle.rpki_sigmsg.specs.Message.{signed_message};
+ghost use Rattle.rpki_sigmsg.specs.Spelling.{rewritten, CanBeSpelled};
+ghost use Rattle.rpki_sigmsg.specs.declared.create_error.CreateError.TheVariants as create;
+ghost use Rattle.rpki_der.specs.declared.mode.Mode.{Mode};
 ghost use Rattle.rpki_der.specs.declared.mode.Mode.TheVariants.{Ber};
+ghost use Rattle.rpki_der.specs.Takes.{BeginsAs};
 ghost use Rattle.rpki_der.specs.Ticks.{nodes};
 ghost use Rattle.rpki_der.specs.Value.{Value, Begins};
 ghost use Rattle.rpki_publication.specs.declared.error.Error.{Error as CmsError};
 ghost use Rattle.rpki_publication.specs.Answers.{validated};
 ghost use Rattle.rpki_publication.specs.Cms.{BeginsCms, RefusesCms, FindsSigned};
-ghost use Rattle.rpki_publication.specs.Message.{Reads};
+ghost use Rattle.rpki_publication.specs.Message.{Reads, text_of};
 
 use crate::error::Error;
 use crate::message::Message;
+use bytes::Bytes;
 use rpki_base::{PublicKey, Scheme, Time, Verifier};
 use rpki_common::OutOfMemory;
 use rpki_der::Steps;
 use rpki_idcert::ValidationError;
-use rpki_sigmsg::SignedMessage;
+use rpki_sigmsg::{CreateError, SignedMessage};
+use rpki_signer::Signer;
 use std::alloc::Global;
 use std::marker::{Brand, Model};
 use std::sync::ledger::{Blank, Ledger};
@@ -188,5 +200,60 @@ impl PublicationCms {
             result ≡ validated (failing checks.kind_of (checks.ranked outcomes)) }
     {
         passed_on(self.signed_message().validate_any_at(verifier, keys, when))
+    }
+}
+
+/// # Making
+impl PublicationCms {
+    /// The message, whose text is signed at the moment by the holder of a key that is made for this one use, for which the issuing
+    /// key issues a certificate and a CRL, as [`SignedMessage::create`] does it: they are valid from 300 seconds before the moment
+    /// to 300 seconds after it.
+    pub fn create<P: Scheme, S: Signer<P>>(
+        alloc: Global,
+        message: Message,
+        now: Time,
+        issuing_key_id: &S::KeyId,
+        signer: &mut S,
+    ) -> Result<PublicationCms, CreateError<S::Error>>
+        // What is created of the message's text, and why nothing is.
+        ensures created { MatchResult result
+            (λ c. making.IsCreated P.checks (text_of message) now issuing_key_id.now
+            (S.state signer.old) (S.state signer.new) c.signed)
+            (making.CreateFails (text_of message) now issuing_key_id.now
+            (S.state signer.old) (S.state signer.new)) }
+        ensures message { IfOk result (λ c. c.message ≡ message) }
+
+        // It is believed under the issuing key at each second of the window.
+        ensures believed { IfOk result (λ c. (key : KeyFields)
+            → Holds (S.state signer.old).keyring issuing_key_id.now key
+            → (when : ℤ) → (making.window now).not_before ≤ℤ when
+            → when ≤ℤ (making.window now).not_after
+            → checks.IsBelieved P.checks c.signed key when) }
+
+        // What is written of it is read again, in both modes, whatever stands behind it.
+        ensures again { IfOk result (λ c. (mode : Mode) (rest : List ℕ) → CanBeSpelled c.signed
+            → BeginsAs (signed_message mode) mode (rewritten c.signed ++ rest) c.signed) }
+
+        // Moment and a text that is too long are told in any case, before the signer is asked.
+        ensures moment { (making.HasWindow now → ⊥)
+            → IsErrOf result create.Moment ⊎ IsErrOf result create.OutOfMemory }
+        ensures too_long { making.HasWindow now → 2 ^ 31 < length (text_of message)
+            → IsErrOf result create.TooLong ⊎ IsErrOf result create.OutOfMemory }
+
+        // The signer holds the same keys, whatever the answer.
+        ensures keeps { Keeps (S.state signer.old) (S.state signer.new) }
+    {
+        let text = message.to_xml_bytes(alloc)?;
+        let signed = SignedMessage::create(alloc, text, now, issuing_key_id, signer)?;
+        Ok(PublicationCms { signed, message })
+    }
+
+    /// The signed message in DER: its content and its signature are one OCTET STRING each, and what was signed stands as it was read
+    /// or made. One that is longer than length octets can say is refused as want of memory.
+    pub fn to_bytes(&self, alloc: Global) -> Result<Bytes, OutOfMemory>
+        ensures octets { IfOk result (λ octets. octets ≡ rewritten self.now.signed) }
+        ensures spelled { OnOk result (CanBeSpelled self.now.signed) }
+    {
+        Ok(self.signed.to_captured(alloc)?.into_bytes())
     }
 }

@@ -2,8 +2,10 @@
 #![tactic(auto)]
 
 use rpki_ca::{Refusal, Status, Words, refuse, run};
-use rpki_signer::ToyVerifier;
-use rpki_text::{Sink, StdSink, StdSource, write_all};
+use rpki_base::PublicKeyFormat;
+use rpki_signer::{CallError, Signer, ToyScheme, ToySigner, ToyVerifier};
+use rpki_text::{Sink, Source, StdSink, StdSource, write_all};
+use std::alloc::Global;
 use std::env;
 use std::io::ErrorKind;
 use std::process::ExitCode;
@@ -30,12 +32,20 @@ rpkica reads and checks the messages of RPKI certification authorities.
         3022300d06092a864886f70d010101050003110000000000000000010000000000000000
         < examples/query-list.hex
 
+    rpkica create publication MOMENT < TEXT
+        Reads a message of the publication protocol and writes it signed, in
+        hexadecimal of lower case. Its certificate and its CRL are valid from
+        300 seconds before MOMENT to 300 seconds after it, both ends in, and
+        are issued by the key of the example above, a toy key that everyone
+        has.
+        Example: rpkica create publication 1700000000 < examples/query-list.xml
+
     rpkica --help
     rpkica --version
 
-MESSAGE is read loosely, in BER, and is in hexadecimal: an even number of
-digits of either case, then at most one line feed. Octets behind the signed
-message are allowed.
+TEXT is a document of XML. MESSAGE is read loosely, in BER, and is in
+hexadecimal: an even number of digits of either case, then at most one line
+feed. Octets behind the signed message are allowed.
 
 One line is written to standard output. The exit status is
      0  the line is what was asked for
@@ -44,7 +54,10 @@ One line is written to standard output. The exit status is
      4  CmsDecode     the input begins with no signed message
      5  XmlError      the content is no message of the protocol
      6  Validation N  check N fails, as below
-     9  TooLong       more than 67108864 octets of input
+     7  KeyNotFound, IncompatibleKey, KeyReused, Signer: the signer refuses
+     8  Moment        the 600 seconds round it leave the years 1970 to 9999
+     9  TooLong       more than 67108864 octets of input, or of a message or a
+                      signature more than may be
     10  ReadFault     standard input failed
     11                standard output failed
     12  OutOfMemory   memory ran out
@@ -108,6 +121,33 @@ fn written<O: Sink>(output: &mut O, text: &[u8], status: u8) -> Status {
     }
 }
 
+// The signer of the toy scheme, and the identifier of its one key.
+fn signer_of(alloc: Global) -> Result<(ToySigner, u64), Refusal> {
+    let Ok(mut signer) = ToySigner::new(alloc, 1, &[]) else {
+        return Err(Refusal::OutOfMemory);
+    };
+    match Signer::<ToyScheme>::create_key(&mut signer, alloc, PublicKeyFormat::Rsa) {
+        Ok(key) => Ok((signer, key)),
+        Err(CallError::Signer(_)) => Err(Refusal::Signer),
+        Err(CallError::OutOfMemory) => Err(Refusal::OutOfMemory),
+    }
+}
+
+fn run_signed<I: Source, O: Sink>(
+    alloc: Global,
+    words: &Words,
+    input: &mut I,
+    output: &mut O,
+) -> Status {
+    match signer_of(alloc) {
+        Ok((mut signer, key)) => {
+            let verifier = ToyVerifier::new();
+            run(alloc, words, input, output, &verifier, &mut signer, &key)
+        }
+        Err(refusal) => refuse(output, refusal),
+    }
+}
+
 fn main(rt: HostRuntime) -> ExitCode {
     let mut input = StdSource::new(rt.stdin());
     let mut output = StdSink::new(rt.stdout());
@@ -115,13 +155,7 @@ fn main(rt: HostRuntime) -> ExitCode {
         Err(refusal) => refuse(&mut output, refusal),
         Ok(words) => match own_text(&words) {
             Some(text) => written(&mut output, text, 0),
-            None => run(
-                rt.alloc(),
-                &words,
-                &mut input,
-                &mut output,
-                &ToyVerifier::new(),
-            ),
+            None => run_signed(rt.alloc(), &words, &mut input, &mut output),
         },
     };
     ExitCode::from(status)

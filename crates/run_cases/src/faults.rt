@@ -1,7 +1,9 @@
 //! Runs over streams of which some calls fail.
 
+use crate::signers::signer_of;
 use crate::words::words_of;
 use crate::{out_of_memory, text_of};
+use rpki_base::PublicKeyFormat;
 use rpki_ca::{Status, Words};
 use rpki_common::OutOfMemory;
 use rpki_signer::ToyVerifier;
@@ -44,7 +46,9 @@ fn ran(
     source: &mut MemorySource,
     sink: &mut MemorySink,
 ) -> io::Result<String> {
-    let Status(status) = rpki_ca::run(alloc, words, source, sink, &ToyVerifier::new());
+    let (mut signer, key) = signer_of(alloc, PublicKeyFormat::Rsa, &[])?;
+    let verifier = ToyVerifier::new();
+    let Status(status) = rpki_ca::run(alloc, words, source, sink, &verifier, &mut signer, &key);
     let Ok(written) = hex::encode(alloc, sink.written()) else {
         return Err(out_of_memory(OutOfMemory));
     };

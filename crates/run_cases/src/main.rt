@@ -3,15 +3,18 @@
 //!
 //! A line of data/cases.txt is `NAME STATUS LINE INPUT WORD..`: LINE is what has to be written, and
 //! it and INPUT are octets as in other stored cases; `-` is an empty field. Or it is
-//! `NAME CALL ANSWER ..`, with a call of words.rt or faults.rt and the text that it says. tools/run_cases.py
+//! `NAME CALL ANSWER ..`, with a call of words.rt, faults.rt or signers.rt and the text that it says. tools/run_cases.py
 //! writes the file; its expected answers come from a model that was written apart from this tree, or
 //! are stated in the script.
 #![tactic(auto)]
 
 mod faults;
+mod signers;
 mod words;
 
+use crate::signers::signer_of;
 use crate::words::words_of;
+use rpki_base::PublicKeyFormat;
 use rpki_ca::{Status, Words};
 use rpki_common::OutOfMemory;
 use rpki_signer::ToyVerifier;
@@ -64,12 +67,15 @@ fn is_answered(alloc: Global, case: &Case, piece: usize) -> io::Result<bool> {
     ) else {
         return Err(out_of_memory(OutOfMemory));
     };
+    let (mut signer, key) = signer_of(alloc, PublicKeyFormat::Rsa, &[])?;
     let Status(status) = rpki_ca::run(
         alloc,
         &case.words,
         &mut source,
         &mut sink,
         &ToyVerifier::new(),
+        &mut signer,
+        &key,
     );
     Ok(status == case.status && sink.written() == case.line.as_slice())
 }
@@ -84,6 +90,7 @@ fn is_run(alloc: Global, line: &str) -> io::Result<bool> {
 fn answer_to(alloc: Global, call: &str, line: &str) -> io::Result<Option<String>> {
     match call {
         "faults" => Ok(Some(faults::answer_to(alloc, line)?)),
+        "signed" => Ok(Some(signers::answer_to(alloc, line)?)),
         _ => words::answer_to(alloc, call, &words_of(alloc, line, 3)?),
     }
 }

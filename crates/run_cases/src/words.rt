@@ -78,7 +78,7 @@ fn kind_text(kind: Kind) -> &'static str {
     }
 }
 
-// A command: `content`, or the kind, the seconds of the moment, and the keys.
+// A command: `content`, or the kind, the seconds of the moment, and the keys; or `create`, the kind and the seconds.
 fn command_text(alloc: Global, command: &Command) -> io::Result<String> {
     match command {
         Command::Content => Ok(format!(in alloc; "content")?),
@@ -90,6 +90,11 @@ fn command_text(alloc: Global, command: &Command) -> io::Result<String> {
             }
             Ok(text)
         }
+        Command::Create { kind, when } => Ok(format!(in alloc;
+            "create/{}/{}",
+            kind_text(*kind),
+            when.seconds()
+        )?),
     }
 }
 

@@ -1,4 +1,4 @@
-use Rattle.rpki_ca.specs.Seen.{Seen, seen}
+use Rattle.rpki_ca.specs.Seen.{Seen, seen, seen_signer}
 use Rattle.rpki_ca.proofs.Runs as runs
 use Rattle.rpki_ca.proofs.running.run.Goals as goal
 
@@ -6,55 +6,80 @@ pub returns-clause-received : goal.returns-clause-received
 returns-clause-received g c =
     let source : Seen = seen g.I.Source.rest g.I.Source.faults c.args.input.now c.answer-answer.new.input in
     let sink : Seen = seen g.O.Sink.written g.O.Sink.faults c.args.output.now c.finish.new.output in
-    let how = runs.answered _ g.P.Scheme.checks c.args.words.now source sink c.finish.result.0 c.answer-answer.result
+    let signer = seen_signer c.args.key.now (g.S.Signer.state c.args.signer.now) (g.S.Signer.state c.answer-answer.new.signer) in
+    let how = runs.answered _ g.P.Scheme.checks c.args.words.now source sink signer c.finish.result.0 c.answer-answer.result
     c.answer-answer.ensures.ok c.answer-answer.ensures.err c.finish.ensures.text c.finish.ensures.refusal in
-    runs.received g.P.Scheme.checks c.args.words.now source sink c.finish.result.0 how
+    runs.received g.P.Scheme.checks c.args.words.now source sink signer c.finish.result.0 how
 
 pub returns-clause-accepted : goal.returns-clause-accepted
 returns-clause-accepted g c =
     let source : Seen = seen g.I.Source.rest g.I.Source.faults c.args.input.now c.answer-answer.new.input in
     let sink : Seen = seen g.O.Sink.written g.O.Sink.faults c.args.output.now c.finish.new.output in
-    let how = runs.answered _ g.P.Scheme.checks c.args.words.now source sink c.finish.result.0 c.answer-answer.result
+    let signer = seen_signer c.args.key.now (g.S.Signer.state c.args.signer.now) (g.S.Signer.state c.answer-answer.new.signer) in
+    let how = runs.answered _ g.P.Scheme.checks c.args.words.now source sink signer c.finish.result.0 c.answer-answer.result
     c.answer-answer.ensures.ok c.answer-answer.ensures.err c.finish.ensures.text c.finish.ensures.refusal in
-    runs.succeeds g.P.Scheme.checks c.args.words.now source sink c.finish.result.0 how
+    runs.succeeds g.P.Scheme.checks c.args.words.now source sink signer c.finish.result.0 how
+
+pub returns-clause-created : goal.returns-clause-created
+returns-clause-created g c =
+    let source : Seen = seen g.I.Source.rest g.I.Source.faults c.args.input.now c.answer-answer.new.input in
+    let sink : Seen = seen g.O.Sink.written g.O.Sink.faults c.args.output.now c.finish.new.output in
+    let signer = seen_signer c.args.key.now (g.S.Signer.state c.args.signer.now) (g.S.Signer.state c.answer-answer.new.signer) in
+    let how = runs.answered _ g.P.Scheme.checks c.args.words.now source sink signer c.finish.result.0 c.answer-answer.result
+    c.answer-answer.ensures.ok c.answer-answer.ensures.err c.finish.ensures.text c.finish.ensures.refusal in
+    runs.created g.P.Scheme.checks g.P.Scheme.fits c.args.words.now source sink signer c.finish.result.0 how
+
+pub returns-clause-creates : goal.returns-clause-creates
+returns-clause-creates g c =
+    let source : Seen = seen g.I.Source.rest g.I.Source.faults c.args.input.now c.answer-answer.new.input in
+    let sink : Seen = seen g.O.Sink.written g.O.Sink.faults c.args.output.now c.finish.new.output in
+    let signer = seen_signer c.args.key.now (g.S.Signer.state c.args.signer.now) (g.S.Signer.state c.answer-answer.new.signer) in
+    let how = runs.answered _ g.P.Scheme.checks c.args.words.now source sink signer c.finish.result.0 c.answer-answer.result
+    c.answer-answer.ensures.ok c.answer-answer.ensures.err c.finish.ensures.text c.finish.ensures.refusal in
+    runs.can_create g.P.Scheme.checks c.args.words.now source sink signer c.finish.result.0 how
 
 pub returns-clause-shown : goal.returns-clause-shown
 returns-clause-shown g c =
     let source : Seen = seen g.I.Source.rest g.I.Source.faults c.args.input.now c.answer-answer.new.input in
     let sink : Seen = seen g.O.Sink.written g.O.Sink.faults c.args.output.now c.finish.new.output in
-    let how = runs.answered _ g.P.Scheme.checks c.args.words.now source sink c.finish.result.0 c.answer-answer.result
+    let signer = seen_signer c.args.key.now (g.S.Signer.state c.args.signer.now) (g.S.Signer.state c.answer-answer.new.signer) in
+    let how = runs.answered _ g.P.Scheme.checks c.args.words.now source sink signer c.finish.result.0 c.answer-answer.result
     c.answer-answer.ensures.ok c.answer-answer.ensures.err c.finish.ensures.text c.finish.ensures.refusal in
-    runs.ends_as g.P.Scheme.checks c.args.words.now source sink c.finish.result.0 how
+    runs.ends_as g.P.Scheme.checks c.args.words.now source sink signer c.finish.result.0 how
 
 pub returns-clause-done : goal.returns-clause-done
 returns-clause-done g c =
     let source : Seen = seen g.I.Source.rest g.I.Source.faults c.args.input.now c.answer-answer.new.input in
     let sink : Seen = seen g.O.Sink.written g.O.Sink.faults c.args.output.now c.finish.new.output in
-    let how = runs.answered _ g.P.Scheme.checks c.args.words.now source sink c.finish.result.0 c.answer-answer.result
+    let signer = seen_signer c.args.key.now (g.S.Signer.state c.args.signer.now) (g.S.Signer.state c.answer-answer.new.signer) in
+    let how = runs.answered _ g.P.Scheme.checks c.args.words.now source sink signer c.finish.result.0 c.answer-answer.result
     c.answer-answer.ensures.ok c.answer-answer.ensures.err c.finish.ensures.text c.finish.ensures.refusal in
-    runs.done g.P.Scheme.checks c.args.words.now source sink c.finish.result.0 how
+    runs.done g.P.Scheme.checks c.args.words.now source sink signer c.finish.result.0 how
 
 pub returns-clause-read_fault : goal.returns-clause-read_fault
 returns-clause-read_fault g c =
     let source : Seen = seen g.I.Source.rest g.I.Source.faults c.args.input.now c.answer-answer.new.input in
     let sink : Seen = seen g.O.Sink.written g.O.Sink.faults c.args.output.now c.finish.new.output in
-    let how = runs.answered _ g.P.Scheme.checks c.args.words.now source sink c.finish.result.0 c.answer-answer.result
+    let signer = seen_signer c.args.key.now (g.S.Signer.state c.args.signer.now) (g.S.Signer.state c.answer-answer.new.signer) in
+    let how = runs.answered _ g.P.Scheme.checks c.args.words.now source sink signer c.finish.result.0 c.answer-answer.result
     c.answer-answer.ensures.ok c.answer-answer.ensures.err c.finish.ensures.text c.finish.ensures.refusal in
-    runs.read_fault g.P.Scheme.checks c.args.words.now source sink c.finish.result.0 how
+    runs.read_fault g.P.Scheme.checks c.args.words.now source sink signer c.finish.result.0 how
 
 pub returns-clause-no_read_fault : goal.returns-clause-no_read_fault
 returns-clause-no_read_fault g c =
     let source : Seen = seen g.I.Source.rest g.I.Source.faults c.args.input.now c.answer-answer.new.input in
     let sink : Seen = seen g.O.Sink.written g.O.Sink.faults c.args.output.now c.finish.new.output in
-    let how = runs.answered _ g.P.Scheme.checks c.args.words.now source sink c.finish.result.0 c.answer-answer.result
+    let signer = seen_signer c.args.key.now (g.S.Signer.state c.args.signer.now) (g.S.Signer.state c.answer-answer.new.signer) in
+    let how = runs.answered _ g.P.Scheme.checks c.args.words.now source sink signer c.finish.result.0 c.answer-answer.result
     c.answer-answer.ensures.ok c.answer-answer.ensures.err c.finish.ensures.text c.finish.ensures.refusal in
-    runs.no_read_fault g.P.Scheme.checks c.args.words.now source sink c.finish.result.0 how
+    runs.no_read_fault g.P.Scheme.checks c.args.words.now source sink signer c.finish.result.0 how
 
 pub returns-clause-answered : goal.returns-clause-answered
 returns-clause-answered g c =
     let source : Seen = seen g.I.Source.rest g.I.Source.faults c.args.input.now c.answer-answer.new.input in
     let sink : Seen = seen g.O.Sink.written g.O.Sink.faults c.args.output.now c.finish.new.output in
-    let how = runs.answered _ g.P.Scheme.checks c.args.words.now source sink c.finish.result.0 c.answer-answer.result
+    let signer = seen_signer c.args.key.now (g.S.Signer.state c.args.signer.now) (g.S.Signer.state c.answer-answer.new.signer) in
+    let how = runs.answered _ g.P.Scheme.checks c.args.words.now source sink signer c.finish.result.0 c.answer-answer.result
     c.answer-answer.ensures.ok c.answer-answer.ensures.err c.finish.ensures.text c.finish.ensures.refusal in
     (how.answer, how.admitted, how.ends)
 
@@ -66,3 +91,6 @@ returns-clause-usage_always g c = λ none. runs.usage_status c.answer-answer.res
 
 pub returns-clause-whole : goal.returns-clause-whole
 returns-clause-whole g c = runs.read_to_end c.answer-answer.result c.finish.result.0 _ c.answer-answer.ensures.whole c.finish.ensures.status
+
+pub returns-clause-long : goal.returns-clause-long
+returns-clause-long g c = runs.long_to_end c.answer-answer.result c.finish.result.0 _ _ c.answer-answer.ensures.long c.finish.ensures.status

@@ -14,3 +14,7 @@ returns-in-Some-Content-clause-none c = λ n.
 pub returns-in-Some-Receive-clause-none : goal.returns-in-Some-Receive-clause-none
 returns-in-Some-Receive-clause-none c =
     IfOk-weaker c.receive.result _ _ (λ o f n. no_other c.args.self.now verbs.Receive (sym c.verb.ensures ∙ c.in-Some-Receive.is ∙ ap Some c.in-Some-Receive.field-0-is) (f n)) c.receive.ensures.none
+
+pub returns-in-Some-Create-clause-none : goal.returns-in-Some-Create-clause-none
+returns-in-Some-Create-clause-none c = λ n.
+    no_other c.args.self.now verbs.Create (sym c.verb.ensures ∙ c.in-Some-Create.is ∙ ap Some c.in-Some-Create.field-0-is) (c.create.ensures.none n)

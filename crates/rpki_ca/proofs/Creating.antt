@@ -1,0 +1,212 @@
+-- Messages that are created, and why none is.
+use Rattle.std.proofs.Common.{◌≡◌, ◌≢◌, ◌≤◌, ◌<◌, ◌^◌, ◌≤ℤ◌, ◌⊎◌, inl, inr, ℕ, ℤ, Option, Some, None, Result, Ok, Err, List, [], ◌∷◌, ◌++◌, length, refl, sym, ap, subst, ◌∙◌, arith}
+use Rattle.std.specs.Prelude.{IfSome, IfOk, IsErrOf, MatchResult}
+use Rattle.std.specs.Io.KnownBytes.{Appends}
+use Rattle.std.proofs.lemmas.Bool.Decides.{leb_tells}
+use Rattle.std.proofs.lemmas.List.{append-nil}
+use Rattle.hex.specs.Hex.{encode_lower}
+use Rattle.rpki_common.specs.Causes.{Rose}
+use Rattle.rpki_base.specs.declared.algorithm.SigningAlgorithm.{SigningAlgorithm}
+use Rattle.rpki_base.specs.declared.algorithm.SigningAlgorithm.TheVariants.{RsaSha256}
+use Rattle.rpki_base.specs.Algorithm.{format_of}
+use Rattle.rpki_base.specs.PublicKey.{KeyFields}
+use Rattle.rpki_base.specs.Scheme.{Relation}
+use Rattle.rpki_der.specs.declared.mode.Mode.{Mode}
+use Rattle.rpki_der.specs.declared.mode.Mode.TheVariants.{Ber}
+use Rattle.rpki_der.specs.Takes.{BeginsAs}
+use Rattle.rpki_signer.specs.declared.errors.SigningError.TheVariants as signing
+use Rattle.rpki_signer.specs.declared.errors.SigningError.{SigningError}
+use Rattle.rpki_signer.specs.Signer.{SignerState, Holds, Lacks, IsUnfit, SigningFails}
+use Rattle.rpki_signer.proofs.Keyrings.{one_key}
+use Rattle.rpki_sigmsg.specs.declared.create_error.CreateError.{CreateError}
+use Rattle.rpki_sigmsg.specs.declared.create_error.CreateError.TheVariants as create
+use Rattle.rpki_sigmsg.specs.Checks.{IsAmong, IsBelieved}
+use Rattle.rpki_sigmsg.specs.Making.{window, HasWindow, IsCreated, IsReused, CreateFails}
+use Rattle.rpki_sigmsg.specs.Message.{MessageFields, signed_message}
+use Rattle.rpki_sigmsg.specs.Spelling.{rewritten, CanBeSpelled}
+use Rattle.rpki_ca.specs.declared.command.Command.{Command}
+use Rattle.rpki_ca.specs.declared.command.Command.TheVariants.{Content, Receive, Create}
+use Rattle.rpki_ca.specs.declared.receiving.Kind.{Kind}
+use Rattle.rpki_ca.specs.declared.receiving.Kind.TheVariants as kinds
+use Rattle.rpki_ca.specs.declared.receiving.Received.{Received}
+use Rattle.rpki_ca.specs.declared.receiving.Received.TheVariants as received
+use Rattle.rpki_ca.specs.declared.refusals.Refusal.{Refusal}
+use Rattle.rpki_ca.specs.declared.refusals.Refusal.TheVariants as refusals
+use Rattle.rpki_ca.specs.Acceptance.{ReadsAs, protocol_of, text_of, Accepted}
+use Rattle.rpki_ca.specs.Creation.{IsNoMessage, IsReceivable, AreCreated, IsSigned, IsSignersAnswer, IsCreateAnswer, Creates, CanCreate, refusal_of_create}
+use Rattle.rpki_ca.specs.Answer.{AnswersSigned, IsFromSigner, IsGiven}
+use Rattle.rpki_ca.specs.Command.{IsCreate}
+use Rattle.rpki_ca.specs.Seen.{Seen, SignerSeen, seen_signer}
+use Rattle.rpki_ca.proofs.Commands.{is_create, one_command}
+use Rattle.rpki_ca.proofs.Laws.{CreateView, create_view, one_reading}
+
+-- ---- what is made of a message
+
+-- believed, read again, and its content read as the message: received
+pub receivable : {I : Type 0} (scheme : Relation) (message : Received) (when : ℤ) (signer : SignerSeen I) (signed : MessageFields) (octets : List ℕ) → octets ≡ rewritten signed → CanBeSpelled signed
+    → ((mode : Mode) (rest : List ℕ) → CanBeSpelled signed → BeginsAs (signed_message mode) mode (rewritten signed ++ rest) signed)
+    → ((key : KeyFields) → Holds signer.before.keyring signer.id key → (moment : ℤ) → (window when).not_before ≤ℤ moment → moment ≤ℤ (window when).not_after → IsBelieved scheme signed key moment)
+    → ReadsAs (protocol_of message) signed.content message → IsReceivable scheme (protocol_of message) octets message when signer
+receivable scheme message when signer signed octets are spelled again believed reads = λ key holds keys among moment first last. record {
+  signed = signed;
+  begins = subst (λ (o : List ℕ). BeginsAs (signed_message Ber) Ber o signed) (append-nil (rewritten signed) ∙ sym are) (again Ber [] spelled);
+  believed = record { key = key; among = among; believed = believed key holds moment first last };
+  reads = reads;
+}
+
+-- ---- each refusal by its cause
+
+-- a message is of its own protocol
+pub of_protocol : (kind : Kind) (input : List ℕ) (m : Received) → ReadsAs kind input m → kind ≡ protocol_of m
+of_protocol kinds.Publication input (received.Publication m) r = refl
+
+-- a text that is too long is told so, or memory ran out
+abbrev pub TellsText : {T E : Type 0} → Received → ℤ → Result T (CreateError E) → Type 0
+TellsText message when r = HasWindow when → 2 ^ 31 < length (text_of message) → IsErrOf r create.TooLong ⊎ IsErrOf r create.OutOfMemory
+
+-- so where neither is told, it fits
+fits : {T E : Type 0} (message : Received) (when : ℤ) (r : Result T (CreateError E)) → TellsText message when r → HasWindow when → (IsErrOf r create.TooLong → ⊥) → (IsErrOf r create.OutOfMemory → ⊥) → length (text_of message) ≤ 2 ^ 31
+fits message when r tells w long memory =
+    elim (leb_tells (length (text_of message)) (2 ^ 31)) [
+      | inl within ↦ within.1
+      | inr longer ↦
+          elim (tells w longer.1) [
+            | inl t ↦ absurd (long t)
+            | inr m ↦ absurd (memory m)
+          ]
+    ]
+
+pub fits_ok : {T E : Type 0} (message : Received) (when : ℤ) (r : Result T (CreateError E)) (x : T) → r ≡ Ok x → TellsText message when r → HasWindow when → length (text_of message) ≤ 2 ^ 31
+fits_ok {T} {E} message when r x is tells w = fits message when r tells w (λ k. unlike (sym is ∙ k)) (λ k. unlike_memory (sym is ∙ k))
+  where
+    ok : Result T (CreateError E)
+    ok = Ok x
+
+    unlike : ok ≡ Err create.TooLong → ⊥
+    unlike k = cc
+
+    unlike_memory : ok ≡ Err create.OutOfMemory → ⊥
+    unlike_memory k = cc
+
+abbrev err_as : {T E : Type 0} → CreateError E → Result T (CreateError E)
+err_as e = Err e
+
+pub refused : {T I E : Type 0} (scheme : Relation) (kind : Kind) (input : List ℕ) (message : Received) (when : ℤ) (signer : SignerSeen I) (e : CreateError E) → ReadsAs kind input message → TellsText message when (err_as {T} e)
+    → CreateFails (text_of message) when signer.id signer.before signer.after e → refusal_of_create e ≢ refusals.OutOfMemory → IsCreateAnswer scheme kind input when signer (Err (refusal_of_create e))
+refused scheme kind input message when signer create.Moment r t f other = inl (record { message = message; reads = r; none = f })
+refused scheme kind input message when signer create.TooLong r t (w, inl long) other = inl (record { message = message; reads = r; window_is = w; long = long })
+refused scheme kind input message when signer create.TooLong r t (w, inr short) other = inr (record { message = message; reads = r; window_is = w; fits = short.0; signed = short.1 })
+refused {T} {I} {E} scheme kind input message when signer create.KeyReused r t f other =
+    inr (record { message = message; reads = r; window_is = f.0; fits = fits message when (err_as {T} create.KeyReused) t f.0 (λ k. long k) (λ k. memory k); signed = f.1 })
+  where
+    long : err_as {T} {E} create.KeyReused ≡ Err create.TooLong → ⊥
+    long k = cc
+
+    memory : err_as {T} {E} create.KeyReused ≡ Err create.OutOfMemory → ⊥
+    memory k = cc
+refused {T} {I} {E} scheme kind input message when signer (create.Signing error) r t f other =
+    by_signer error f.2 other (fits message when (err_as {T} (create.Signing error)) t f.0 (λ k. long k) (λ k. memory k))
+  where
+    long : err_as {T} {E} (create.Signing error) ≡ Err create.TooLong → ⊥
+    long k = cc
+
+    memory : err_as {T} {E} (create.Signing error) ≡ Err create.OutOfMemory → ⊥
+    memory k = cc
+
+    by_signer : (s : SigningError E) → SigningFails RsaSha256 signer.id signer.before signer.after s → refusal_of_create (create.Signing s) ≢ refusals.OutOfMemory → length (text_of message) ≤ 2 ^ 31
+        → IsCreateAnswer scheme kind input when signer (Err (refusal_of_create (create.Signing s)))
+    by_signer signing.KeyNotFound g n l = inr (record { message = message; reads = r; window_is = f.0; fits = l; signed = g })
+    by_signer signing.IncompatibleKey g n l = inr (record { message = message; reads = r; window_is = f.0; fits = l; signed = g })
+    by_signer (signing.Signer x) g n l = inr (record { message = message; reads = r; window_is = f.0; fits = l; signed = g })
+    by_signer signing.OutOfMemory g n l = absurd (n refl)
+refused scheme kind input message when signer create.OutOfMemory r t f other = absurd (other refl)
+
+-- ---- the line
+
+pub line_created : {I : Type 0} (scheme : Relation) (kind : Kind) (input : List ℕ) (message : Received) (when : ℤ) (signer : SignerSeen I) (octets : List ℕ) → ReadsAs kind input message → length (text_of message) ≤ 2 ^ 31
+    → AreCreated scheme (protocol_of message) message when signer octets → IsCreateAnswer scheme kind input when signer (Ok (encode_lower octets))
+line_created scheme kind input message when signer octets r l c =
+    let here = subst (λ (k : Kind). AreCreated scheme k message when signer octets) (sym (of_protocol kind input message r)) c in
+    inr (record { message = message; reads = r; window_is = c.created.window_is; fits = l; signed = record { octets = octets; created = here; written = refl } })
+
+-- ---- status 0
+
+-- a key for one use that isn't the issuing key
+drawn_other : {X : Type 0} (drawn : Option X) (key issuing : X) → drawn ≡ Some key → key ≢ issuing → drawn ≢ Some issuing
+drawn_other {X} drawn key issuing is other same = other (one (sym is ∙ same))
+  where
+    some : X → Option X
+    some x = Some x
+
+    one : some key ≡ some issuing → key ≡ issuing
+    one k = cc
+
+pub creates : {I : Type 0} (scheme : Relation) → ((kind : SigningAlgorithm) (key : KeyFields) (message signature : List ℕ) → scheme kind key message signature → key.format ≡ format_of kind)
+    → (kind : Kind) (when : ℤ) (input text : List ℕ) (signer : SignerSeen I) (sink : Seen) → IsSignersAnswer scheme kind input when signer (Ok text) → Appends sink.before sink.after (text ++ 10 ∷ []) → Creates scheme kind when input signer sink
+creates scheme fit kind when input text signer sink s w =
+    let made = s.signed.created.created in
+    record {
+      message = s.message;
+      reads = s.reads;
+      issuing = made.issuing;
+      holds = made.holds;
+      format = fit RsaSha256 made.issuing _ _ made.made.issued.signed;
+      other = drawn_other signer.after.drawn made.key made.issuing made.drawn made.other;
+      octets = s.signed.octets;
+      receivable = s.signed.created.receivable;
+      written = subst (λ (t : List ℕ). Appends sink.before sink.after (t ++ 10 ∷ [])) s.signed.written w;
+    }
+
+-- ---- nothing else, where it can be created
+
+no_pure : {I : Type 0} (kind : Kind) (when : ℤ) (input : List ℕ) (signer : SignerSeen I) (a : Result (List ℕ) Refusal) → CanCreate kind when input signer → CreateView kind input when a → ⊥
+no_pure kind when input signer a can (inl p) = p.1 can.message can.reads
+no_pure kind when input signer a can (inr (inl p)) = p.1.none can.window_is
+no_pure kind when input signer a can (inr (inr p)) =
+    never (length (text_of can.message)) (subst (λ (m : Received). 2 ^ 31 < length (text_of m)) (one_reading kind input p.1.message can.message p.1.reads can.reads) p.1.long) can.fits
+  where
+    never : (n : ℕ) → 2 ^ 31 < n → n ≤ 2 ^ 31 → ⊥
+    never n l m = omega (arith, l, m)
+
+no_signed : {I : Type 0} (scheme : Relation) (kind : Kind) (when : ℤ) (input : List ℕ) (signer : SignerSeen I) (message : Received) (r : Refusal) → CanCreate kind when input signer → IsSigned scheme kind message when signer (Err r) → ⊥
+no_signed scheme kind when input signer message refusals.TooLong can s = can.short_answers s
+no_signed scheme kind when input signer message refusals.KeyReused can s =
+    can.other s.told (s.drawn ∙ ap Some (one_key signer.before.keyring signer.id s.issuing can.issuing can.distinct s.holds can.holds))
+no_signed scheme kind when input signer message refusals.KeyNotFound can s = s can.issuing can.holds
+no_signed scheme kind when input signer message refusals.IncompatibleKey can s =
+    s.format (ap (λ (k : KeyFields). k.format) (one_key signer.before.keyring signer.id s.key can.issuing can.distinct s.holds can.holds) ∙ can.format)
+no_signed scheme kind when input signer message refusals.Signer can s = can.no_fault s
+no_signed scheme kind when input signer message refusals.Usage can s = s
+no_signed scheme kind when input signer message refusals.Hex can s = s
+no_signed scheme kind when input signer message refusals.CmsDecode can s = s
+no_signed scheme kind when input signer message refusals.XmlError can s = s
+no_signed scheme kind when input signer message (refusals.Validation n) can s = s
+no_signed scheme kind when input signer message refusals.Moment can s = s
+no_signed scheme kind when input signer message refusals.ReadFault can s = s
+no_signed scheme kind when input signer message refusals.OutOfMemory can s = s
+
+-- what the signer's answer to the command is
+signed_by : {I : Type 0} (scheme : Relation) (c : Command) (kind : Kind) (when : ℤ) (input : List ℕ) (signer : SignerSeen I) (a : Result (List ℕ) Refusal) → c ≡ Create kind when → AnswersSigned scheme c input signer a → IsSignersAnswer scheme kind input when signer a
+signed_by scheme c kind when input signer a e = rw e (λ h. h)
+
+pub from_signer : {I : Type 0} (scheme : Relation) (words : List (List ℕ)) (kind : Kind) (when : ℤ) (input : List ℕ) (signer : SignerSeen I) (a : Result (List ℕ) Refusal) → IsCreate words kind when → IsFromSigner scheme words signer input a → IsSignersAnswer scheme kind input when signer a
+from_signer scheme words kind when input signer a is f = signed_by scheme f.command kind when input signer a (one_command words f.command (Create kind when) f.is (is_create words kind when is)) f.answers
+
+pub not_refused : {I : Type 0} (scheme : Relation) (words : List (List ℕ)) (kind : Kind) (when : ℤ) (input : List ℕ) (signer : SignerSeen I) (r : Refusal) → IsCreate words kind when → CanCreate kind when input signer → IsGiven scheme words signer input (Err r) → ⊥
+not_refused scheme words kind when input signer r is can (inl a) = no_pure kind when input signer (Err r) can (create_view kind input when (Err r) (a.answers (Create kind when) (is_create words kind when is) can.short))
+not_refused scheme words kind when input signer r is can (inr a) = let s = from_signer scheme words kind when input signer (Err r) is a in no_signed scheme kind when input signer s.message r can s.signed
+
+-- a text that is given comes from the signer
+pub text_from_signer : {I : Type 0} (scheme : Relation) (words : List (List ℕ)) (kind : Kind) (when : ℤ) (input text : List ℕ) (signer : SignerSeen I) → IsCreate words kind when → IsGiven scheme words signer input (Ok text) → IsSignersAnswer scheme kind input when signer (Ok text)
+text_from_signer scheme words kind when input text signer is (inl a) =
+    elim (leb_tells (length input) (2 ^ 26)) [
+      | inl within ↦ absurd (a.answers (Create kind when) (is_create words kind when is) within.1)
+      | inr longer ↦ absurd (unlike (a.long (Create kind when) (is_create words kind when is) longer.1))
+    ]
+  where
+    ok : Result (List ℕ) Refusal
+    ok = Ok text
+
+    unlike : ok ≡ Err refusals.TooLong → ⊥
+    unlike k = cc
+text_from_signer scheme words kind when input text signer is (inr a) = from_signer scheme words kind when input signer (Ok text) is a

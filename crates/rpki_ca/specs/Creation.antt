@@ -1,0 +1,156 @@
+-- What is answered where a message is to be created, before the signer is asked and after (RFC 6492, 3.1.1; RFC 8181, 2).
+use Rattle.std.specs.Prelude.{◌≡◌, ◌≢◌, ◌≤ℤ◌, ◌<◌, ◌≤◌, ◌^◌, ◌⊎◌, ℕ, ℤ, List, [], ◌∷◌, ◌++◌, length, Option, Some, Result, Ok, Err}
+use Rattle.std.specs.Io.KnownBytes.{Appends}
+use Rattle.hex.specs.Hex.{encode_lower}
+use Rattle.rpki_common.specs.Causes.{Rose}
+use Rattle.rpki_base.specs.declared.algorithm.SigningAlgorithm.TheVariants.{RsaSha256}
+use Rattle.rpki_base.specs.Algorithm.{format_of}
+use Rattle.rpki_base.specs.PublicKey.{KeyFields}
+use Rattle.rpki_base.specs.Scheme.{Relation}
+use Rattle.rpki_signer.specs.Signer.{Holds, Lacks, AreDistinct, IsUnfit}
+use Rattle.rpki_sigmsg.specs.Checks.{IsAmong}
+use Rattle.rpki_signer.specs.declared.errors.SigningError.TheVariants as signing
+use Rattle.rpki_sigmsg.specs.declared.create_error.CreateError.{CreateError}
+use Rattle.rpki_sigmsg.specs.declared.create_error.CreateError.TheVariants as create
+use Rattle.rpki_sigmsg.specs.Making.{window, HasWindow, IsCreated, IsReused}
+use Rattle.rpki_sigmsg.specs.Message.{MessageFields}
+use Rattle.rpki_sigmsg.specs.Spelling.{rewritten}
+use Rattle.rpki_ca.specs.declared.receiving.Kind.{Kind}
+use Rattle.rpki_ca.specs.declared.receiving.Received.{Received}
+use Rattle.rpki_ca.specs.declared.refusals.Refusal.{Refusal}
+use Rattle.rpki_ca.specs.declared.refusals.Refusal.TheVariants as refusals
+use Rattle.rpki_ca.specs.Acceptance.{ReadsAs, text_of, Accepted}
+use Rattle.rpki_ca.specs.Seen.{Seen, SignerSeen}
+
+-- ---- before the signer is asked
+
+-- the input reads as no message of the kind
+abbrev pub IsNoMessage : Kind → List ℕ → Type 0
+IsNoMessage kind input = (m : Received) → ReadsAs kind input m → ⊥
+
+-- it reads as one, and the moment has no window
+pub record HasNoWindow (kind : Kind) (input : List ℕ) (when : ℤ) : Type 0 where
+  pub message : Received
+  pub reads : ReadsAs kind input message
+  pub none : HasWindow when → ⊥
+
+-- it reads as one, the moment has a window, and the message's text has more than 2^31 octets
+pub record HasLongText (kind : Kind) (input : List ℕ) (when : ℤ) : Type 0 where
+  pub message : Received
+  pub reads : ReadsAs kind input message
+  pub window_is : HasWindow when
+  pub long : 2 ^ 31 < length (text_of message)
+
+-- why nothing is created, whoever signs
+abbrev pub IsCreateRefusal : Kind → List ℕ → ℤ → Result (List ℕ) Refusal → Type 0
+IsCreateRefusal kind input when (Err refusals.XmlError) = IsNoMessage kind input
+IsCreateRefusal kind input when (Err refusals.Moment) = HasNoWindow kind input when
+IsCreateRefusal kind input when (Err refusals.TooLong) = HasLongText kind input when
+IsCreateRefusal kind input when other = ⊥
+
+-- ---- after it was asked
+
+-- The octets are accepted as the message, under every list of keys that holds the issuing key, at
+-- each second from 300 before the moment to 300 after it.
+abbrev pub IsReceivable : {Id : Type 0} → Relation → Kind → List ℕ → Received → ℤ → SignerSeen Id
+    → Type 0
+IsReceivable scheme kind octets message when signer =
+    (key : KeyFields) → Holds signer.before.keyring signer.id key
+    → (keys : List KeyFields) → IsAmong keys key
+    → (moment : ℤ) → (window when).not_before ≤ℤ moment → moment ≤ℤ (window when).not_after
+    → Accepted scheme kind octets keys moment message
+
+-- The octets are the DER of a signed message that was created with the message's text as its
+-- content, and the message is received of them.
+pub record AreCreated {Id : Type 0} (scheme : Relation) (kind : Kind) (message : Received)
+    (when : ℤ) (signer : SignerSeen Id) (octets : List ℕ) : Type 0 where
+  pub signed : MessageFields
+  pub created : IsCreated scheme (text_of message) when signer.id signer.before signer.after signed
+  pub are : octets ≡ rewritten signed
+  pub receivable : IsReceivable scheme kind octets message when signer
+
+-- the text is such octets in hexadecimal of lower case
+pub record IsTextCreated {Id : Type 0} (scheme : Relation) (kind : Kind) (message : Received)
+    (when : ℤ) (signer : SignerSeen Id) (text : List ℕ) : Type 0 where
+  pub octets : List ℕ
+  pub created : AreCreated scheme kind message when signer octets
+  pub written : text ≡ encode_lower octets
+
+-- what comes of asking the signer, each refusal by its cause
+abbrev pub IsSigned : {Id : Type 0} → Relation → Kind → Received → ℤ → SignerSeen Id
+    → Result (List ℕ) Refusal → Type 0
+IsSigned scheme kind message when signer (Ok text) =
+    IsTextCreated scheme kind message when signer text
+IsSigned scheme kind message when signer (Err refusals.TooLong) =
+    Rose signer.before.overlong signer.after.overlong
+IsSigned scheme kind message when signer (Err refusals.KeyReused) =
+    IsReused signer.id signer.before signer.after
+IsSigned scheme kind message when signer (Err refusals.KeyNotFound) =
+    Lacks signer.before.keyring signer.id
+IsSigned scheme kind message when signer (Err refusals.IncompatibleKey) =
+    IsUnfit RsaSha256 signer.before.keyring signer.id
+IsSigned scheme kind message when signer (Err refusals.Signer) =
+    Rose signer.before.faults signer.after.faults
+IsSigned scheme kind message when signer other = ⊥
+
+-- the input reads as a message whose text has at most 2^31 octets, and the moment has a window: so
+-- the signer was asked, and this came of it
+pub record IsSignersAnswer {Id : Type 0} (scheme : Relation) (kind : Kind) (input : List ℕ)
+    (when : ℤ) (signer : SignerSeen Id) (answer : Result (List ℕ) Refusal) : Type 0 where
+  pub message : Received
+  pub reads : ReadsAs kind input message
+  pub window_is : HasWindow when
+  pub fits : length (text_of message) ≤ 2 ^ 31
+  pub signed : IsSigned scheme kind message when signer answer
+
+-- what is answered where a message is to be created
+abbrev pub IsCreateAnswer : {Id : Type 0} → Relation → Kind → List ℕ → ℤ → SignerSeen Id
+    → Result (List ℕ) Refusal → Type 0
+IsCreateAnswer scheme kind input when signer answer =
+    IsCreateRefusal kind input when answer
+    ⊎ IsSignersAnswer scheme kind input when signer answer
+
+-- how an error of creation is answered
+abbrev pub refusal_of_create : {E : Type 0} → CreateError E → Refusal
+refusal_of_create create.Moment = refusals.Moment
+refusal_of_create create.TooLong = refusals.TooLong
+refusal_of_create create.KeyReused = refusals.KeyReused
+refusal_of_create (create.Signing signing.KeyNotFound) = refusals.KeyNotFound
+refusal_of_create (create.Signing signing.IncompatibleKey) = refusals.IncompatibleKey
+refusal_of_create (create.Signing (signing.Signer error)) = refusals.Signer
+refusal_of_create (create.Signing signing.OutOfMemory) = refusals.OutOfMemory
+refusal_of_create create.OutOfMemory = refusals.OutOfMemory
+
+-- ---- at the end of a call
+
+-- The input reads as a message, the signer holds the issuing key, which it did not give for one
+-- use, and what was written is the hexadecimal of octets of which the message is received.
+pub record Creates {Id : Type 0} (scheme : Relation) (kind : Kind) (when : ℤ) (input : List ℕ)
+    (signer : SignerSeen Id) (sink : Seen) : Type 0 where
+  pub message : Received
+  pub reads : ReadsAs kind input message
+  pub issuing : KeyFields
+  pub holds : Holds signer.before.keyring signer.id issuing
+  pub format : issuing.format ≡ format_of RsaSha256
+  pub other : signer.after.drawn ≢ Some issuing
+  pub octets : List ℕ
+  pub receivable : IsReceivable scheme kind octets message when signer
+  pub written : Appends sink.before sink.after (encode_lower octets ++ 10 ∷ [])
+
+-- The input has at most 2^26 octets and reads as a message whose text has at most 2^31, the moment
+-- has a window, the signer, whose identifiers are distinct, holds a fitting key, and it neither
+-- failed nor gave too many octets, nor that key for one use.
+pub record CanCreate {Id : Type 0} (kind : Kind) (when : ℤ) (input : List ℕ)
+    (signer : SignerSeen Id) : Type 0 where
+  pub short : length input ≤ 2 ^ 26
+  pub message : Received
+  pub reads : ReadsAs kind input message
+  pub window_is : HasWindow when
+  pub fits : length (text_of message) ≤ 2 ^ 31
+  pub issuing : KeyFields
+  pub holds : Holds signer.before.keyring signer.id issuing
+  pub distinct : AreDistinct signer.before.keyring
+  pub format : issuing.format ≡ format_of RsaSha256
+  pub no_fault : Rose signer.before.faults signer.after.faults → ⊥
+  pub short_answers : Rose signer.before.overlong signer.after.overlong → ⊥
+  pub other : Rose signer.before.reused signer.after.reused → signer.after.drawn ≢ Some issuing

@@ -1,0 +1,111 @@
+//! The command `create`.
+
+ghost use Rattle.std.specs.Prelude.{◌≡◌, ◌≢◌, ◌++◌, ◌∷◌, [], ◌⊎◌, ◌<◌, ◌^◌, length, Ok, Err};
+ghost use Rattle.std.specs.Prelude.{IfOk, IfErr, IsErrOf, MatchResult};
+ghost use Rattle.hex.specs.Hex.{encode_lower};
+ghost use Rattle.rpki_signer.specs.Limits.{Keeps};
+ghost use Rattle.rpki_sigmsg.specs.Making.{HasWindow, CreateFails};
+ghost use Rattle.rpki_sigmsg.specs.declared.create_error.CreateError.TheVariants as create;
+ghost use Rattle.rpki_ca.specs.Acceptance.{ReadsAs, protocol_of, text_of};
+ghost use Rattle.rpki_ca.specs.Answer.{IsLineOf};
+ghost use Rattle.rpki_ca.specs.Creation.{AreCreated, IsCreateAnswer, IsNoMessage};
+ghost use Rattle.rpki_ca.specs.Creation.{refusal_of_create};
+ghost use Rattle.rpki_ca.specs.Seen.{seen_signer};
+
+use crate::receiving::{Kind, Received};
+use crate::refusals::Refusal;
+use bytes::Bytes;
+use rpki_base::{Scheme, Time};
+use rpki_common::OutOfMemory;
+use rpki_publication::{Error, Message, PublicationCms};
+use rpki_sigmsg::CreateError;
+use rpki_signer::{Signer, SigningError};
+use std::alloc::Global;
+
+impl<E: Drop> From<CreateError<E>> for Refusal {
+    ghost from_gives = { λ error e. e ≡ refusal_of_create error };
+
+    fn from(error: CreateError<E>) -> Refusal {
+        match error {
+            CreateError::Moment => Refusal::Moment,
+            CreateError::TooLong => Refusal::TooLong,
+            CreateError::KeyReused => Refusal::KeyReused,
+            CreateError::Signing(SigningError::KeyNotFound) => Refusal::KeyNotFound,
+            CreateError::Signing(SigningError::IncompatibleKey) => Refusal::IncompatibleKey,
+            CreateError::Signing(SigningError::Signer(_)) => Refusal::Signer,
+            CreateError::Signing(SigningError::OutOfMemory) => Refusal::OutOfMemory,
+            CreateError::OutOfMemory => Refusal::OutOfMemory,
+        }
+    }
+}
+
+// The message of this kind that the input reads as.
+fn message_in(alloc: Global, kind: Kind, input: &[u8]) -> Result<Received, Refusal>
+    ensures ok { IfOk result (λ m. ReadsAs kind input.now m) }
+    ensures err { IfErr result (λ e. e ≢ Refusal.OutOfMemory
+        → (e ≡ Refusal.XmlError) × IsNoMessage kind input.now) }
+{
+    match kind {
+        Kind::Publication => match Message::decode_slice(alloc, input) {
+            Ok(message) => Ok(Received::Publication(message)),
+            Err(Error::OutOfMemory) => Err(Refusal::OutOfMemory),
+            Err(_) => Err(Refusal::XmlError),
+        },
+    }
+}
+
+// The octets of a signed message with this message.
+fn signed_octets<P: Scheme, S: Signer<P>>(
+    alloc: Global,
+    message: Received,
+    when: Time,
+    key: &S::KeyId,
+    signer: &mut S,
+) -> Result<Bytes, CreateError<S::Error>>
+    ensures created { MatchResult result
+        (AreCreated P.checks (protocol_of message) message when
+        (seen_signer key.now (S.state signer.old) (S.state signer.new)))
+        (CreateFails (text_of message) when key.now
+        (S.state signer.old) (S.state signer.new)) }
+    ensures too_long { HasWindow when → 2 ^ 31 < length (text_of message)
+        → IsErrOf result create.TooLong ⊎ IsErrOf result create.OutOfMemory }
+    ensures keeps { Keeps (S.state signer.old) (S.state signer.new) }
+{
+    match message {
+        Received::Publication(message) => {
+            let cms = PublicationCms::create(alloc, message, when, key, signer)?;
+            Ok(cms.to_bytes(alloc)?)
+        }
+    }
+}
+
+// The octets in hexadecimal of lower case, and a line feed.
+fn hexadecimal_line(alloc: Global, octets: &[u8]) -> Result<Vec<u8>, OutOfMemory>
+    ensures { IfOk result (λ line. line.items ≡ encode_lower octets.now ++ 10 ∷ []) }
+{
+    let mut line = hex::encode(alloc, octets)?.into_bytes();
+    line.push(b'\n')?;
+    Ok(line)
+}
+
+/// The signed message that is made at the moment with the message that the input is, in hexadecimal,
+/// and a line feed.
+pub(crate) fn create_line<P: Scheme, S: Signer<P>>(
+    alloc: Global,
+    kind: Kind,
+    input: &[u8],
+    when: Time,
+    key: &S::KeyId,
+    signer: &mut S,
+) -> Result<Vec<u8>, Refusal>
+    ensures ok { IfOk result (λ line. IsLineOf (IsCreateAnswer P.checks kind input.now when
+        (seen_signer key.now (S.state signer.old) (S.state signer.new))) line.items) }
+    ensures err { IfErr result (λ e. e ≢ Refusal.OutOfMemory
+        → IsCreateAnswer P.checks kind input.now when
+        (seen_signer key.now (S.state signer.old) (S.state signer.new)) (Err e)) }
+    ensures keeps { Keeps (S.state signer.old) (S.state signer.new) }
+{
+    let message = message_in(alloc, kind, input)?;
+    let octets = signed_octets(alloc, message, when, key, signer)?;
+    Ok(hexadecimal_line(alloc, octets.as_slice())?)
+}
