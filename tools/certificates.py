@@ -26,6 +26,9 @@ A line is `NAME MODE OCTETS STEP..`, with the steps of tools/stored.py; MODE is 
         whether the list has the number, and whether an empty one has it; whether this is the last entry
     crl_check,FORMAT MOMENT
         ok, or the number of the failing check, where every signature holds under a key of its format, which is 0 or 1
+    made_anchor,'0/FIRST/LAST made_entity,'NUMBER/FIRST/LAST
+        what is written of the certificate that the toy signer of seed 1 makes with its key number 0, of itself or of the key with this
+        number, whatever the octets are
     toy_signature,NUMBER toy_holds,KIND FORMAT NUMBER SIGNATURE
         the bits of the key with this number and its signature of the octets; whether a signature holds under a key of this format
 """
@@ -35,8 +38,8 @@ import itertools
 from types import SimpleNamespace
 
 from messages import (
-    ALGORITHM, AUTHORITY_KEY, BASIC_CONSTRAINTS, FIRST, LAST, NOW, NULL, RSA, RSA_SHA256, SUBJECT_KEY, bits, indefinite,
-    integer, key_bits,
+    ALGORITHM, AUTHORITY_KEY, BASIC_CONSTRAINTS, FIRST, LAST, NOW, NULL, RSA, RSA_SHA256, SUBJECT_KEY, bits, drawn_serial,
+    indefinite, integer, key_bits,
     key_identifier, name, octet_string, oid, overlong, seq, sign, time, value)
 from stored import DONE, MALFORMED, SIZES, step, terms, write
 from values import EC, P256, attribute, relative
@@ -541,9 +544,23 @@ def toy_cases():
             step("toy_holds", holds, argument=bytes([kind, form, number]) + signature))
 
 
+def made_lines():
+    """What is made is what these fields are written as, read again, and believed in its validity."""
+    last = NOW + 60
+    anchor = options_of(constraints=True, issuer=name(1, 0), subject=name(1, 0), key=0, validity=(NOW, last))
+    yield line("made-anchor", "both", certificate(anchor), step("made_anchor", certificate(anchor), argument=f"0/{NOW}/{last}"),
+        step("decoded", *fields(anchor)), step("anchor", *failing("verification", 4), argument=f"1/0/{NOW - 1}"),
+        *[step("anchor", DONE, argument=f"1/0/{moment}") for moment in (NOW, last)],
+        step("anchor", *failing("verification", 4), argument=f"1/0/{last + 1}"))
+    entity = options_of(serial=drawn_serial(1, 1), key=9, subject=name(1, 9), authority=key_identifier(1, 0), validity=(NOW, last))
+    yield line("made-entity", "both", certificate(entity), step("made_entity", certificate(entity), argument=f"9/{NOW}/{last}"),
+        step("decoded", *fields(entity)), step("named", True, argument=f"1/0/{NOW}"), step("named", 7, argument=f"1/9/{NOW}"),
+        *[step("end_entity", DONE, argument=f"1/0/{moment}") for moment in (NOW, last)])
+
+
 def lines():
     for cases in (good_cases, extension_cases, malformed_cases, ber_cases, size_cases, check_cases, elsewhere_cases, crl_cases,
-            toy_cases):
+            toy_cases, made_lines):
         yield from cases()
 
 

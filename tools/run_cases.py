@@ -4,8 +4,8 @@
     tools/run_cases.py               writes the rows of this script, and keeps the sets of cases that the file has
     tools/run_cases.py SET FOLDER    takes a set anew from a folder of cases
 
-The cases of a set are named SET-N. There are three: `ber`, messages with one CRL under one key in all spellings, and commands; `two`,
-messages with one or two CRLs under one to eight keys; and `made`, messages that `create` makes. A case of a folder is case-N.words (one word a line), case-N.in (the
+The cases of a set are named SET-N. There are four: `ber`, messages with one CRL under one key in all spellings, and commands; `two`,
+messages with one or two CRLs under one to eight keys; `made`, messages that `create` makes; and `set`, setup messages. A case of a folder is case-N.words (one word a line), case-N.in (the
 input) and case-N.expected (the status in decimal, a line feed, then what is written); they come from a model that was written
 apart. The rows of this script are made of examples/query-list.hex, of examples/content.hex and of what stands here. No expected
 answer comes from the program under test.
@@ -18,7 +18,7 @@ Or a line is `NAME CALL ANSWER WORD..`: what words say by themselves.
     words       how many they are, whether there is none, and each
     moment      the seconds that the word at 1 names, or `none`
     key         the format and the bits of the key that the word at 0 spells, or `none`
-    command     `content`, or kind, seconds and keys, or `create`, kind and seconds, or `none`
+    command     `content`, or kind, seconds and keys, or `create` or `setup`, kind and seconds, or `none`
 
 Or it is `NAME faults ANSWER READ WRITE ROOM INPUT WORD..`: READ and WRITE say how many octets a call gives or takes, and behind a `/`
 which call fails, from 0; ROOM is how many octets the sink has room for. ANSWER is the status, what is written in hexadecimal, and
@@ -41,8 +41,9 @@ ROOT = pathlib.Path(__file__).resolve().parent.parent
 CRATE = ROOT / "crates" / "run_cases"
 INPUT = (ROOT / "examples" / "query-list.hex").read_bytes()
 CONTENT_INPUT = (ROOT / "examples" / "content.hex").read_bytes()
-SETS = "ber", "two", "made"
+SETS = "ber", "two", "made", "set"
 
+SETUP_MESSAGES = "child_request", "parent_response", "publisher_request", "repository_response"
 MOMENT = "1700000000"
 KEY = "3022300d06092a864886f70d010101050003110000000000000000010000000000000000"
 OTHER_KEY = KEY[:-2] + "09"
@@ -224,6 +225,15 @@ def create_rows():
         yield f"create-{label}", words, QUERY, USAGE
 
 
+def setup_rows():
+    """Words of `setup` that are none, and inputs that are no setup message."""
+    for label, words in (("alone", ("setup",)), ("without-moment", ("setup", "child_request")), ("at-no-moment", ("setup", "child_request", "01")),
+                         ("of-no-message", ("setup", "child", MOMENT)), ("of-four-words", ("setup", "child_request", MOMENT, KEY))):
+        yield f"setup-{label}", words, QUERY, USAGE
+    for kind in SETUP_MESSAGES:
+        yield f"no-{kind}", ("setup", kind, MOMENT), QUERY, XML_ERROR
+
+
 def content_rows():
     digits = CONTENT_A.encode()
     changed_digits = digits.replace(b"03040161", b"03040162")
@@ -286,6 +296,8 @@ def commands():
     yield "command-of-two-keys", "command", receive(KEY, KEY, moment="1"), f"publication/1/{bits_of(0)}/{bits_of(0)}"
     yield "command-content", "command", ("content",), "content"
     yield "command-create", "command", create("7"), "create/publication/7"
+    for kind in SETUP_MESSAGES:
+        yield f"command-setup-{kind}", "command", ("setup", kind, "7"), f"setup/{kind}/7"
     yield "no-command", "command", ("contents",), "none"
 
 
@@ -358,7 +370,8 @@ def case(name, words, given, status, written):
 
 
 def rows():
-    for row in (*moment_rows(), *key_rows(), *list_rows(), *word_rows(), *input_rows(), *crl_rows(), *create_rows(), *content_rows(),
+    for row in (*moment_rows(), *key_rows(), *list_rows(), *word_rows(), *input_rows(), *crl_rows(), *create_rows(), *setup_rows(),
+                *content_rows(),
                 *built_rows()):
         name, words, given, (status, text) = row
         yield case(name, words, given, status, text + b"\n")

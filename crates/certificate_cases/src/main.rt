@@ -7,6 +7,7 @@
 
 mod checking;
 mod crls;
+mod making;
 mod reading;
 mod shown;
 mod signing;
@@ -31,6 +32,9 @@ fn of_octets(
         return Some(answer);
     }
     if let Some(answer) = signing::answer(alloc, mode, octets, step) {
+        return Some(answer);
+    }
+    if let Some(answer) = making::answer(alloc, step) {
         return Some(answer);
     }
     checking::answer(alloc, mode, octets, step)

@@ -2,7 +2,7 @@
 use Rattle.std.proofs.Common.{◌≡◌, ◌≢◌, ◌<◌, ◌≤◌, ◌^◌, ◌⊎◌, ℕ, inl, inr, Option, Some, None, Result, Ok, Err, List, length, refl, sym, ap, subst, ◌∙◌, arith}
 use Rattle.std.specs.Prelude.{IfSome, IfOk, IfErr, IsErrOf}
 use Rattle.rpki_ca.specs.declared.command.Command.{Command}
-use Rattle.rpki_ca.specs.declared.command.Command.TheVariants.{Content, Receive, Create}
+use Rattle.rpki_ca.specs.declared.command.Command.TheVariants.{Content, Receive, Create, Setup}
 use Rattle.rpki_ca.specs.declared.refusals.Refusal.{Refusal}
 use Rattle.rpki_ca.specs.declared.refusals.Refusal.TheVariants as refusals
 use Rattle.rpki_ca.specs.Command.{IsCommand, IsNoCommand}
@@ -74,11 +74,13 @@ no_usage scheme c None said = never said
 no_usage scheme Content (Some octets) said = said
 no_usage scheme (Receive kind when keys) (Some octets) said = said
 no_usage scheme (Create kind when) (Some octets) said = said
+no_usage scheme (Setup kind when) (Some octets) said = said
 
 no_usage_signed : {I : Type 0} (scheme : Relation) (c : Command) (input : List ℕ) (signer : SignerSeen I) → AnswersSigned scheme c input signer (Err refusals.Usage) → ⊥
 no_usage_signed scheme Content input signer said = said
 no_usage_signed scheme (Receive kind when keys) input signer said = said
 no_usage_signed scheme (Create kind when) input signer said = said.signed
+no_usage_signed scheme (Setup kind when) input signer said = said
 
 no_fault : (scheme : Relation) (c : Command) (o : Option (List ℕ)) → AnswersSpelled scheme c o (Err refusals.ReadFault) → ⊥
 no_fault scheme c None said = never said
@@ -88,11 +90,13 @@ no_fault scheme c None said = never said
 no_fault scheme Content (Some octets) said = said
 no_fault scheme (Receive kind when keys) (Some octets) said = said
 no_fault scheme (Create kind when) (Some octets) said = said
+no_fault scheme (Setup kind when) (Some octets) said = said
 
 no_fault_signed : {I : Type 0} (scheme : Relation) (c : Command) (input : List ℕ) (signer : SignerSeen I) → AnswersSigned scheme c input signer (Err refusals.ReadFault) → ⊥
 no_fault_signed scheme Content input signer said = said
 no_fault_signed scheme (Receive kind when keys) input signer said = said
 no_fault_signed scheme (Create kind when) input signer said = said.signed
+no_fault_signed scheme (Setup kind when) input signer said = said
 
 performs_no_usage : {I : Type 0} (scheme : Relation) (c : Command) (input : List ℕ) (signer : SignerSeen I) → Performs scheme c input signer (Err refusals.Usage) → ⊥
 performs_no_usage scheme c input signer (inl said) = no_usage scheme c (octets_in c input) said
@@ -159,6 +163,20 @@ sort_of refusals.TooLong = other_than refusals.TooLong (λ k. a k) (λ k. b k)
 
     b : status_of refusals.TooLong ≡ 12 → ⊥
     b k = cc
+sort_of refusals.InvalidTaCertEncoding = other_than refusals.InvalidTaCertEncoding (λ k. a k) (λ k. b k)
+  where
+    a : status_of refusals.InvalidTaCertEncoding ≡ 10 → ⊥
+    a k = cc
+
+    b : status_of refusals.InvalidTaCertEncoding ≡ 12 → ⊥
+    b k = cc
+sort_of refusals.InvalidTaCert = other_than refusals.InvalidTaCert (λ k. a k) (λ k. b k)
+  where
+    a : status_of refusals.InvalidTaCert ≡ 10 → ⊥
+    a k = cc
+
+    b : status_of refusals.InvalidTaCert ≡ 12 → ⊥
+    b k = cc
 sort_of refusals.KeyNotFound = other_than refusals.KeyNotFound (λ k. a k) (λ k. b k)
   where
     a : status_of refusals.KeyNotFound ≡ 10 → ⊥
@@ -203,6 +221,8 @@ by_shown scheme words source signer refusals.Usage f m s = s
 by_shown scheme words source signer refusals.Hex f m s = s
 by_shown scheme words source signer refusals.CmsDecode f m s = s
 by_shown scheme words source signer refusals.XmlError f m s = s
+by_shown scheme words source signer refusals.InvalidTaCertEncoding f m s = s
+by_shown scheme words source signer refusals.InvalidTaCert f m s = s
 by_shown scheme words source signer (refusals.Validation n) f m s = s
 by_shown scheme words source signer refusals.TooLong f m s = s
 by_shown scheme words source signer refusals.KeyNotFound f m s = s
@@ -219,6 +239,8 @@ to_shown scheme words source signer refusals.Usage f m s = s
 to_shown scheme words source signer refusals.Hex f m s = s
 to_shown scheme words source signer refusals.CmsDecode f m s = s
 to_shown scheme words source signer refusals.XmlError f m s = s
+to_shown scheme words source signer refusals.InvalidTaCertEncoding f m s = s
+to_shown scheme words source signer refusals.InvalidTaCert f m s = s
 to_shown scheme words source signer (refusals.Validation n) f m s = s
 to_shown scheme words source signer refusals.TooLong f m s = s
 to_shown scheme words source signer refusals.KeyNotFound f m s = s

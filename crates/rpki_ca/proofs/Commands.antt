@@ -13,8 +13,11 @@ use Rattle.rpki_ca.specs.declared.receiving.Kind.TheVariants.{Publication}
 use Rattle.rpki_ca.specs.declared.command.Verb.{Verb}
 use Rattle.rpki_ca.specs.declared.command.Verb.TheVariants as verbs
 use Rattle.rpki_ca.specs.declared.command.Command.{Command}
-use Rattle.rpki_ca.specs.declared.command.Command.TheVariants.{Content, Receive, Create}
+use Rattle.rpki_ca.specs.declared.command.Command.TheVariants.{Content, Receive, Create, Setup}
+use Rattle.rpki_ca.specs.declared.setup_message.SetupKind.{SetupKind}
+use Rattle.rpki_ca.specs.declared.setup_message.SetupKind.TheVariants as setup
 use Rattle.rpki_ca.specs.Words.{IsMoment, IsMomentAt, key_of, key_at}
+use Rattle.rpki_ca.specs.Command.{setup_kind_word, setup_kind_of, setup_kind_at, IsSetup, AskToSetUp}
 use Rattle.rpki_ca.specs.Command.{kind_word, kind_of, kind_at, verb_word, verb_of, verb_in, AreKeys, IsReceive, IsCreate, AreNoCreate, AsksSigner, AskToReceive, AskToCreate, Ask, IsCommand, IsNoCommand, AskInVain, HasFewKeys}
 
 abbrev some_word : List ℕ → Option (List ℕ)
@@ -60,16 +63,23 @@ named_kind word Publication e = cases (bytes_eq word (codes "publication")) refl
 named_verb : (word : List ℕ) (verb : Verb) → verb_of word ≡ Some verb → word ≡ verb_word verb
 named_verb word verb e = first (bytes_eq word (verb_word verbs.Content)) refl e
   where
-    -- from the third verb on, and from the second
+    -- from the fourth verb on, from the third, and from the second
+    fourth_on : Option Verb
+    fourth_on = if bytes_eq word (verb_word verbs.Setup) then Some verbs.Setup else None
+
     third_on : Option Verb
-    third_on = if bytes_eq word (verb_word verbs.Create) then Some verbs.Create else None
+    third_on = if bytes_eq word (verb_word verbs.Create) then Some verbs.Create else fourth_on
 
     second_on : Option Verb
     second_on = if bytes_eq word (verb_word verbs.Receive) then Some verbs.Receive else third_on
 
-    third : (b : Bool) → bytes_eq word (verb_word verbs.Create) ≡ b → (if b then Some verbs.Create else None) ≡ some_verb verb → word ≡ verb_word verb
+    fourth : (b : Bool) → bytes_eq word (verb_word verbs.Setup) ≡ b → (if b then Some verbs.Setup else None) ≡ some_verb verb → word ≡ verb_word verb
+    fourth true t e = let same : verbs.Setup ≡ verb = cc in (bytes_eq-Decides word (verb_word verbs.Setup)).0 t ∙ ap verb_word same
+    fourth false t e = cc
+
+    third : (b : Bool) → bytes_eq word (verb_word verbs.Create) ≡ b → (if b then Some verbs.Create else fourth_on) ≡ some_verb verb → word ≡ verb_word verb
     third true t e = let same : verbs.Create ≡ verb = cc in (bytes_eq-Decides word (verb_word verbs.Create)).0 t ∙ ap verb_word same
-    third false t e = cc
+    third false t e = fourth (bytes_eq word (verb_word verbs.Setup)) refl e
 
     second : (b : Bool) → bytes_eq word (verb_word verbs.Receive) ≡ b → (if b then Some verbs.Receive else third_on) ≡ some_verb verb → word ≡ verb_word verb
     second true t e = let same : verbs.Receive ≡ verb = cc in (bytes_eq-Decides word (verb_word verbs.Receive)).0 t ∙ ap verb_word same
@@ -95,6 +105,7 @@ unfolding ◌>>=◌
 ask_with verbs.Content words c a = ap verb_in a.0
 ask_with verbs.Receive words c a = ap verb_in a.receive.are
 ask_with verbs.Create words c a = ap verb_in a.create.are
+ask_with verbs.Setup words c a = ap verb_in a.setup_words.are
 
 one_verb : (words : List (List ℕ)) (v w : Verb) → verb_in words ≡ Some v → verb_in words ≡ Some w → v ≡ w
 one_verb words v w a b = same (sym a ∙ b)
@@ -319,6 +330,79 @@ created words kind when e l k m =
       is = refl;
     }
 
+-- ---- `setup`
+
+same_setup_kind : (kind : SetupKind) → setup_kind_of (setup_kind_word kind) ≡ Some kind
+same_setup_kind setup.ChildRequest = refl
+same_setup_kind setup.ParentResponse = refl
+same_setup_kind setup.PublisherRequest = refl
+same_setup_kind setup.RepositoryResponse = refl
+
+abbrev some_setup : SetupKind → Option SetupKind
+some_setup k = Some k
+
+named_setup : (word : List ℕ) (kind : SetupKind) → some_setup kind ≡ setup_kind_of word → word ≡ setup_kind_word kind
+named_setup word kind e = first (bytes_eq word (setup_kind_word setup.ChildRequest)) refl e
+  where
+    fourth_on : Option SetupKind
+    fourth_on = if bytes_eq word (setup_kind_word setup.RepositoryResponse) then Some setup.RepositoryResponse else None
+
+    third_on : Option SetupKind
+    third_on = if bytes_eq word (setup_kind_word setup.PublisherRequest) then Some setup.PublisherRequest else fourth_on
+
+    second_on : Option SetupKind
+    second_on = if bytes_eq word (setup_kind_word setup.ParentResponse) then Some setup.ParentResponse else third_on
+
+    fourth : (b : Bool) → bytes_eq word (setup_kind_word setup.RepositoryResponse) ≡ b → some_setup kind ≡ (if b then Some setup.RepositoryResponse else None) → word ≡ setup_kind_word kind
+    fourth true t e = let same : setup.RepositoryResponse ≡ kind = cc in (bytes_eq-Decides word (setup_kind_word setup.RepositoryResponse)).0 t ∙ ap setup_kind_word same
+    fourth false t e = cc
+
+    third : (b : Bool) → bytes_eq word (setup_kind_word setup.PublisherRequest) ≡ b → some_setup kind ≡ (if b then Some setup.PublisherRequest else fourth_on) → word ≡ setup_kind_word kind
+    third true t e = let same : setup.PublisherRequest ≡ kind = cc in (bytes_eq-Decides word (setup_kind_word setup.PublisherRequest)).0 t ∙ ap setup_kind_word same
+    third false t e = fourth (bytes_eq word (setup_kind_word setup.RepositoryResponse)) refl e
+
+    second : (b : Bool) → bytes_eq word (setup_kind_word setup.ParentResponse) ≡ b → some_setup kind ≡ (if b then Some setup.ParentResponse else third_on) → word ≡ setup_kind_word kind
+    second true t e = let same : setup.ParentResponse ≡ kind = cc in (bytes_eq-Decides word (setup_kind_word setup.ParentResponse)).0 t ∙ ap setup_kind_word same
+    second false t e = third (bytes_eq word (setup_kind_word setup.PublisherRequest)) refl e
+
+    first : (b : Bool) → bytes_eq word (setup_kind_word setup.ChildRequest) ≡ b → some_setup kind ≡ (if b then Some setup.ChildRequest else second_on) → word ≡ setup_kind_word kind
+    first true t e = let same : setup.ChildRequest ≡ kind = cc in (bytes_eq-Decides word (setup_kind_word setup.ChildRequest)).0 t ∙ ap setup_kind_word same
+    first false t e = second (bytes_eq word (setup_kind_word setup.ParentResponse)) refl e
+
+pub not_three_to_set_up : (words : List (List ℕ)) → (length words ≡ 3 → ⊥) → AskInVain verbs.Setup words
+not_three_to_set_up words other c a = other (ap length a.setup_words.are)
+
+pub no_kind_to_set_up : (words : List (List ℕ)) → None ≡ setup_kind_at words 1 → AskInVain verbs.Setup words
+unfolding ◌>>=◌
+no_kind_to_set_up words none c a =
+    let k : None ≡ Some a.kind = subst (λ (ws : List (List ℕ)). None ≡ setup_kind_at ws 1) a.setup_words.are none ∙ same_setup_kind a.kind in absurd (never k)
+  where
+    never : None ≡ Some a.kind → ⊥
+    never k = cc
+
+pub no_moment_to_set_up : (words : List (List ℕ)) → ((when : ℤ) → IsMomentAt words 2 when → ⊥) → AskInVain verbs.Setup words
+no_moment_to_set_up words none c a =
+    none a.when (record { word = a.setup_words.moment_word; stands = ap (λ (ws : List (List ℕ)). slice_get ws 2) a.setup_words.are; moment = a.setup_words.moment })
+
+pub set_up : (words : List (List ℕ)) (kind : SetupKind) (when : ℤ) → verb_in words ≡ Some verbs.Setup → length words ≡ 3 → Some kind ≡ setup_kind_at words 1 → IsMomentAt words 2 when → Ask verbs.Setup words (Setup kind when)
+unfolding ◌>>=◌
+set_up words kind when e l k m =
+    let f = begin_with words verbs.Setup e in
+    let w = just_three words (codes "setup") f.rest f.are l in
+    let b : w.0 ≡ setup_kind_word kind = named_setup w.0 kind (k ∙ ap (λ (ws : List (List ℕ)). setup_kind_at ws 1) w.2) in
+    let third : some_word m.word ≡ some_word w.1 = sym m.stands ∙ ap (λ (ws : List (List ℕ)). slice_get ws 2) w.2 in
+    let same : m.word ≡ w.1 = cc in
+    record {
+      kind = kind;
+      when = when;
+      setup_words = record {
+        moment_word = w.1;
+        are = w.2 ∙ ap (λ (x : List ℕ). codes "setup" ∷ x ∷ w.1 ∷ []) b;
+        moment = subst (λ (w : List ℕ). IsMoment w when) same m.moment;
+      };
+      is = refl;
+    }
+
 -- ---- one command
 
 one_moment : (word : List ℕ) (a b : ℤ) → IsMoment word a → IsMoment word b → a ≡ b
@@ -355,10 +439,20 @@ one_create words a b s t p q =
     let ab : a ≡ b = one_kind a b in
     rw (ab, st) refl
 
+one_setup : (words : List (List ℕ)) (a b : SetupKind) (s t : ℤ) → IsSetup words a s → IsSetup words b t → Setup a s ≡ Setup b t
+one_setup words a b s t p q =
+    let moment : p.moment_word ≡ q.moment_word = same_at 2 p.moment_word q.moment_word _ _ (sym p.are ∙ q.are) refl refl in
+    let st : s ≡ t = one_moment q.moment_word s t (subst (λ (w : List ℕ). IsMoment w s) moment p.moment) q.moment in
+    let word : setup_kind_word a ≡ setup_kind_word b = same_at 1 (setup_kind_word a) (setup_kind_word b) _ _ (sym p.are ∙ q.are) refl refl in
+    let some : some_setup a ≡ some_setup b = sym (same_setup_kind a) ∙ ap setup_kind_of word ∙ same_setup_kind b in
+    let ab : a ≡ b = cc in
+    rw (ab, st) refl
+
 asked_once : (verb : Verb) (words : List (List ℕ)) (c d : Command) → Ask verb words c → Ask verb words d → c ≡ d
 asked_once verbs.Content words c d p q = p.1 ∙ sym q.1
 asked_once verbs.Receive words c d p q = p.is ∙ one_receive words p.kind q.kind p.when q.when p.keys q.keys p.receive q.receive ∙ sym q.is
 asked_once verbs.Create words c d p q = p.is ∙ one_create words p.kind q.kind p.when q.when p.create q.create ∙ sym q.is
+asked_once verbs.Setup words c d p q = p.is ∙ one_setup words p.kind q.kind p.when q.when p.setup_words q.setup_words ∙ sym q.is
 
 pub one_command : (words : List (List ℕ)) (c d : Command) → IsCommand words c → IsCommand words d → c ≡ d
 one_command words c d p q =
@@ -373,6 +467,9 @@ is_command words kind when keys r = record { verb = verbs.Receive; ask = record 
 pub is_create : (words : List (List ℕ)) (kind : Kind) (when : ℤ) → IsCreate words kind when → IsCommand words (Create kind when)
 is_create words kind when r = record { verb = verbs.Create; ask = record { kind = kind; when = when; create = r; is = refl } }
 
+pub is_setup : (words : List (List ℕ)) (kind : SetupKind) (when : ℤ) → IsSetup words kind when → IsCommand words (Setup kind when)
+is_setup words kind when r = record { verb = verbs.Setup; ask = record { kind = kind; when = when; setup_words = r; is = refl } }
+
 -- what asks for a signer is `create`
 pub asks_signer : (words : List (List ℕ)) (c : Command) → IsCommand words c → AsksSigner c → AreNoCreate words → ⊥
 asks_signer words c a asks none = by_verb a.verb a.ask
@@ -381,6 +478,7 @@ asks_signer words c a asks none = by_verb a.verb a.ask
     by_verb verbs.Content p = subst AsksSigner p.1 asks
     by_verb verbs.Receive p = subst AsksSigner p.is asks
     by_verb verbs.Create p = none p.kind p.when p.create
+    by_verb verbs.Setup p = subst AsksSigner p.is asks
 
 pub has_few : (words : List (List ℕ)) (c : Command) → IsCommand words c → HasFewKeys c
 has_few words c a = by_verb a.verb a.ask
@@ -391,3 +489,4 @@ has_few words c a = by_verb a.verb a.ask
         let n : length p.receive.key_words ≡ length p.keys = same_count key_of some_key p.receive.key_words p.keys p.receive.spell in
         subst HasFewKeys (sym p.is) (omega (arith, n, p.receive.some), omega (arith, n, p.receive.few))
     by_verb verbs.Create p = subst HasFewKeys (sym p.is) tt
+    by_verb verbs.Setup p = subst HasFewKeys (sym p.is) tt

@@ -18,7 +18,7 @@ use Rattle.rpki_sigmsg.proofs.HeldMessages.{message_held}
 use Rattle.rpki_publication.specs.Cms.{BeginsSigned}
 use Rattle.rpki_publication.proofs.Refused.{one_message}
 use Rattle.rpki_ca.specs.declared.command.Command.{Command}
-use Rattle.rpki_ca.specs.declared.command.Command.TheVariants.{Content, Receive, Create}
+use Rattle.rpki_ca.specs.declared.command.Command.TheVariants.{Content, Receive, Create, Setup}
 use Rattle.rpki_ca.specs.declared.receiving.Kind.{Kind}
 use Rattle.rpki_ca.specs.declared.receiving.Kind.TheVariants as kinds
 use Rattle.rpki_ca.specs.declared.receiving.Received.{Received}
@@ -32,6 +32,20 @@ use Rattle.rpki_ca.specs.Answer.{IsContent, FailsDigest, IsContentAnswer, FailsA
 use Rattle.rpki_ca.specs.Command.{IsCommand, IsNoCommand}
 use Rattle.rpki_ca.specs.Creation.{IsNoMessage, HasNoWindow, HasLongText, IsCreateRefusal, IsSignersAnswer}
 use Rattle.rpki_ca.specs.Seen.{SignerSeen}
+use Rattle.rpki_ca.specs.Setup.{ReadsSetup, certificate_octets, setup_text, IsSetUp, IsNoSetup, HoldsNoCertificate, HoldsNoAnchor, IsSetupAnswer}
+use Rattle.rpki_ca.specs.declared.setup_message.SetupKind.{SetupKind}
+use Rattle.rpki_ca.specs.declared.setup_message.SetupKind.TheVariants as setups
+use Rattle.rpki_ca.specs.declared.setup_message.SetupMessage.{SetupMessage}
+use Rattle.rpki_ca.specs.declared.setup_message.SetupMessage.TheVariants as setup_messages
+use Rattle.rpki_der.specs.declared.mode.Mode.TheVariants.{Der}
+use Rattle.rpki_idcert.specs.Checks.{IsTaBelieved}
+use Rattle.rpki_idcert.specs.IdCert.{CertificateFields, identity_certificate}
+use Rattle.rpki_setup.specs.Answers.{BeginsCertificate}
+use Rattle.rpki_setup.specs.ChildRequest.{child_request_in}
+use Rattle.rpki_setup.specs.ParentResponse.{parent_response_in}
+use Rattle.rpki_setup.specs.PublisherRequest.{publisher_request_in}
+use Rattle.rpki_setup.specs.RepositoryResponse.{repository_response_in}
+use Rattle.rpki_setup.proofs.Read.{one_message as one_setup}
 use Rattle.rpki_base.specs.Scheme.{Relation}
 use Rattle.rpki_ca.specs.Acceptance.{ReadsAs, Accepted, HoldsNoSigned, HoldsNoMessage, IsReceivedUnder, text_of}
 
@@ -105,6 +119,8 @@ view scheme kind octets keys when (Err refusals.XmlError) r = inr (inr (inl (ref
 view scheme kind octets keys when (Err (refusals.Validation n)) r = inr (inr (inr (n, refl, r)))
 view scheme kind octets keys when (Err refusals.Usage) r = absurd r
 view scheme kind octets keys when (Err refusals.Hex) r = absurd r
+view scheme kind octets keys when (Err refusals.InvalidTaCertEncoding) r = absurd r
+view scheme kind octets keys when (Err refusals.InvalidTaCert) r = absurd r
 view scheme kind octets keys when (Err refusals.TooLong) r = absurd r
 view scheme kind octets keys when (Err refusals.KeyNotFound) r = absurd r
 view scheme kind octets keys when (Err refusals.IncompatibleKey) r = absurd r
@@ -165,6 +181,8 @@ content_view octets (Err (refusals.Validation n)) r = inr (inr (ap (λ (m : ℕ)
 content_view octets (Err refusals.XmlError) r = absurd r
 content_view octets (Err refusals.Usage) r = absurd r
 content_view octets (Err refusals.Hex) r = absurd r
+content_view octets (Err refusals.InvalidTaCertEncoding) r = absurd r
+content_view octets (Err refusals.InvalidTaCert) r = absurd r
 content_view octets (Err refusals.TooLong) r = absurd r
 content_view octets (Err refusals.KeyNotFound) r = absurd r
 content_view octets (Err refusals.IncompatibleKey) r = absurd r
@@ -203,6 +221,8 @@ create_view kind input when (Err refusals.Moment) r = inr (inl (refl, r))
 create_view kind input when (Err refusals.TooLong) r = inr (inr (refl, r))
 create_view kind input when (Err refusals.Usage) r = absurd r
 create_view kind input when (Err refusals.Hex) r = absurd r
+create_view kind input when (Err refusals.InvalidTaCertEncoding) r = absurd r
+create_view kind input when (Err refusals.InvalidTaCert) r = absurd r
 create_view kind input when (Err refusals.CmsDecode) r = absurd r
 create_view kind input when (Err (refusals.Validation n)) r = absurd r
 create_view kind input when (Err refusals.KeyNotFound) r = absurd r
@@ -233,16 +253,91 @@ no_refusal scheme kind input when signer a b (inr (inr p)) s =
     never : (n : ℕ) → 2 ^ 31 < n → n ≤ 2 ^ 31 → ⊥
     never n l m = omega (arith, l, m)
 
+-- what an answer of `setup` is
+abbrev SetupView : Relation → SetupKind → List ℕ → ℤ → Result (List ℕ) Refusal → Type 0
+SetupView scheme kind input when a =
+    ((text : List ℕ) × (a ≡ Ok text) × IsSetUp scheme kind input when text)
+    ⊎ (((a ≡ Err refusals.XmlError) × IsNoSetup kind input)
+    ⊎ (((a ≡ Err refusals.InvalidTaCertEncoding) × HoldsNoCertificate kind input)
+    ⊎ ((a ≡ Err refusals.InvalidTaCert) × HoldsNoAnchor scheme kind input when)))
+
+setup_view : (scheme : Relation) (kind : SetupKind) (input : List ℕ) (when : ℤ) (a : Result (List ℕ) Refusal) → IsSetupAnswer scheme kind input when a → SetupView scheme kind input when a
+setup_view scheme kind input when (Ok text) r = inl (text, refl, r)
+setup_view scheme kind input when (Err refusals.XmlError) r = inr (inl (refl, r))
+setup_view scheme kind input when (Err refusals.InvalidTaCertEncoding) r = inr (inr (inl (refl, r)))
+setup_view scheme kind input when (Err refusals.InvalidTaCert) r = inr (inr (inr (refl, r)))
+setup_view scheme kind input when (Err refusals.Usage) r = absurd r
+setup_view scheme kind input when (Err refusals.Hex) r = absurd r
+setup_view scheme kind input when (Err refusals.CmsDecode) r = absurd r
+setup_view scheme kind input when (Err (refusals.Validation n)) r = absurd r
+setup_view scheme kind input when (Err refusals.KeyNotFound) r = absurd r
+setup_view scheme kind input when (Err refusals.IncompatibleKey) r = absurd r
+setup_view scheme kind input when (Err refusals.KeyReused) r = absurd r
+setup_view scheme kind input when (Err refusals.Signer) r = absurd r
+setup_view scheme kind input when (Err refusals.Moment) r = absurd r
+setup_view scheme kind input when (Err refusals.TooLong) r = absurd r
+setup_view scheme kind input when (Err refusals.ReadFault) r = absurd r
+setup_view scheme kind input when (Err refusals.OutOfMemory) r = absurd r
+
+one_setup_reading : (kind : SetupKind) (input : List ℕ) (m n : SetupMessage) → ReadsSetup kind input m → ReadsSetup kind input n → m ≡ n
+one_setup_reading setups.ChildRequest input (setup_messages.ChildRequest m) (setup_messages.ChildRequest n) p q = ap setup_messages.ChildRequest (one_setup child_request_in input m n p q)
+one_setup_reading setups.ParentResponse input (setup_messages.ParentResponse m) (setup_messages.ParentResponse n) p q = ap setup_messages.ParentResponse (one_setup parent_response_in input m n p q)
+one_setup_reading setups.PublisherRequest input (setup_messages.PublisherRequest m) (setup_messages.PublisherRequest n) p q = ap setup_messages.PublisherRequest (one_setup publisher_request_in input m n p q)
+one_setup_reading setups.RepositoryResponse input (setup_messages.RepositoryResponse m) (setup_messages.RepositoryResponse n) p q = ap setup_messages.RepositoryResponse (one_setup repository_response_in input m n p q)
+
+abbrev some_certificate : CertificateFields → Option CertificateFields
+some_certificate c = Some c
+
+one_certificate : (octets : List ℕ) (c d : CertificateFields) → BeginsCertificate octets c → BeginsCertificate octets d → c ≡ d
+one_certificate octets c d p q = same (sym (decoded_ok (identity_certificate Der) Der octets c p) ∙ decoded_ok (identity_certificate Der) Der octets d q)
+  where
+    same : some_certificate c ≡ some_certificate d → c ≡ d
+    same e = cc
+
+set_up_alone : (scheme : Relation) (kind : SetupKind) (input text : List ℕ) (when : ℤ) → IsSetUp scheme kind input when text → HoldsNoCertificate kind input → ⊥
+set_up_alone scheme kind input text when p q =
+    q.none p.certificate (subst (λ (m : SetupMessage). BeginsCertificate (certificate_octets m) p.certificate) (one_setup_reading kind input p.message q.message p.reads q.reads) p.believed.begins)
+
+set_up_believed : (scheme : Relation) (kind : SetupKind) (input text : List ℕ) (when : ℤ) → IsSetUp scheme kind input when text → HoldsNoAnchor scheme kind input when → ⊥
+set_up_believed scheme kind input text when p q =
+    let begins = subst (λ (m : SetupMessage). BeginsCertificate (certificate_octets m) p.certificate) (one_setup_reading kind input p.message q.message p.reads q.reads) p.believed.begins in
+    q.unbelieved.unbelieved (subst (λ (c : CertificateFields). IsTaBelieved scheme c when) (one_certificate (certificate_octets q.message) p.certificate q.unbelieved.certificate begins q.unbelieved.begins) p.believed.believed)
+
+no_certificate_alone : (scheme : Relation) (kind : SetupKind) (input : List ℕ) (when : ℤ) → HoldsNoCertificate kind input → HoldsNoAnchor scheme kind input when → ⊥
+no_certificate_alone scheme kind input when p q =
+    p.none q.unbelieved.certificate (subst (λ (m : SetupMessage). BeginsCertificate (certificate_octets m) q.unbelieved.certificate) (one_setup_reading kind input q.message p.message q.reads p.reads) q.unbelieved.begins)
+
+one_set_up : (scheme : Relation) (kind : SetupKind) (input : List ℕ) (when : ℤ) (a b : Result (List ℕ) Refusal) → SetupView scheme kind input when a → SetupView scheme kind input when b → a ≡ b
+one_set_up scheme kind input when a b (inl p) (inl q) =
+    p.1 ∙ ap Ok (p.2.written ∙ ap setup_text (one_setup_reading kind input p.2.message q.2.message p.2.reads q.2.reads) ∙ sym q.2.written) ∙ sym q.1
+one_set_up scheme kind input when a b (inl p) (inr (inl q)) = absurd (q.1 p.2.message p.2.reads)
+one_set_up scheme kind input when a b (inl p) (inr (inr (inl q))) = absurd (set_up_alone scheme kind input p.0 when p.2 q.1)
+one_set_up scheme kind input when a b (inl p) (inr (inr (inr q))) = absurd (set_up_believed scheme kind input p.0 when p.2 q.1)
+one_set_up scheme kind input when a b (inr (inl p)) (inl q) = absurd (p.1 q.2.message q.2.reads)
+one_set_up scheme kind input when a b (inr (inl p)) (inr (inl q)) = p.0 ∙ sym q.0
+one_set_up scheme kind input when a b (inr (inl p)) (inr (inr (inl q))) = absurd (p.1 q.1.message q.1.reads)
+one_set_up scheme kind input when a b (inr (inl p)) (inr (inr (inr q))) = absurd (p.1 q.1.message q.1.reads)
+one_set_up scheme kind input when a b (inr (inr (inl p))) (inl q) = absurd (set_up_alone scheme kind input q.0 when q.2 p.1)
+one_set_up scheme kind input when a b (inr (inr (inl p))) (inr (inl q)) = absurd (q.1 p.1.message p.1.reads)
+one_set_up scheme kind input when a b (inr (inr (inl p))) (inr (inr (inl q))) = p.0 ∙ sym q.0
+one_set_up scheme kind input when a b (inr (inr (inl p))) (inr (inr (inr q))) = absurd (no_certificate_alone scheme kind input when p.1 q.1)
+one_set_up scheme kind input when a b (inr (inr (inr p))) (inl q) = absurd (set_up_believed scheme kind input q.0 when q.2 p.1)
+one_set_up scheme kind input when a b (inr (inr (inr p))) (inr (inl q)) = absurd (q.1 p.1.message p.1.reads)
+one_set_up scheme kind input when a b (inr (inr (inr p))) (inr (inr (inl q))) = absurd (no_certificate_alone scheme kind input when q.1 p.1)
+one_set_up scheme kind input when a b (inr (inr (inr p))) (inr (inr (inr q))) = p.0 ∙ sym q.0
+
 pub one_answer : (scheme : Relation) (command : Command) (octets : Option (List ℕ)) (a b : Result (List ℕ) Refusal) → AnswersSpelled scheme command octets a → AnswersSpelled scheme command octets b → a ≡ b
 one_answer scheme command None a b p q = p ∙ sym q
 one_answer scheme Content (Some octets) a b p q = one_content octets a b (content_view octets a p) (content_view octets b q)
 one_answer scheme (Receive kind when keys) (Some octets) a b p q = one_view scheme kind octets keys when a b (view scheme kind octets keys when a p) (view scheme kind octets keys when b q)
+one_answer scheme (Setup kind when) (Some octets) a b p q = one_set_up scheme kind octets when a b (setup_view scheme kind octets when a p) (setup_view scheme kind octets when b q)
 one_answer scheme (Create kind when) (Some octets) a b p q = one_refusal kind octets when a b (create_view kind octets when a p) (create_view kind octets when b q)
 
 -- where the signer is asked, words and input show no answer
 signed_alone : {I : Type 0} (scheme : Relation) (c : Command) (input : List ℕ) (signer : SignerSeen I) (a b : Result (List ℕ) Refusal) → AnswersSpelled scheme c (octets_in c input) a → AnswersSigned scheme c input signer b → ⊥
 signed_alone scheme Content input signer a b p q = q
 signed_alone scheme (Receive kind when keys) input signer a b p q = q
+signed_alone scheme (Setup kind when) input signer a b p q = q
 signed_alone scheme (Create kind when) input signer a b p q = no_refusal scheme kind input when signer a b (create_view kind input when a p) q
 
 pub from_signer_alone : {I : Type 0} (scheme : Relation) (words : List (List ℕ)) (signer : SignerSeen I) (input : List ℕ) (a b : Result (List ℕ) Refusal) → IsAnswer scheme words input a → IsFromSigner scheme words signer input b → ⊥
@@ -252,10 +347,18 @@ from_signer_alone scheme words signer input a b p q = signed_alone scheme q.comm
 
 number_of : Refusal → ℕ
 number_of (refusals.Validation n) = n
+number_of refusals.InvalidTaCertEncoding = 1
+number_of refusals.InvalidTaCert = 2
 number_of refusals.IncompatibleKey = 1
 number_of refusals.KeyReused = 2
 number_of refusals.Signer = 3
 number_of other = 0
+
+with_five : ℕ → Refusal
+with_five number =
+    if number == 0 then refusals.XmlError
+    else if number == 1 then refusals.InvalidTaCertEncoding
+    else refusals.InvalidTaCert
 
 with_seven : ℕ → Refusal
 with_seven number =
@@ -269,7 +372,7 @@ refusal_with status number =
     if status == 2 then refusals.Usage
     else if status == 3 then refusals.Hex
     else if status == 4 then refusals.CmsDecode
-    else if status == 5 then refusals.XmlError
+    else if status == 5 then with_five number
     else if status == 6 then refusals.Validation number
     else if status == 7 then with_seven number
     else if status == 8 then refusals.Moment
@@ -278,11 +381,13 @@ refusal_with status number =
     else refusals.OutOfMemory
 
 again : (r : Refusal) → refusal_with (status_of r) (number_of r) ≡ r
-unfolding refusal_with with_seven number_of
+unfolding refusal_with with_five with_seven number_of
 again refusals.Usage = refl
 again refusals.Hex = refl
 again refusals.CmsDecode = refl
 again refusals.XmlError = refl
+again refusals.InvalidTaCertEncoding = refl
+again refusals.InvalidTaCert = refl
 again (refusals.Validation n) = refl
 again refusals.TooLong = refl
 again refusals.KeyNotFound = refl

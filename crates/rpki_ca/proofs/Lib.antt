@@ -6,3 +6,4 @@ pub mod Answering
 pub mod Laws
 pub mod Runs
 pub mod Creating
+pub mod SettingUp

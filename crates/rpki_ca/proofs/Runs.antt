@@ -7,11 +7,13 @@ use Rattle.rpki_base.specs.Algorithm.{format_of}
 use Rattle.rpki_base.specs.PublicKey.{KeyFields}
 use Rattle.rpki_base.specs.declared.algorithm.SigningAlgorithm.{SigningAlgorithm}
 use Rattle.rpki_ca.specs.declared.command.Command.{Command}
-use Rattle.rpki_ca.specs.declared.command.Command.TheVariants.{Receive, Create}
+use Rattle.rpki_ca.specs.declared.command.Command.TheVariants.{Receive, Create, Setup}
+use Rattle.rpki_ca.specs.declared.setup_message.SetupKind.{SetupKind}
 use Rattle.rpki_ca.specs.declared.receiving.Kind.{Kind}
 use Rattle.rpki_ca.specs.declared.refusals.Refusal.{Refusal}
 use Rattle.rpki_ca.specs.declared.refusals.Refusal.TheVariants as refusals
-use Rattle.rpki_ca.specs.Command.{IsReceive, IsCreate, IsNoCommand}
+use Rattle.rpki_ca.specs.Command.{IsReceive, IsCreate, IsSetup, IsNoCommand}
+use Rattle.rpki_ca.specs.Setup.{IsSetUp}
 use Rattle.rpki_ca.specs.Creation.{Creates, CanCreate}
 use Rattle.rpki_ca.specs.Hexadecimal.{hexadecimal}
 use Rattle.rpki_ca.specs.Refusal.{status_of}
@@ -19,7 +21,7 @@ use Rattle.rpki_base.specs.Scheme.{Relation}
 use Rattle.rpki_ca.specs.Acceptance.{text_of}
 use Rattle.rpki_ca.specs.Seen.{Seen, SignerSeen, HasFailed, IsSteady}
 use Rattle.rpki_ca.specs.Answer.{AnswersSpelled, AnswersSigned, IsAnswer, IsFromSigner, IsGiven, IsShown, IsAdmitted, Ends, EndsAs, ReadsAll, Delivers, Holds, Succeeds}
-use Rattle.rpki_ca.proofs.Commands.{is_command, one_command}
+use Rattle.rpki_ca.proofs.Commands.{is_command, is_setup, one_command}
 use Rattle.rpki_ca.proofs.Answering.{if_some, always_some, answers, sort_of, to_shown}
 use Rattle.rpki_ca.proofs.Laws.{one_answer_to_words, from_signer_alone}
 use Rattle.rpki_ca.proofs.Creating.{creates, text_from_signer, not_refused}
@@ -54,6 +56,8 @@ no_zero refusals.Usage k = cc
 no_zero refusals.Hex k = cc
 no_zero refusals.CmsDecode k = cc
 no_zero refusals.XmlError k = cc
+no_zero refusals.InvalidTaCertEncoding k = cc
+no_zero refusals.InvalidTaCert k = cc
 no_zero (refusals.Validation n) k = cc
 no_zero refusals.TooLong k = cc
 no_zero refusals.KeyNotFound k = cc
@@ -203,6 +207,26 @@ pub can_create : {I : Type 0} (scheme : Relation) (words : List (List ℕ)) (sou
     → IsCreate words kind when → IfSome source.before (λ rest. CanCreate kind when rest signer → Succeeds status source sink)
 can_create scheme words source sink signer status a kind when is = can_succeed scheme words source sink signer status a.answer a.admitted a.ends kind when is
 
+-- ---- what `setup` shows
+
+set_up_text : {I : Type 0} (scheme : Relation) (words : List (List ℕ)) (signer : SignerSeen I) (kind : SetupKind) (when : ℤ) (input text : List ℕ) → IsSetup words kind when → IsGiven scheme words signer input (Ok text) → IsSetUp scheme kind input when text
+set_up_text scheme words signer kind when input text is (inl a) =
+    elim (leb_tells (length input) (2 ^ 26)) [
+      | inl within ↦ a.answers (Setup kind when) (is_setup words kind when is) within.1
+      | inr longer ↦ absurd (unlike text refusals.TooLong (a.long (Setup kind when) (is_setup words kind when is) longer.1))
+    ]
+set_up_text scheme words signer kind when input text is (inr a) =
+    absurd (no_signer scheme a.command kind when input signer (Ok text) (one_command words a.command (Setup kind when) a.is (is_setup words kind when is)) a.answers)
+  where
+    no_signer : {I : Type 0} (scheme : Relation) (c : Command) (kind : SetupKind) (when : ℤ) (input : List ℕ) (signer : SignerSeen I) (a : Result (List ℕ) Refusal) → c ≡ Setup kind when → AnswersSigned scheme c input signer a → ⊥
+    no_signer scheme c kind when input signer a e = rw e (λ h. h)
+
+pub set_up : {I : Type 0} (scheme : Relation) (words : List (List ℕ)) (source sink : Seen) (signer : SignerSeen I) (status : ℕ) → Answered scheme words source sink signer status → (kind : SetupKind) (when : ℤ)
+    → IsSetup words kind when → status ≡ 0 → IfSome source.before (λ rest. (text : List ℕ) × IsSetUp scheme kind rest when text × Appends sink.before sink.after (text ++ 10 ∷ []))
+set_up scheme words source sink signer status a kind when is zero =
+    let w = written scheme words source sink signer status a zero in
+    if_some source.before _ _ (λ rest said. (w.text, set_up_text scheme words signer kind when rest w.text is said, w.written)) w.shown
+
 -- ---- faults of the source
 
 fault_alone : (r : Refusal) → 10 ≡ status_of r → r ≡ refusals.ReadFault
@@ -210,6 +234,8 @@ fault_alone refusals.Usage k = cc
 fault_alone refusals.Hex k = cc
 fault_alone refusals.CmsDecode k = cc
 fault_alone refusals.XmlError k = cc
+fault_alone refusals.InvalidTaCertEncoding k = cc
+fault_alone refusals.InvalidTaCert k = cc
 fault_alone (refusals.Validation n) k = cc
 fault_alone refusals.TooLong k = cc
 fault_alone refusals.KeyNotFound k = cc
@@ -249,6 +275,8 @@ usage_alone refusals.Usage k = refl
 usage_alone refusals.Hex k = cc
 usage_alone refusals.CmsDecode k = cc
 usage_alone refusals.XmlError k = cc
+usage_alone refusals.InvalidTaCertEncoding k = cc
+usage_alone refusals.InvalidTaCert k = cc
 usage_alone (refusals.Validation n) k = cc
 usage_alone refusals.TooLong k = cc
 usage_alone refusals.KeyNotFound k = cc
@@ -294,6 +322,8 @@ long_alone refusals.Usage k = cc
 long_alone refusals.Hex k = cc
 long_alone refusals.CmsDecode k = cc
 long_alone refusals.XmlError k = cc
+long_alone refusals.InvalidTaCertEncoding k = cc
+long_alone refusals.InvalidTaCert k = cc
 long_alone (refusals.Validation n) k = cc
 long_alone refusals.KeyNotFound k = cc
 long_alone refusals.IncompatibleKey k = cc

@@ -9,13 +9,14 @@ use Rattle.rpki_sigmsg.specs.Message.{MessageFields}
 use Rattle.rpki_publication.specs.Cms.{BeginsSigned}
 use Rattle.rpki_text.specs.Sink.{AppendsPart}
 use Rattle.rpki_ca.specs.declared.command.Command.{Command}
-use Rattle.rpki_ca.specs.declared.command.Command.TheVariants.{Content, Receive, Create}
+use Rattle.rpki_ca.specs.declared.command.Command.TheVariants.{Content, Receive, Create, Setup}
 use Rattle.rpki_ca.specs.declared.receiving.Kind.{Kind}
 use Rattle.rpki_ca.specs.declared.receiving.Received.{Received}
 use Rattle.rpki_ca.specs.declared.refusals.Refusal.{Refusal}
 use Rattle.rpki_ca.specs.declared.refusals.Refusal.TheVariants as refusals
 use Rattle.rpki_ca.specs.Command.{IsCommand, IsNoCommand}
 use Rattle.rpki_ca.specs.Creation.{IsCreateRefusal, IsSignersAnswer}
+use Rattle.rpki_ca.specs.Setup.{IsSetupAnswer}
 use Rattle.rpki_ca.specs.Hexadecimal.{hexadecimal}
 use Rattle.rpki_base.specs.Scheme.{Relation}
 use Rattle.rpki_ca.specs.Acceptance.{Accepted, HoldsNoSigned, HoldsNoMessage, FailsCheck, text_of}
@@ -76,13 +77,15 @@ Answers scheme Content octets answer = IsContentAnswer octets answer
 Answers scheme (Receive kind when keys) octets answer =
     IsReceiveAnswer scheme kind octets keys when answer
 Answers scheme (Create kind when) octets answer = IsCreateRefusal kind octets when answer
+Answers scheme (Setup kind when) octets answer = IsSetupAnswer scheme kind octets when answer
 
 -- the octets that a command takes from the input: those that are given in hexadecimal, and for
--- `create` the input itself
+-- `create` and `setup` the input itself
 abbrev pub octets_in : Command → List ℕ → Option (List ℕ)
 octets_in Content input = hexadecimal input
 octets_in (Receive kind when keys) input = hexadecimal input
 octets_in (Create kind when) input = Some input
+octets_in (Setup kind when) input = Some input
 
 -- the answer to these, where there are any
 abbrev pub AnswersSpelled : Relation → Command → Option (List ℕ) → Result (List ℕ) Refusal → Type 0
@@ -96,6 +99,7 @@ AnswersSigned scheme Content input signer answer = ⊥
 AnswersSigned scheme (Receive kind when keys) input signer answer = ⊥
 AnswersSigned scheme (Create kind when) input signer answer =
     IsSignersAnswer scheme kind input when signer answer
+AnswersSigned scheme (Setup kind when) input signer answer = ⊥
 
 -- the answer of a command to input, from the signer or not
 abbrev pub Performs : {Id : Type 0} → Relation → Command → List ℕ → SignerSeen Id

@@ -7,7 +7,9 @@ use Rattle.rpki_ca.specs.declared.receiving.Kind.TheVariants.{Publication}
 use Rattle.rpki_ca.specs.declared.command.Verb.{Verb}
 use Rattle.rpki_ca.specs.declared.command.Verb.TheVariants as verbs
 use Rattle.rpki_ca.specs.declared.command.Command.{Command}
-use Rattle.rpki_ca.specs.declared.command.Command.TheVariants.{Content, Receive, Create}
+use Rattle.rpki_ca.specs.declared.command.Command.TheVariants.{Content, Receive, Create, Setup}
+use Rattle.rpki_ca.specs.declared.setup_message.SetupKind.{SetupKind}
+use Rattle.rpki_ca.specs.declared.setup_message.SetupKind.TheVariants as setup
 use Rattle.rpki_ca.specs.Words.{IsMoment, key_of}
 
 -- the word for a kind, and the kind that a word is for
@@ -20,6 +22,25 @@ kind_of word = if bytes_eq word (kind_word Publication) then Some Publication el
 -- the kind for which the word at the index is
 abbrev pub kind_at : List (List ℕ) → ℕ → Option Kind
 kind_at words index = slice_get words index >>= kind_of
+
+-- the same for setup messages
+abbrev pub setup_kind_word : SetupKind → List ℕ
+setup_kind_word setup.ChildRequest = codes "child_request"
+setup_kind_word setup.ParentResponse = codes "parent_response"
+setup_kind_word setup.PublisherRequest = codes "publisher_request"
+setup_kind_word setup.RepositoryResponse = codes "repository_response"
+
+abbrev pub setup_kind_of : List ℕ → Option SetupKind
+setup_kind_of word =
+    if bytes_eq word (setup_kind_word setup.ChildRequest) then Some setup.ChildRequest
+    else if bytes_eq word (setup_kind_word setup.ParentResponse) then Some setup.ParentResponse
+    else if bytes_eq word (setup_kind_word setup.PublisherRequest) then Some setup.PublisherRequest
+    else if bytes_eq word (setup_kind_word setup.RepositoryResponse)
+    then Some setup.RepositoryResponse
+    else None
+
+abbrev pub setup_kind_at : List (List ℕ) → ℕ → Option SetupKind
+setup_kind_at words index = slice_get words index >>= setup_kind_of
 
 -- each word spells the key at its place
 abbrev pub AreKeys : List (List ℕ) → List KeyFields → Type 0
@@ -42,6 +63,12 @@ pub record IsCreate (words : List (List ℕ)) (kind : Kind) (when : ℤ) : Type 
   pub are : words ≡ codes "create" ∷ kind_word kind ∷ moment_word ∷ []
   pub moment : IsMoment moment_word when
 
+-- `setup`, which message, and a moment
+pub record IsSetup (words : List (List ℕ)) (kind : SetupKind) (when : ℤ) : Type 0 where
+  pub moment_word : List ℕ
+  pub are : words ≡ codes "setup" ∷ setup_kind_word kind ∷ moment_word ∷ []
+  pub moment : IsMoment moment_word when
+
 -- ---- all of them
 
 -- The first word says what is to be done. Each has one word, and a word says one of them or none.
@@ -49,12 +76,14 @@ abbrev pub verb_word : Verb → List ℕ
 verb_word verbs.Content = codes "content"
 verb_word verbs.Receive = codes "receive"
 verb_word verbs.Create = codes "create"
+verb_word verbs.Setup = codes "setup"
 
 abbrev pub verb_of : List ℕ → Option Verb
 verb_of word =
     if bytes_eq word (verb_word verbs.Content) then Some verbs.Content
     else if bytes_eq word (verb_word verbs.Receive) then Some verbs.Receive
     else if bytes_eq word (verb_word verbs.Create) then Some verbs.Create
+    else if bytes_eq word (verb_word verbs.Setup) then Some verbs.Setup
     else None
 
 -- what the first word says, if it is one of these
@@ -76,12 +105,20 @@ pub record AskToCreate (words : List (List ℕ)) (command : Command) : Type 0 wh
   pub create : IsCreate words kind when
   pub is : command ≡ Create kind when
 
+-- the words ask to look at a setup message, by this command
+pub record AskToSetUp (words : List (List ℕ)) (command : Command) : Type 0 where
+  pub kind : SetupKind
+  pub when : ℤ
+  pub setup_words : IsSetup words kind when
+  pub is : command ≡ Setup kind when
+
 -- the words ask for what the verb says, by this command
 abbrev pub Ask : Verb → List (List ℕ) → Command → Type 0
 Ask verbs.Content words command =
     (words ≡ verb_word verbs.Content ∷ []) × (command ≡ Content)
 Ask verbs.Receive words command = AskToReceive words command
 Ask verbs.Create words command = AskToCreate words command
+Ask verbs.Setup words command = AskToSetUp words command
 
 -- the words are those of the command
 pub record IsCommand (words : List (List ℕ)) (command : Command) : Type 0 where
@@ -97,6 +134,7 @@ abbrev pub HasFewKeys : Command → Type 0
 HasFewKeys Content = ⊤
 HasFewKeys (Receive kind when keys) = (1 ≤ length keys) × (length keys ≤ 8)
 HasFewKeys (Create kind when) = ⊤
+HasFewKeys (Setup kind when) = ⊤
 
 -- the words don't ask to create
 abbrev pub AreNoCreate : List (List ℕ) → Type 0
@@ -107,6 +145,7 @@ abbrev pub AsksSigner : Command → Type 0
 AsksSigner Content = ⊥
 AsksSigner (Receive kind when keys) = ⊥
 AsksSigner (Create kind when) = ⊤
+AsksSigner (Setup kind when) = ⊥
 
 -- the words don't ask for what the verb says
 abbrev pub AskInVain : Verb → List (List ℕ) → Type 0

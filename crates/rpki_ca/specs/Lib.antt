@@ -1,4 +1,4 @@
--- Said in contracts, and to be believed: Refusal, Hexadecimal, Words, Command, Acceptance, Seen, Creation, Answer.
+-- Said in contracts, and to be believed: Refusal, Hexadecimal, Words, Command, Acceptance, Seen, Creation, Setup, Answer.
 pub mod Refusal
 pub mod Hexadecimal
 pub mod Words
@@ -6,4 +6,5 @@ pub mod Command
 pub mod Acceptance
 pub mod Seen
 pub mod Creation
+pub mod Setup
 pub mod Answer

@@ -3,7 +3,8 @@ use Rattle.std.specs.Prelude.{ℕ, List, ◌++◌, codes}
 use Rattle.std.specs.Fmt.{decimal}
 use Rattle.rpki_ca.specs.declared.refusals.Refusal.{Refusal}
 use Rattle.rpki_ca.specs.declared.refusals.Refusal.TheVariants.{Usage, Hex, CmsDecode, XmlError, Validation, TooLong}
-use Rattle.rpki_ca.specs.declared.refusals.Refusal.TheVariants.{KeyNotFound, IncompatibleKey, KeyReused, Signer, Moment}
+use Rattle.rpki_ca.specs.declared.refusals.Refusal.TheVariants.{InvalidTaCertEncoding, InvalidTaCert, KeyNotFound, IncompatibleKey}
+use Rattle.rpki_ca.specs.declared.refusals.Refusal.TheVariants.{KeyReused, Signer, Moment}
 use Rattle.rpki_ca.specs.declared.refusals.Refusal.TheVariants.{ReadFault, OutOfMemory}
 
 abbrev pub status_of : Refusal → ℕ
@@ -11,6 +12,8 @@ status_of Usage = 2
 status_of Hex = 3
 status_of CmsDecode = 4
 status_of XmlError = 5
+status_of InvalidTaCertEncoding = 5
+status_of InvalidTaCert = 5
 status_of (Validation n) = 6
 status_of KeyNotFound = 7
 status_of IncompatibleKey = 7
@@ -27,6 +30,8 @@ word_of Usage = codes "Usage"
 word_of Hex = codes "Hex"
 word_of CmsDecode = codes "CmsDecode"
 word_of XmlError = codes "XmlError"
+word_of InvalidTaCertEncoding = codes "InvalidTaCertEncoding"
+word_of InvalidTaCert = codes "InvalidTaCert"
 word_of (Validation n) = codes "Validation"
 word_of KeyNotFound = codes "KeyNotFound"
 word_of IncompatibleKey = codes "IncompatibleKey"

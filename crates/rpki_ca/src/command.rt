@@ -4,9 +4,11 @@ ghost use Rattle.std.specs.Prelude.{◌≡◌, ◌≤◌, Decides, IfOk, IfSome,
 ghost use Rattle.rpki_base.specs.PublicKey.{KeyFields};
 ghost use Rattle.rpki_ca.specs.declared.command.Verb.TheVariants as verbs;
 ghost use Rattle.rpki_ca.specs.Command.{IsCommand, IsNoCommand, AreKeys, Ask, AskInVain};
-ghost use Rattle.rpki_ca.specs.Command.{kind_of, kind_at, verb_of, verb_in};
+ghost use Rattle.rpki_ca.specs.Command.{kind_of, kind_at, setup_kind_of, setup_kind_at};
+ghost use Rattle.rpki_ca.specs.Command.{verb_of, verb_in};
 
 use crate::receiving::Kind;
+use crate::setup_message::SetupKind;
 use crate::words::Words;
 use rpki_base::{PublicKey, Time};
 use rpki_common::{OutOfMemory, Sequence};
@@ -33,6 +35,14 @@ pub enum Command {
         /// The moment at which it is signed.
         when: Time,
     },
+    /// The setup message that the input is, whose certificate is believed as a trust anchor's at the
+    /// moment.
+    Setup {
+        /// Which of the four.
+        kind: SetupKind,
+        /// The moment at which its certificate is validated.
+        when: Time,
+    },
 }
 
 // What the first word says to do.
@@ -41,6 +51,7 @@ enum Verb {
     Content,
     Receive,
     Create,
+    Setup,
 }
 
 fn verb_of(word: &str) -> Option<Verb>
@@ -50,6 +61,7 @@ fn verb_of(word: &str) -> Option<Verb>
         "content" => Some(Verb::Content),
         "receive" => Some(Verb::Receive),
         "create" => Some(Verb::Create),
+        "setup" => Some(Verb::Setup),
         _ => None,
     }
 }
@@ -59,6 +71,18 @@ fn kind_of(word: &str) -> Option<Kind>
 {
     match word {
         "publication" => Some(Kind::Publication),
+        _ => None,
+    }
+}
+
+fn setup_kind_of(word: &str) -> Option<SetupKind>
+    ensures { result ≡ setup_kind_of word.now }
+{
+    match word {
+        "child_request" => Some(SetupKind::ChildRequest),
+        "parent_response" => Some(SetupKind::ParentResponse),
+        "publisher_request" => Some(SetupKind::PublisherRequest),
+        "repository_response" => Some(SetupKind::RepositoryResponse),
         _ => None,
     }
 }
@@ -74,6 +98,7 @@ impl Words {
             Some(Verb::Content) => Ok(self.content()),
             Some(Verb::Receive) => self.receive(alloc),
             Some(Verb::Create) => Ok(self.create()),
+            Some(Verb::Setup) => Ok(self.setup()),
         }
     }
 
@@ -93,6 +118,16 @@ impl Words {
     {
         match self.get(index) {
             Some(word) => kind_of(word),
+            None => None,
+        }
+    }
+
+    // The setup message that the word at `index` names.
+    fn setup_kind(&self, index: usize) -> Option<SetupKind>
+        ensures { result ≡ setup_kind_at self.now index }
+    {
+        match self.get(index) {
+            Some(word) => setup_kind_of(word),
             None => None,
         }
     }
@@ -172,6 +207,24 @@ impl Words {
         };
         match self.moment(2) {
             Some(when) => Some(Command::Create { kind, when }),
+            None => None,
+        }
+    }
+
+    // The command `setup`, if the two words behind the first are of its form.
+    fn setup(&self) -> Option<Command>
+        requires { verb_in self.now ≡ Some verbs.Setup }
+        ensures command { IfSome result (Ask verbs.Setup self.now) }
+        ensures none { IsNone result → AskInVain verbs.Setup self.now }
+    {
+        if self.len() != 3 {
+            return None;
+        }
+        let Some(kind) = self.setup_kind(1) else {
+            return None;
+        };
+        match self.moment(2) {
+            Some(when) => Some(Command::Setup { kind, when }),
             None => None,
         }
     }

@@ -9,6 +9,8 @@
 //! - `create publication MOMENT` reads a message of the publication protocol and writes a signed
 //!   message with it, which is received as that message at each second from 300 before the moment to
 //!   300 after it.
+//! - `setup MESSAGE MOMENT` reads one of the four setup messages and writes it anew, if its
+//!   certificate is believed as a trust anchor's at the moment.
 //!
 //! What is accepted stands in specs/Acceptance.antt, what is created in specs/Creation.antt, and what
 //! is answered to words and input in specs/Answer.antt.
@@ -24,6 +26,8 @@ mod receive_line;
 mod receiving;
 mod refusals;
 mod running;
+mod setup_line;
+mod setup_message;
 mod words;
 
 pub use command::Command;
@@ -36,4 +40,5 @@ pub use receiving::{
 };
 pub use refusals::Refusal;
 pub use running::{Status, refuse, run};
+pub use setup_message::SetupKind;
 pub use words::Words;

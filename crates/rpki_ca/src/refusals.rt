@@ -19,8 +19,12 @@ pub enum Refusal {
     Hex,
     /// The octets begin with no signed message.
     CmsDecode,
-    /// The content is no message of the kind that was asked for.
+    /// The content, or the input, is no message of the kind that was asked for.
     XmlError,
+    /// The octets in the place of a setup message's certificate begin with none.
+    InvalidTaCertEncoding,
+    /// The certificate of a setup message is not believed as a trust anchor's at the moment.
+    InvalidTaCert,
     /// A check of the signed message failed: its number, from 1 to 14.
     Validation(u8),
     /// The signer holds no key with the identifier.
@@ -52,6 +56,8 @@ impl Refusal {
             Refusal::Hex => 3,
             Refusal::CmsDecode => 4,
             Refusal::XmlError => 5,
+            Refusal::InvalidTaCertEncoding => 5,
+            Refusal::InvalidTaCert => 5,
             Refusal::Validation(_) => 6,
             Refusal::KeyNotFound => 7,
             Refusal::IncompatibleKey => 7,
@@ -81,13 +87,15 @@ impl Refusal {
     // The first word of the name.
     fn word(self) -> &'static str
         ensures word { result.now ≡ word_of self }
-        ensures short { length result.now ≤ 15 }
+        ensures short { length result.now ≤ 21 }
     {
         match self {
             Refusal::Usage => "Usage",
             Refusal::Hex => "Hex",
             Refusal::CmsDecode => "CmsDecode",
             Refusal::XmlError => "XmlError",
+            Refusal::InvalidTaCertEncoding => "InvalidTaCertEncoding",
+            Refusal::InvalidTaCert => "InvalidTaCert",
             Refusal::Validation(_) => "Validation",
             Refusal::KeyNotFound => "KeyNotFound",
             Refusal::IncompatibleKey => "IncompatibleKey",

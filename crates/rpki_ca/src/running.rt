@@ -10,7 +10,9 @@ ghost use Rattle.rpki_ca.specs.declared.receiving.Kind.{Kind};
 ghost use Rattle.rpki_ca.specs.declared.refusals.Refusal.{Refusal};
 ghost use Rattle.rpki_ca.specs.Refusal.{status_of};
 ghost use Rattle.rpki_ca.specs.Command.{IsNoCommand, IsReceive, IsCreate, AreNoCreate, AsksSigner};
-ghost use Rattle.rpki_ca.specs.Command.{HasFewKeys};
+ghost use Rattle.rpki_ca.specs.Command.{HasFewKeys, IsSetup};
+ghost use Rattle.rpki_ca.specs.Setup.{IsSetUp};
+ghost use Rattle.rpki_ca.specs.declared.setup_message.SetupKind.{SetupKind};
 ghost use Rattle.rpki_ca.specs.Creation.{Creates, CanCreate};
 ghost use Rattle.rpki_ca.specs.Seen.{seen, seen_signer, HasFailed, IsSteady};
 ghost use Rattle.rpki_ca.specs.Answer.{Performs, IsAnswer, IsGiven, IsShown, IsAdmitted, IsUnread};
@@ -23,6 +25,7 @@ use crate::create_line::create_line;
 use crate::hexadecimal::input_octets;
 use crate::receive_line::receive_line;
 use crate::refusals::Refusal;
+use crate::setup_line::setup_line;
 use crate::words::Words;
 use rpki_base::{Scheme, Verifier};
 use rpki_signer::Signer;
@@ -64,6 +67,7 @@ fn perform<P: Scheme, V: Verifier<P>, S: Signer<P>>(
             receive_line(alloc, *kind, &octets, keys.as_slice(), *when, verifier)
         }
         Command::Create { kind, when } => create_line(alloc, *kind, input, *when, key, signer),
+        Command::Setup { kind, when } => setup_line(alloc, *kind, input, *when, verifier),
     }
 }
 
@@ -171,8 +175,10 @@ fn finish<O: Sink>(output: &mut O, answer: Result<Vec<u8>, Refusal>) -> Status
 /// of the one to eight keys issued its certificate for the moment and all fourteen checks hold under
 /// it: MOMENT in seconds since 1970, each KEY in DER and hexadecimal. `create publication MOMENT`
 /// reads a message and writes, in hexadecimal, a signed message with it, which the signer makes
-/// under the issuing key with the identifier `key`. Reading stops behind 2^26 octets and one more.
-/// The whole line is made before the first write.
+/// under the issuing key with the identifier `key`. `setup MESSAGE MOMENT` reads one of the four
+/// setup messages and writes it anew, where its certificate is believed as a trust anchor's at the
+/// moment. Reading stops behind 2^26 octets and one more. The whole line is made before the first
+/// write.
 pub fn run<P: Scheme, I: Source, O: Sink, V: Verifier<P>, S: Signer<P>>(
     alloc: Global,
     words: &Words,
@@ -212,6 +218,13 @@ pub fn run<P: Scheme, I: Source, O: Sink, V: Verifier<P>, S: Signer<P>>(
         (seen_signer key.now (S.state signer.old) (S.state signer.new)) → Succeeds result.0
         (seen I.rest I.faults input.old input.new)
         (seen O.written O.faults output.old output.new)) }
+
+    // `setup` ends with 0 only where the input reads as the message that is asked for, whose
+    // certificate is believed as a trust anchor's at the moment, and writes the message anew.
+    ensures set_up { (kind : SetupKind) (when : ℤ) → IsSetup words.now kind when → result.0 ≡ 0
+        → IfSome (I.rest input.old) (λ rest. (text : List ℕ)
+        × IsSetUp P.checks kind rest when text
+        × Appends (O.written output.old) (O.written output.new) (text ++ 10 ∷ [])) }
 
     // Where words and input show an answer, the call ends with it, but for want of memory and for
     // faults of source and sink.

@@ -2,7 +2,7 @@
 
 use crate::{out_of_memory, text_of};
 use rpki_base::{PublicKey, PublicKeyFormat};
-use rpki_ca::{Command, Kind, Words};
+use rpki_ca::{Command, Kind, SetupKind, Words};
 use std::alloc::Global;
 use std::io;
 use stored_cases::{invalid, octets_of};
@@ -78,7 +78,17 @@ fn kind_text(kind: Kind) -> &'static str {
     }
 }
 
-// A command: `content`, or the kind, the seconds of the moment, and the keys; or `create`, the kind and the seconds.
+fn setup_text(kind: SetupKind) -> &'static str {
+    match kind {
+        SetupKind::ChildRequest => "child_request",
+        SetupKind::ParentResponse => "parent_response",
+        SetupKind::PublisherRequest => "publisher_request",
+        SetupKind::RepositoryResponse => "repository_response",
+    }
+}
+
+// A command: `content`, or the kind, the seconds of the moment, and the keys; or `create` or `setup`, the kind
+// and the seconds.
 fn command_text(alloc: Global, command: &Command) -> io::Result<String> {
     match command {
         Command::Content => Ok(format!(in alloc; "content")?),
@@ -93,6 +103,11 @@ fn command_text(alloc: Global, command: &Command) -> io::Result<String> {
         Command::Create { kind, when } => Ok(format!(in alloc;
             "create/{}/{}",
             kind_text(*kind),
+            when.seconds()
+        )?),
+        Command::Setup { kind, when } => Ok(format!(in alloc;
+            "setup/{}/{}",
+            setup_text(*kind),
             when.seconds()
         )?),
     }

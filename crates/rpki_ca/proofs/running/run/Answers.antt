@@ -38,6 +38,15 @@ returns-clause-creates g c =
     c.answer-answer.ensures.ok c.answer-answer.ensures.err c.finish.ensures.text c.finish.ensures.refusal in
     runs.can_create g.P.Scheme.checks c.args.words.now source sink signer c.finish.result.0 how
 
+pub returns-clause-set_up : goal.returns-clause-set_up
+returns-clause-set_up g c =
+    let source : Seen = seen g.I.Source.rest g.I.Source.faults c.args.input.now c.answer-answer.new.input in
+    let sink : Seen = seen g.O.Sink.written g.O.Sink.faults c.args.output.now c.finish.new.output in
+    let signer = seen_signer c.args.key.now (g.S.Signer.state c.args.signer.now) (g.S.Signer.state c.answer-answer.new.signer) in
+    let how = runs.answered _ g.P.Scheme.checks c.args.words.now source sink signer c.finish.result.0 c.answer-answer.result
+    c.answer-answer.ensures.ok c.answer-answer.ensures.err c.finish.ensures.text c.finish.ensures.refusal in
+    runs.set_up g.P.Scheme.checks c.args.words.now source sink signer c.finish.result.0 how
+
 pub returns-clause-shown : goal.returns-clause-shown
 returns-clause-shown g c =
     let source : Seen = seen g.I.Source.rest g.I.Source.faults c.args.input.now c.answer-answer.new.input in

@@ -18,3 +18,7 @@ returns-in-Some-Receive-clause-none c =
 pub returns-in-Some-Create-clause-none : goal.returns-in-Some-Create-clause-none
 returns-in-Some-Create-clause-none c = λ n.
     no_other c.args.self.now verbs.Create (sym c.verb.ensures ∙ c.in-Some-Create.is ∙ ap Some c.in-Some-Create.field-0-is) (c.create.ensures.none n)
+
+pub returns-in-Some-Setup-clause-none : goal.returns-in-Some-Setup-clause-none
+returns-in-Some-Setup-clause-none c = λ n.
+    no_other c.args.self.now verbs.Setup (sym c.verb.ensures ∙ c.in-Some-Setup.is ∙ ap Some c.in-Some-Setup.field-0-is) (c.setup.ensures.none n)

@@ -1,0 +1,100 @@
+//! The setup messages that the program looks at.
+
+ghost use Rattle.std.specs.Prelude.{◌≡◌, ◌≢◌, IfOk, IfErr};
+ghost use Rattle.rpki_ca.specs.Setup.{ReadsSetup, IsNoSetup, certificate_octets, setup_text, refusal_of_setup};
+
+use crate::refusals::Refusal;
+use rpki_common::OutOfMemory;
+use rpki_setup::{
+    ChildRequest, Error, ParentResponse, PublisherRequest, RepositoryResponse,
+};
+use rpki_text::Base64;
+use std::alloc::Global;
+
+/// One of the four setup messages (RFC 8183, 5.2).
+#[derive(Clone, Copy, Debug, PartialEq, Eq)]
+pub enum SetupKind {
+    /// From a child to its parent (RFC 8183, 5.2.1).
+    ChildRequest,
+    /// From a parent to its child (RFC 8183, 5.2.2).
+    ParentResponse,
+    /// From a publisher to a repository (RFC 8183, 5.2.3).
+    PublisherRequest,
+    /// From a repository to a publisher (RFC 8183, 5.2.4).
+    RepositoryResponse,
+}
+
+/// A setup message.
+#[derive(Debug, Drop)]
+pub(crate) enum SetupMessage {
+    ChildRequest(ChildRequest),
+    ParentResponse(ParentResponse),
+    PublisherRequest(PublisherRequest),
+    RepositoryResponse(RepositoryResponse),
+}
+
+// That the text is no message, or memory ran out; no other error comes where octets are parsed.
+fn refusal_of(error: Error) -> Refusal
+    ensures { result ≡ refusal_of_setup error }
+{
+    match error {
+        Error::OutOfMemory => Refusal::OutOfMemory,
+        _ => Refusal::XmlError,
+    }
+}
+
+impl SetupMessage {
+    /// The message of this kind that the input reads as.
+    pub(crate) fn parse(
+        alloc: Global,
+        kind: SetupKind,
+        input: &[u8],
+    ) -> Result<SetupMessage, Refusal>
+        ensures ok { IfOk result (λ m. ReadsSetup kind input.now m) }
+        ensures err { IfErr result (λ e. e ≢ Refusal.OutOfMemory
+            → (e ≡ Refusal.XmlError) × IsNoSetup kind input.now) }
+    {
+        match kind {
+            SetupKind::ChildRequest => match ChildRequest::parse_slice(alloc, input) {
+                Ok(message) => Ok(SetupMessage::ChildRequest(message)),
+                Err(error) => Err(refusal_of(error)),
+            },
+            SetupKind::ParentResponse => match ParentResponse::parse_slice(alloc, input) {
+                Ok(message) => Ok(SetupMessage::ParentResponse(message)),
+                Err(error) => Err(refusal_of(error)),
+            },
+            SetupKind::PublisherRequest => match PublisherRequest::parse_slice(alloc, input) {
+                Ok(message) => Ok(SetupMessage::PublisherRequest(message)),
+                Err(error) => Err(refusal_of(error)),
+            },
+            SetupKind::RepositoryResponse => match RepositoryResponse::parse_slice(alloc, input) {
+                Ok(message) => Ok(SetupMessage::RepositoryResponse(message)),
+                Err(error) => Err(refusal_of(error)),
+            },
+        }
+    }
+
+    /// The octets that stand for its certificate.
+    pub(crate) fn id_cert(&self) -> &Base64
+        ensures { result.now ≡ certificate_octets self.now }
+    {
+        match self {
+            SetupMessage::ChildRequest(message) => message.id_cert(),
+            SetupMessage::ParentResponse(message) => message.id_cert(),
+            SetupMessage::PublisherRequest(message) => message.id_cert(),
+            SetupMessage::RepositoryResponse(message) => message.id_cert(),
+        }
+    }
+
+    /// The octets of its text, a document of XML.
+    pub(crate) fn to_xml_vec(&self, alloc: Global) -> Result<Vec<u8>, OutOfMemory>
+        ensures { IfOk result (λ octets. octets.items ≡ setup_text self.now) }
+    {
+        match self {
+            SetupMessage::ChildRequest(message) => message.to_xml_vec(alloc),
+            SetupMessage::ParentResponse(message) => message.to_xml_vec(alloc),
+            SetupMessage::PublisherRequest(message) => message.to_xml_vec(alloc),
+            SetupMessage::RepositoryResponse(message) => message.to_xml_vec(alloc),
+        }
+    }
+}
