@@ -554,7 +554,7 @@ def made_lines():
         step("anchor", *failing("verification", 4), argument=f"1/0/{last + 1}"))
     entity = options_of(serial=drawn_serial(1, 1), key=9, subject=name(1, 9), authority=key_identifier(1, 0), validity=(NOW, last))
     yield line("made-entity", "both", certificate(entity), step("made_entity", certificate(entity), argument=f"9/{NOW}/{last}"),
-        step("decoded", *fields(entity)), step("named", True, argument=f"1/0/{NOW}"), step("named", 7, argument=f"1/9/{NOW}"),
+        step("decoded", *fields(entity)), step("named", DONE, argument=f"1/0/{NOW}"), step("named", 7, argument=f"1/9/{NOW}"),
         *[step("end_entity", DONE, argument=f"1/0/{moment}") for moment in (NOW, last)])
 
 
