@@ -8,14 +8,10 @@ many segments; and a content of one octet inside very many segments, one in anot
 a temporary folder and removed."""
 import hashlib
 import os
-import subprocess
 import sys
 import tempfile
 
-from measuring import run
-
-TOP = os.path.dirname(os.path.dirname(os.path.abspath(__file__)))
-PROGRAM = os.path.join(TOP, "crates", "rpkica", "out", "rpkica")
+from measuring import PROGRAM, TOP, best_of_three, build_program
 
 
 def length(n):
@@ -81,8 +77,7 @@ def deep(size):
 
 def main():
     sizes = [int(word) for word in sys.argv[1:]] or [1, 4, 16, 64]
-    if not os.path.exists(PROGRAM):
-        subprocess.run([os.path.join(TOP, "rpkica"), "content"], stdin=subprocess.DEVNULL, stdout=subprocess.DEVNULL, check=False)
+    build_program()
     print(f"{'shape':<10} {'MB':>4} {'status':>6} {'seconds':>8} {'MB/s':>8} {'peak MB':>8} {'bytes/byte':>10}")
     with tempfile.TemporaryDirectory() as folder:
         for shape in (large, segmented, deep):
@@ -91,8 +86,7 @@ def main():
                 text = shape(size * 2**20 // 2).hex()
                 with open(path, "w", encoding="ascii") as target:
                     target.write(text)
-                best = min(run(path, PROGRAM, "content") for _ in range(3))
-                seconds, status, peak = best
+                seconds, status, peak = best_of_three(path, PROGRAM, "content")
                 print(f"{shape.__name__:<10} {size:>4} {status:>6} {seconds:>8.3f} {len(text) / seconds / 1e6:>8.1f} "
                       f"{peak / 1e6:>8.1f} {(peak - 32e6) / len(text):>10.2f}")
 

@@ -26,8 +26,8 @@ import subprocess
 import sys
 import tempfile
 
-from content import TOP, nested, value
-from measuring import run
+from content import nested, value
+from measuring import TOP, best_of_three
 
 PROGRAM = os.path.join(TOP, "crates", "layers", "out", "layers")
 
@@ -217,7 +217,7 @@ VALUES = [(large_content, [1, 4, 16]), (many_segments, [1, 4, 16]), (nested, [1,
 
 
 def program_seconds(path, layer):
-    seconds, status, peak = min(run(path, PROGRAM, layer) for _ in range(3))
+    seconds, status, peak = best_of_three(path, PROGRAM, layer)
     if status != 0:
         sys.exit(f"layers {layer}: status {status}")
     return seconds, peak

@@ -6,6 +6,15 @@ import subprocess
 import sys
 import time
 
+TOP = os.path.dirname(os.path.dirname(os.path.abspath(__file__)))
+PROGRAM = os.path.join(TOP, "crates", "rpkica", "out", "rpkica")
+
+
+def build_program():
+    """Has the program built where it isn't there."""
+    if not os.path.exists(PROGRAM):
+        subprocess.run([os.path.join(TOP, "rpkica"), "content"], stdin=subprocess.DEVNULL, stdout=subprocess.DEVNULL, check=False)
+
 
 def measure(path, words):
     with open(path, "rb") as source:
@@ -22,6 +31,17 @@ def run(path, *words):
     command = [sys.executable, os.path.abspath(__file__), path, *words]
     seconds, status, peak = subprocess.run(command, capture_output=True, text=True, check=True).stdout.split()
     return float(seconds), int(status), int(peak)
+
+
+def best_of_three(path, *words):
+    """The quickest of three runs."""
+    return min(run(path, *words) for _ in range(3))
+
+
+def shown_time(path, *words):
+    """The seconds of the quickest of three runs, or the status that is not 0, as a text."""
+    seconds, status, _ = best_of_three(path, *words)
+    return f"{seconds:.3f}" if status == 0 else f"status {status}"
 
 
 if __name__ == "__main__":

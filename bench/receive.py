@@ -11,17 +11,13 @@ and a query whose CRL lists very many certificates. Each passes all checks. Open
 The inputs are made in a temporary folder and removed."""
 import os
 import shutil
-import subprocess
 import sys
 import tempfile
 
-from measuring import run
+from measuring import PROGRAM, TOP, best_of_three, build_program, shown_time
 
-TOP = os.path.dirname(os.path.dirname(os.path.abspath(__file__)))
 sys.path.insert(0, os.path.join(TOP, "tools"))
 import messages  # noqa: E402
-
-PROGRAM = os.path.join(TOP, "crates", "rpkica", "out", "rpkica")
 
 
 def words(*numbers):
@@ -60,15 +56,9 @@ def parse_time(path):
     return shown_time(path, openssl, "cms", "-cmsout", "-noout", "-inform", "DER")
 
 
-def shown_time(path, *words):
-    seconds, status, _ = min(run(path, *words) for _ in range(3))
-    return f"{seconds:.3f}" if status == 0 else f"status {status}"
-
-
 def main():
     sizes = [int(word) for word in sys.argv[1:]] or [1, 4, 16]
-    if not os.path.exists(PROGRAM):
-        subprocess.run([os.path.join(TOP, "rpkica"), "content"], stdin=subprocess.DEVNULL, stdout=subprocess.DEVNULL, check=False)
+    build_program()
     print(f"{'shape':<9} {'MB':>4} {'status':>6} {'seconds':>8} {'MB/s':>8} {'peak MB':>8} {'8 keys':>9} {'openssl':>9}")
     with tempfile.TemporaryDirectory() as folder:
         path, octets = os.path.join(folder, "input"), os.path.join(folder, "octets")
@@ -79,7 +69,7 @@ def main():
                     target.write(message)
                 with open(path, "w", encoding="ascii") as target:
                     target.write(message.hex())
-                seconds, status, peak = min(run(path, PROGRAM, *ONE_KEY) for _ in range(3))
+                seconds, status, peak = best_of_three(path, PROGRAM, *ONE_KEY)
                 length = 2 * len(message)
                 print(f"{shape.__name__:<9} {size:>4} {status:>6} {seconds:>8.3f} {length / seconds / 1e6:>8.1f} "
                       f"{peak / 1e6:>8.1f} {shown_time(path, PROGRAM, *EIGHT_KEYS):>9} {parse_time(octets):>9}")
