@@ -544,10 +544,15 @@ def toy_cases():
             step("toy_holds", holds, argument=bytes([kind, form, number]) + signature))
 
 
+def own_anchor(first, last):
+    """The certificate that key 0 issues to itself, valid from the first second to the last."""
+    return options_of(constraints=True, issuer=name(1, 0), subject=name(1, 0), key=0, validity=(first, last))
+
+
 def made_lines():
     """What is made is what these fields are written as, read again, and believed in its validity."""
     last = NOW + 60
-    anchor = options_of(constraints=True, issuer=name(1, 0), subject=name(1, 0), key=0, validity=(NOW, last))
+    anchor = own_anchor(NOW, last)
     yield line("made-anchor", "both", certificate(anchor), step("made_anchor", certificate(anchor), argument=f"0/{NOW}/{last}"),
         step("decoded", *fields(anchor)), step("anchor", *failing("verification", 4), argument=f"1/0/{NOW - 1}"),
         *[step("anchor", DONE, argument=f"1/0/{moment}") for moment in (NOW, last)],

@@ -31,9 +31,11 @@ and what is written in hexadecimal; or where the status is 0 the status and the 
 under the key at each of the moments. Behind it stands `left`, where some of the input was not read. All with `/` between.
 """
 
+import base64
 import pathlib
 import sys
 
+from certificates import certificate, own_anchor
 from messages import CONTENT_A, NOW, QUERY, built, indefinite, key_bits, own_crl, overlong, segmented, value
 from stored import terms
 
@@ -234,6 +236,38 @@ def setup_rows():
         yield f"no-{kind}", ("setup", kind, MOMENT), QUERY, XML_ERROR
 
 
+ROOTS = (
+    (b"child_request", b'child_handle="Carol"', b"child_bpki_ta"),
+    (b"parent_response", b'parent_handle="Bob" child_handle="Carol" service_uri="https://h/"', b"parent_bpki_ta"),
+    (b"publisher_request", b'publisher_handle="Carol"', b"publisher_bpki_ta"),
+    (b"repository_response", b'publisher_handle="Carol" service_uri="https://h/" sia_base="rsync://h/m/"', b"repository_bpki_ta"))
+
+
+def setup_message(root, attributes, child, text, namespace=b"http://www.hactrn.net/uris/rpki/rpki-setup/", space=b""):
+    return b'%s<%s xmlns="%s" version="1" %s>%s<%s>%s</%s>%s</%s>%s' % (
+        space, root, namespace, attributes, space, child, text, child, space, root, space)
+
+
+def anchor_rows():
+    """Setup messages with a certificate that is valid for 61 seconds, written as servers do, in lines of base64."""
+    octets = certificate(own_anchor(NOW, NOW + 60))
+    written, lines = base64.b64encode(octets), base64.encodebytes(octets)
+    for parts in ROOTS:
+        kind = parts[0].decode()
+        given, loose = (0, setup_message(*parts, written)), setup_message(*parts, b"\n" + lines, space=b"\n<!-- -->\n  ")
+        for moment in NOW, NOW + 60:
+            yield f"{kind}-at-{moment}", ("setup", kind, str(moment)), loose, given
+        for moment in NOW - 1, NOW + 61:
+            yield f"{kind}-at-{moment}", ("setup", kind, str(moment)), loose, (5, b"InvalidTaCert")
+        for label, namespace, answer in (
+                ("of-urn-x", b"urn:x", XML_ERROR), ("of-a-bare-namespace", b"http://www.hactrn.net/uris/rpki/rpki-setup", given)):
+            yield f"{kind}-{label}", ("setup", kind, str(NOW)), setup_message(*parts, written, namespace=namespace), answer
+        cut = setup_message(*parts, base64.b64encode(octets[:-1]))
+        yield f"{kind}-with-a-cut-certificate", ("setup", kind, str(NOW)), cut, (5, b"InvalidTaCertEncoding")
+        behind = setup_message(*parts, base64.b64encode(octets + b"\0"))
+        yield f"{kind}-with-an-octet-behind", ("setup", kind, str(NOW)), behind, (0, behind)
+
+
 def content_rows():
     digits = CONTENT_A.encode()
     changed_digits = digits.replace(b"03040161", b"03040162")
@@ -370,7 +404,7 @@ def case(name, words, given, status, written):
 
 
 def rows():
-    for row in (*moment_rows(), *key_rows(), *list_rows(), *word_rows(), *input_rows(), *crl_rows(), *create_rows(), *setup_rows(),
+    for row in (*moment_rows(), *key_rows(), *list_rows(), *word_rows(), *input_rows(), *crl_rows(), *create_rows(), *setup_rows(), *anchor_rows(),
                 *content_rows(),
                 *built_rows()):
         name, words, given, (status, text) = row

@@ -11,7 +11,7 @@ use std::io::ErrorKind;
 use std::process::ExitCode;
 
 const HELP: &[u8] = b"\
-rpkica reads and checks the messages of RPKI certification authorities.
+rpkica reads, checks and makes the messages of RPKI certification authorities.
 
     rpkica content < MESSAGE
         Writes the content of a signed message, if the content has the digest
@@ -40,6 +40,13 @@ rpkica reads and checks the messages of RPKI certification authorities.
         has.
         Example: rpkica create publication 1700000000 < examples/query-list.xml
 
+    rpkica setup KIND MOMENT < TEXT
+        Reads a setup message and writes it anew, if its certificate is that
+        of a trust anchor and all checks of it hold at MOMENT. KIND is
+        child_request, parent_response, publisher_request or
+        repository_response.
+        Example: rpkica setup child_request 1700000000 < examples/child-request.xml
+
     rpkica --help
     rpkica --version
 
@@ -52,12 +59,14 @@ One line is written to standard output. The exit status is
      2  Usage         the words are no command; nothing is read
      3  Hex           the input is not hexadecimal
      4  CmsDecode     the input begins with no signed message
-     5  XmlError      the content is no message of the protocol
+     5  XmlError      the content, or TEXT, is no message that was asked for
+        InvalidTaCertEncoding, InvalidTaCert: the certificate of a setup
+                      message cannot be read, or a check of it fails
      6  Validation N  check N fails, as below
      7  KeyNotFound, IncompatibleKey, KeyReused, Signer: the signer refuses
      8  Moment        the 600 seconds round it leave the years 1970 to 9999
-     9  TooLong       more than 67108864 octets of input, or of a message or a
-                      signature more than may be
+     9  TooLong       more than 67108864 octets of input, or of a message, a key
+                      or a signature more than may be
     10  ReadFault     standard input failed
     11                standard output failed
     12  OutOfMemory   memory ran out
