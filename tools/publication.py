@@ -9,6 +9,7 @@ A line is `NAME ber OCTETS STEP..`, with the steps of tools/stored.py. What the 
     decoded                           the content, and the message as it is written
     signed                            the digest, whether it holds, and the message as it is written
     message                           the message as it is written
+    rewritten                         the signed message as it is written again
     checked,'MOMENT                   ok under key 0 of seed 1
     text                              the message as which the octets read as a text, as it is written
     list_query success                these messages as they are written, whatever the octets are
@@ -19,7 +20,7 @@ A line is `NAME ber OCTETS STEP..`, with the steps of tools/stored.py. What the 
 
 import hashlib
 
-from messages import BREAKS, CONTENT_A, FIRST, LAST, NOW, QUERY, QUERY_MESSAGE, broken, indefinite, message, segmented
+from messages import BREAKS, CONTENT_A, FIRST, LAST, NOW, QUERY, QUERY_MESSAGE, broken, indefinite, message, overlong, printable, segmented
 from stored import DONE, step, terms, write
 
 REPLY = b'<msg xmlns="http://www.hactrn.net/uris/rpki/publication-spec/" version="4" type="reply"><success/></msg>'
@@ -105,6 +106,21 @@ def received_lines():
             under(call, 7, keys=[9] * 7 + [0]))
 
 
+def rewritten_lines():
+    """What is written again of a message: the content in one string, the envelope in DER, what was signed as it was; it is received."""
+    in_ber = lambda octets: indefinite(0x33, printable(octets[:7]) + indefinite(0x33, printable(octets[7:])))
+    loose = lambda xs: [indefinite(0x30, x[2:]) for x in xs]
+    spelled = dict(outer=indefinite, content_string=segmented, attributes_tag=indefinite)
+    for label, held in (
+            ("in-der", {}), ("with-attributes-in-ber", dict(attributes=loose)), ("with-a-certificate-in-ber", dict(tbs_length=overlong)),
+            ("with-a-name-in-ber", dict(subject_text=in_ber))):
+        again = message(**held)
+        yield line(f"rewritten-{label}", message(**held, **spelled), step("rewritten", again), step("decoded", QUERY, QUERY))
+        yield line(f"rewritten-again-{label}", again + b"\0", step("rewritten", again))
+        yield received(f"received-rewritten-{label}", again, QUERY)
+    yield line("rewritten-none", QUERY, step("rewritten", *NO_CMS))
+
+
 def lines():
     for written, others in SPELLED.items():
         for number, content in enumerate([written, *others]):
@@ -128,6 +144,7 @@ def lines():
         yield line(f"check-{check}", broken(check), step("checked", *failing(check), argument=NOW))
     yield from text_lines()
     yield from received_lines()
+    yield from rewritten_lines()
 
 
 if __name__ == "__main__":

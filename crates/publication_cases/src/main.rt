@@ -11,7 +11,9 @@ mod signed;
 use crate::receiving::{
     believed, received, received_any, received_any_counted, received_counted, signed_believed,
 };
-use crate::signed::{checked, message_shown, read_shown, signed_shown, whole_shown, written};
+use crate::signed::{
+    checked, message_shown, read_shown, rewritten, signed_shown, whole_shown, written,
+};
 use rpki_der::{Cursor, DecodeError, Steps};
 use rpki_publication::{Message, PublicationCms};
 use std::alloc::Global;
@@ -54,6 +56,7 @@ fn of_octets(alloc: Global, octets: &[u8], step: &Step<'_>) -> Option<Result<Fie
         "decoded" => Some(whole_shown(alloc, PublicationCms::decode(alloc, octets))),
         "signed" => Some(signed_shown(alloc, PublicationCms::decode(alloc, octets))),
         "message" => Some(message_shown(alloc, PublicationCms::decode(alloc, octets))),
+        "rewritten" => Some(rewritten(alloc, PublicationCms::decode(alloc, octets))),
         "checked" => Some(checked(alloc, PublicationCms::decode(alloc, octets), &step.argument)),
         "text" => Some(read_shown(alloc, Message::decode_slice(alloc, octets))),
         "list_query" => Some(written(alloc, &Message::list_query())),

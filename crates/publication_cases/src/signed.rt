@@ -86,6 +86,17 @@ pub fn message_shown(
     }
 }
 
+/// The signed message, written again.
+pub fn rewritten(
+    alloc: Global,
+    decoded: Result<PublicationCms, Error>,
+) -> Result<Fields, DecodeError> {
+    match decoded {
+        Ok(cms) => Ok(Fields::one(alloc, cms.to_bytes(alloc)?.as_slice())?),
+        Err(error) => refused(alloc, error),
+    }
+}
+
 fn moment_of(argument: &[u8]) -> Option<Time> {
     Time::new(std::str::from_utf8(argument).ok()?.parse::<i64>().ok()?)
 }
