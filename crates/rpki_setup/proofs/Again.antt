@@ -17,15 +17,15 @@ use Rattle.rpki_xml.proofs.Octets.{written_is_read}
 use Rattle.rpki_setup.specs.ChildRequest.{ChildRequestFields, child_request_element, child_request_text, child_request_in, IsWritableChildRequest}
 use Rattle.rpki_setup.specs.ParentResponse.{ParentResponseFields, parent_response_element, parent_response_text, parent_response_in, last_certificate_in, IsWritableParentResponse}
 use Rattle.rpki_setup.specs.PublisherRequest.{PublisherRequestFields, publisher_request_element, publisher_request_text, publisher_request_in, IsWritablePublisherRequest}
-use Rattle.rpki_setup.specs.Reading.{ReadsAs}
+use Rattle.rpki_message.specs.Reading.{ReadsAs}
 use Rattle.rpki_setup.specs.RepoInfo.{repo_info_in}
 use Rattle.rpki_setup.specs.RepositoryResponse.{RepositoryResponseFields, repository_response_element, repository_response_text, repository_response_in, IsWritableRepositoryResponse}
 use Rattle.rpki_setup.specs.Root.{attribute, root_in, handle_in, certificate_in, one_certificate_in}
 use Rattle.rpki_setup.specs.ServiceUri.{service_uri_in, service_text, IsWritableService}
 use Rattle.rpki_setup.specs.declared.service_uri.ServiceUri.{ServiceUri}
 use Rattle.rpki_setup.proofs.Plain.{attribute_plain, element_plain}
-use Rattle.rpki_setup.proofs.Services.{uri_is}
-use Rattle.rpki_setup.proofs.Lawful.{handle_octets, service_again, service_octets, uri_octets}
+use Rattle.rpki_message.proofs.Uris.{uri_is, handle_octets, uri_octets}
+use Rattle.rpki_setup.proofs.Lawful.{service_again, service_octets}
 
 -- ---- child_request
 

@@ -1,52 +1,17 @@
 -- Texts that are lawful consist of octets that a document may have, and are read as themselves.
-use Rattle.std.proofs.Common.{◌≡◌, ℕ, Bool, true, false, ◌&&◌, not, List, [], ◌∷◌, Option, Some, None, length, map, take, refl, arith}
-use Rattle.std.specs.Prelude.{codes, nat_eq, nat_lt, if◌then◌else◌}
-use Rattle.std.specs.List.{list_all}
+use Rattle.std.proofs.Common.{◌≡◌, ℕ, Bool, true, false, ◌&&◌, List, [], ◌∷◌, Some, None, map, take, refl, arith}
+use Rattle.std.specs.Prelude.{codes, nat_eq}
 use Rattle.std.specs.Char.{to_ascii_lowercase}
 use Rattle.std.specs.Cmp.Lexicographic.{pointwise}
 use Rattle.std.proofs.lemmas.Bool.Decides.{nat_tests}
-use Rattle.std.proofs.lemmas.List.Sums.{list_all-from_AllPass}
 use Rattle.rpki_common.proofs.Truths.{both}
-use Rattle.rpki_text.specs.Handle.{is_handle_octet, IsHandle}
-use Rattle.rpki_text.specs.Uri.{Kind, https, has_scheme, is_uri_octet, parts_fault, parts_behind, fault_of}
-use Rattle.rpki_text.specs.declared.uri.Error.{Error as UriError}
-use Rattle.rpki_text.specs.declared.uri.Error.TheVariants as uri
+use Rattle.rpki_text.specs.Uri.{https, has_scheme, fault_of}
 use Rattle.rpki_xml.specs.Lettered.{AreOctets}
-use Rattle.rpki_xml.specs.Lexing.{is_octet}
 use Rattle.rpki_setup.specs.ServiceUri.{is_http, service_uri_of_text, service_text, IsWritableService}
 use Rattle.rpki_setup.specs.declared.service_uri.ServiceUri.{ServiceUri}
 use Rattle.rpki_setup.specs.declared.service_uri.ServiceUri.TheVariants.{Https, Http}
+use Rattle.rpki_message.proofs.Uris.{lawful_parts, uri_octets}
 use Rattle.rpki_setup.proofs.Services.{kept, lawful}
-
-pub all_weaker : (f g : ℕ → Bool) → ((c : ℕ) → f c ≡ true → g c ≡ true) → (text : List ℕ) → list_all f text ≡ true → list_all g text ≡ true
-all_weaker f g each [] h = refl
-all_weaker f g each (c ∷ text) h = let p = both (f c) (list_all f text) h in rw (each c p.0, all_weaker f g each text p.1) refl
-
--- ---- handles
-
-handle_octet : (c : ℕ) → is_handle_octet c ≡ true → is_octet c ≡ true
-handle_octet c h = grind (arith, nat_tests)
-
-pub handle_octets : (h : List ℕ) → IsHandle h → AreOctets h
-handle_octets h lawful = all_weaker is_handle_octet is_octet handle_octet h (list_all-from_AllPass is_handle_octet h lawful.2)
-
--- ---- URIs
-
-uri_octet : (c : ℕ) → is_uri_octet c ≡ true → is_octet c ≡ true
-uri_octet c h = grind (arith, nat_tests)
-
-passed : (long octets scheme : Bool) (rest : Option UriError)
-    → (if long then Some uri.TooLong else if not octets then Some uri.BadCharacter else if not scheme then Some uri.BadScheme else rest) ≡ None → (octets ≡ true) × (scheme ≡ true)
-passed true octets scheme rest e = cc
-passed false false scheme rest e = cc
-passed false true false rest e = cc
-passed false true true rest e = (refl, refl)
-
-lawful_parts : (kind : Kind) (u : List ℕ) → fault_of kind u ≡ None → (list_all is_uri_octet u ≡ true) × (has_scheme kind.scheme u ≡ true)
-lawful_parts kind u h = passed (nat_lt 65535 (length u)) (list_all is_uri_octet u) (has_scheme kind.scheme u) (parts_fault kind.has_parts (parts_behind kind.scheme u)) h
-
-pub uri_octets : (kind : Kind) (u : List ℕ) → fault_of kind u ≡ None → AreOctets u
-uri_octets kind u h = all_weaker is_uri_octet is_octet uri_octet u (lawful_parts kind u h).0
 
 -- ---- the two schemes
 

@@ -1,13 +1,9 @@
-pub mod Read
+pub mod Causes
 pub mod Services
-pub mod Transfers
-pub mod Characters
 pub mod Roots
-pub mod Base64s
 pub mod Lawful
 pub mod Plain
 pub mod Again
-pub mod Spelt
 pub mod Certificates
 pub mod Shown
 pub mod Repositories

@@ -8,7 +8,7 @@ use Rattle.rpki_xml.specs.Element.{Attribute, alone}
 use Rattle.rpki_xml.specs.Lettered.{AreOctets}
 use Rattle.rpki_xml.specs.PlainElement.{IsPlainName, IsPlainAttribute, IsPlainHead, ArePlain}
 use Rattle.rpki_setup.specs.Root.{attribute, certificate_element, root_element}
-use Rattle.rpki_setup.proofs.Base64s.{encode-trimmed, encode-octets}
+use Rattle.rpki_message.proofs.Base64s.{encode-trimmed, encode-octets}
 
 pub attribute_plain : (name value : List ℕ) → IsPlainName name → is_declaration (attribute name value) ≡ false → AreOctets value → IsPlainAttribute (attribute name value)
 attribute_plain name value n d v = record { name = n; handed_on = d; value = v }

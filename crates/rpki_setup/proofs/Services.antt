@@ -1,13 +1,12 @@
 -- Service URIs, and the two schemes of their texts.
 use Rattle.std.proofs.Common.{◌≡◌, ◌≢◌, ℕ, List, true, false, Some, None, refl}
 use Rattle.rpki_common.specs.Chaining.{◌>>=◌}
-use Rattle.rpki_text.specs.Uri.{Kind, https, fault_of}
+use Rattle.rpki_text.specs.Uri.{https, fault_of}
 use Rattle.rpki_text.specs.declared.uri.Error.{Error as UriError}
 use Rattle.rpki_text.specs.declared.uri.Error.TheVariants as uri
-use Rattle.rpki_xml.specs.Answers.{Fails}
 use Rattle.rpki_setup.specs.Answers.{of_uri, RefusesServiceUri}
 use Rattle.rpki_setup.specs.ServiceUri.{is_http, service_uri_of_text}
-use Rattle.rpki_setup.specs.UriText.{uri_of_text, xml_of_uri}
+use Rattle.rpki_message.specs.UriText.{uri_of_text}
 use Rattle.rpki_setup.specs.declared.service_uri.ServiceUri.TheVariants.{Https, Http}
 
 -- the first rule that is broken is passed on
@@ -34,19 +33,3 @@ unfolding service_uri_of_text uri_of_text ◌>>=◌
 unlawful text e h f = rw (h, f) refl
 
 -- ---- URIs of one kind
-
-pub uri_is : (kind : Kind) (text : List ℕ) → fault_of kind text ≡ None → uri_of_text kind text ≡ Some text
-unfolding uri_of_text
-uri_is kind text h = rw h refl
-
-uri_none : (kind : Kind) (text : List ℕ) (e : UriError) → fault_of kind text ≡ Some e → uri_of_text kind text ≡ None
-unfolding uri_of_text
-uri_none kind text e h = rw h refl
-
-pub uri_fails : (kind : Kind) (text : List ℕ) (e : UriError) → (e ≢ uri.OutOfMemory → fault_of kind text ≡ Some e) → Fails (xml_of_uri e) (uri_of_text kind text)
-uri_fails kind text uri.TooLong h = uri_none kind text uri.TooLong (h (λ e. cc))
-uri_fails kind text uri.BadCharacter h = uri_none kind text uri.BadCharacter (h (λ e. cc))
-uri_fails kind text uri.BadScheme h = uri_none kind text uri.BadScheme (h (λ e. cc))
-uri_fails kind text uri.BadUri h = uri_none kind text uri.BadUri (h (λ e. cc))
-uri_fails kind text uri.DotSegments h = uri_none kind text uri.DotSegments (h (λ e. cc))
-uri_fails kind text uri.OutOfMemory h = tt

@@ -11,7 +11,8 @@ use Rattle.rpki_setup.specs.RepoInfo.{repo_info_attributes}
 use Rattle.rpki_setup.specs.Root.{attribute}
 use Rattle.rpki_setup.specs.ServiceUri.{service_text}
 use Rattle.rpki_setup.specs.Writing.{start_text, inside_text}
-use Rattle.rpki_setup.proofs.Roots.{root_spelled, attributes_joined}
+use Rattle.rpki_message.proofs.Inside.{attributes_joined}
+use Rattle.rpki_setup.proofs.Roots.{root_spelled}
 
 abbrev tagged : Option (List ℕ) → List ℕ
 tagged tag = spelled_attributes (optional_attribute (codes "tag") tag)

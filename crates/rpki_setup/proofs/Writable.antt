@@ -1,69 +1,33 @@
 -- Every message that is read is writable.
-use Rattle.std.proofs.Common.{◌≡◌, ℕ, Bool, true, false, List, [], ◌∷◌, Option, Some, None, cond, refl, subst, IfSome}
+use Rattle.std.proofs.Common.{◌≡◌, ℕ, Bool, true, false, List, [], ◌∷◌, Option, Some, None, refl, subst, IfSome}
 use Rattle.std.specs.Prelude.{codes, filter, if◌then◌else◌}
-use Rattle.std.specs.List.{AllByRecursion}
 use Rattle.base64.specs.GeneralPurpose.{IsBytes}
 use Rattle.rpki_common.specs.Chaining.{◌>>=◌}
 use Rattle.rpki_common.specs.Items as items
 use Rattle.rpki_common.proofs.Truths.{none_some, same_some}
 use Rattle.rpki_text.specs.Handle.{is_handle, handle_of_text, IsHandle}
-use Rattle.rpki_text.specs.Uri.{Kind, rsync, https, fault_of}
-use Rattle.rpki_text.specs.declared.uri.Error.{Error as UriError}
+use Rattle.rpki_text.specs.Uri.{rsync, https}
 use Rattle.rpki_text.proofs.HandleLaws.{IsHandle-from_test}
-use Rattle.rpki_xml.specs.Element.{Attribute, Head, Elements, none, first, Element, listed}
-use Rattle.rpki_xml.specs.Lettered.{AreOctets, IsLetteredAttribute, IsLetteredHead, AreLettered}
-use Rattle.rpki_xml.specs.Tables.{is_called, value_of, optional, optional_by, required, where_there, the_child}
+use Rattle.rpki_xml.specs.Element.{Head, Elements, Element, listed}
+use Rattle.rpki_xml.specs.Lettered.{AreOctets, IsLetteredHead, AreLettered}
+use Rattle.rpki_xml.specs.Tables.{optional, optional_by, required, where_there, the_child}
 use Rattle.rpki_xml.proofs.Letters.{document_lettered}
 use Rattle.rpki_setup.specs.ChildRequest.{ChildRequestFields, child_request_in, IsWritableChildRequest}
 use Rattle.rpki_setup.specs.ParentResponse.{ParentResponseFields, parent_response_in, holds_certificate, some_certificate, last_certificate_in, IsWritableParentResponse}
 use Rattle.rpki_setup.specs.PublisherRequest.{PublisherRequestFields, publisher_request_in, IsWritablePublisherRequest}
-use Rattle.rpki_setup.specs.Reading.{ReadsAs}
+use Rattle.rpki_message.specs.Reading.{ReadsAs}
 use Rattle.rpki_setup.specs.RepoInfo.{RepoInfoFields, repo_info_in, IsWritableRepoInfo}
 use Rattle.rpki_setup.specs.RepositoryResponse.{RepositoryResponseFields, repository_response_in, IsWritableRepositoryResponse}
 use Rattle.rpki_setup.specs.Root.{handle_in, certificate_in, one_certificate_in}
-use Rattle.rpki_setup.specs.UriText.{where_lawful, uri_of_text}
+use Rattle.rpki_message.specs.UriText.{uri_of_text}
 use Rattle.rpki_setup.specs.ServiceUri.{is_http, service_uri_of_text, service_uri_in, service_text, IsWritableService}
 use Rattle.rpki_setup.specs.declared.service_uri.ServiceUri.{ServiceUri}
 use Rattle.rpki_setup.specs.declared.service_uri.ServiceUri.TheVariants.{Https, Http}
+use Rattle.rpki_message.proofs.Attributes.{then_some, required_lettered, optional_lettered, child_lettered, AreHeads, heads_lettered, some_heads}
+use Rattle.rpki_message.proofs.Uris.{uri_lawful, there_lawful}
 use Rattle.rpki_setup.proofs.Services.{kept}
-use Rattle.rpki_setup.proofs.Spelt.{content_bytes}
+use Rattle.rpki_message.proofs.Spelt.{content_bytes}
 use Rattle.rpki_setup.proofs.Lawful.{https_again}
-
--- what is read in steps was read at the first of them
-then_some : {X Y : Type 0} (a : Option X) (f : X → Option Y) (y : Y) → (a >>= f) ≡ Some y → (x : X) × (a ≡ Some x) × (f x ≡ Some y)
-unfolding ◌>>=◌
-then_some None f y e = absurd (none_some y e)
-then_some (Some x) f y e = (x, refl, e)
-
--- ---- attributes
-
-some_lettered : (list : List Attribute) (f : Attribute → Bool) → AllByRecursion IsLetteredAttribute list → AllByRecursion IsLetteredAttribute (filter f list)
-some_lettered [] f h = tt
-some_lettered (a ∷ list) f h = go (f a) (some_lettered list f h.1)
-  where
-    go : (b : Bool) → AllByRecursion IsLetteredAttribute (filter f list) → AllByRecursion IsLetteredAttribute (cond b (a ∷ filter f list) (filter f list))
-    go true g = (h.0, g)
-    go false g = g
-
-value_lettered : (list : List Attribute) (text : List ℕ) → AllByRecursion IsLetteredAttribute list → items.the_one value_of list ≡ Some text → AreOctets text
-unfolding items.the_one
-value_lettered [] text h e = absurd (none_some text e)
-value_lettered (a ∷ []) text h e = subst AreOctets (same_some a.value text e) h.0.value
-value_lettered (a ∷ b ∷ more) text h e = absurd (none_some text e)
-
-values_lettered : (list : List Attribute) (text : Option (List ℕ)) → AllByRecursion IsLetteredAttribute list → items.at_most_one value_of list ≡ Some text → IfSome text AreOctets
-unfolding items.at_most_one ◌>>=◌
-values_lettered [] text h e = subst (λ (o : Option (List ℕ)). IfSome o AreOctets) (same_some None text e) tt
-values_lettered (a ∷ []) text h e = subst (λ (o : Option (List ℕ)). IfSome o AreOctets) (same_some (Some a.value) text e) h.0.value
-values_lettered (a ∷ b ∷ more) text h e = absurd (none_some text e)
-
-required_lettered : (local : List ℕ) (h : Head) (text : List ℕ) → IsLetteredHead h → required local h ≡ Some text → AreOctets text
-unfolding required
-required_lettered local h text l e = value_lettered (filter (is_called local) h.attributes) text (some_lettered h.attributes (is_called local) l.attributes) e
-
-optional_lettered : (local : List ℕ) (h : Head) (text : Option (List ℕ)) → IsLetteredHead h → optional local h ≡ Some text → IfSome text AreOctets
-unfolding optional
-optional_lettered local h text l e = values_lettered (filter (is_called local) h.attributes) text (some_lettered h.attributes (is_called local) l.attributes) e
 
 -- ---- texts
 
@@ -74,14 +38,6 @@ handle_is false text handle t e = absurd (none_some handle e)
 handle_lawful : (local : List ℕ) (h : Head) (handle : List ℕ) → handle_in local h ≡ Some handle → IsHandle handle
 unfolding handle_in
 handle_lawful local h handle e = let p = then_some (required local h) handle_of_text handle e in handle_is (is_handle p.0) p.0 handle refl p.2
-
-lawful_text : (text : List ℕ) (fault : Option UriError) (u : List ℕ) → where_lawful text fault ≡ Some u → (fault ≡ None) × (text ≡ u)
-lawful_text text None u e = (refl, same_some text u e)
-lawful_text text (Some f) u e = absurd (none_some u e)
-
-uri_lawful : (kind : Kind) (text u : List ℕ) → uri_of_text kind text ≡ Some u → fault_of kind u ≡ None
-unfolding uri_of_text
-uri_lawful kind text u e = let p = lawful_text text (fault_of kind text) u e in subst (λ (t : List ℕ). fault_of kind t ≡ None) p.1 p.0
 
 service_is : (b : Bool) (text : List ℕ) (s : ServiceUri) → is_http text ≡ b → AreOctets text → (if b then Some (Http text) else (uri_of_text https text >>= λ u. Some (Https u))) ≡ Some s → IsWritableService s
 service_is true text s t o e = subst IsWritableService (same_some (Http text) s e) (t, o)
@@ -96,12 +52,6 @@ service_lawful text s o e = service_is (is_http text) text s refl o e
 service_read : (h : Head) (s : ServiceUri) → IsLetteredHead h → service_uri_in h ≡ Some s → IsWritableService s
 unfolding service_uri_in
 service_read h s l e = let p = then_some (required (codes "service_uri") h) service_uri_of_text s e in service_lawful p.0 s (required_lettered (codes "service_uri") h p.0 l p.1) p.2
-
-there_lawful : (kind : Kind) (text u : Option (List ℕ)) → where_there (uri_of_text kind) text ≡ Some u → IfSome u (λ v. fault_of kind v ≡ None)
-there_lawful kind None u e = subst (λ (o : Option (List ℕ)). IfSome o (λ v. fault_of kind v ≡ None)) (same_some None u e) tt
-there_lawful kind (Some text) u e =
-    let p = then_some (uri_of_text kind text) (λ x. Some (Some x)) u e in
-    subst (λ (o : Option (List ℕ)). IfSome o (λ v. fault_of kind v ≡ None)) (same_some (Some p.0) u p.2) (uri_lawful kind text p.0 p.1)
 
 info_read : (h : Head) (info : RepoInfoFields) → repo_info_in h ≡ Some info → IsWritableRepoInfo info
 unfolding repo_info_in optional_by
@@ -121,31 +71,11 @@ certificate_bytes local e octets l is =
     let q = then_some _ _ octets p.2 in
     content_bytes e.head.text octets l.text q.2
 
-child_lettered : (children : Elements) (e : Element) → AreLettered children → the_child children ≡ Some e → IsLetteredHead e.head
-child_lettered none e l is = absurd (none_some e is)
-child_lettered (first h cs none) e l is = subst (λ (x : Element). IsLetteredHead x.head) (same_some (record { head = h; children = cs }) e is) l.0
-child_lettered (first h cs (first k ds rest)) e l is = absurd (none_some e is)
-
 one_bytes : (local : List ℕ) (children : Elements) (octets : List ℕ) → AreLettered children → one_certificate_in local children ≡ Some octets → IsBytes octets
 unfolding one_certificate_in
 one_bytes local children octets l is =
     let p = then_some (the_child children) (certificate_in local) octets is in
     certificate_bytes local p.0 octets (child_lettered children p.0 l p.1) p.2
-
-abbrev AreHeads : List Element → Type 0
-AreHeads list = AllByRecursion (λ e. IsLetteredHead e.head) list
-
-heads_lettered : (children : Elements) → AreLettered children → AreHeads (listed children)
-heads_lettered none l = tt
-heads_lettered (first h cs rest) l = (l.0, heads_lettered rest l.1.1)
-
-some_heads : (f : Element → Bool) (list : List Element) → AreHeads list → AreHeads (filter f list)
-some_heads f [] l = tt
-some_heads f (e ∷ list) l = go (f e) (some_heads f list l.1)
-  where
-    go : (b : Bool) → AreHeads (filter f list) → AreHeads (cond b (e ∷ filter f list) (filter f list))
-    go true g = (l.0, g)
-    go false g = g
 
 some_bytes : (e : Element) (found : Option (List ℕ)) → IsLetteredHead e.head → some_certificate e ≡ Some found → IfSome found IsBytes
 some_bytes e found l is =

@@ -6,7 +6,7 @@ use Rattle.rpki_xml.specs.Draft.{optional_attribute}
 use Rattle.rpki_xml.specs.Element.{Attribute, Head}
 use Rattle.rpki_xml.specs.Tables.{required, optional_by}
 use Rattle.rpki_setup.specs.Root.{attribute}
-use Rattle.rpki_setup.specs.UriText.{uri_of_text}
+use Rattle.rpki_message.specs.UriText.{uri_of_text}
 
 pub record RepoInfoFields : Type 0 where
   pub sia_base : List ℕ

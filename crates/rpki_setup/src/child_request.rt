@@ -4,20 +4,22 @@ ghost use Rattle.std.specs.Prelude.{◌≡◌, None, Some, IfOk, MatchResult, st
 ghost use Rattle.std.specs.Option.{option_map};
 ghost use Rattle.std.specs.Rc.{rc_str_bytes};
 ghost use Rattle.rpki_xml.specs.Answers.{Gives};
-ghost use Rattle.rpki_setup.specs.Answers.{Parses, WritesText, RefusesMessage, IsBelievedIn, RefusesCertificate};
+ghost use Rattle.rpki_message.specs.Answers.{Parses, WritesText, RefusesMessage};
+ghost use Rattle.rpki_setup.specs.Answers.{cause_of, IsBelievedIn, RefusesCertificate};
 ghost use Rattle.rpki_setup.specs.ChildRequest.{child_request_in, child_request_text};
-ghost use Rattle.rpki_setup.specs.Reading.{ReadsAs};
+ghost use Rattle.rpki_message.specs.Reading.{ReadsAs};
 
 use crate::error::Error;
-use crate::printing::{write_attribute, write_optional};
-use crate::reading::{handle_in, one_certificate_in, root_in, tag_in};
-use crate::tag::{cloned, handed_out, lent, shared};
-use crate::transfer::{MOST_OCTETS, write_octets};
+use crate::reading::{handle_in, one_certificate_in, root_in};
+use crate::transfer::write_octets;
 use crate::validation::validate_idcert_at;
 use crate::writing::{write_inside, write_start};
 use rpki_base::{Scheme, Time, Verifier};
 use rpki_common::{OutOfMemory, Text};
 use rpki_idcert::IdCert;
+use rpki_message::{
+    MOST_OCTETS, cloned, handed_out, lent, shared, tag_in, write_attribute, write_optional,
+};
 use rpki_text::{Base64, ChildHandle, Sink, Source, read_all};
 use rpki_xml::{ElementRef, XmlError, read_document};
 use std::alloc::Global;
@@ -136,7 +138,7 @@ impl ChildRequest {
     /// The request that all that a source has to give is: a document of XML of at most 2^31 octets. InvalidXml exactly where it is
     /// none, TooLong where it is longer, Read only where the source failed.
     pub fn parse<I: Source>(alloc: Global, source: &mut I) -> Result<ChildRequest, Error>
-        ensures { Parses child_request_in (I.rest source.old) (I.rest source.new)
+        ensures { Parses cause_of child_request_in (I.rest source.old) (I.rest source.new)
             (I.faults source.old) (I.faults source.new) result }
     {
         let octets = read_all(alloc, source, MOST_OCTETS)?;
@@ -146,7 +148,7 @@ impl ChildRequest {
     /// The request that the octets are, a document of XML. InvalidXml exactly where they are none.
     pub fn parse_slice(alloc: Global, octets: &[u8]) -> Result<ChildRequest, Error>
         ensures { MatchResult result (ReadsAs child_request_in octets.now)
-            (RefusesMessage child_request_in octets.now) }
+            (RefusesMessage cause_of child_request_in octets.now) }
     {
         let document = read_document(alloc, octets)?;
         Ok(ChildRequest::of_element(alloc, &document.as_ref())?)
@@ -155,7 +157,7 @@ impl ChildRequest {
     /// Writes the request as a document of XML. TooLong exactly where that has more than 2^31 octets, Write only where the sink failed;
     /// want of memory comes before the first write.
     pub fn write_xml<O: Sink>(&self, alloc: Global, sink: &mut O) -> Result<(), Error>
-        ensures { WritesText (child_request_text self.now) (O.written sink.old)
+        ensures { WritesText cause_of (child_request_text self.now) (O.written sink.old)
             (O.written sink.new) (O.faults sink.old) (O.faults sink.new) result }
     {
         let text = self.to_xml_vec(alloc)?;

@@ -1,13 +1,14 @@
 //! Why a setup message was not read, written or believed.
 
 ghost use Rattle.std.specs.Prelude.{◌≡◌};
-ghost use Rattle.rpki_setup.specs.Answers.{of_der, of_reading, of_uri, of_xml};
+ghost use Rattle.rpki_setup.specs.Answers.{of_cause, of_der, of_reading, of_uri, of_xml};
 ghost use Rattle.rpki_xml.specs.declared.error.XmlError.TheVariants as xml;
 ghost use Rattle.rpki_setup.specs.declared.error.Error.TheVariants as variant;
 
 use rpki_common::OutOfMemory;
 use rpki_der::DecodeError;
 use rpki_idcert::ValidationError;
+use rpki_message::Cause;
 use rpki_text::{ReadAllError, uri};
 use rpki_xml::{Mismatch, XmlError};
 use std::fmt;
@@ -126,6 +127,20 @@ impl From<ReadAllError> for Error {
             ReadAllError::Read => Error::Read,
             ReadAllError::TooLong => Error::TooLong,
             ReadAllError::OutOfMemory => Error::OutOfMemory,
+        }
+    }
+}
+
+impl From<Cause> for Error {
+    ghost from_gives = { λ cause e. e ≡ of_cause cause };
+
+    fn from(cause: Cause) -> Error {
+        match cause {
+            Cause::Malformed => Error::InvalidXml(XmlError::Malformed),
+            Cause::Read => Error::Read,
+            Cause::Write => Error::Write,
+            Cause::TooLong => Error::TooLong,
+            Cause::OutOfMemory => Error::OutOfMemory,
         }
     }
 }

@@ -4,21 +4,23 @@ ghost use Rattle.std.specs.Prelude.{◌≡◌, Some, IfOk, MatchResult, string_b
 ghost use Rattle.std.specs.Option.{option_map};
 ghost use Rattle.std.specs.Rc.{rc_str_bytes};
 ghost use Rattle.rpki_xml.specs.Answers.{Gives};
-ghost use Rattle.rpki_setup.specs.Answers.{Parses, WritesText, RefusesMessage, IsBelievedIn, RefusesCertificate};
+ghost use Rattle.rpki_message.specs.Answers.{Parses, WritesText, RefusesMessage};
+ghost use Rattle.rpki_setup.specs.Answers.{cause_of, IsBelievedIn, RefusesCertificate};
 ghost use Rattle.rpki_setup.specs.ParentResponse.{parent_response_in, parent_response_text};
-ghost use Rattle.rpki_setup.specs.Reading.{ReadsAs};
+ghost use Rattle.rpki_message.specs.Reading.{ReadsAs};
 
 use crate::error::Error;
-use crate::printing::{write_attribute, write_optional};
-use crate::reading::{handle_in, last_certificate_in, root_in, service_uri_in, tag_in};
+use crate::reading::{handle_in, last_certificate_in, root_in, service_uri_in};
 use crate::service_uri::ServiceUri;
-use crate::tag::{cloned, lent, shared, taken_in};
-use crate::transfer::{MOST_OCTETS, write_octets};
+use crate::transfer::write_octets;
 use crate::validation::validate_idcert_at;
 use crate::writing::{write_inside, write_start};
 use rpki_base::{Scheme, Time, Verifier};
 use rpki_common::{OutOfMemory, Text};
 use rpki_idcert::IdCert;
+use rpki_message::{
+    MOST_OCTETS, cloned, lent, shared, tag_in, taken_in, write_attribute, write_optional,
+};
 use rpki_text::{Base64, ChildHandle, ParentHandle, Sink, Source, read_all};
 use rpki_xml::{ElementRef, XmlError, read_document};
 use std::alloc::Global;
@@ -165,7 +167,7 @@ impl ParentResponse {
     /// The response that all that a source has to give is: a document of XML of at most 2^31 octets. InvalidXml exactly where it is
     /// none, TooLong where it is longer, Read only where the source failed.
     pub fn parse<I: Source>(alloc: Global, source: &mut I) -> Result<ParentResponse, Error>
-        ensures { Parses parent_response_in (I.rest source.old) (I.rest source.new)
+        ensures { Parses cause_of parent_response_in (I.rest source.old) (I.rest source.new)
             (I.faults source.old) (I.faults source.new) result }
     {
         let octets = read_all(alloc, source, MOST_OCTETS)?;
@@ -175,7 +177,7 @@ impl ParentResponse {
     /// The response that the octets are, a document of XML. InvalidXml exactly where they are none.
     pub fn parse_slice(alloc: Global, octets: &[u8]) -> Result<ParentResponse, Error>
         ensures { MatchResult result (ReadsAs parent_response_in octets.now)
-            (RefusesMessage parent_response_in octets.now) }
+            (RefusesMessage cause_of parent_response_in octets.now) }
     {
         let document = read_document(alloc, octets)?;
         Ok(ParentResponse::of_element(alloc, &document.as_ref())?)
@@ -184,7 +186,7 @@ impl ParentResponse {
     /// Writes the response as a document of XML. TooLong exactly where that has more than 2^31 octets, Write only where the sink failed;
     /// want of memory comes before the first write.
     pub fn write_xml<O: Sink>(&self, alloc: Global, sink: &mut O) -> Result<(), Error>
-        ensures { WritesText (parent_response_text self.now) (O.written sink.old)
+        ensures { WritesText cause_of (parent_response_text self.now) (O.written sink.old)
             (O.written sink.new) (O.faults sink.old) (O.faults sink.new) result }
     {
         let text = self.to_xml_vec(alloc)?;

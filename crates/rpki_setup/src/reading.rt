@@ -4,19 +4,18 @@ ghost use Rattle.std.specs.Prelude.{◌≡◌, Some, codes};
 ghost use Rattle.std.specs.Option.{option_copied};
 ghost use Rattle.rpki_text.specs.Uri.{https};
 ghost use Rattle.rpki_xml.specs.Answers.{Gives, Matches};
-ghost use Rattle.rpki_xml.specs.Tables.{optional, optional_by};
+ghost use Rattle.rpki_xml.specs.Tables.{optional_by};
 ghost use Rattle.rpki_setup.specs.ParentResponse.{is_passed_over, last_certificate_in};
 ghost use Rattle.rpki_setup.specs.RepoInfo.{repo_info_in};
 ghost use Rattle.rpki_setup.specs.ResponseStep.{response_step};
 ghost use Rattle.rpki_setup.specs.Root.{is_setup_namespace, root_in, handle_in, certificate_in, one_certificate_in};
 ghost use Rattle.rpki_setup.specs.ServiceUri.{service_uri_of_text, service_uri_in};
-ghost use Rattle.rpki_setup.specs.UriText.{uri_of_text};
+ghost use Rattle.rpki_message.specs.UriText.{uri_of_text};
 
 use crate::error::Error;
 use crate::repo_info::RepoInfo;
 use crate::service_uri::ServiceUri;
-use crate::texts::{base64_of, handle_of, uri_of};
-use rpki_common::Text;
+use rpki_message::{base64_of, handle_of, uri_of};
 use rpki_text::{Base64, Handle, uri};
 use rpki_xml::{Children, ElementRef, Mismatch, XmlError, require};
 use std::alloc::Global;
@@ -75,16 +74,6 @@ pub(crate) fn service_uri_in(alloc: Global, root: &ElementRef<'_>) -> Result<Ser
 {
     let text = root.required("service_uri")?;
     service_uri_of(alloc, text)
-}
-
-/// The tag of a root, where it has one.
-pub(crate) fn tag_in(alloc: Global, root: &ElementRef<'_>) -> Result<Option<Text>, XmlError>
-    ensures { Gives (optional (codes "tag") root.now.head) (λ tag. tag) result }
-{
-    match root.optional("tag")? {
-        None => Ok(None),
-        Some(tag) => Ok(Some(Text::from_str(alloc, tag)?)),
-    }
 }
 
 // ---- certificates

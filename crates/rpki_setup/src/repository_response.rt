@@ -4,24 +4,24 @@ ghost use Rattle.std.specs.Prelude.{◌≡◌, Some, IfOk, MatchResult, string_b
 ghost use Rattle.std.specs.Option.{option_map};
 ghost use Rattle.std.specs.Rc.{rc_str_bytes};
 ghost use Rattle.rpki_xml.specs.Answers.{Gives};
-ghost use Rattle.rpki_setup.specs.Answers.{Parses, WritesText, RefusesMessage, IsBelievedIn, RefusesCertificate};
+ghost use Rattle.rpki_message.specs.Answers.{Parses, WritesText, RefusesMessage};
+ghost use Rattle.rpki_setup.specs.Answers.{cause_of, IsBelievedIn, RefusesCertificate};
 ghost use Rattle.rpki_setup.specs.RepositoryResponse.{repository_response_in, repository_response_text};
-ghost use Rattle.rpki_setup.specs.Reading.{ReadsAs};
+ghost use Rattle.rpki_message.specs.Reading.{ReadsAs};
 
 use crate::error::Error;
-use crate::printing::{write_attribute, write_optional};
-use crate::reading::{
-    handle_in, one_certificate_in, repo_info_in, root_in, service_uri_in, tag_in,
-};
+use crate::reading::{handle_in, one_certificate_in, repo_info_in, root_in, service_uri_in};
 use crate::repo_info::RepoInfo;
 use crate::service_uri::ServiceUri;
-use crate::tag::{cloned, lent, shared, taken_in};
-use crate::transfer::{MOST_OCTETS, write_octets};
+use crate::transfer::write_octets;
 use crate::validation::validate_idcert_at;
 use crate::writing::{write_inside, write_repo_info, write_start};
 use rpki_base::{Scheme, Time, Verifier};
 use rpki_common::{OutOfMemory, Text};
 use rpki_idcert::IdCert;
+use rpki_message::{
+    MOST_OCTETS, cloned, lent, shared, tag_in, taken_in, write_attribute, write_optional,
+};
 use rpki_text::{Base64, PublisherHandle, Sink, Source, read_all, uri};
 use rpki_xml::{ElementRef, XmlError, read_document};
 use std::alloc::Global;
@@ -186,7 +186,7 @@ impl RepositoryResponse {
     /// The response that all that a source has to give is: a document of XML of at most 2^31 octets. InvalidXml exactly where it is
     /// none, TooLong where it is longer, Read only where the source failed.
     pub fn parse<I: Source>(alloc: Global, source: &mut I) -> Result<RepositoryResponse, Error>
-        ensures { Parses repository_response_in (I.rest source.old) (I.rest source.new)
+        ensures { Parses cause_of repository_response_in (I.rest source.old) (I.rest source.new)
             (I.faults source.old) (I.faults source.new) result }
     {
         let octets = read_all(alloc, source, MOST_OCTETS)?;
@@ -196,7 +196,7 @@ impl RepositoryResponse {
     /// The response that the octets are, a document of XML. InvalidXml exactly where they are none.
     pub fn parse_slice(alloc: Global, octets: &[u8]) -> Result<RepositoryResponse, Error>
         ensures { MatchResult result (ReadsAs repository_response_in octets.now)
-            (RefusesMessage repository_response_in octets.now) }
+            (RefusesMessage cause_of repository_response_in octets.now) }
     {
         let document = read_document(alloc, octets)?;
         Ok(RepositoryResponse::of_element(alloc, &document.as_ref())?)
@@ -205,7 +205,7 @@ impl RepositoryResponse {
     /// Writes the response as a document of XML. TooLong exactly where that has more than 2^31 octets, Write only where the sink failed;
     /// want of memory comes before the first write.
     pub fn write_xml<O: Sink>(&self, alloc: Global, sink: &mut O) -> Result<(), Error>
-        ensures { WritesText (repository_response_text self.now) (O.written sink.old)
+        ensures { WritesText cause_of (repository_response_text self.now) (O.written sink.old)
             (O.written sink.new) (O.faults sink.old) (O.faults sink.new) result }
     {
         let text = self.to_xml_vec(alloc)?;

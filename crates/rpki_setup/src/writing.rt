@@ -8,8 +8,8 @@ ghost use Rattle.rpki_setup.specs.RepoInfo.{repo_info_attributes};
 ghost use Rattle.rpki_setup.specs.Root.{certificate_element};
 ghost use Rattle.rpki_setup.specs.Writing.{start_text, inside_text};
 
-use crate::printing::{write_attribute, write_end, write_optional};
 use crate::repo_info::RepoInfo;
+use rpki_message::{write_attribute, write_base64, write_end, write_optional};
 use rpki_text::Base64;
 use std::fmt;
 
@@ -22,15 +22,9 @@ fn write_certificate<W: fmt::Write>(
     ensures { WritesOnOk W.write_str_gives f.old result
         (spelled (certificate_element name.now certificate.now)) f.new }
 {
-    let text = certificate.as_str();
     f.write_str("<")?;
     f.write_str(name)?;
-    if text.is_empty() {
-        return f.write_str("/>");
-    }
-    f.write_str(">")?;
-    f.write_str(text)?;
-    write_end(f, name)
+    write_base64(f, name, certificate)
 }
 
 /// The start of a root of this name, before its further attributes.

@@ -1,8 +1,9 @@
+use Rattle.rpki_setup.specs.Answers.{cause_of}
 use Rattle.rpki_setup.specs.ChildRequest.{child_request_in}
-use Rattle.rpki_setup.proofs.Transfers.{taken}
+use Rattle.rpki_message.proofs.Transfers.{taken}
 use Rattle.rpki_setup.proofs.child_request.ChildRequest.parse.Goals as goal
 
 pub returns : goal.returns
 returns g c =
     let read = c.in_ok-octets.ensures in
-    taken child_request_in _ _ _ _ c.in_ok-octets.octets.items c.parse_slice.result read.whole read.end read.within (read.kept (λ e. cc)) read.later read.most (rw c.deref.ensures.value at c.parse_slice.ensures)
+    taken cause_of child_request_in _ _ _ _ c.in_ok-octets.octets.items c.parse_slice.result read.whole read.end read.within (read.kept (λ e. cc)) read.later read.most (rw c.deref.ensures.value at c.parse_slice.ensures)

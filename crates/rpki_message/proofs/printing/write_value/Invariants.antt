@@ -2,7 +2,7 @@ use Rattle.std.proofs.Common.{◌≡◌, ℕ, List, ◌++◌}
 use Rattle.std.specs.Fmt.{HasWritten, IsPlainFormatter}
 use Rattle.std.specs.Str.Iter.{chars_rest}
 use Rattle.rpki_xml.specs.Spelling.{spelled_value}
-use Rattle.rpki_setup.proofs.printing.write_value.Given as goal
+use Rattle.rpki_message.proofs.printing.write_value.Given as goal
 
 abbrev pub invariant-loop-c : goal.invariant-loop-c
 invariant-loop-c g l =

@@ -3,8 +3,8 @@ use Rattle.std.proofs.Output.{has_written_append, has_written_of_eq, writes_in_c
 use Rattle.std.proofs.Math.Utf8.{encode}
 use Rattle.std.proofs.lemmas.List.{nil_from_length}
 use Rattle.rpki_xml.specs.Spelling.{spelled_value}
-use Rattle.rpki_setup.proofs.Characters.{spelled_value-append}
-use Rattle.rpki_setup.proofs.printing.write_value.Goals as goal
+use Rattle.rpki_message.proofs.Characters.{spelled_value-append}
+use Rattle.rpki_message.proofs.printing.write_value.Goals as goal
 
 pub loop-c-init : goal.loop-c-init
 unfolding spelled_value

@@ -1,18 +1,20 @@
 //! Texts in a message are read: a text that is not what it should be is malformed XML. Nothing here knows a message.
 
-ghost use Rattle.std.specs.Prelude.{◌≡◌};
+ghost use Rattle.std.specs.Prelude.{◌≡◌, codes};
 ghost use Rattle.rpki_text.specs.Base64.{base64_content};
 ghost use Rattle.rpki_text.specs.Handle.{handle_of_text};
 ghost use Rattle.rpki_xml.specs.Answers.{Gives};
-ghost use Rattle.rpki_setup.specs.UriText.{uri_of_text, xml_of_uri};
+ghost use Rattle.rpki_xml.specs.Tables.{optional};
+ghost use Rattle.rpki_message.specs.UriText.{uri_of_text, xml_of_uri};
 
+use rpki_common::Text;
 use rpki_text::uri::{Uri, UriKind};
 use rpki_text::{Base64, Base64Error, Handle, InvalidHandle, uri};
-use rpki_xml::XmlError;
+use rpki_xml::{ElementRef, XmlError};
 use std::alloc::Global;
 
 /// The octets of a base64 text.
-pub(crate) fn base64_of(alloc: Global, text: &str) -> Result<Base64, XmlError>
+pub fn base64_of(alloc: Global, text: &str) -> Result<Base64, XmlError>
     ensures { Gives (base64_content text.now) (λ b. b) result }
 {
     match Base64::from_str(alloc, text) {
@@ -23,7 +25,7 @@ pub(crate) fn base64_of(alloc: Global, text: &str) -> Result<Base64, XmlError>
 }
 
 /// The handle that a text is.
-pub(crate) fn handle_of<T>(alloc: Global, text: &str) -> Result<Handle<T>, XmlError>
+pub fn handle_of<T>(alloc: Global, text: &str) -> Result<Handle<T>, XmlError>
     ensures { Gives (handle_of_text text.now) (λ h. h) result }
 {
     match Handle::from_str(alloc, text) {
@@ -34,7 +36,7 @@ pub(crate) fn handle_of<T>(alloc: Global, text: &str) -> Result<Handle<T>, XmlEr
 }
 
 /// The URI that a text is.
-pub(crate) fn uri_of<K: UriKind>(alloc: Global, text: &str) -> Result<Uri<K>, XmlError>
+pub fn uri_of<K: UriKind>(alloc: Global, text: &str) -> Result<Uri<K>, XmlError>
     ensures { Gives (uri_of_text K.kind text.now) (λ u. u) result }
 {
     match Uri::from_str(alloc, text) {
@@ -54,5 +56,15 @@ fn error_of(error: uri::Error) -> XmlError
         uri::Error::BadUri => XmlError::Malformed,
         uri::Error::DotSegments => XmlError::Malformed,
         uri::Error::OutOfMemory => XmlError::OutOfMemory,
+    }
+}
+
+/// The attribute `tag` of an element, where it has one.
+pub fn tag_in(alloc: Global, e: &ElementRef<'_>) -> Result<Option<Text>, XmlError>
+    ensures { Gives (optional (codes "tag") e.now.head) (λ tag. tag) result }
+{
+    match e.optional("tag")? {
+        None => Ok(None),
+        Some(tag) => Ok(Some(Text::from_str(alloc, tag)?)),
     }
 }

@@ -7,21 +7,28 @@ use Rattle.std.proofs.lemmas.Str.{encode_ascii}
 use Rattle.std.proofs.lemmas.Bool.Decides.{nat_tests}
 use Rattle.std.proofs.lemmas.Grind.{flat_map-append}
 use Rattle.rpki_common.proofs.Truths.{both}
-use Rattle.rpki_xml.specs.Spelling.{value_character, spelled_value}
+use Rattle.rpki_xml.specs.Spelling.{text_character, spelled_text, value_character, spelled_value}
 
--- a value in two parts
+-- a value or a text in two parts
 pub spelled_value-append : (a b : List ℕ) → spelled_value (a ++ b) ≡ spelled_value a ++ spelled_value b
 unfolding spelled_value
 spelled_value-append a b = flat_map-append value_character a b
+
+pub spelled_text-append : (a b : List ℕ) → spelled_text (a ++ b) ≡ spelled_text a ++ spelled_text b
+unfolding spelled_text
+spelled_text-append a b = flat_map-append text_character a b
 
 -- ---- octets from 128 on stand for themselves
 
 abbrev is_high : ℕ → Bool
 is_high b = nat_le 128 b
 
-high_character : (b : ℕ) → is_high b ≡ true → value_character b ≡ b ∷ []
-high_character b h =
-    let low : 128 ≤ b = grind (arith, nat_tests) in
+-- an octet that stands for itself
+abbrev Stands : (ℕ → List ℕ) → ℕ → Type 0
+Stands spell b = spell b ≡ b ∷ []
+
+value_stands : (b : ℕ) → 128 ≤ b → Stands value_character b
+value_stands b low =
     let a : nat_eq b 34 ≡ false = grind (arith, nat_tests) in
     let c : nat_eq b 39 ≡ false = grind (arith, nat_tests) in
     let d : nat_eq b 38 ≡ false = grind (arith, nat_tests) in
@@ -29,9 +36,19 @@ high_character b h =
     let f : nat_eq b 62 ≡ false = grind (arith, nat_tests) in
     rw (a, c, d, e, f) refl
 
-high_text : (bs : List ℕ) → list_all is_high bs ≡ true → flat_map value_character bs ≡ bs
-high_text [] h = refl
-high_text (b ∷ bs) h = let p = both (is_high b) (list_all is_high bs) h in rw (high_character b p.0, high_text bs p.1) refl
+text_stands : (b : ℕ) → 128 ≤ b → Stands text_character b
+text_stands b low =
+    let d : nat_eq b 38 ≡ false = grind (arith, nat_tests) in
+    let e : nat_eq b 60 ≡ false = grind (arith, nat_tests) in
+    let f : nat_eq b 62 ≡ false = grind (arith, nat_tests) in
+    rw (d, e, f) refl
+
+low_of : (b : ℕ) → is_high b ≡ true → 128 ≤ b
+low_of b h = grind (arith, nat_tests)
+
+high_text : (spell : ℕ → List ℕ) → ((b : ℕ) → 128 ≤ b → Stands spell b) → (bs : List ℕ) → list_all is_high bs ≡ true → flat_map spell bs ≡ bs
+high_text spell stands [] h = refl
+high_text spell stands (b ∷ bs) h = let p = both (is_high b) (list_all is_high bs) h in rw (stands b (low_of b p.0), high_text spell stands bs p.1) refl
 
 is_high-add : (n m : ℕ) → 128 ≤ n → is_high (n + m) ≡ true
 is_high-add n m h = grind (arith, nat_tests)
@@ -60,21 +77,32 @@ encode_high c h =
 
 -- ---- a character that is no entity
 
-low_spelled : (c : ℕ) → nat_eq c 34 ≡ false → nat_eq c 39 ≡ false → nat_eq c 38 ≡ false → nat_eq c 60 ≡ false → nat_eq c 62 ≡ false → flat_map value_character (c ∷ []) ≡ c ∷ []
-low_spelled c a d e f g = rw (a, d, e, f, g) refl
-
 unequal : (c n : ℕ) → c ≢ n → nat_eq c n ≡ false
 unequal c n h = grind (arith, nat_tests)
 
-pub other_spelled : (c : ℕ) → c ≢ 34 → c ≢ 39 → c ≢ 38 → c ≢ 60 → c ≢ 62 → encode c ≡ spelled_value (encode c)
-unfolding spelled_value
-other_spelled c a b d e f = go (nat_lt c 128) refl
+-- one that stands for itself where it is ASCII
+alone : (spell : ℕ → List ℕ) → ((b : ℕ) → 128 ≤ b → Stands spell b) → (c : ℕ) → (c < 128 → flat_map spell (c ∷ []) ≡ c ∷ []) → encode c ≡ flat_map spell (encode c)
+alone spell stands c low = go (nat_lt c 128) refl
   where
-    go : (x : Bool) → nat_lt c 128 ≡ x → encode c ≡ flat_map value_character (encode c)
+    go : (x : Bool) → nat_lt c 128 ≡ x → encode c ≡ flat_map spell (encode c)
     go true t =
-        let low : c < 128 = grind (arith, nat_tests) in
-        let is = encode_ascii c low in
-        is ∙ sym (low_spelled c (unequal c 34 a) (unequal c 39 b) (unequal c 38 d) (unequal c 60 e) (unequal c 62 f)) ∙ sym (ap (flat_map value_character) is)
+        let below : c < 128 = grind (arith, nat_tests) in
+        let is = encode_ascii c below in
+        is ∙ sym (low below) ∙ sym (ap (flat_map spell) is)
     go false t =
         let high : 128 ≤ c = grind (arith, nat_tests) in
-        sym (high_text (encode c) (encode_high c high))
+        sym (high_text spell stands (encode c) (encode_high c high))
+
+value_low : (c : ℕ) → nat_eq c 34 ≡ false → nat_eq c 39 ≡ false → nat_eq c 38 ≡ false → nat_eq c 60 ≡ false → nat_eq c 62 ≡ false → flat_map value_character (c ∷ []) ≡ c ∷ []
+value_low c a d e f g = rw (a, d, e, f, g) refl
+
+pub other_in_value : (c : ℕ) → c ≢ 34 → c ≢ 39 → c ≢ 38 → c ≢ 60 → c ≢ 62 → encode c ≡ spelled_value (encode c)
+unfolding spelled_value
+other_in_value c a b d e f = alone value_character value_stands c (λ low. value_low c (unequal c 34 a) (unequal c 39 b) (unequal c 38 d) (unequal c 60 e) (unequal c 62 f))
+
+text_low : (c : ℕ) → nat_eq c 38 ≡ false → nat_eq c 60 ≡ false → nat_eq c 62 ≡ false → flat_map text_character (c ∷ []) ≡ c ∷ []
+text_low c d e f = rw (d, e, f) refl
+
+pub other_in_text : (c : ℕ) → c ≢ 38 → c ≢ 60 → c ≢ 62 → encode c ≡ spelled_text (encode c)
+unfolding spelled_text
+other_in_text c d e f = alone text_character text_stands c (λ low. text_low c (unequal c 38 d) (unequal c 60 e) (unequal c 62 f))

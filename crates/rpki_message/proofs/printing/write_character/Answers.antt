@@ -1,8 +1,8 @@
 use Rattle.std.proofs.Output.{has_written_of_eq}
 use Rattle.std.proofs.Math.Utf8.{encode}
 use Rattle.rpki_xml.specs.Spelling.{spelled_value}
-use Rattle.rpki_setup.proofs.Characters.{other_spelled}
-use Rattle.rpki_setup.proofs.printing.write_character.Goals as goal
+use Rattle.rpki_message.proofs.Characters.{other_in_value}
+use Rattle.rpki_message.proofs.printing.write_character.Goals as goal
 
 pub returns-then-c-eq34 : goal.returns-then-c-eq34
 unfolding spelled_value encode
@@ -26,4 +26,4 @@ returns-then-c-eq62 g c = λ plain ok. rw c.if-c-eq62.true (c.write_str-then-c-e
 
 pub returns : goal.returns
 returns g c = λ plain ok.
-    has_written_of_eq _ _ _ _ _ (other_spelled c.args.c c.if-c-eq34.false c.if-c-eq39.false c.if-c-eq38.false c.if-c-eq60.false c.if-c-eq62.false) (c.write_char.ensures.writes plain ok)
+    has_written_of_eq _ _ _ _ _ (other_in_value c.args.c c.if-c-eq34.false c.if-c-eq39.false c.if-c-eq38.false c.if-c-eq60.false c.if-c-eq62.false) (c.write_char.ensures.writes plain ok)

@@ -1,6 +1,6 @@
 use Rattle.std.proofs.Common.{List, ℕ, Some, sym, ap, ◌∙◌}
-use Rattle.rpki_setup.proofs.Services.{uri_is, uri_fails}
-use Rattle.rpki_setup.proofs.texts.uri_of.Goals as goal
+use Rattle.rpki_message.proofs.Uris.{uri_is, uri_fails}
+use Rattle.rpki_message.proofs.texts.uri_of.Goals as goal
 
 pub returns-in-Ok : goal.returns-in-Ok
 returns-in-Ok g c = uri_is g.K.UriKind.kind c.args.text.now c.in-Ok.ensures.accepted ∙ ap (λ (l : List ℕ). Some l) (sym c.in-Ok.ensures.text)

@@ -1,0 +1,141 @@
+//! The parts of elements are printed in their one spelling, in pieces and without memory. Nothing here knows a message.
+
+ghost use Rattle.std.specs.Char.{encode_utf8};
+ghost use Rattle.std.specs.Fmt.{WritesOnOk};
+ghost use Rattle.std.specs.Option.{option_copied};
+ghost use Rattle.base64.specs.Engines.{standard};
+ghost use Rattle.base64.specs.GeneralPurpose.{encode_of};
+ghost use Rattle.rpki_message.specs.Inside.{text_inside};
+ghost use Rattle.rpki_xml.specs.Draft.{optional_attribute};
+ghost use Rattle.rpki_xml.specs.Spelling.{spelled_text, spelled_value, spelled_attribute, spelled_attributes, spelled_end};
+
+use rpki_text::Base64;
+use std::fmt;
+
+// A character of a value: `&`, `<`, `>`, `"` and `'` as entities, every other one as itself.
+fn write_character<W: fmt::Write>(f: &mut fmt::Formatter<W>, c: char) -> fmt::Result
+    ensures { WritesOnOk W.write_str_gives f.old result (spelled_value (encode_utf8 c)) f.new }
+{
+    if c == '"' {
+        return f.write_str("&quot;");
+    }
+    if c == '\'' {
+        return f.write_str("&apos;");
+    }
+    if c == '&' {
+        return f.write_str("&amp;");
+    }
+    if c == '<' {
+        return f.write_str("&lt;");
+    }
+    if c == '>' {
+        return f.write_str("&gt;");
+    }
+    f.write_char(c)
+}
+
+// A value.
+fn write_value<W: fmt::Write>(f: &mut fmt::Formatter<W>, value: &str) -> fmt::Result
+    ensures { WritesOnOk W.write_str_gives f.old result (spelled_value value.now) f.new }
+{
+    for c in value.chars() {
+        write_character(f, c)?;
+    }
+    Ok(())
+}
+
+// A character of a text: `&`, `<` and `>` as entities, every other one as itself.
+fn write_text_character<W: fmt::Write>(f: &mut fmt::Formatter<W>, c: char) -> fmt::Result
+    ensures { WritesOnOk W.write_str_gives f.old result (spelled_text (encode_utf8 c)) f.new }
+{
+    if c == '&' {
+        return f.write_str("&amp;");
+    }
+    if c == '<' {
+        return f.write_str("&lt;");
+    }
+    if c == '>' {
+        return f.write_str("&gt;");
+    }
+    f.write_char(c)
+}
+
+/// A text.
+pub fn write_text<W: fmt::Write>(f: &mut fmt::Formatter<W>, text: &str) -> fmt::Result
+    ensures { WritesOnOk W.write_str_gives f.old result (spelled_text text.now) f.new }
+{
+    for c in text.chars() {
+        write_text_character(f, c)?;
+    }
+    Ok(())
+}
+
+/// An attribute.
+pub fn write_attribute<W: fmt::Write>(
+    f: &mut fmt::Formatter<W>,
+    name: &str,
+    value: &str,
+) -> fmt::Result
+    ensures { WritesOnOk W.write_str_gives f.old result
+        (spelled_attribute name.now value.now) f.new }
+{
+    f.write_str(" ")?;
+    f.write_str(name)?;
+    f.write_str("=\"")?;
+    write_value(f, value)?;
+    f.write_str("\"")
+}
+
+/// An attribute, where there is a value.
+pub fn write_optional<W: fmt::Write>(
+    f: &mut fmt::Formatter<W>,
+    name: &str,
+    value: Option<&str>,
+) -> fmt::Result
+    ensures { let attributes = optional_attribute name.now (option_copied value.entry) in
+        WritesOnOk W.write_str_gives f.old result (spelled_attributes attributes) f.new }
+{
+    match value {
+        None => Ok(()),
+        Some(value) => write_attribute(f, name, value),
+    }
+}
+
+/// The end of an element.
+pub fn write_end<W: fmt::Write>(f: &mut fmt::Formatter<W>, name: &str) -> fmt::Result
+    ensures { WritesOnOk W.write_str_gives f.old result (spelled_end name.now) f.new }
+{
+    f.write_str("</")?;
+    f.write_str(name)?;
+    f.write_str(">")
+}
+
+/// What stands behind the attributes of an element that has this text and no child: its text and its end.
+pub fn write_inside<W: fmt::Write>(f: &mut fmt::Formatter<W>, name: &str, text: &str) -> fmt::Result
+    ensures { WritesOnOk W.write_str_gives f.old result (text_inside name.now text.now) f.new }
+{
+    if text.is_empty() {
+        return f.write_str("/>");
+    }
+    f.write_str(">")?;
+    write_text(f, text)?;
+    write_end(f, name)
+}
+
+/// The same of an element whose text is octets in base64.
+pub fn write_base64<W: fmt::Write>(
+    f: &mut fmt::Formatter<W>,
+    name: &str,
+    octets: &Base64,
+) -> fmt::Result
+    ensures { WritesOnOk W.write_str_gives f.old result
+        (text_inside name.now (encode_of standard octets.now)) f.new }
+{
+    let text = octets.as_str();
+    if text.is_empty() {
+        return f.write_str("/>");
+    }
+    f.write_str(">")?;
+    f.write_str(text)?;
+    write_end(f, name)
+}
