@@ -74,7 +74,7 @@ no_usage scheme c None said = never said
 no_usage scheme Content (Some octets) said = said
 no_usage scheme (Receive kind when keys) (Some octets) said = said
 no_usage scheme (Create kind when) (Some octets) said = said
-no_usage scheme (Setup kind when) (Some octets) said = said
+no_usage scheme (Setup kind when) (Some octets) said = said.refused
 
 no_usage_signed : {I : Type 0} (scheme : Relation) (c : Command) (input : List ℕ) (signer : SignerSeen I) → AnswersSigned scheme c input signer (Err refusals.Usage) → ⊥
 no_usage_signed scheme Content input signer said = said
@@ -90,7 +90,7 @@ no_fault scheme c None said = never said
 no_fault scheme Content (Some octets) said = said
 no_fault scheme (Receive kind when keys) (Some octets) said = said
 no_fault scheme (Create kind when) (Some octets) said = said
-no_fault scheme (Setup kind when) (Some octets) said = said
+no_fault scheme (Setup kind when) (Some octets) said = said.refused
 
 no_fault_signed : {I : Type 0} (scheme : Relation) (c : Command) (input : List ℕ) (signer : SignerSeen I) → AnswersSigned scheme c input signer (Err refusals.ReadFault) → ⊥
 no_fault_signed scheme Content input signer said = said

@@ -24,6 +24,9 @@ use Rattle.rpki_sigmsg.specs.Checks.{IsAmong, IsBelieved}
 use Rattle.rpki_sigmsg.specs.Making.{window, HasWindow, IsCreated, IsReused, CreateFails}
 use Rattle.rpki_sigmsg.specs.Message.{MessageFields, signed_message}
 use Rattle.rpki_sigmsg.specs.Spelling.{rewritten, CanBeSpelled}
+use Rattle.rpki_publication.specs.declared.message.Message.{Message}
+use Rattle.rpki_publication.specs.Message as publication
+use Rattle.rpki_publication.proofs.Again.{text_again}
 use Rattle.rpki_ca.specs.declared.command.Command.{Command}
 use Rattle.rpki_ca.specs.declared.command.Command.TheVariants.{Content, Receive, Create}
 use Rattle.rpki_ca.specs.declared.receiving.Kind.{Kind}
@@ -54,11 +57,44 @@ receivable scheme message when signer signed octets are spelled again believed r
   reads = reads;
 }
 
+-- a message of the publication protocol that was created of its text
+pub publication_created : {I : Type 0} (scheme : Relation) (m : Message) (when : ℤ) (signer : SignerSeen I) (signed : MessageFields) (octets : List ℕ)
+    → IsCreated scheme (publication.text_of m) when signer.id signer.before signer.after signed → octets ≡ rewritten signed → CanBeSpelled signed
+    → ((mode : Mode) (rest : List ℕ) → CanBeSpelled signed → BeginsAs (signed_message mode) mode (rewritten signed ++ rest) signed)
+    → ((key : KeyFields) → Holds signer.before.keyring signer.id key → (moment : ℤ) → (window when).not_before ≤ℤ moment → moment ≤ℤ (window when).not_after → IsBelieved scheme signed key moment)
+    → AreCreated scheme kinds.Publication (received.Publication m) when signer octets
+publication_created scheme m when signer signed octets created are spelled again believed =
+    let content : signed.content ≡ publication.text_of m = ap (λ (s : MessageFields). s.content) created.made.is in
+    record {
+      signed = signed;
+      created = created;
+      are = are;
+      receivable = receivable scheme (received.Publication m) when signer signed octets are spelled again believed (subst (λ o. publication.Reads o m) (sym content) (text_again m));
+    }
+
 -- ---- each refusal by its cause
 
 -- a message is of its own protocol
 pub of_protocol : (kind : Kind) (input : List ℕ) (m : Received) → ReadsAs kind input m → kind ≡ protocol_of m
 of_protocol kinds.Publication input (received.Publication m) r = refl
+
+-- what is there is no error
+pub not_error : {T E : Type 0} (r : Result T E) (x : T) (e : E) → r ≡ Ok x → IsErrOf r e → ⊥
+not_error {T = T} {E = E} r x e is err = unlike (sym is ∙ err)
+  where
+    ok : Result T E
+    ok = Ok x
+
+    unlike : ok ≡ Err e → ⊥
+    unlike k = cc
+
+-- where something is there, nothing has to be told
+pub ok_tells : {T U E : Type 0} (x : T) (y : U) {W L : Type 0} {d e : E} → (W → L → IsErrOf {T = T} {E = E} (Ok x) d ⊎ IsErrOf {T = T} {E = E} (Ok x) e) → W → L → IsErrOf {T = U} {E = E} (Ok y) d ⊎ IsErrOf {T = U} {E = E} (Ok y) e
+ok_tells {T = T} {E = E} x y {d = d} {e = e} tells w l =
+    elim (tells w l) [
+      | inl k ↦ absurd (not_error (Ok x) x d refl k)
+      | inr k ↦ absurd (not_error (Ok x) x e refl k)
+    ]
 
 -- a text that is too long is told so, or memory ran out
 abbrev pub TellsText : {T E : Type 0} → Received → ℤ → Result T (CreateError E) → Type 0
@@ -77,40 +113,31 @@ fits message when r tells w long memory =
     ]
 
 pub fits_ok : {T E : Type 0} (message : Received) (when : ℤ) (r : Result T (CreateError E)) (x : T) → r ≡ Ok x → TellsText message when r → HasWindow when → length (text_of message) ≤ 2 ^ 31
-fits_ok {T} {E} message when r x is tells w = fits message when r tells w (λ k. unlike (sym is ∙ k)) (λ k. unlike_memory (sym is ∙ k))
-  where
-    ok : Result T (CreateError E)
-    ok = Ok x
-
-    unlike : ok ≡ Err create.TooLong → ⊥
-    unlike k = cc
-
-    unlike_memory : ok ≡ Err create.OutOfMemory → ⊥
-    unlike_memory k = cc
+fits_ok message when r x is tells w = fits message when r tells w (not_error r x create.TooLong is) (not_error r x create.OutOfMemory is)
 
 abbrev err_as : {T E : Type 0} → CreateError E → Result T (CreateError E)
 err_as e = Err e
 
-pub refused : {T I E : Type 0} (scheme : Relation) (kind : Kind) (input : List ℕ) (message : Received) (when : ℤ) (signer : SignerSeen I) (e : CreateError E) → ReadsAs kind input message → TellsText message when (err_as {T} e)
+pub refused : {T I E : Type 0} (scheme : Relation) (kind : Kind) (input : List ℕ) (message : Received) (when : ℤ) (signer : SignerSeen I) (e : CreateError E) → ReadsAs kind input message → TellsText message when (err_as {T = T} e)
     → CreateFails (text_of message) when signer.id signer.before signer.after e → refusal_of_create e ≢ refusals.OutOfMemory → IsCreateAnswer scheme kind input when signer (Err (refusal_of_create e))
 refused scheme kind input message when signer create.Moment r t f other = inl (record { message = message; reads = r; none = f })
 refused scheme kind input message when signer create.TooLong r t (w, inl long) other = inl (record { message = message; reads = r; window_is = w; long = long })
 refused scheme kind input message when signer create.TooLong r t (w, inr short) other = inr (record { message = message; reads = r; window_is = w; fits = short.0; signed = short.1 })
-refused {T} {I} {E} scheme kind input message when signer create.KeyReused r t f other =
-    inr (record { message = message; reads = r; window_is = f.0; fits = fits message when (err_as {T} create.KeyReused) t f.0 (λ k. long k) (λ k. memory k); signed = f.1 })
+refused {T = T} {I = I} {E = E} scheme kind input message when signer create.KeyReused r t f other =
+    inr (record { message = message; reads = r; window_is = f.0; fits = fits message when (err_as {T = T} create.KeyReused) t f.0 (λ k. long k) (λ k. memory k); signed = f.1 })
   where
-    long : err_as {T} {E} create.KeyReused ≡ Err create.TooLong → ⊥
+    long : err_as {T = T} {E = E} create.KeyReused ≡ Err create.TooLong → ⊥
     long k = cc
 
-    memory : err_as {T} {E} create.KeyReused ≡ Err create.OutOfMemory → ⊥
+    memory : err_as {T = T} {E = E} create.KeyReused ≡ Err create.OutOfMemory → ⊥
     memory k = cc
-refused {T} {I} {E} scheme kind input message when signer (create.Signing error) r t f other =
-    by_signer error f.2 other (fits message when (err_as {T} (create.Signing error)) t f.0 (λ k. long k) (λ k. memory k))
+refused {T = T} {I = I} {E = E} scheme kind input message when signer (create.Signing error) r t f other =
+    by_signer error f.2 other (fits message when (err_as {T = T} (create.Signing error)) t f.0 (λ k. long k) (λ k. memory k))
   where
-    long : err_as {T} {E} (create.Signing error) ≡ Err create.TooLong → ⊥
+    long : err_as {T = T} {E = E} (create.Signing error) ≡ Err create.TooLong → ⊥
     long k = cc
 
-    memory : err_as {T} {E} (create.Signing error) ≡ Err create.OutOfMemory → ⊥
+    memory : err_as {T = T} {E = E} (create.Signing error) ≡ Err create.OutOfMemory → ⊥
     memory k = cc
 
     by_signer : (s : SigningError E) → SigningFails RsaSha256 signer.id signer.before signer.after s → refusal_of_create (create.Signing s) ≢ refusals.OutOfMemory → length (text_of message) ≤ 2 ^ 31
@@ -133,7 +160,7 @@ line_created scheme kind input message when signer octets r l c =
 
 -- a key for one use that isn't the issuing key
 drawn_other : {X : Type 0} (drawn : Option X) (key issuing : X) → drawn ≡ Some key → key ≢ issuing → drawn ≢ Some issuing
-drawn_other {X} drawn key issuing is other same = other (one (sym is ∙ same))
+drawn_other {X = X} drawn key issuing is other same = other (one (sym is ∙ same))
   where
     some : X → Option X
     some x = Some x

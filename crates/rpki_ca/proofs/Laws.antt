@@ -32,7 +32,7 @@ use Rattle.rpki_ca.specs.Answer.{IsContent, FailsDigest, IsContentAnswer, FailsA
 use Rattle.rpki_ca.specs.Command.{IsCommand, IsNoCommand}
 use Rattle.rpki_ca.specs.Creation.{IsNoMessage, HasNoWindow, HasLongText, IsCreateRefusal, IsSignersAnswer}
 use Rattle.rpki_ca.specs.Seen.{SignerSeen}
-use Rattle.rpki_ca.specs.Setup.{ReadsSetup, certificate_octets, setup_text, IsSetUp, IsNoSetup, HoldsNoCertificate, HoldsNoAnchor, IsSetupAnswer}
+use Rattle.rpki_ca.specs.Setup.{ReadsSetup, certificate_octets, setup_text, IsAnchored, RefusesAnchor, IsSetUp, IsNoSetup, HoldsNoAnchor, IsSetupAnswer}
 use Rattle.rpki_ca.specs.declared.setup_message.SetupKind.{SetupKind}
 use Rattle.rpki_ca.specs.declared.setup_message.SetupKind.TheVariants as setups
 use Rattle.rpki_ca.specs.declared.setup_message.SetupMessage.{SetupMessage}
@@ -40,7 +40,7 @@ use Rattle.rpki_ca.specs.declared.setup_message.SetupMessage.TheVariants as setu
 use Rattle.rpki_der.specs.declared.mode.Mode.TheVariants.{Der}
 use Rattle.rpki_idcert.specs.Checks.{IsTaBelieved}
 use Rattle.rpki_idcert.specs.IdCert.{CertificateFields, identity_certificate}
-use Rattle.rpki_setup.specs.Answers.{BeginsCertificate}
+use Rattle.rpki_setup.specs.Answers.{BeginsCertificate, HoldsUnbelieved}
 use Rattle.rpki_setup.specs.ChildRequest.{child_request_in}
 use Rattle.rpki_setup.specs.ParentResponse.{parent_response_in}
 use Rattle.rpki_setup.specs.PublisherRequest.{publisher_request_in}
@@ -258,32 +258,55 @@ abbrev SetupView : Relation → SetupKind → List ℕ → ℤ → Result (List 
 SetupView scheme kind input when a =
     ((text : List ℕ) × (a ≡ Ok text) × IsSetUp scheme kind input when text)
     ⊎ (((a ≡ Err refusals.XmlError) × IsNoSetup kind input)
-    ⊎ (((a ≡ Err refusals.InvalidTaCertEncoding) × HoldsNoCertificate kind input)
-    ⊎ ((a ≡ Err refusals.InvalidTaCert) × HoldsNoAnchor scheme kind input when)))
+    ⊎ ((e : Refusal) × (a ≡ Err e) × HoldsNoAnchor scheme kind input when e))
 
 setup_view : (scheme : Relation) (kind : SetupKind) (input : List ℕ) (when : ℤ) (a : Result (List ℕ) Refusal) → IsSetupAnswer scheme kind input when a → SetupView scheme kind input when a
 setup_view scheme kind input when (Ok text) r = inl (text, refl, r)
 setup_view scheme kind input when (Err refusals.XmlError) r = inr (inl (refl, r))
-setup_view scheme kind input when (Err refusals.InvalidTaCertEncoding) r = inr (inr (inl (refl, r)))
-setup_view scheme kind input when (Err refusals.InvalidTaCert) r = inr (inr (inr (refl, r)))
-setup_view scheme kind input when (Err refusals.Usage) r = absurd r
-setup_view scheme kind input when (Err refusals.Hex) r = absurd r
-setup_view scheme kind input when (Err refusals.CmsDecode) r = absurd r
-setup_view scheme kind input when (Err (refusals.Validation n)) r = absurd r
-setup_view scheme kind input when (Err refusals.KeyNotFound) r = absurd r
-setup_view scheme kind input when (Err refusals.IncompatibleKey) r = absurd r
-setup_view scheme kind input when (Err refusals.KeyReused) r = absurd r
-setup_view scheme kind input when (Err refusals.Signer) r = absurd r
-setup_view scheme kind input when (Err refusals.Moment) r = absurd r
-setup_view scheme kind input when (Err refusals.TooLong) r = absurd r
-setup_view scheme kind input when (Err refusals.ReadFault) r = absurd r
-setup_view scheme kind input when (Err refusals.OutOfMemory) r = absurd r
+setup_view scheme kind input when (Err refusals.InvalidTaCertEncoding) r = inr (inr (refusals.InvalidTaCertEncoding, refl, r))
+setup_view scheme kind input when (Err refusals.InvalidTaCert) r = inr (inr (refusals.InvalidTaCert, refl, r))
+setup_view scheme kind input when (Err refusals.Usage) r = inr (inr (refusals.Usage, refl, r))
+setup_view scheme kind input when (Err refusals.Hex) r = inr (inr (refusals.Hex, refl, r))
+setup_view scheme kind input when (Err refusals.CmsDecode) r = inr (inr (refusals.CmsDecode, refl, r))
+setup_view scheme kind input when (Err (refusals.Validation n)) r = inr (inr ((refusals.Validation n), refl, r))
+setup_view scheme kind input when (Err refusals.KeyNotFound) r = inr (inr (refusals.KeyNotFound, refl, r))
+setup_view scheme kind input when (Err refusals.IncompatibleKey) r = inr (inr (refusals.IncompatibleKey, refl, r))
+setup_view scheme kind input when (Err refusals.KeyReused) r = inr (inr (refusals.KeyReused, refl, r))
+setup_view scheme kind input when (Err refusals.Signer) r = inr (inr (refusals.Signer, refl, r))
+setup_view scheme kind input when (Err refusals.Moment) r = inr (inr (refusals.Moment, refl, r))
+setup_view scheme kind input when (Err refusals.TooLong) r = inr (inr (refusals.TooLong, refl, r))
+setup_view scheme kind input when (Err refusals.ReadFault) r = inr (inr (refusals.ReadFault, refl, r))
+setup_view scheme kind input when (Err refusals.OutOfMemory) r = inr (inr (refusals.OutOfMemory, refl, r))
 
 one_setup_reading : (kind : SetupKind) (input : List ℕ) (m n : SetupMessage) → ReadsSetup kind input m → ReadsSetup kind input n → m ≡ n
 one_setup_reading setups.ChildRequest input (setup_messages.ChildRequest m) (setup_messages.ChildRequest n) p q = ap setup_messages.ChildRequest (one_setup child_request_in input m n p q)
 one_setup_reading setups.ParentResponse input (setup_messages.ParentResponse m) (setup_messages.ParentResponse n) p q = ap setup_messages.ParentResponse (one_setup parent_response_in input m n p q)
 one_setup_reading setups.PublisherRequest input (setup_messages.PublisherRequest m) (setup_messages.PublisherRequest n) p q = ap setup_messages.PublisherRequest (one_setup publisher_request_in input m n p q)
 one_setup_reading setups.RepositoryResponse input (setup_messages.RepositoryResponse m) (setup_messages.RepositoryResponse n) p q = ap setup_messages.RepositoryResponse (one_setup repository_response_in input m n p q)
+one_setup_reading setups.ChildRequest input (setup_messages.ChildRequest m) (setup_messages.ParentResponse n) p q = absurd q
+one_setup_reading setups.ChildRequest input (setup_messages.ChildRequest m) (setup_messages.PublisherRequest n) p q = absurd q
+one_setup_reading setups.ChildRequest input (setup_messages.ChildRequest m) (setup_messages.RepositoryResponse n) p q = absurd q
+one_setup_reading setups.ChildRequest input (setup_messages.ParentResponse m) n p q = absurd p
+one_setup_reading setups.ChildRequest input (setup_messages.PublisherRequest m) n p q = absurd p
+one_setup_reading setups.ChildRequest input (setup_messages.RepositoryResponse m) n p q = absurd p
+one_setup_reading setups.ParentResponse input (setup_messages.ChildRequest m) n p q = absurd p
+one_setup_reading setups.ParentResponse input (setup_messages.ParentResponse m) (setup_messages.ChildRequest n) p q = absurd q
+one_setup_reading setups.ParentResponse input (setup_messages.ParentResponse m) (setup_messages.PublisherRequest n) p q = absurd q
+one_setup_reading setups.ParentResponse input (setup_messages.ParentResponse m) (setup_messages.RepositoryResponse n) p q = absurd q
+one_setup_reading setups.ParentResponse input (setup_messages.PublisherRequest m) n p q = absurd p
+one_setup_reading setups.ParentResponse input (setup_messages.RepositoryResponse m) n p q = absurd p
+one_setup_reading setups.PublisherRequest input (setup_messages.ChildRequest m) n p q = absurd p
+one_setup_reading setups.PublisherRequest input (setup_messages.ParentResponse m) n p q = absurd p
+one_setup_reading setups.PublisherRequest input (setup_messages.PublisherRequest m) (setup_messages.ChildRequest n) p q = absurd q
+one_setup_reading setups.PublisherRequest input (setup_messages.PublisherRequest m) (setup_messages.ParentResponse n) p q = absurd q
+one_setup_reading setups.PublisherRequest input (setup_messages.PublisherRequest m) (setup_messages.RepositoryResponse n) p q = absurd q
+one_setup_reading setups.PublisherRequest input (setup_messages.RepositoryResponse m) n p q = absurd p
+one_setup_reading setups.RepositoryResponse input (setup_messages.ChildRequest m) n p q = absurd p
+one_setup_reading setups.RepositoryResponse input (setup_messages.ParentResponse m) n p q = absurd p
+one_setup_reading setups.RepositoryResponse input (setup_messages.PublisherRequest m) n p q = absurd p
+one_setup_reading setups.RepositoryResponse input (setup_messages.RepositoryResponse m) (setup_messages.ChildRequest n) p q = absurd q
+one_setup_reading setups.RepositoryResponse input (setup_messages.RepositoryResponse m) (setup_messages.ParentResponse n) p q = absurd q
+one_setup_reading setups.RepositoryResponse input (setup_messages.RepositoryResponse m) (setup_messages.PublisherRequest n) p q = absurd q
 
 abbrev some_certificate : CertificateFields → Option CertificateFields
 some_certificate c = Some c
@@ -294,37 +317,73 @@ one_certificate octets c d p q = same (sym (decoded_ok (identity_certificate Der
     same : some_certificate c ≡ some_certificate d → c ≡ d
     same e = cc
 
-set_up_alone : (scheme : Relation) (kind : SetupKind) (input text : List ℕ) (when : ℤ) → IsSetUp scheme kind input when text → HoldsNoCertificate kind input → ⊥
-set_up_alone scheme kind input text when p q =
-    q.none p.certificate (subst (λ (m : SetupMessage). BeginsCertificate (certificate_octets m) p.certificate) (one_setup_reading kind input p.message q.message p.reads q.reads) p.believed.begins)
+-- a certificate is believed or refused, and refused in one way
+anchored_alone : (scheme : Relation) (octets : List ℕ) (when : ℤ) (e : Refusal) → IsAnchored scheme octets when → RefusesAnchor scheme octets when e → ⊥
+anchored_alone scheme octets when refusals.InvalidTaCertEncoding p q = q p.certificate p.believed.begins
+anchored_alone scheme octets when refusals.InvalidTaCert p q =
+    q.unbelieved (subst (λ (c : CertificateFields). IsTaBelieved scheme c when) (one_certificate octets p.certificate q.certificate p.believed.begins q.begins) p.believed.believed)
+anchored_alone scheme octets when refusals.XmlError p q = q
+anchored_alone scheme octets when refusals.Usage p q = q
+anchored_alone scheme octets when refusals.Hex p q = q
+anchored_alone scheme octets when refusals.CmsDecode p q = q
+anchored_alone scheme octets when (refusals.Validation n) p q = q
+anchored_alone scheme octets when refusals.KeyNotFound p q = q
+anchored_alone scheme octets when refusals.IncompatibleKey p q = q
+anchored_alone scheme octets when refusals.KeyReused p q = q
+anchored_alone scheme octets when refusals.Signer p q = q
+anchored_alone scheme octets when refusals.Moment p q = q
+anchored_alone scheme octets when refusals.TooLong p q = q
+anchored_alone scheme octets when refusals.ReadFault p q = q
+anchored_alone scheme octets when refusals.OutOfMemory p q = q
 
-set_up_believed : (scheme : Relation) (kind : SetupKind) (input text : List ℕ) (when : ℤ) → IsSetUp scheme kind input when text → HoldsNoAnchor scheme kind input when → ⊥
-set_up_believed scheme kind input text when p q =
-    let begins = subst (λ (m : SetupMessage). BeginsCertificate (certificate_octets m) p.certificate) (one_setup_reading kind input p.message q.message p.reads q.reads) p.believed.begins in
-    q.unbelieved.unbelieved (subst (λ (c : CertificateFields). IsTaBelieved scheme c when) (one_certificate (certificate_octets q.message) p.certificate q.unbelieved.certificate begins q.unbelieved.begins) p.believed.believed)
+-- the two ways in which a certificate is refused
+abbrev AnchorView : Relation → List ℕ → ℤ → Refusal → Type 0
+AnchorView scheme octets when e =
+    ((e ≡ refusals.InvalidTaCertEncoding) × ((c : CertificateFields) → BeginsCertificate octets c → ⊥))
+    ⊎ ((e ≡ refusals.InvalidTaCert) × HoldsUnbelieved scheme octets when)
 
-no_certificate_alone : (scheme : Relation) (kind : SetupKind) (input : List ℕ) (when : ℤ) → HoldsNoCertificate kind input → HoldsNoAnchor scheme kind input when → ⊥
-no_certificate_alone scheme kind input when p q =
-    p.none q.unbelieved.certificate (subst (λ (m : SetupMessage). BeginsCertificate (certificate_octets m) q.unbelieved.certificate) (one_setup_reading kind input q.message p.message q.reads p.reads) q.unbelieved.begins)
+anchor_view : (scheme : Relation) (octets : List ℕ) (when : ℤ) (e : Refusal) → RefusesAnchor scheme octets when e → AnchorView scheme octets when e
+anchor_view scheme octets when refusals.InvalidTaCertEncoding q = inl (refl, q)
+anchor_view scheme octets when refusals.InvalidTaCert q = inr (refl, q)
+anchor_view scheme octets when refusals.XmlError q = absurd q
+anchor_view scheme octets when refusals.Usage q = absurd q
+anchor_view scheme octets when refusals.Hex q = absurd q
+anchor_view scheme octets when refusals.CmsDecode q = absurd q
+anchor_view scheme octets when (refusals.Validation n) q = absurd q
+anchor_view scheme octets when refusals.KeyNotFound q = absurd q
+anchor_view scheme octets when refusals.IncompatibleKey q = absurd q
+anchor_view scheme octets when refusals.KeyReused q = absurd q
+anchor_view scheme octets when refusals.Signer q = absurd q
+anchor_view scheme octets when refusals.Moment q = absurd q
+anchor_view scheme octets when refusals.TooLong q = absurd q
+anchor_view scheme octets when refusals.ReadFault q = absurd q
+anchor_view scheme octets when refusals.OutOfMemory q = absurd q
+
+one_anchor_refusal : (scheme : Relation) (octets : List ℕ) (when : ℤ) (d e : Refusal) → AnchorView scheme octets when d → AnchorView scheme octets when e → d ≡ e
+one_anchor_refusal scheme octets when d e (inl p) (inl q) = p.0 ∙ sym q.0
+one_anchor_refusal scheme octets when d e (inl p) (inr q) = absurd (p.1 q.1.certificate q.1.begins)
+one_anchor_refusal scheme octets when d e (inr p) (inl q) = absurd (q.1 p.1.certificate p.1.begins)
+one_anchor_refusal scheme octets when d e (inr p) (inr q) = p.0 ∙ sym q.0
+
+-- what is said of the certificate of a message is said of that of the input
+of_same : (scheme : Relation) (kind : SetupKind) (input : List ℕ) (when : ℤ) (e : Refusal) (m : SetupMessage) → ReadsSetup kind input m → (h : HoldsNoAnchor scheme kind input when e) → RefusesAnchor scheme (certificate_octets m) when e
+of_same scheme kind input when e m r h = subst (λ (n : SetupMessage). RefusesAnchor scheme (certificate_octets n) when e) (one_setup_reading kind input h.message m h.reads r) h.refused
 
 one_set_up : (scheme : Relation) (kind : SetupKind) (input : List ℕ) (when : ℤ) (a b : Result (List ℕ) Refusal) → SetupView scheme kind input when a → SetupView scheme kind input when b → a ≡ b
 one_set_up scheme kind input when a b (inl p) (inl q) =
     p.1 ∙ ap Ok (p.2.written ∙ ap setup_text (one_setup_reading kind input p.2.message q.2.message p.2.reads q.2.reads) ∙ sym q.2.written) ∙ sym q.1
 one_set_up scheme kind input when a b (inl p) (inr (inl q)) = absurd (q.1 p.2.message p.2.reads)
-one_set_up scheme kind input when a b (inl p) (inr (inr (inl q))) = absurd (set_up_alone scheme kind input p.0 when p.2 q.1)
-one_set_up scheme kind input when a b (inl p) (inr (inr (inr q))) = absurd (set_up_believed scheme kind input p.0 when p.2 q.1)
+one_set_up scheme kind input when a b (inl p) (inr (inr q)) = absurd (anchored_alone scheme (certificate_octets p.2.message) when q.0 p.2.anchored (of_same scheme kind input when q.0 p.2.message p.2.reads q.2))
 one_set_up scheme kind input when a b (inr (inl p)) (inl q) = absurd (p.1 q.2.message q.2.reads)
 one_set_up scheme kind input when a b (inr (inl p)) (inr (inl q)) = p.0 ∙ sym q.0
-one_set_up scheme kind input when a b (inr (inl p)) (inr (inr (inl q))) = absurd (p.1 q.1.message q.1.reads)
-one_set_up scheme kind input when a b (inr (inl p)) (inr (inr (inr q))) = absurd (p.1 q.1.message q.1.reads)
-one_set_up scheme kind input when a b (inr (inr (inl p))) (inl q) = absurd (set_up_alone scheme kind input q.0 when q.2 p.1)
-one_set_up scheme kind input when a b (inr (inr (inl p))) (inr (inl q)) = absurd (q.1 p.1.message p.1.reads)
-one_set_up scheme kind input when a b (inr (inr (inl p))) (inr (inr (inl q))) = p.0 ∙ sym q.0
-one_set_up scheme kind input when a b (inr (inr (inl p))) (inr (inr (inr q))) = absurd (no_certificate_alone scheme kind input when p.1 q.1)
-one_set_up scheme kind input when a b (inr (inr (inr p))) (inl q) = absurd (set_up_believed scheme kind input q.0 when q.2 p.1)
-one_set_up scheme kind input when a b (inr (inr (inr p))) (inr (inl q)) = absurd (q.1 p.1.message p.1.reads)
-one_set_up scheme kind input when a b (inr (inr (inr p))) (inr (inr (inl q))) = absurd (no_certificate_alone scheme kind input when q.1 p.1)
-one_set_up scheme kind input when a b (inr (inr (inr p))) (inr (inr (inr q))) = p.0 ∙ sym q.0
+one_set_up scheme kind input when a b (inr (inl p)) (inr (inr q)) = absurd (p.1 q.2.message q.2.reads)
+one_set_up scheme kind input when a b (inr (inr p)) (inl q) = absurd (anchored_alone scheme (certificate_octets q.2.message) when p.0 q.2.anchored (of_same scheme kind input when p.0 q.2.message q.2.reads p.2))
+one_set_up scheme kind input when a b (inr (inr p)) (inr (inl q)) = absurd (q.1 p.2.message p.2.reads)
+one_set_up scheme kind input when a b (inr (inr p)) (inr (inr q)) =
+    p.1 ∙ ap (λ (e : Refusal). Err e)
+    (one_anchor_refusal scheme (certificate_octets p.2.message) when p.0 q.0 (anchor_view scheme (certificate_octets p.2.message) when p.0 p.2.refused)
+    (anchor_view scheme (certificate_octets p.2.message) when q.0 (of_same scheme kind input when q.0 p.2.message p.2.reads q.2)))
+    ∙ sym q.1
 
 pub one_answer : (scheme : Relation) (command : Command) (octets : Option (List ℕ)) (a b : Result (List ℕ) Refusal) → AnswersSpelled scheme command octets a → AnswersSpelled scheme command octets b → a ≡ b
 one_answer scheme command None a b p q = p ∙ sym q

@@ -43,10 +43,26 @@ setup_text (messages.ParentResponse m) = parent_response_text m
 setup_text (messages.PublisherRequest m) = publisher_request_text m
 setup_text (messages.RepositoryResponse m) = repository_response_text m
 
--- how an error is answered where octets are read as a message
+-- how an error is answered
 abbrev pub refusal_of_setup : Error → Refusal
+refusal_of_setup setup_error.InvalidTaCertEncoding = refusals.InvalidTaCertEncoding
+refusal_of_setup setup_error.InvalidTaCert = refusals.InvalidTaCert
 refusal_of_setup setup_error.OutOfMemory = refusals.OutOfMemory
 refusal_of_setup other = refusals.XmlError
+
+-- ---- the certificate
+
+-- the octets begin with a certificate that is believed as a trust anchor's at the moment
+pub record IsAnchored (scheme : Relation) (octets : List ℕ) (when : ℤ) : Type 0 where
+  pub certificate : CertificateFields
+  pub believed : IsBelievedIn scheme octets when certificate
+
+-- or with none, or with one that is not believed
+abbrev pub RefusesAnchor : Relation → List ℕ → ℤ → Refusal → Type 0
+RefusesAnchor scheme octets when refusals.InvalidTaCertEncoding =
+    (c : CertificateFields) → BeginsCertificate octets c → ⊥
+RefusesAnchor scheme octets when refusals.InvalidTaCert = HoldsUnbelieved scheme octets when
+RefusesAnchor scheme octets when other = ⊥
 
 -- ---- the command
 
@@ -56,33 +72,23 @@ pub record IsSetUp (scheme : Relation) (kind : SetupKind) (input : List ℕ) (wh
     (text : List ℕ) : Type 0 where
   pub message : SetupMessage
   pub reads : ReadsSetup kind input message
-  pub certificate : CertificateFields
-  pub believed : IsBelievedIn scheme (certificate_octets message) when certificate
+  pub anchored : IsAnchored scheme (certificate_octets message) when
   pub written : text ≡ setup_text message
 
 -- the input reads as no message of the kind
 abbrev pub IsNoSetup : SetupKind → List ℕ → Type 0
 IsNoSetup kind input = (message : SetupMessage) → ReadsSetup kind input message → ⊥
 
--- it reads as one, whose octets begin with no certificate
-pub record HoldsNoCertificate (kind : SetupKind) (input : List ℕ) : Type 0 where
-  pub message : SetupMessage
-  pub reads : ReadsSetup kind input message
-  pub none : (c : CertificateFields) → BeginsCertificate (certificate_octets message) c → ⊥
-
--- it reads as one, whose certificate is not believed as a trust anchor's at the moment
+-- it reads as one, whose certificate is refused so
 pub record HoldsNoAnchor (scheme : Relation) (kind : SetupKind) (input : List ℕ) (when : ℤ)
-    : Type 0 where
+    (refusal : Refusal) : Type 0 where
   pub message : SetupMessage
   pub reads : ReadsSetup kind input message
-  pub unbelieved : HoldsUnbelieved scheme (certificate_octets message) when
+  pub refused : RefusesAnchor scheme (certificate_octets message) when refusal
 
 -- `setup`: the message's text, or why there is none
 abbrev pub IsSetupAnswer : Relation → SetupKind → List ℕ → ℤ → Result (List ℕ) Refusal → Type 0
 IsSetupAnswer scheme kind input when (Ok text) = IsSetUp scheme kind input when text
 IsSetupAnswer scheme kind input when (Err refusals.XmlError) = IsNoSetup kind input
-IsSetupAnswer scheme kind input when (Err refusals.InvalidTaCertEncoding) =
-    HoldsNoCertificate kind input
-IsSetupAnswer scheme kind input when (Err refusals.InvalidTaCert) =
-    HoldsNoAnchor scheme kind input when
-IsSetupAnswer scheme kind input when (Err other) = ⊥
+IsSetupAnswer scheme kind input when (Err refusal) =
+    HoldsNoAnchor scheme kind input when refusal

@@ -6,6 +6,7 @@ ghost use Rattle.hex.specs.Hex.{encode_lower};
 ghost use Rattle.rpki_signer.specs.Limits.{Keeps};
 ghost use Rattle.rpki_sigmsg.specs.Making.{HasWindow, CreateFails};
 ghost use Rattle.rpki_sigmsg.specs.declared.create_error.CreateError.TheVariants as create;
+ghost use Rattle.rpki_publication.specs.Message as publication;
 ghost use Rattle.rpki_ca.specs.Acceptance.{ReadsAs, protocol_of, text_of};
 ghost use Rattle.rpki_ca.specs.Answer.{IsLineOf};
 ghost use Rattle.rpki_ca.specs.Creation.{AreCreated, IsCreateAnswer, IsNoMessage};
@@ -54,6 +55,27 @@ fn message_in(alloc: Global, kind: Kind, input: &[u8]) -> Result<Received, Refus
     }
 }
 
+// The octets of a signed message with this message of the publication protocol.
+fn publication_octets<P: Scheme, S: Signer<P>>(
+    alloc: Global,
+    message: Message,
+    when: Time,
+    key: &S::KeyId,
+    signer: &mut S,
+) -> Result<Bytes, CreateError<S::Error>>
+    ensures created { MatchResult result
+        (AreCreated P.checks Kind.Publication (Received.Publication message) when
+        (seen_signer key.now (S.state signer.old) (S.state signer.new)))
+        (CreateFails (publication.text_of message) when key.now
+        (S.state signer.old) (S.state signer.new)) }
+    ensures too_long { HasWindow when → 2 ^ 31 < length (publication.text_of message)
+        → IsErrOf result create.TooLong ⊎ IsErrOf result create.OutOfMemory }
+    ensures keeps { Keeps (S.state signer.old) (S.state signer.new) }
+{
+    let cms = PublicationCms::create(alloc, message, when, key, signer)?;
+    Ok(cms.to_bytes(alloc)?)
+}
+
 // The octets of a signed message with this message.
 fn signed_octets<P: Scheme, S: Signer<P>>(
     alloc: Global,
@@ -72,10 +94,7 @@ fn signed_octets<P: Scheme, S: Signer<P>>(
     ensures keeps { Keeps (S.state signer.old) (S.state signer.new) }
 {
     match message {
-        Received::Publication(message) => {
-            let cms = PublicationCms::create(alloc, message, when, key, signer)?;
-            Ok(cms.to_bytes(alloc)?)
-        }
+        Received::Publication(message) => publication_octets(alloc, message, when, key, signer),
     }
 }
 

@@ -33,13 +33,16 @@ pub(crate) enum SetupMessage {
     RepositoryResponse(RepositoryResponse),
 }
 
-// That the text is no message, or memory ran out; no other error comes where octets are parsed.
-fn refusal_of(error: Error) -> Refusal
-    ensures { result ≡ refusal_of_setup error }
-{
-    match error {
-        Error::OutOfMemory => Refusal::OutOfMemory,
-        _ => Refusal::XmlError,
+impl From<Error> for Refusal {
+    ghost from_gives = { λ error e. e ≡ refusal_of_setup error };
+
+    fn from(error: Error) -> Refusal {
+        match error {
+            Error::InvalidTaCertEncoding => Refusal::InvalidTaCertEncoding,
+            Error::InvalidTaCert => Refusal::InvalidTaCert,
+            Error::OutOfMemory => Refusal::OutOfMemory,
+            _ => Refusal::XmlError,
+        }
     }
 }
 
@@ -55,22 +58,18 @@ impl SetupMessage {
             → (e ≡ Refusal.XmlError) × IsNoSetup kind input.now) }
     {
         match kind {
-            SetupKind::ChildRequest => match ChildRequest::parse_slice(alloc, input) {
-                Ok(message) => Ok(SetupMessage::ChildRequest(message)),
-                Err(error) => Err(refusal_of(error)),
-            },
-            SetupKind::ParentResponse => match ParentResponse::parse_slice(alloc, input) {
-                Ok(message) => Ok(SetupMessage::ParentResponse(message)),
-                Err(error) => Err(refusal_of(error)),
-            },
-            SetupKind::PublisherRequest => match PublisherRequest::parse_slice(alloc, input) {
-                Ok(message) => Ok(SetupMessage::PublisherRequest(message)),
-                Err(error) => Err(refusal_of(error)),
-            },
-            SetupKind::RepositoryResponse => match RepositoryResponse::parse_slice(alloc, input) {
-                Ok(message) => Ok(SetupMessage::RepositoryResponse(message)),
-                Err(error) => Err(refusal_of(error)),
-            },
+            SetupKind::ChildRequest => {
+                Ok(SetupMessage::ChildRequest(ChildRequest::parse_slice(alloc, input)?))
+            }
+            SetupKind::ParentResponse => {
+                Ok(SetupMessage::ParentResponse(ParentResponse::parse_slice(alloc, input)?))
+            }
+            SetupKind::PublisherRequest => {
+                Ok(SetupMessage::PublisherRequest(PublisherRequest::parse_slice(alloc, input)?))
+            }
+            SetupKind::RepositoryResponse => {
+                Ok(SetupMessage::RepositoryResponse(RepositoryResponse::parse_slice(alloc, input)?))
+            }
         }
     }
 

@@ -1,6 +1,6 @@
-use Rattle.std.proofs.Common.{Ok, refl, ◌∙◌}
+use Rattle.std.proofs.Common.{Ok, refl, inl, inr, ◌∙◌}
 use Rattle.std.proofs.lemmas.Result.{IfOk-weaker}
-use Rattle.rpki_ca.specs.Seen.{seen_signer}
+use Rattle.rpki_ca.proofs.Commands.{asks_signer}
 use Rattle.rpki_ca.proofs.Answering.{if_some, if_err, shown, admitted, usage_of_none, usage_shown}
 use Rattle.rpki_ca.proofs.running.answer.Goals as goal
 
@@ -24,3 +24,11 @@ returns-clause-err g c =
 
 pub returns-clause-usage : goal.returns-clause-usage
 returns-clause-usage g c = usage_of_none g.P.Scheme.checks c.args.words.now c.in-Some.command c.deref.result.now _ c.perform.result c.perform.ensures.err
+
+pub returns-clause-untouched : goal.returns-clause-untouched
+returns-clause-untouched g c = λ none.
+    let is = rw c.in-Some.is at c.in_ok-command.ensures.command in
+    elim c.perform.ensures.untouched [
+      | inl asks ↦ absurd (asks_signer c.args.words.now c.in-Some.command is asks none)
+      | inr same ↦ same
+    ]
