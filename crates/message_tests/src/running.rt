@@ -13,7 +13,15 @@ fn answers(alloc: Global, len: usize, status: u8, line: &[u8]) -> Result<bool, F
     let mut sink = MemorySink::new(alloc, 1000, 1000, &[])?;
     let mut signer = ToySigner::new(alloc, 1, &[])?;
     let verifier = ToyVerifier::new();
-    let answer = run(alloc, &words, &mut source, &mut sink, &verifier, &mut signer, &0);
+    let answer = run(
+        alloc,
+        &words,
+        &mut source,
+        &mut sink,
+        &verifier,
+        &mut signer,
+        &0,
+    );
     Ok(answer == Status(status) && sink.written() == line)
 }
 

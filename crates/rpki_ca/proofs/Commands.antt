@@ -17,8 +17,8 @@ use Rattle.rpki_ca.specs.declared.command.Command.TheVariants.{Content, Receive,
 use Rattle.rpki_ca.specs.declared.setup_message.SetupKind.{SetupKind}
 use Rattle.rpki_ca.specs.declared.setup_message.SetupKind.TheVariants as setup
 use Rattle.rpki_ca.specs.Words.{IsMoment, IsMomentAt, key_of, key_at}
-use Rattle.rpki_ca.specs.Command.{setup_kind_word, setup_kind_of, setup_kind_at, IsSetup, AskToSetUp}
-use Rattle.rpki_ca.specs.Command.{kind_word, kind_of, kind_at, verb_word, verb_of, verb_in, AreKeys, IsReceive, IsCreate, AreNoCreate, AsksSigner, AskToReceive, AskToCreate, Ask, IsCommand, IsNoCommand, AskInVain, HasFewKeys}
+use Rattle.rpki_ca.specs.Command.{setup_kind_word, setup_kind_of, setup_kind_at, IsSetup}
+use Rattle.rpki_ca.specs.Command.{kind_word, kind_of, kind_at, verb_word, verb_of, verb_in, AreKeys, IsReceive, IsCreate, AreNoCreate, AsksSigner, AskToReceive, Ask, IsCommand, IsNoCommand, AskInVain, HasFewKeys}
 
 abbrev some_word : List ℕ → Option (List ℕ)
 some_word w = Some w

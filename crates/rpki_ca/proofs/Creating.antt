@@ -1,11 +1,10 @@
 -- Messages that are created, and why none is.
-use Rattle.std.proofs.Common.{◌≡◌, ◌≢◌, ◌≤◌, ◌<◌, ◌^◌, ◌≤ℤ◌, ◌⊎◌, inl, inr, ℕ, ℤ, Option, Some, None, Result, Ok, Err, List, [], ◌∷◌, ◌++◌, length, refl, sym, ap, subst, ◌∙◌, arith}
-use Rattle.std.specs.Prelude.{IfSome, IfOk, IsErrOf, MatchResult}
+use Rattle.std.proofs.Common.{◌≡◌, ◌≢◌, ◌≤◌, ◌<◌, ◌^◌, ◌≤ℤ◌, ◌⊎◌, inl, inr, ℕ, ℤ, Option, Some, Result, Ok, Err, List, [], ◌∷◌, ◌++◌, length, refl, sym, ap, subst, ◌∙◌, arith}
+use Rattle.std.specs.Prelude.{IsErrOf}
 use Rattle.std.specs.Io.KnownBytes.{Appends}
 use Rattle.std.proofs.lemmas.Bool.Decides.{leb_tells}
 use Rattle.std.proofs.lemmas.List.{append-nil}
 use Rattle.hex.specs.Hex.{encode_lower}
-use Rattle.rpki_common.specs.Causes.{Rose}
 use Rattle.rpki_base.specs.declared.algorithm.SigningAlgorithm.{SigningAlgorithm}
 use Rattle.rpki_base.specs.declared.algorithm.SigningAlgorithm.TheVariants.{RsaSha256}
 use Rattle.rpki_base.specs.Algorithm.{format_of}
@@ -16,30 +15,30 @@ use Rattle.rpki_der.specs.declared.mode.Mode.TheVariants.{Ber}
 use Rattle.rpki_der.specs.Takes.{BeginsAs}
 use Rattle.rpki_signer.specs.declared.errors.SigningError.TheVariants as signing
 use Rattle.rpki_signer.specs.declared.errors.SigningError.{SigningError}
-use Rattle.rpki_signer.specs.Signer.{SignerState, Holds, Lacks, IsUnfit, SigningFails}
+use Rattle.rpki_signer.specs.Signer.{Holds, SigningFails}
 use Rattle.rpki_signer.proofs.Keyrings.{one_key}
 use Rattle.rpki_sigmsg.specs.declared.create_error.CreateError.{CreateError}
 use Rattle.rpki_sigmsg.specs.declared.create_error.CreateError.TheVariants as create
-use Rattle.rpki_sigmsg.specs.Checks.{IsAmong, IsBelieved}
-use Rattle.rpki_sigmsg.specs.Making.{window, HasWindow, IsCreated, IsReused, CreateFails}
+use Rattle.rpki_sigmsg.specs.Checks.{IsBelieved}
+use Rattle.rpki_sigmsg.specs.Making.{window, HasWindow, IsCreated, CreateFails}
 use Rattle.rpki_sigmsg.specs.Message.{MessageFields, signed_message}
 use Rattle.rpki_sigmsg.specs.Spelling.{rewritten, CanBeSpelled}
 use Rattle.rpki_publication.specs.declared.message.Message.{Message}
 use Rattle.rpki_publication.specs.Message as publication
 use Rattle.rpki_publication.proofs.Again.{text_again}
 use Rattle.rpki_ca.specs.declared.command.Command.{Command}
-use Rattle.rpki_ca.specs.declared.command.Command.TheVariants.{Content, Receive, Create}
+use Rattle.rpki_ca.specs.declared.command.Command.TheVariants.{Create}
 use Rattle.rpki_ca.specs.declared.receiving.Kind.{Kind}
 use Rattle.rpki_ca.specs.declared.receiving.Kind.TheVariants as kinds
 use Rattle.rpki_ca.specs.declared.receiving.Received.{Received}
 use Rattle.rpki_ca.specs.declared.receiving.Received.TheVariants as received
 use Rattle.rpki_ca.specs.declared.refusals.Refusal.{Refusal}
 use Rattle.rpki_ca.specs.declared.refusals.Refusal.TheVariants as refusals
-use Rattle.rpki_ca.specs.Acceptance.{ReadsAs, protocol_of, text_of, Accepted}
-use Rattle.rpki_ca.specs.Creation.{IsNoMessage, IsReceivable, AreCreated, IsSigned, IsSignersAnswer, IsCreateAnswer, Creates, CanCreate, refusal_of_create}
+use Rattle.rpki_ca.specs.Acceptance.{ReadsAs, protocol_of, text_of}
+use Rattle.rpki_ca.specs.Creation.{IsReceivable, AreCreated, IsSigned, IsSignersAnswer, IsCreateAnswer, Creates, CanCreate, refusal_of_create}
 use Rattle.rpki_ca.specs.Answer.{AnswersSigned, IsFromSigner, IsGiven}
 use Rattle.rpki_ca.specs.Command.{IsCreate}
-use Rattle.rpki_ca.specs.Seen.{Seen, SignerSeen, seen_signer}
+use Rattle.rpki_ca.specs.Seen.{Seen, SignerSeen}
 use Rattle.rpki_ca.proofs.Commands.{is_create, one_command}
 use Rattle.rpki_ca.proofs.Laws.{CreateView, create_view, one_reading}
 

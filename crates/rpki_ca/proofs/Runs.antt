@@ -7,7 +7,7 @@ use Rattle.rpki_base.specs.Algorithm.{format_of}
 use Rattle.rpki_base.specs.PublicKey.{KeyFields}
 use Rattle.rpki_base.specs.declared.algorithm.SigningAlgorithm.{SigningAlgorithm}
 use Rattle.rpki_ca.specs.declared.command.Command.{Command}
-use Rattle.rpki_ca.specs.declared.command.Command.TheVariants.{Receive, Create, Setup}
+use Rattle.rpki_ca.specs.declared.command.Command.TheVariants.{Receive, Setup}
 use Rattle.rpki_ca.specs.declared.setup_message.SetupKind.{SetupKind}
 use Rattle.rpki_ca.specs.declared.receiving.Kind.{Kind}
 use Rattle.rpki_ca.specs.declared.refusals.Refusal.{Refusal}
@@ -20,7 +20,7 @@ use Rattle.rpki_ca.specs.Refusal.{status_of}
 use Rattle.rpki_base.specs.Scheme.{Relation}
 use Rattle.rpki_ca.specs.Acceptance.{text_of}
 use Rattle.rpki_ca.specs.Seen.{Seen, SignerSeen, HasFailed, IsSteady}
-use Rattle.rpki_ca.specs.Answer.{AnswersSpelled, AnswersSigned, IsAnswer, IsFromSigner, IsGiven, IsShown, IsAdmitted, Ends, EndsAs, ReadsAll, Delivers, Holds, Succeeds}
+use Rattle.rpki_ca.specs.Answer.{AnswersSpelled, AnswersSigned, IsAnswer, IsGiven, IsShown, IsAdmitted, Ends, EndsAs, ReadsAll, Delivers, Holds, Succeeds}
 use Rattle.rpki_ca.proofs.Commands.{is_command, is_setup, one_command}
 use Rattle.rpki_ca.proofs.Answering.{if_some, always_some, answers, sort_of, to_shown}
 use Rattle.rpki_ca.proofs.Laws.{one_answer_to_words, from_signer_alone}

@@ -1,5 +1,5 @@
 -- Setup messages that are read, and why none is.
-use Rattle.std.proofs.Common.{◌≡◌, ◌≢◌, ℕ, ℤ, Option, Result, Ok, Err, List, refl}
+use Rattle.std.proofs.Common.{◌≡◌, ◌≢◌, ℕ, ℤ, Option, Err, List, refl}
 use Rattle.rpki_message.specs.Answers.{RefusesMessage}
 use Rattle.rpki_setup.specs.Answers.{cause_of, RefusesCertificate}
 use Rattle.rpki_base.specs.Scheme.{Relation}

@@ -1,5 +1,5 @@
 -- What is answered where a setup message is to be looked at (RFC 8183, 5).
-use Rattle.std.specs.Prelude.{◌≡◌, ℕ, ℤ, List, Result, Ok, Err, ⊤}
+use Rattle.std.specs.Prelude.{◌≡◌, ℕ, ℤ, List, Result, Ok, Err}
 use Rattle.rpki_base.specs.Scheme.{Relation}
 use Rattle.rpki_idcert.specs.IdCert.{CertificateFields}
 use Rattle.rpki_setup.specs.Answers.{BeginsCertificate, IsBelievedIn, HoldsUnbelieved}

@@ -5,9 +5,7 @@ ghost use Rattle.rpki_ca.specs.Setup.{ReadsSetup, IsNoSetup, certificate_octets,
 
 use crate::refusals::Refusal;
 use rpki_common::OutOfMemory;
-use rpki_setup::{
-    ChildRequest, Error, ParentResponse, PublisherRequest, RepositoryResponse,
-};
+use rpki_setup::{ChildRequest, Error, ParentResponse, PublisherRequest, RepositoryResponse};
 use rpki_text::Base64;
 use std::alloc::Global;
 

@@ -1,8 +1,8 @@
 //! The program: its words, standard input and standard output are handed to `rpki_ca::run`.
 #![tactic(auto)]
 
-use rpki_ca::{Refusal, Status, Words, refuse, run};
 use rpki_base::PublicKeyFormat;
+use rpki_ca::{Refusal, Status, Words, refuse, run};
 use rpki_signer::{CallError, Signer, ToyScheme, ToySigner, ToyVerifier};
 use rpki_text::{Sink, Source, StdSink, StdSource, write_all};
 use std::alloc::Global;

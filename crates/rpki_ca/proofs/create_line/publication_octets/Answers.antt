@@ -1,7 +1,4 @@
-use Rattle.std.proofs.Common.{Ok, refl, inl, inr}
 use Rattle.rpki_sigmsg.proofs.Created.{handed_on}
-use Rattle.rpki_sigmsg.specs.declared.create_error.CreateError.TheVariants as create
-use Rattle.rpki_ca.specs.Seen.{seen_signer}
 use Rattle.rpki_ca.proofs.Creating.{publication_created, ok_tells}
 use Rattle.rpki_ca.proofs.create_line.publication_octets.Goals as goal
 
