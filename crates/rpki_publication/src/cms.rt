@@ -8,8 +8,7 @@ ghost use Rattle.rpki_der.specs.Ticks.{nodes};
 ghost use Rattle.rpki_der.specs.Value.{Value, Begins};
 ghost use Rattle.rpki_publication.specs.declared.error.Error.{Error as CmsError};
 ghost use Rattle.rpki_publication.specs.Answers.{validated};
-ghost use Rattle.rpki_publication.specs.Cms.{BeginsCms, RefusesCms, FindsSigned};
-ghost use Rattle.rpki_publication.specs.Message.{Reads};
+ghost use Rattle.rpki_publication.specs.Cms.{BeginsCms, RefusesCms, FindsSigned, Says};
 
 use crate::error::Error;
 use crate::message::Message;
@@ -30,8 +29,7 @@ pub struct PublicationCms {
 }
 
 impl Model for PublicationCms {
-    ghost use Rattle.rpki_publication.specs.Cms.{CmsFields};
-    ghost use Rattle.rpki_publication.specs.Message.{Reads};
+    ghost use Rattle.rpki_publication.specs.Cms.{CmsFields, Says};
 
     ghost Value = { CmsFields };
 
@@ -39,7 +37,7 @@ impl Model for PublicationCms {
 
     ghost inverse = { λ c. record { signed = c.signed; message = c.message } };
 
-    ghost invariant = { λ c. Reads c.signed.content c.message };
+    ghost invariant = { λ c. Says c.signed.content c.message };
 }
 
 // The answer of the checks, as this crate's error.
@@ -107,7 +105,7 @@ impl PublicationCms {
     /// The message.
     pub fn message(&self) -> &Message
         ensures message { result.now ≡ self.now.message }
-        ensures reads { Reads self.now.signed.content result.now }
+        ensures says { Says self.now.signed.content result.now }
     {
         &self.message
     }
@@ -115,16 +113,16 @@ impl PublicationCms {
     /// The message, without the signed message.
     pub fn into_message(self) -> Message
         ensures message { result ≡ self.message }
-        ensures reads { Reads self.signed.content result }
+        ensures says { Says self.signed.content result }
     {
         self.message
     }
 
-    /// Both: the message is what the signed message's content reads as.
+    /// Both: the content of the signed message says the message.
     pub fn unpack(self) -> (SignedMessage, Message)
         ensures signed { result.0 ≡ self.signed }
         ensures message { result.1 ≡ self.message }
-        ensures reads { Reads result.0.content result.1 }
+        ensures says { Says result.0.content result.1 }
     {
         (self.signed, self.message)
     }
@@ -134,10 +132,8 @@ impl PublicationCms {
         ensures { IfOk result (λ c. c ≡ self.now) }
     {
         let signed = self.signed.clone(alloc)?;
-        Ok(PublicationCms {
-            signed,
-            message: self.message,
-        })
+        let message = self.message.clone(alloc)?;
+        Ok(PublicationCms { signed, message })
     }
 
     /// Whether the key issued the certificate for the moment and the certificate's key signed the message; if not, Validation
