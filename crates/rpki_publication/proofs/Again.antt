@@ -1,5 +1,5 @@
 -- What is written of a writable message is read as its normal form.
-use Rattle.std.proofs.Common.{◌≡◌, ℕ, true, false, List, [], ◌∷◌, Option, Some, None, map, refl, sym, ap, ◌∙◌, IfSome}
+use Rattle.std.proofs.Common.{◌≡◌, ℕ, true, false, List, [], ◌∷◌, Option, Some, None, map, refl, IfSome}
 use Rattle.std.specs.Prelude.{codes}
 use Rattle.std.specs.List.{AllByRecursion}
 use Rattle.rpki_common.specs.Chaining.{◌>>=◌}

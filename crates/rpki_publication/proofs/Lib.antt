@@ -1,8 +1,10 @@
 pub mod Again
 pub mod Believed
+pub mod Bounds
 pub mod Causes
 pub mod Counted
 pub mod Digits
+pub mod Equal
 pub mod Loops
 pub mod Plain
 pub mod Refused

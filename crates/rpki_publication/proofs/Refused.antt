@@ -1,21 +1,14 @@
 -- Octets that are not read.
-use Rattle.std.proofs.Common.{◌≡◌, ℕ, List, Option, Some, None, refl, sym, ap, ◌∙◌}
+use Rattle.std.proofs.Common.{ℕ, List, refl, sym, ◌∙◌}
 use Rattle.rpki_der.specs.declared.error.DecodeError.{DecodeError}
 use Rattle.rpki_der.specs.declared.error.DecodeError.TheVariants as der
 use Rattle.rpki_der.specs.declared.mode.Mode.TheVariants.{Ber}
 use Rattle.rpki_der.specs.Takes.{RefusesOctets}
 use Rattle.rpki_sigmsg.specs.Message.{MessageFields, signed_message}
-use Rattle.rpki_xml.specs.declared.error.XmlError.{XmlError}
 use Rattle.rpki_xml.specs.declared.error.XmlError.TheVariants as xml
-use Rattle.rpki_xml.specs.Element.{Element}
-use Rattle.rpki_xml.specs.Answers.{IsRefused}
-use Rattle.rpki_xml.specs.Lexing.{IsDocument}
-use Rattle.rpki_xml.proofs.Documents.{one_document}
 use Rattle.rpki_publication.specs.declared.error.Error.{Error}
 use Rattle.rpki_publication.specs.declared.error.Error.TheVariants as errors
-use Rattle.rpki_publication.specs.declared.message.Message.{Message}
-use Rattle.rpki_publication.specs.Message.{message_of, Reads}
-use Rattle.rpki_publication.specs.Answers.{of_der, of_xml, RefusesMessage}
+use Rattle.rpki_publication.specs.Answers.{of_der, RefusesMessage}
 use Rattle.rpki_publication.specs.Cms.{BeginsSigned, RefusesCms}
 use Rattle.rpki_common.proofs.Truths.{none_some}
 

@@ -9,9 +9,9 @@ use Rattle.rpki_common.proofs.Collected.{bind_both, collect_optional, collect_on
 use Rattle.rpki_common.proofs.Truths.{same_octets, equal_octets}
 use Rattle.rpki_xml.specs.Element.{Element, Elements, listed}
 use Rattle.rpki_xml.specs.Name.{local_name}
-use Rattle.rpki_xml.specs.Tables.{require, is_named}
+use Rattle.rpki_xml.specs.Tables.{require}
 use Rattle.rpki_publication.specs.declared.query_pdu.QueryPdu.{QueryPdu}
-use Rattle.rpki_publication.specs.Details.{nothing_found, with_text, with_pdu, details_step}
+use Rattle.rpki_publication.specs.Details.{nothing_found, details_step}
 use Rattle.rpki_publication.specs.ReportError.{ErrorDetails, is_error_text, is_failed_pdu, is_detail, error_text_in, failed_pdu_in, details_in}
 
 abbrev Text : Type 0

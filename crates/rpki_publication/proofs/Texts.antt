@@ -1,5 +1,5 @@
 -- What elements are spelled as, in the parts that they are written in.
-use Rattle.std.proofs.Common.{◌≡◌, ℕ, true, false, List, [], ◌∷◌, ◌++◌, Option, Some, None, refl, sym, ap, ◌∙◌, append_assoc}
+use Rattle.std.proofs.Common.{◌≡◌, ℕ, true, false, List, [], ◌∷◌, ◌++◌, Option, Some, sym, ap, ◌∙◌, append_assoc}
 use Rattle.std.proofs.lemmas.List.{append-nil}
 use Rattle.std.specs.Prelude.{codes}
 use Rattle.base64.specs.Engines.{standard}
@@ -7,7 +7,7 @@ use Rattle.base64.specs.GeneralPurpose.{encode_of}
 use Rattle.hex.specs.Hex.{encode_lower}
 use Rattle.rpki_message.specs.Inside.{text_inside}
 use Rattle.rpki_xml.specs.Draft.{optional_attribute}
-use Rattle.rpki_xml.specs.Element.{Attribute, Elements, none, Element, is_none}
+use Rattle.rpki_xml.specs.Element.{Attribute, Elements, is_none}
 use Rattle.rpki_xml.specs.Spelling.{spelled, spelled_all, spelled_attribute, spelled_attributes, spelled_namespace, spelled_text, spelled_end}
 use Rattle.rpki_publication.specs.declared.query_pdu.QueryPdu.{QueryPdu}
 use Rattle.rpki_publication.specs.Change.{publish_element, update_element, withdraw_element, query_pdu_element}
@@ -23,7 +23,7 @@ use Rattle.rpki_publication.specs.Writing.{start_text}
 leaf_parts : (n attributes inside : List ℕ) → (60 ∷ (n ++ ([] ++ attributes)) ++ inside) ++ [] ≡ 60 ∷ (n ++ (attributes ++ inside))
 leaf_parts n attributes inside = append-nil (60 ∷ (n ++ attributes) ++ inside) ∙ ap (λ (l : List ℕ). 60 ∷ l) (append_assoc n attributes inside)
 
-leaf_spelled : (n : List ℕ) (attributes : List Attribute) (text : List ℕ) → spelled (leaf n attributes text) ≡ 60 ∷ (n ++ (spelled_attributes attributes ++ text_inside n text))
+pub leaf_spelled : (n : List ℕ) (attributes : List Attribute) (text : List ℕ) → spelled (leaf n attributes text) ≡ 60 ∷ (n ++ (spelled_attributes attributes ++ text_inside n text))
 leaf_spelled n attributes text = leaf_parts n (spelled_attributes attributes) (text_inside n text)
 
 two : (a b inside : List ℕ) → a ++ (b ++ inside) ≡ (a ++ (b ++ [])) ++ inside

@@ -1,5 +1,5 @@
 -- Every message that is read is writable.
-use Rattle.std.proofs.Common.{◌≡◌, ◌≢◌, ℕ, Bool, true, false, List, [], ◌∷◌, Option, Some, None, cond, refl, sym, ap, subst, ◌∙◌, IfSome}
+use Rattle.std.proofs.Common.{◌≡◌, ◌≢◌, ℕ, Bool, true, false, List, [], ◌∷◌, Option, Some, None, cond, refl, subst, ◌∙◌, IfSome}
 use Rattle.std.specs.Prelude.{codes, filter, if◌then◌else◌}
 use Rattle.std.specs.List.{AllByRecursion}
 use Rattle.std.specs.Str.{bytes_eq}
@@ -41,11 +41,11 @@ use Rattle.rpki_publication.proofs.Digits.{digest_read}
 
 -- ---- what is known of each element of a document
 
-record IsLawful (e : Element) : Type 0 where
-  head : IsLetteredHead e.head
-  trimmed' : trimmed e.head.text ≡ e.head.text
-  below : AreLettered e.children
-  trims : AreTrimmed e.children
+pub record IsLawful (e : Element) : Type 0 where
+  pub head : IsLetteredHead e.head
+  pub trimmed' : trimmed e.head.text ≡ e.head.text
+  pub below : AreLettered e.children
+  pub trims : AreTrimmed e.children
 
 abbrev AreLawful : List Element → Type 0
 AreLawful list = AllByRecursion IsLawful list
@@ -89,12 +89,12 @@ hash_read : (h : Head) (d : Option (List ℕ)) → optional_by digest_of_text (c
 unfolding optional_by
 hash_read h d e = let p = then_some (optional (codes "hash") h) (where_there digest_of_text) d e in there_digest p.0 d p.2
 
-record AreWritable (tag uri hash : Option (List ℕ)) : Type 0 where
-  tag' : IfSome tag AreOctets
-  uri' : IfSome uri (λ v. fault_of rsync v ≡ None)
-  hash' : IfSome hash IsDigest
+pub record AreWritable (tag uri hash : Option (List ℕ)) : Type 0 where
+  pub tag' : IfSome tag AreOctets
+  pub uri' : IfSome uri (λ v. fault_of rsync v ≡ None)
+  pub hash' : IfSome hash IsDigest
 
-query_attributes : (h : Head) (a : QueryAttributes) → IsLetteredHead h → query_attributes_in h ≡ Some a → AreWritable a.tag a.uri a.hash
+pub query_attributes : (h : Head) (a : QueryAttributes) → IsLetteredHead h → query_attributes_in h ≡ Some a → AreWritable a.tag a.uri a.hash
 unfolding query_attributes_in
 query_attributes h a l is =
     let p = then_some _ _ a is in
@@ -104,7 +104,7 @@ query_attributes h a l is =
     subst (λ (b : QueryAttributes). AreWritable b.tag b.uri b.hash) (same_some (record { tag = t.0; uri = u.0; hash = d.0 }) a d.2)
     (record { tag' = optional_lettered (codes "tag") h t.0 l t.1; uri' = uri_read h u.0 u.1; hash' = hash_read h d.0 d.1 })
 
-reply_attributes : (h : Head) (a : ReplyAttributes) → IsLetteredHead h → reply_attributes_in h ≡ Some a → AreWritable a.tag a.uri a.hash
+pub reply_attributes : (h : Head) (a : ReplyAttributes) → IsLetteredHead h → reply_attributes_in h ≡ Some a → AreWritable a.tag a.uri a.hash
 unfolding reply_attributes_in
 reply_attributes h a l is =
     let p = then_some _ _ a is in
@@ -115,7 +115,7 @@ reply_attributes h a l is =
     subst (λ (b : ReplyAttributes). AreWritable b.tag b.uri b.hash) (same_some (record { hash = d.0; uri = u.0; tag = t.0; error_code = c.0 }) a c.2)
     (record { tag' = optional_lettered (codes "tag") h t.0 l t.1; uri' = uri_read h u.0 u.1; hash' = hash_read h d.0 d.1 })
 
-there : (P : List ℕ → Type 0) (o : Option (List ℕ)) (x : List ℕ) → o ≡ Some x → IfSome o P → P x
+pub there : (P : List ℕ → Type 0) (o : Option (List ℕ)) (x : List ℕ) → o ≡ Some x → IfSome o P → P x
 there P o x e h = subst (λ (p : Option (List ℕ)). IfSome p P) e h
 
 -- ---- elements of a query

@@ -1,5 +1,5 @@
 -- The elements of a reply that lists what is published (RFC 8181, 2.3).
-use Rattle.std.specs.Prelude.{◌≡◌, ℕ, List, [], ◌∷◌, Option, None, Some, codes}
+use Rattle.std.specs.Prelude.{◌≡◌, [], ◌∷◌, Option, None, Some, codes}
 use Rattle.hex.specs.Hex.{encode_lower}
 use Rattle.rpki_common.specs.Chaining.{◌>>=◌}
 use Rattle.rpki_text.specs.Uri.{rsync, fault_of}

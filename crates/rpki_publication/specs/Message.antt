@@ -1,11 +1,11 @@
 -- The messages of the publication protocol, as elements (RFC 8181, 2.1). Names are compared by their local parts, and the root's
 -- namespace is not looked at.
-use Rattle.std.specs.Prelude.{◌≡◌, ◌≢◌, ℕ, List, [], ◌∷◌, Option, None, Some, map, if◌then◌else◌, codes}
+use Rattle.std.specs.Prelude.{◌≢◌, ℕ, List, [], ◌∷◌, Option, None, Some, map, if◌then◌else◌, codes}
 use Rattle.std.specs.List.{AllByRecursion}
 use Rattle.std.specs.Str.{bytes_eq}
 use Rattle.rpki_common.specs.Chaining.{◌>>=◌}
 use Rattle.rpki_message.specs.Reading as reading
-use Rattle.rpki_xml.specs.Element.{Elements, none, Element, alone, elements_of, is_nil}
+use Rattle.rpki_xml.specs.Element.{Elements, Element, alone, elements_of, is_nil}
 use Rattle.rpki_xml.specs.Tables.{require, is_named, is_first_named, only, required, given_or_absent, is_empty, the_child, each_of}
 use Rattle.rpki_xml.specs.Spelling.{spelled}
 use Rattle.rpki_publication.specs.declared.message.Message.{Message}

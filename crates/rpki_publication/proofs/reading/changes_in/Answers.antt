@@ -1,4 +1,3 @@
-use Rattle.std.proofs.Common.{◌≡◌, ◌++◌, ◌∷◌, []}
 use Rattle.std.proofs.lemmas.Result.{err_from_is_err_and}
 use Rattle.rpki_xml.specs.Tables.{each_of}
 use Rattle.rpki_xml.proofs.Each.{each_starts, each_more, each_fails, each_done}
