@@ -160,10 +160,10 @@ attribute_fits b = then_fits (λ (n : List ℕ). length n) value_weight (length 
     (λ n c p. then_rests value_weight (length (past_white c)) (length b) (behind (codes "=") (past_white c)) _ (behind_size (codes "=") (past_white c))
     (λ d l. then_fits (λ (v : List ℕ). length v) value_weight (length (past_white d)) (length b) (quoted_at (past_white d)) (λ value. Some (record { name = n; value = value.0 }, value.1)) (quoted_fits (past_white d))
     (λ v e m.
-      let x = back_size is_white b in
-      let y = back_size is_white c in
-      let z = back_size is_white d in
-      omega (arith, p, l, m, x, y, z))))
+    let x = back_size is_white b in
+    let y = back_size is_white c in
+    let z = back_size is_white d in
+    omega (arith, p, l, m, x, y, z))))
 
 total_values : (list : List Attribute) → total value_weight list ≡ values list
 total_values [] = refl
@@ -183,9 +183,9 @@ unfolding tag_at
 tag_fits b = then_fits (λ (n : List ℕ). length n) piece_weight (length b) (length b) (name_at b) _ (name_fits b)
     (λ n c p. then_fits (total value_weight) piece_weight (length c) (length b) (until no_attribute attribute_at c) (λ attributes. closed_at (record { name = n; attributes = attributes.0 }) (past_white attributes.1)) (until_fits value_weight no_attribute attribute_at attribute_fits c)
     (λ list d q.
-      let x = back_size is_white d in
-      let e = total_values list in
-      widened piece_weight (tag_weight (record { name = n; attributes = list }) + length (past_white d)) (length b) (closed_at (record { name = n; attributes = list }) (past_white d)) (omega (arith, p, q, x, e)) (closed_fits (record { name = n; attributes = list }) (past_white d))))
+    let x = back_size is_white d in
+    let e = total_values list in
+    widened piece_weight (tag_weight (record { name = n; attributes = list }) + length (past_white d)) (length b) (closed_at (record { name = n; attributes = list }) (past_white d)) (omega (arith, p, q, x, e)) (closed_fits (record { name = n; attributes = list }) (past_white d))))
 
 -- ---- pieces
 

@@ -34,21 +34,25 @@ IsNoMessageBy table octets (Some causes.OutOfMemory) = ⊤
 IsNoMessageBy table octets _ = ⊥
 
 -- The cause is Malformed exactly where the octets are no message of the table. OutOfMemory says nothing, and no other one comes.
-abbrev pub RefusesMessage : {M E : Type 0} → (E → Option Cause) → (Element → Option M) → List ℕ → E → Type 0
+abbrev pub RefusesMessage : {M E : Type 0} → (E → Option Cause) → (Element → Option M) → List ℕ → E
+    → Type 0
 RefusesMessage cause_of table octets e = IsNoMessageBy table octets (cause_of e)
 
 -- ---- messages from a source
 
-abbrev pub RefusesSourceBy : {M : Type 0} → (Element → Option M) → Option (List ℕ) → ℕ → ℕ → Option Cause → Type 0
+abbrev pub RefusesSourceBy : {M : Type 0} → (Element → Option M) → Option (List ℕ) → ℕ → ℕ → Option Cause
+    → Type 0
 RefusesSourceBy table rest faults now (Some causes.Malformed) = IfSome rest (IsNoMessage table)
 RefusesSourceBy table rest faults now (Some causes.Read) = Rose faults now
-RefusesSourceBy table rest faults now (Some causes.TooLong) = IfSome rest (λ octets. 2 ^ 31 < length octets)
+RefusesSourceBy table rest faults now (Some causes.TooLong) =
+    IfSome rest (λ octets. 2 ^ 31 < length octets)
 RefusesSourceBy table rest faults now (Some causes.OutOfMemory) = ⊤
 RefusesSourceBy table rest faults now _ = ⊥
 
 -- The cause is Read only where the source's faults rose, TooLong only where it had more than 2^31 octets to give, and Malformed only
 -- where these are no message of the table. OutOfMemory says nothing, and no other one comes.
-abbrev pub RefusesSource : {M E : Type 0} → (E → Option Cause) → (Element → Option M) → Option (List ℕ) → ℕ → ℕ → E → Type 0
+abbrev pub RefusesSource : {M E : Type 0} → (E → Option Cause) → (Element → Option M)
+    → Option (List ℕ) → ℕ → ℕ → E → Type 0
 RefusesSource cause_of table rest faults now e = RefusesSourceBy table rest faults now (cause_of e)
 
 -- the answer says that all that the source had to give was read: it is a message, or that it is none
@@ -74,15 +78,19 @@ pub record Parses {M E : Type 0} (cause_of : E → Option Cause) (table : Elemen
 -- ---- messages to a sink
 
 abbrev pub RefusesSinkBy : List ℕ → Option (List ℕ) → Option (List ℕ) → ℕ → ℕ → Option Cause → Type 0
-RefusesSinkBy text written after faults now (Some causes.Write) = Rose faults now × AppendsPart written after text × (length text ≤ 2 ^ 31)
-RefusesSinkBy text written after faults now (Some causes.TooLong) = (2 ^ 31 < length text) × (after ≡ written)
+RefusesSinkBy text written after faults now (Some causes.Write) =
+    Rose faults now × AppendsPart written after text × (length text ≤ 2 ^ 31)
+RefusesSinkBy text written after faults now (Some causes.TooLong) =
+    (2 ^ 31 < length text) × (after ≡ written)
 RefusesSinkBy text written after faults now (Some causes.OutOfMemory) = after ≡ written
 RefusesSinkBy text written after faults now _ = ⊥
 
 -- The cause is TooLong only where the text has more than 2^31 octets, and nothing was written; Write only where the sink's faults rose,
 -- and a part from the front was written. After OutOfMemory nothing was written. No other one comes.
-abbrev pub RefusesSink : {E : Type 0} → (E → Option Cause) → List ℕ → Option (List ℕ) → Option (List ℕ) → ℕ → ℕ → E → Type 0
-RefusesSink cause_of text written after faults now e = RefusesSinkBy text written after faults now (cause_of e)
+abbrev pub RefusesSink : {E : Type 0} → (E → Option Cause) → List ℕ → Option (List ℕ)
+    → Option (List ℕ) → ℕ → ℕ → E → Type 0
+RefusesSink cause_of text written after faults now e =
+    RefusesSinkBy text written after faults now (cause_of e)
 
 -- What a call answers that writes a text to a sink: by what was written, before and after, and by the sink's count of faults.
 pub record WritesText {E : Type 0} (cause_of : E → Option Cause) (text : List ℕ) (written after : Option (List ℕ)) (faults now : ℕ)
