@@ -15,7 +15,7 @@ use Rattle.rpki_xml.specs.Spelling.{text_character, spelled_text}
 
 -- ---- what holds of each symbol, of the padding and of 0 holds of each octet of the text
 
-symbol : (test : ℕ → Bool) (t : List ℕ) (k : ℕ) → test 0 ≡ true → list_all test t ≡ true → test (slice_index t k) ≡ true
+pub symbol : (test : ℕ → Bool) (t : List ℕ) (k : ℕ) → test 0 ≡ true → list_all test t ≡ true → test (slice_index t k) ≡ true
 symbol test [] k z h = z
 symbol test (x ∷ t) zero z h = (both (test x) (list_all test t) h).0
 symbol test (x ∷ t) (suc k) z h = symbol test t k z (both (test x) (list_all test t) h).1
@@ -83,7 +83,7 @@ encode-trimmed content = black_trimmed (encode_of standard content) (encoded is_
 
 -- ---- of octets, it consists of octets that a document may have
 
-member : (test : ℕ → Bool) (t : List ℕ) (k : ℕ) → list_all test t ≡ true → k < length t → test (slice_index t k) ≡ true
+pub member : (test : ℕ → Bool) (t : List ℕ) (k : ℕ) → list_all test t ≡ true → k < length t → test (slice_index t k) ≡ true
 member test [] k h lt = absurd (omega arith)
 member test (x ∷ t) zero h lt = (both (test x) (list_all test t) h).0
 member test (x ∷ t) (suc k) h lt = member test t k (both (test x) (list_all test t) h).1 (omega arith)

@@ -3,6 +3,7 @@ pub mod Base64s
 pub mod Characters
 pub mod Inside
 pub mod Read
+pub mod Sizes
 pub mod Spelt
 pub mod Transfers
 pub mod Uris

@@ -149,12 +149,18 @@ filtered test (c ∷ text) h =
 same_ok : {E : Type 0} (a b : List ℕ) → ◌≡◌ {A = Result (List ℕ) E} (Ok a) (Ok b) → a ≡ b
 same_ok a b e = cc
 
+-- a text of octets, without its white space, is the one text of the octets that it spells
+pub content_spelled : (text content : List ℕ) → AreOctets text → base64_content text ≡ Some content → filter is_not_space text ≡ encode_of standard content
+content_spelled text content h e =
+    let s : List ℕ = filter is_not_space text in
+    decode_of_strict standard s content (refl, refl) (octet_byte s (filtered is_not_space text h)) (decode_of-told standard s content e)
+
 pub content_bytes : (text content : List ℕ) → AreOctets text → base64_content text ≡ Some content → IsBytes content
 content_bytes text content h e =
     let s : List ℕ = filter is_not_space text in
     let octets : AreOctets s = filtered is_not_space text h in
     let ok = decode_of-told standard s content e in
-    let spelled : s ≡ encode_of standard content = decode_of_strict standard s content (refl, refl) (octet_byte s octets) ok in
+    let spelled : s ≡ encode_of standard content = content_spelled text content h e in
     let front = both (list_all is_octet (encode_symbols table content)) (list_all is_octet (replicate (padding_len (length content)) 61)) (sym (list_all-append is_octet (encode_symbols table content) (replicate (padding_len (length content)) 61)) ∙ subst AreOctets spelled octets) in
     let other = alike content front.0 in
     let again = decode_of-encode_of standard other.octets refl other.bytes in

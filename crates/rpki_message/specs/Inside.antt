@@ -6,4 +6,5 @@ use Rattle.std.specs.Prelude.{◌&&◌, ◌++◌}
 
 -- `/>` where the text is empty, else `>`, the text and the end
 abbrev pub text_inside : List ℕ → List ℕ → List ℕ
-text_inside name text = spelled_inside (is_nil text && is_none none) name (spelled_text text ++ spelled_all none)
+text_inside name text =
+    spelled_inside (is_nil text && is_none none) name (spelled_text text ++ spelled_all none)

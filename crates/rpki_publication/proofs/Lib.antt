@@ -1,4 +1,13 @@
-pub mod Refused
 pub mod Again
 pub mod Believed
+pub mod Bounds
+pub mod Causes
 pub mod Counted
+pub mod Digits
+pub mod Equal
+pub mod Loops
+pub mod Plain
+pub mod Refused
+pub mod Reports
+pub mod Texts
+pub mod Writable

@@ -1,43 +1,43 @@
--- The messages of the publication protocol, as elements (RFC 8181, 2.1 to 2.3). Names are compared by their local parts, and
--- the root's namespace is not looked at.
-use Rattle.std.specs.Prelude.{◌≡◌, ℕ, List, [], ◌∷◌, Option, None, Some, if◌then◌else◌, codes}
+-- The messages of the publication protocol, as elements (RFC 8181, 2.1). Names are compared by their local parts, and the root's
+-- namespace is not looked at.
+use Rattle.std.specs.Prelude.{◌≢◌, ℕ, List, [], ◌∷◌, Option, None, Some, map, if◌then◌else◌, codes}
+use Rattle.std.specs.List.{AllByRecursion}
 use Rattle.std.specs.Str.{bytes_eq}
 use Rattle.rpki_common.specs.Chaining.{◌>>=◌}
-use Rattle.rpki_xml.specs.Element.{Attribute, Elements, none, Element, alone, is_nil}
-use Rattle.rpki_xml.specs.Lexing.{IsDocument}
-use Rattle.rpki_xml.specs.Tables.{require, is_named, only, required, given_or_absent, is_empty, the_child}
+use Rattle.rpki_message.specs.Reading as reading
+use Rattle.rpki_xml.specs.Element.{Elements, Element, alone, elements_of, is_nil}
+use Rattle.rpki_xml.specs.Tables.{require, is_named, is_first_named, only, required, given_or_absent, is_empty, the_child, each_of}
 use Rattle.rpki_xml.specs.Spelling.{spelled}
 use Rattle.rpki_publication.specs.declared.message.Message.{Message}
 use Rattle.rpki_publication.specs.declared.message.Message.TheVariants as message
-use Rattle.rpki_publication.specs.declared.message.Query.{Query}
-use Rattle.rpki_publication.specs.declared.message.Query.TheVariants as query
-use Rattle.rpki_publication.specs.declared.message.Reply.{Reply}
-use Rattle.rpki_publication.specs.declared.message.Reply.TheVariants as reply
+use Rattle.rpki_publication.specs.declared.query.Query.{Query}
+use Rattle.rpki_publication.specs.declared.query.Query.TheVariants as query
+use Rattle.rpki_publication.specs.declared.reply.Reply.{Reply}
+use Rattle.rpki_publication.specs.declared.reply.Reply.TheVariants as reply
+use Rattle.rpki_publication.specs.Change.{list_query_element, list_query_in, change_element, change_in, IsWritableChange, normal_change}
+use Rattle.rpki_publication.specs.ListReply.{list_element, list_element_in, IsWritableListElement}
+use Rattle.rpki_publication.specs.Pdu.{attribute, leaf, reply_attributes_in}
+use Rattle.rpki_publication.specs.ReportError.{report_error_element, report_error_in, IsWritableError, normal_error}
 
 abbrev pub NAMESPACE : List ℕ
 NAMESPACE = codes "http://www.hactrn.net/uris/rpki/publication-spec/"
 
-abbrev pub attribute : List ℕ → List ℕ → Attribute
-attribute name value = record { name = name; value = value }
-
 -- ---- what is written
 
--- an element with nothing but its name
-abbrev pub bare_element : List ℕ → Element
-bare_element name = record {
-  head = record { name = name; namespace = None; attributes = []; text = [] };
-  children = none;
-}
-
--- `<list/>` (2.3)
 abbrev pub query_elements : Query → Elements
-query_elements query.List = alone (bare_element (codes "list"))
+query_elements query.List = alone list_query_element
+query_elements (query.Delta changes) = elements_of change_element changes
 
--- `<success/>` (2.2)
+-- `<success/>` (2.4)
+abbrev pub success_element : Element
+success_element = leaf (codes "success") [] []
+
 abbrev pub reply_elements : Reply → Elements
-reply_elements reply.Success = alone (bare_element (codes "success"))
+reply_elements (reply.List objects) = elements_of list_element objects
+reply_elements reply.Success = alone success_element
+reply_elements (reply.ErrorReply errors) = elements_of report_error_element errors
 
--- the root, of version 4 and this type, with these elements in it (2.1)
+-- the root, of version 4 and this type, with these elements in it
 abbrev pub root_element : List ℕ → Elements → Element
 root_element type children = record {
   head = record {
@@ -60,50 +60,57 @@ text_of m = spelled (element_of m)
 
 -- ---- what is read
 
--- an element with this local name, without attributes, children and text
-unfoldable pub bare_in : List ℕ → Element → Option (Unit {0})
-bare_in local e = do
-  _ ← require (is_named local e.head)
-  _ ← only [] e.head
-  require (is_empty e)
-
--- an element `list` (2.3)
-abbrev pub list_in : Element → Option (Unit {0})
-list_in = bare_in (codes "list")
-
--- an element `success` (2.2)
-abbrev pub success_in : Element → Option (Unit {0})
-success_in = bare_in (codes "success")
-
--- what stands in a query: one `list` (2.1 and 2.3)
+-- what stands in a query: exactly one `list`, or any number of `publish` and `withdraw`
 unfoldable pub query_in : Elements → Option Query
-query_in elements = do
-  e ← the_child elements
-  _ ← list_in e
-  Some query.List
+query_in children =
+    if is_first_named (codes "list") children
+    then (do
+      e ← the_child children
+      _ ← list_query_in e
+      Some query.List)
+    else (do
+      changes ← each_of change_in children
+      Some (query.Delta changes))
 
--- what stands in a reply: one `success` (2.1 and 2.2)
+-- a `success` with nothing inside; its attributes are dropped
+unfoldable pub success_in : Element → Option (Unit {0})
+success_in e = do
+  _ ← require (is_named (codes "success") e.head)
+  _ ← require (is_empty e)
+  _ ← reply_attributes_in e.head
+  Some tt
+
+-- what stands in a reply: exactly one `success`, or one or more `report_error`, or any number of `list`
 unfoldable pub reply_in : Elements → Option Reply
-reply_in elements = do
-  e ← the_child elements
-  _ ← success_in e
-  Some reply.Success
+reply_in children =
+    if is_first_named (codes "success") children
+    then (do
+      e ← the_child children
+      _ ← success_in e
+      Some reply.Success)
+    else if is_first_named (codes "report_error") children
+    then (do
+      errors ← each_of report_error_in children
+      Some (reply.ErrorReply errors))
+    else (do
+      objects ← each_of list_element_in children
+      Some (reply.List objects))
 
 -- what stands in a message of this type
 unfoldable pub body_in : List ℕ → Elements → Option Message
-body_in type elements =
+body_in type children =
     if bytes_eq type (codes "query")
     then (do
-      q ← query_in elements
+      q ← query_in children
       Some (message.Query q))
     else if bytes_eq type (codes "reply")
     then (do
-      r ← reply_in elements
+      r ← reply_in children
       Some (message.Reply r))
     else None
 
 -- the type that a root gives: an element `msg` without text, with a type, with version 4 where it has a version, and without
--- other attributes (2.1)
+-- other attributes
 unfoldable pub type_in : Element → Option (List ℕ)
 type_in e = do
   _ ← require (is_named (codes "msg") e.head)
@@ -119,7 +126,39 @@ message_of e = do
   body_in type e.children
 
 -- The octets are a document, whose element is read as the message.
-pub record Reads (octets : List ℕ) (m : Message) : Type 0 where
-  pub element : Element
-  pub document : IsDocument octets element
-  pub message : message_of element ≡ Some m
+abbrev pub Reads : List ℕ → Message → Type 0
+Reads octets m = reading.ReadsAs message_of octets m
+
+-- the octets are no message
+abbrev pub IsNoMessage : List ℕ → Type 0
+IsNoMessage octets = reading.IsNoMessage message_of octets
+
+-- ---- what can be written so that it is read again
+
+abbrev pub IsWritableQuery : Query → Type 0
+IsWritableQuery query.List = Unit {0}
+IsWritableQuery (query.Delta changes) = AllByRecursion IsWritableChange changes
+
+-- an error reply has an error
+abbrev pub IsWritableReply : Reply → Type 0
+IsWritableReply (reply.List objects) = AllByRecursion IsWritableListElement objects
+IsWritableReply reply.Success = Unit {0}
+IsWritableReply (reply.ErrorReply errors) = (errors ≢ []) × AllByRecursion IsWritableError errors
+
+abbrev pub IsWritable : Message → Type 0
+IsWritable (message.Query q) = IsWritableQuery q
+IsWritable (message.Reply r) = IsWritableReply r
+
+-- as what it is read again: each missing tag of a change is the empty one, each missing text of an error its code's
+abbrev pub normal_query : Query → Query
+normal_query query.List = query.List
+normal_query (query.Delta changes) = query.Delta (map normal_change changes)
+
+abbrev pub normal_reply : Reply → Reply
+normal_reply (reply.List objects) = reply.List objects
+normal_reply reply.Success = reply.Success
+normal_reply (reply.ErrorReply errors) = reply.ErrorReply (map normal_error errors)
+
+unfoldable pub normal_form : Message → Message
+normal_form (message.Query q) = message.Query (normal_query q)
+normal_form (message.Reply r) = message.Reply (normal_reply r)

@@ -18,8 +18,8 @@ ghost use Rattle.rpki_der.specs.Ticks.{nodes};
 ghost use Rattle.rpki_der.specs.Value.{Value, Begins};
 ghost use Rattle.rpki_publication.specs.declared.error.Error.{Error as CmsError};
 ghost use Rattle.rpki_publication.specs.Answers.{validated};
-ghost use Rattle.rpki_publication.specs.Cms.{BeginsCms, RefusesCms, FindsSigned};
-ghost use Rattle.rpki_publication.specs.Message.{Reads, text_of};
+ghost use Rattle.rpki_publication.specs.Cms.{BeginsCms, RefusesCms, FindsSigned, Says};
+ghost use Rattle.rpki_publication.specs.Message.{text_of};
 
 use crate::error::Error;
 use crate::message::Message;
@@ -42,8 +42,7 @@ pub struct PublicationCms {
 }
 
 impl Model for PublicationCms {
-    ghost use Rattle.rpki_publication.specs.Cms.{CmsFields};
-    ghost use Rattle.rpki_publication.specs.Message.{Reads};
+    ghost use Rattle.rpki_publication.specs.Cms.{CmsFields, Says};
 
     ghost Value = { CmsFields };
 
@@ -51,7 +50,7 @@ impl Model for PublicationCms {
 
     ghost inverse = { λ c. record { signed = c.signed; message = c.message } };
 
-    ghost invariant = { λ c. Reads c.signed.content c.message };
+    ghost invariant = { λ c. Says c.signed.content c.message };
 }
 
 // The answer of the checks, as this crate's error.
@@ -119,7 +118,7 @@ impl PublicationCms {
     /// The message.
     pub fn message(&self) -> &Message
         ensures message { result.now ≡ self.now.message }
-        ensures reads { Reads self.now.signed.content result.now }
+        ensures says { Says self.now.signed.content result.now }
     {
         &self.message
     }
@@ -127,16 +126,16 @@ impl PublicationCms {
     /// The message, without the signed message.
     pub fn into_message(self) -> Message
         ensures message { result ≡ self.message }
-        ensures reads { Reads self.signed.content result }
+        ensures says { Says self.signed.content result }
     {
         self.message
     }
 
-    /// Both: the message is what the signed message's content reads as.
+    /// Both: the content of the signed message says the message.
     pub fn unpack(self) -> (SignedMessage, Message)
         ensures signed { result.0 ≡ self.signed }
         ensures message { result.1 ≡ self.message }
-        ensures reads { Reads result.0.content result.1 }
+        ensures says { Says result.0.content result.1 }
     {
         (self.signed, self.message)
     }
@@ -146,10 +145,8 @@ impl PublicationCms {
         ensures { IfOk result (λ c. c ≡ self.now) }
     {
         let signed = self.signed.clone(alloc)?;
-        Ok(PublicationCms {
-            signed,
-            message: self.message,
-        })
+        let message = self.message.clone(alloc)?;
+        Ok(PublicationCms { signed, message })
     }
 
     /// Whether the key issued the certificate for the moment and the certificate's key signed the message; if not, Validation
@@ -243,7 +240,7 @@ impl PublicationCms {
         // The signer holds the same keys, whatever the answer.
         ensures keeps { Keeps (S.state signer.old) (S.state signer.new) }
     {
-        let text = message.to_xml_bytes(alloc)?;
+        let text = Bytes::from_vec(message.text(alloc)?.into_bytes())?;
         let signed = SignedMessage::create(alloc, text, now, issuing_key_id, signer)?;
         Ok(PublicationCms { signed, message })
     }

@@ -1,44 +1,221 @@
-//! Elements are read as messages, by the table of specs/Message.antt.
+//! Elements are read as messages, by the tables of specs/.
 
-ghost use Rattle.std.specs.Prelude.{◌≡◌};
-ghost use Rattle.rpki_xml.specs.Answers.{Matches};
-ghost use Rattle.rpki_publication.specs.Message.{bare_in, query_in, reply_in, body_in, type_in, message_of};
+ghost use Rattle.std.specs.Prelude.{◌≡◌, Some, None};
+ghost use Rattle.std.specs.Option.{option_map};
+ghost use Rattle.rpki_publication.specs.Change.{publish_in, withdraw_in, change_in, list_query_in, query_pdu_in, published};
+ghost use Rattle.rpki_publication.specs.ListReply.{list_element_in};
+ghost use Rattle.rpki_publication.specs.Message.{query_in, reply_in, body_in, type_in, message_of, success_in};
+ghost use Rattle.rpki_publication.specs.ReportError.{report_error_in};
+ghost use Rattle.rpki_xml.specs.Answers.{Gives, Matches};
+ghost use Rattle.rpki_xml.specs.Tables.{each_of};
 
-use crate::message::{Message, Query, Reply};
-use rpki_xml::{Children, ElementRef, Mismatch, require};
+use crate::attributes::{query_attributes_in, reply_attributes_in};
+use crate::details::details_in;
+use crate::error_reply::ErrorReply;
+use crate::list_element::ListElement;
+use crate::list_reply::ListReply;
+use crate::message::Message;
+use crate::publish::Publish;
+use crate::publish_delta::PublishDelta;
+use crate::publish_delta_element::PublishDeltaElement;
+use crate::query::Query;
+use crate::query_pdu::QueryPdu;
+use crate::reply::Reply;
+use crate::report_error::ReportError;
+use crate::update::Update;
+use crate::withdraw::Withdraw;
+use rpki_common::Text;
+use rpki_message::{base64_of, handed_out};
+use rpki_text::{Base64, Hash, uri};
+use rpki_xml::{Children, ElementRef, Mismatch, XmlError, require};
+use std::alloc::Global;
 
-// An element with nothing but this name.
-fn bare_in(local: &str, e: &ElementRef<'_>) -> Result<(), Mismatch>
-    ensures { Matches (bare_in local.now e.now) (λ _. tt) result }
+// What has to be there.
+fn there<T>(found: Option<T>) -> Result<T, Mismatch>
+    ensures { Matches found (λ x. x) result }
 {
-    require(e.is_named(local))?;
-    e.only(&[])?;
-    require(e.is_empty())
+    match found {
+        None => Err(Mismatch),
+        Some(x) => Ok(x),
+    }
 }
 
-fn query_in(children: Children<'_>) -> Result<Query, Mismatch>
-    ensures { Matches (query_in children.entry) (λ q. q) result }
+// ---- elements of a query
+
+// What is published, where nothing was or in another object's place.
+fn published(
+    tag: Option<Text>,
+    uri: uri::Rsync,
+    content: Base64,
+    hash: Option<Hash>,
+) -> PublishDeltaElement
+    ensures { result ≡ published tag uri content hash }
 {
-    let e = children.the_one()?;
-    bare_in("list", &e)?;
-    Ok(Query::List)
+    let tag = handed_out(tag);
+    match hash {
+        None => PublishDeltaElement::Publish(Publish::new(tag, uri, content)),
+        Some(hash) => PublishDeltaElement::Update(Update::new(tag, uri, content, hash)),
+    }
 }
 
-fn reply_in(children: Children<'_>) -> Result<Reply, Mismatch>
-    ensures { Matches (reply_in children.entry) (λ r. r) result }
+fn publish_in(alloc: Global, e: &ElementRef<'_>) -> Result<PublishDeltaElement, XmlError>
+    ensures { Gives (publish_in e.now) (λ c. c) result }
 {
-    let e = children.the_one()?;
-    bare_in("success", &e)?;
-    Ok(Reply::Success)
+    require(e.is_named("publish"))?;
+    require(e.is_childless())?;
+    let a = query_attributes_in(alloc, e)?;
+    let uri = there(a.uri)?;
+    let content = base64_of(alloc, e.text())?;
+    Ok(published(a.tag, uri, content, a.hash))
 }
 
-fn body_in(kind: &str, children: Children<'_>) -> Result<Message, Mismatch>
-    ensures { Matches (body_in kind.now children.entry) (λ m. m) result }
+fn withdraw_in(alloc: Global, e: &ElementRef<'_>) -> Result<PublishDeltaElement, XmlError>
+    ensures { Gives (withdraw_in e.now) (λ c. c) result }
+{
+    require(e.is_named("withdraw"))?;
+    require(e.is_empty())?;
+    let a = query_attributes_in(alloc, e)?;
+    let uri = there(a.uri)?;
+    let hash = there(a.hash)?;
+    let withdraw = Withdraw::new(handed_out(a.tag), uri, hash);
+    Ok(PublishDeltaElement::Withdraw(withdraw))
+}
+
+fn change_in(alloc: Global, e: &ElementRef<'_>) -> Result<PublishDeltaElement, XmlError>
+    ensures { Gives (change_in e.now) (λ c. c) result }
+{
+    if e.is_named("publish") {
+        return publish_in(alloc, e);
+    }
+    withdraw_in(alloc, e)
+}
+
+fn list_query_in(alloc: Global, e: &ElementRef<'_>) -> Result<(), XmlError>
+    ensures { Gives (list_query_in e.now) (λ _. tt) result }
+{
+    require(e.is_named("list"))?;
+    require(e.is_empty())?;
+    let _query_attributes = query_attributes_in(alloc, e)?;
+    Ok(())
+}
+
+/// An element of a query.
+pub(crate) fn query_pdu_in(alloc: Global, e: &ElementRef<'_>) -> Result<QueryPdu, XmlError>
+    ensures { Gives (query_pdu_in e.now) (λ pdu. pdu) result }
+{
+    if e.is_named("list") {
+        list_query_in(alloc, e)?;
+        return Ok(QueryPdu::List);
+    }
+    Ok(QueryPdu::PublishDeltaElement(change_in(alloc, e)?))
+}
+
+fn changes_in(alloc: Global, children: Children<'_>) -> Result<Vec<PublishDeltaElement>, XmlError>
+    ensures { Gives (each_of change_in children.entry) (λ v. v.items) result }
+{
+    let mut children = children;
+    let mut changes = Vec::new(alloc);
+    'elements: while let Some(e) = children.next() {
+        let change = change_in(alloc, &e)?;
+        changes.push(change)?;
+    }
+    Ok(changes)
+}
+
+fn query_in(alloc: Global, children: Children<'_>) -> Result<Query, XmlError>
+    ensures { Gives (query_in children.entry) (λ q. q) result }
+{
+    if children.is_first_named("list") {
+        let e = children.the_one()?;
+        list_query_in(alloc, &e)?;
+        return Ok(Query::List);
+    }
+    let changes = changes_in(alloc, children)?;
+    Ok(Query::Delta(PublishDelta::of(changes)))
+}
+
+// ---- elements of a reply
+
+fn list_element_in(alloc: Global, e: &ElementRef<'_>) -> Result<ListElement, XmlError>
+    ensures { Gives (list_element_in e.now) (λ x. x) result }
+{
+    require(e.is_named("list"))?;
+    require(e.is_empty())?;
+    let a = reply_attributes_in(alloc, e)?;
+    let uri = there(a.uri)?;
+    let hash = there(a.hash)?;
+    Ok(ListElement::new(uri, hash))
+}
+
+fn success_in(alloc: Global, e: &ElementRef<'_>) -> Result<(), XmlError>
+    ensures { Gives (success_in e.now) (λ _. tt) result }
+{
+    require(e.is_named("success"))?;
+    require(e.is_empty())?;
+    let _attributes = reply_attributes_in(alloc, e)?;
+    Ok(())
+}
+
+fn report_error_in(alloc: Global, e: &ElementRef<'_>) -> Result<ReportError, XmlError>
+    ensures { Gives (report_error_in e.now) (λ r. r) result }
+{
+    require(e.is_named("report_error"))?;
+    require(e.is_textless())?;
+    let a = reply_attributes_in(alloc, e)?;
+    let code = there(a.error_code)?;
+    let details = details_in(alloc, e.children())?;
+    Ok(ReportError::of(code, a.tag, details.error_text, details.failed_pdu))
+}
+
+fn objects_in(alloc: Global, children: Children<'_>) -> Result<Vec<ListElement>, XmlError>
+    ensures { Gives (each_of list_element_in children.entry) (λ v. v.items) result }
+{
+    let mut children = children;
+    let mut objects = Vec::new(alloc);
+    'elements: while let Some(e) = children.next() {
+        let object = list_element_in(alloc, &e)?;
+        objects.push(object)?;
+    }
+    Ok(objects)
+}
+
+fn errors_in(alloc: Global, children: Children<'_>) -> Result<Vec<ReportError>, XmlError>
+    ensures { Gives (each_of report_error_in children.entry) (λ v. v.items) result }
+{
+    let mut children = children;
+    let mut errors = Vec::new(alloc);
+    'elements: while let Some(e) = children.next() {
+        let error = report_error_in(alloc, &e)?;
+        errors.push(error)?;
+    }
+    Ok(errors)
+}
+
+fn reply_in(alloc: Global, children: Children<'_>) -> Result<Reply, XmlError>
+    ensures { Gives (reply_in children.entry) (λ r. r) result }
+{
+    if children.is_first_named("success") {
+        let pdu = children.the_one()?;
+        success_in(alloc, &pdu)?;
+        return Ok(Reply::Success);
+    }
+    if children.is_first_named("report_error") {
+        let errors = errors_in(alloc, children)?;
+        return Ok(Reply::ErrorReply(ErrorReply::of(errors)));
+    }
+    let objects = objects_in(alloc, children)?;
+    Ok(Reply::List(ListReply::new(objects)))
+}
+
+// ---- messages
+
+fn body_in(alloc: Global, kind: &str, children: Children<'_>) -> Result<Message, XmlError>
+    ensures { Gives (body_in kind.now children.entry) (λ m. m) result }
 {
     match kind {
-        "query" => Ok(Message::Query(query_in(children)?)),
-        "reply" => Ok(Message::Reply(reply_in(children)?)),
-        _ => Err(Mismatch),
+        "query" => Ok(Message::Query(query_in(alloc, children)?)),
+        "reply" => Ok(Message::Reply(reply_in(alloc, children)?)),
+        _ => Err(XmlError::Malformed),
     }
 }
 
@@ -54,9 +231,9 @@ fn type_in<'a>(root: &ElementRef<'a>) -> Result<&'a str, Mismatch>
 }
 
 /// The message that an element is read as.
-pub(crate) fn message_of(root: &ElementRef<'_>) -> Result<Message, Mismatch>
-    ensures { Matches (message_of root.now) (λ m. m) result }
+pub(crate) fn message_in(alloc: Global, root: &ElementRef<'_>) -> Result<Message, XmlError>
+    ensures { Gives (message_of root.now) (λ m. m) result }
 {
     let kind = type_in(root)?;
-    body_in(kind, root.children())
+    body_in(alloc, kind, root.children())
 }

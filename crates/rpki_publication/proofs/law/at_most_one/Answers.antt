@@ -1,5 +1,6 @@
-use Rattle.rpki_publication.proofs.Refused.{one_message}
+use Rattle.rpki_message.proofs.Read.{one_message}
+use Rattle.rpki_publication.specs.Message.{message_of}
 use Rattle.rpki_publication.proofs.law.at_most_one.Goals as goal
 
 pub returns : goal.returns
-returns c = one_message
+returns c = one_message message_of

@@ -1,4 +1,4 @@
-use Rattle.rpki_publication.proofs.Again.{text_again}
+use Rattle.rpki_publication.proofs.Plain.{text_again}
 use Rattle.rpki_publication.proofs.law.written_is_read.Goals as goal
 
 pub returns : goal.returns

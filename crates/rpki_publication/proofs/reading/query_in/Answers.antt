@@ -7,9 +7,17 @@ pub returns-in_err-e : goal.returns-in_err-e
 unfolding query_in ◌>>=◌
 returns-in_err-e c = search rules
 
-pub returns-in_err-bare_in : goal.returns-in_err-bare_in
+pub returns-in_err-list_query_in : goal.returns-in_err-list_query_in
 unfolding query_in ◌>>=◌
-returns-in_err-bare_in c = search rules
+returns-in_err-list_query_in c = search rules
+
+pub returns-then-is_first_named : goal.returns-then-is_first_named
+unfolding query_in ◌>>=◌
+returns-then-is_first_named c = search rules
+
+pub returns-in_err-changes : goal.returns-in_err-changes
+unfolding query_in ◌>>=◌
+returns-in_err-changes c = search rules
 
 pub returns : goal.returns
 unfolding query_in ◌>>=◌

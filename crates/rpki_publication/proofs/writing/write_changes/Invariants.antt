@@ -1,0 +1,14 @@
+use Rattle.std.proofs.Common.{◌≡◌, ℕ, List, ◌++◌, length}
+use Rattle.std.specs.Fmt.{HasWritten, IsPlainFormatter}
+use Rattle.rpki_xml.specs.Element.{elements_of}
+use Rattle.rpki_xml.specs.Spelling.{spelled_all}
+use Rattle.rpki_publication.specs.Change.{change_element}
+use Rattle.rpki_publication.proofs.writing.write_changes.Given as goal
+
+abbrev pub invariant-items : goal.invariant-items
+invariant-items g l =
+    IsPlainFormatter l.initial.f
+    → (front : List ℕ) × HasWritten g.W.Write.write_str_gives l.initial.f front l.f × (front ++ spelled_all (elements_of change_element l.left) ≡ spelled_all (elements_of change_element l.fn.changes))
+
+abbrev pub decreases-items : goal.decreases-items
+decreases-items g l = length l.left

@@ -1,0 +1,14 @@
+use Rattle.std.proofs.Common.{◌++◌, rules}
+use Rattle.std.proofs.Output.{has_written_append}
+use Rattle.rpki_xml.specs.Spelling.{spelled}
+use Rattle.rpki_publication.specs.ReportError.{report_error_element}
+use Rattle.rpki_publication.proofs.Loops.{loop_step}
+use Rattle.rpki_publication.proofs.writing.write_errors.Goals as goal
+
+pub items-preserved : goal.items-preserved
+items-preserved g c = λ plain.
+    let now = c.items.invariant plain in (
+      now.0 ++ spelled (report_error_element c.in-Some.item.now),
+      has_written_append _ _ _ _ _ _ now.1 (c.write_error.ensures now.1.plain (search rules)),
+      loop_step report_error_element c.items.left.now c.in-Some.more.now c.in-Some.item.now now.0 _ c.in-Some.ensures.cases.0 now.2,
+    )

@@ -1,0 +1,19 @@
+-- What is printed of a reply that reports errors.
+use Rattle.std.specs.Prelude.{ℕ, List, [], ◌∷◌, ◌++◌, Option, None, Some, codes}
+use Rattle.rpki_publication.specs.ReportError.{ReportErrorFields}
+use Rattle.rpki_publication.specs.ReportErrorCode.{code_text}
+
+abbrev pub shown_rest : Option (List ℕ) → List ℕ
+shown_rest None = codes " "
+shown_rest (Some text) = codes ", text: " ++ (text ++ codes " ")
+
+-- its code, and its text where it has one of its own
+abbrev pub shown_one : ReportErrorFields → List ℕ
+shown_one r = codes "error code: " ++ (code_text r.error_code ++ shown_rest r.error_text)
+
+abbrev pub shown_errors : List ReportErrorFields → List ℕ
+shown_errors [] = []
+shown_errors (r ∷ more) = shown_one r ++ shown_errors more
+
+abbrev pub shown_reply : List ReportErrorFields → List ℕ
+shown_reply errors = codes "error reply including: " ++ shown_errors errors

@@ -1,0 +1,51 @@
+-- What the elements inside a message share (RFC 8181, 2.2 to 2.5): how they are written, and the attributes that are known. Names are
+-- compared by their local parts.
+use Rattle.std.specs.Prelude.{ℕ, List, [], ◌∷◌, Option, None, Some, codes}
+use Rattle.rpki_common.specs.Chaining.{◌>>=◌}
+use Rattle.rpki_message.specs.UriText.{uri_of_text}
+use Rattle.rpki_text.specs.Hash.{digest_of_text}
+use Rattle.rpki_text.specs.Uri.{rsync}
+use Rattle.rpki_xml.specs.Element.{Attribute, Head, none, Element}
+use Rattle.rpki_xml.specs.Tables.{only, optional, optional_by}
+use Rattle.rpki_publication.specs.ReportErrorCode.{code_of_text}
+use Rattle.rpki_publication.specs.declared.report_error_code.ReportErrorCode.{ReportErrorCode}
+
+abbrev pub attribute : List ℕ → List ℕ → Attribute
+attribute name value = record { name = name; value = value }
+
+-- an element without children
+abbrev pub leaf : List ℕ → List Attribute → List ℕ → Element
+leaf name attributes text = record {
+  head = record { name = name; namespace = None; attributes = attributes; text = text };
+  children = none;
+}
+
+-- The attributes of an element in a query. Each that is there has to be lawful, also where the element has no use for it.
+pub record QueryAttributes : Type 0 where
+  pub tag : Option (List ℕ)
+  pub uri : Option (List ℕ)
+  pub hash : Option (List ℕ)
+
+unfoldable pub query_attributes_in : Head → Option QueryAttributes
+query_attributes_in h = do
+  _ ← only (codes "tag" ∷ codes "uri" ∷ codes "hash" ∷ []) h
+  tag ← optional (codes "tag") h
+  uri ← optional_by (uri_of_text rsync) (codes "uri") h
+  hash ← optional_by digest_of_text (codes "hash") h
+  Some (record { tag = tag; uri = uri; hash = hash })
+
+-- The same of an element in a reply.
+pub record ReplyAttributes : Type 0 where
+  pub hash : Option (List ℕ)
+  pub uri : Option (List ℕ)
+  pub tag : Option (List ℕ)
+  pub error_code : Option ReportErrorCode
+
+unfoldable pub reply_attributes_in : Head → Option ReplyAttributes
+reply_attributes_in h = do
+  _ ← only (codes "hash" ∷ codes "uri" ∷ codes "tag" ∷ codes "error_code" ∷ []) h
+  hash ← optional_by digest_of_text (codes "hash") h
+  uri ← optional_by (uri_of_text rsync) (codes "uri") h
+  tag ← optional (codes "tag") h
+  code ← optional_by code_of_text (codes "error_code") h
+  Some (record { hash = hash; uri = uri; tag = tag; error_code = code })

@@ -1,0 +1,33 @@
+//! An element of a query that changes an object.
+
+ghost use Rattle.std.specs.Prelude.{◌≡◌, IfOk};
+
+use crate::publish::Publish;
+use crate::update::Update;
+use crate::withdraw::Withdraw;
+use rpki_common::OutOfMemory;
+use std::alloc::Global;
+
+/// A change of one object (RFC 8181, 2.2).
+#[derive(Debug, Drop, PartialEq, Eq)]
+pub enum PublishDeltaElement {
+    /// A new object.
+    Publish(Publish),
+    /// An object in another one's place.
+    Update(Update),
+    /// An object less.
+    Withdraw(Withdraw),
+}
+
+impl PublishDeltaElement {
+    /// An equal element, whose texts are shared with this one.
+    pub fn clone(&self, alloc: Global) -> Result<PublishDeltaElement, OutOfMemory>
+        ensures { IfOk result (λ e. e ≡ self.now) }
+    {
+        match self {
+            PublishDeltaElement::Publish(p) => Ok(PublishDeltaElement::Publish(p.clone(alloc)?)),
+            PublishDeltaElement::Update(u) => Ok(PublishDeltaElement::Update(u.clone(alloc)?)),
+            PublishDeltaElement::Withdraw(w) => Ok(PublishDeltaElement::Withdraw(w.clone(alloc)?)),
+        }
+    }
+}

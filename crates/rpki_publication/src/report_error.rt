@@ -1,0 +1,188 @@
+//! An error that is reported.
+
+ghost use Rattle.std.specs.Prelude.{◌≡◌, Some, None, IfOk};
+ghost use Rattle.std.specs.Option.{option_map};
+ghost use Rattle.std.specs.Rc.{rc_str_bytes};
+ghost use Rattle.rpki_publication.specs.ReportError.{shown_text};
+ghost use Rattle.rpki_publication.specs.ReportErrorCode.{default_text};
+
+use crate::query_pdu::QueryPdu;
+use crate::report_error_code::ReportErrorCode;
+use rpki_common::{OutOfMemory, Text};
+use rpki_message::{cloned, shared, taken_in};
+use std::alloc::Global;
+use std::marker::Model;
+use std::rc::RcStr;
+
+/// An error that a server reports (RFC 8181, 2.5): its code, the tag of the element of the query that failed, a text, and that element.
+/// In a clause it is the record of its fields.
+#[derive(Debug, Drop, PartialEq, Eq)]
+pub struct ReportError {
+    error_code: ReportErrorCode,
+    tag: Option<Text>,
+    error_text: Option<Text>,
+    failed_pdu: Option<QueryPdu>,
+}
+
+impl Model for ReportError {
+    ghost use Rattle.rpki_publication.specs.ReportError.{ReportErrorFields};
+
+    ghost Value = { ReportErrorFields };
+
+    ghost view = { λ r. record {
+      error_code = r.error_code;
+      tag = r.tag;
+      error_text = r.error_text;
+      failed_pdu = r.failed_pdu;
+    } };
+
+    ghost inverse = { λ r. record {
+      error_code = r.error_code;
+      tag = r.tag;
+      error_text = r.error_text;
+      failed_pdu = r.failed_pdu;
+    } };
+}
+
+impl ReportError {
+    /// An error with these parts.
+    pub fn new(
+        error_code: ReportErrorCode,
+        tag: Option<RcStr>,
+        error_text: Option<RcStr>,
+        failed_pdu: Option<QueryPdu>,
+    ) -> ReportError
+        ensures { result ≡ record {
+          error_code = error_code;
+          tag = option_map rc_str_bytes tag;
+          error_text = option_map rc_str_bytes error_text;
+          failed_pdu = failed_pdu;
+        } }
+    {
+        let tag = taken_in(tag);
+        let error_text = taken_in(error_text);
+        ReportError {
+            error_code,
+            tag,
+            error_text,
+            failed_pdu,
+        }
+    }
+
+    /// An error with this code and its text.
+    pub fn with_code(alloc: Global, error_code: ReportErrorCode) -> Result<ReportError, OutOfMemory>
+        ensures { IfOk result (λ r. r ≡ record {
+          error_code = error_code;
+          tag = None;
+          error_text = Some (default_text error_code);
+          failed_pdu = None;
+        }) }
+    {
+        let text = Text::from_str(alloc, error_code.to_text())?;
+        Ok(ReportError {
+            error_code,
+            tag: None,
+            error_text: Some(text),
+            failed_pdu: None,
+        })
+    }
+
+    /// An error whose texts were read.
+    pub(crate) fn of(
+        error_code: ReportErrorCode,
+        tag: Option<Text>,
+        error_text: Option<Text>,
+        failed_pdu: Option<QueryPdu>,
+    ) -> ReportError
+        ensures { result ≡ record {
+          error_code = error_code;
+          tag = tag;
+          error_text = error_text;
+          failed_pdu = failed_pdu;
+        } }
+    {
+        ReportError {
+            error_code,
+            tag,
+            error_text,
+            failed_pdu,
+        }
+    }
+
+    /// The code.
+    pub fn error_code(&self) -> ReportErrorCode
+        ensures { result ≡ self.now.error_code }
+    {
+        self.error_code
+    }
+
+    /// The tag, where there is one.
+    pub fn tag(&self) -> Option<&RcStr>
+        ensures { option_map (λ t. rc_str_bytes t.now) result ≡ self.now.tag }
+    {
+        shared(&self.tag)
+    }
+
+    /// The text, where there is one of its own.
+    pub fn error_text(&self) -> Option<&RcStr>
+        ensures { option_map (λ t. rc_str_bytes t.now) result ≡ self.now.error_text }
+    {
+        shared(&self.error_text)
+    }
+
+    /// The element of the query that failed, where it is known.
+    pub fn failed_pdu(&self) -> Option<&QueryPdu>
+        ensures { option_map (λ pdu. pdu.now) result ≡ self.now.failed_pdu }
+    {
+        self.failed_pdu.as_ref()
+    }
+
+    /// The tag, lent.
+    pub(crate) fn tag_text(&self) -> &Option<Text>
+        ensures { result.now ≡ self.now.tag }
+    {
+        &self.tag
+    }
+
+    /// The text, lent.
+    pub(crate) fn own_text(&self) -> &Option<Text>
+        ensures { result.now ≡ self.now.error_text }
+    {
+        &self.error_text
+    }
+
+    /// The text that is written: its own or the code's.
+    pub(crate) fn shown_text(&self) -> &str
+        ensures { result.now ≡ shown_text self.now.error_code self.now.error_text }
+    {
+        match &self.error_text {
+            None => self.error_code.to_text(),
+            Some(text) => text.as_str(),
+        }
+    }
+
+    /// An equal error, whose texts are shared with this one.
+    pub fn clone(&self, alloc: Global) -> Result<ReportError, OutOfMemory>
+        ensures { IfOk result (λ r. r ≡ self.now) }
+    {
+        let tag = cloned(alloc, &self.tag)?;
+        let error_text = cloned(alloc, &self.error_text)?;
+        let failed_pdu = copied(alloc, &self.failed_pdu)?;
+        Ok(ReportError {
+            error_code: self.error_code,
+            tag,
+            error_text,
+            failed_pdu,
+        })
+    }
+}
+
+// An equal element, where there is one.
+fn copied(alloc: Global, pdu: &Option<QueryPdu>) -> Result<Option<QueryPdu>, OutOfMemory>
+    ensures { IfOk result (λ p. p ≡ pdu.now) }
+{
+    match pdu {
+        None => Ok(None),
+        Some(pdu) => Ok(Some(pdu.clone(alloc)?)),
+    }
+}
