@@ -30,6 +30,13 @@ pub refused : (scheme : Relation) (octets : List ℕ) (keys : List KeyFields) (w
 refused scheme octets keys when publication_error.CmsDecode r = r
 refused scheme octets keys when (publication_error.XmlError e) r = no_message octets r.1
 refused scheme octets keys when (publication_error.Validation e) r = absurd r
+refused scheme octets keys when publication_error.InvalidVersion r = absurd r
+refused scheme octets keys when (publication_error.InvalidErrorCode t) r = absurd r
+refused scheme octets keys when publication_error.NotQuery r = absurd r
+refused scheme octets keys when publication_error.NotReply r = absurd r
+refused scheme octets keys when publication_error.Read r = absurd r
+refused scheme octets keys when publication_error.Write r = absurd r
+refused scheme octets keys when publication_error.TooLong r = absurd r
 refused scheme octets keys when publication_error.OutOfMemory r = tt
 
 pub none_found : (X Y : Type 0) (e : Error) → FindsSigned {X = X} (Err (of_publication e)) → cms.FindsSigned {X = Y} (Err e)

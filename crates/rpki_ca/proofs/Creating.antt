@@ -25,7 +25,7 @@ use Rattle.rpki_sigmsg.specs.Message.{MessageFields, signed_message}
 use Rattle.rpki_sigmsg.specs.Spelling.{rewritten, CanBeSpelled}
 use Rattle.rpki_publication.specs.declared.message.Message.{Message}
 use Rattle.rpki_publication.specs.Message as publication
-use Rattle.rpki_publication.proofs.Again.{text_again}
+use Rattle.rpki_publication.proofs.Plain.{text_again}
 use Rattle.rpki_ca.specs.declared.command.Command.{Command}
 use Rattle.rpki_ca.specs.declared.command.Command.TheVariants.{Create}
 use Rattle.rpki_ca.specs.declared.receiving.Kind.{Kind}
@@ -34,7 +34,7 @@ use Rattle.rpki_ca.specs.declared.receiving.Received.{Received}
 use Rattle.rpki_ca.specs.declared.receiving.Received.TheVariants as received
 use Rattle.rpki_ca.specs.declared.refusals.Refusal.{Refusal}
 use Rattle.rpki_ca.specs.declared.refusals.Refusal.TheVariants as refusals
-use Rattle.rpki_ca.specs.Acceptance.{ReadsAs, protocol_of, text_of}
+use Rattle.rpki_ca.specs.Acceptance.{ReadsAs, protocol_of, text_of, normal_form}
 use Rattle.rpki_ca.specs.Creation.{IsReceivable, AreCreated, IsSigned, IsSignersAnswer, IsCreateAnswer, Creates, CanCreate, refusal_of_create}
 use Rattle.rpki_ca.specs.Answer.{AnswersSigned, IsFromSigner, IsGiven}
 use Rattle.rpki_ca.specs.Command.{IsCreate}
@@ -48,7 +48,7 @@ use Rattle.rpki_ca.proofs.Laws.{CreateView, create_view, one_reading}
 pub receivable : {I : Type 0} (scheme : Relation) (message : Received) (when : ℤ) (signer : SignerSeen I) (signed : MessageFields) (octets : List ℕ) → octets ≡ rewritten signed → CanBeSpelled signed
     → ((mode : Mode) (rest : List ℕ) → CanBeSpelled signed → BeginsAs (signed_message mode) mode (rewritten signed ++ rest) signed)
     → ((key : KeyFields) → Holds signer.before.keyring signer.id key → (moment : ℤ) → (window when).not_before ≤ℤ moment → moment ≤ℤ (window when).not_after → IsBelieved scheme signed key moment)
-    → ReadsAs (protocol_of message) signed.content message → IsReceivable scheme (protocol_of message) octets message when signer
+    → ReadsAs (protocol_of message) signed.content (normal_form message) → IsReceivable scheme (protocol_of message) octets message when signer
 receivable scheme message when signer signed octets are spelled again believed reads = λ key holds keys among moment first last. record {
   signed = signed;
   begins = subst (λ (o : List ℕ). BeginsAs (signed_message Ber) Ber o signed) (append-nil (rewritten signed) ∙ sym are) (again Ber [] spelled);
@@ -61,14 +61,14 @@ pub publication_created : {I : Type 0} (scheme : Relation) (m : Message) (when :
     → IsCreated scheme (publication.text_of m) when signer.id signer.before signer.after signed → octets ≡ rewritten signed → CanBeSpelled signed
     → ((mode : Mode) (rest : List ℕ) → CanBeSpelled signed → BeginsAs (signed_message mode) mode (rewritten signed ++ rest) signed)
     → ((key : KeyFields) → Holds signer.before.keyring signer.id key → (moment : ℤ) → (window when).not_before ≤ℤ moment → moment ≤ℤ (window when).not_after → IsBelieved scheme signed key moment)
-    → AreCreated scheme kinds.Publication (received.Publication m) when signer octets
-publication_created scheme m when signer signed octets created are spelled again believed =
+    → publication.IsWritable m → AreCreated scheme kinds.Publication (received.Publication m) when signer octets
+publication_created scheme m when signer signed octets created are spelled again believed writable =
     let content : signed.content ≡ publication.text_of m = ap (λ (s : MessageFields). s.content) created.made.is in
     record {
       signed = signed;
       created = created;
       are = are;
-      receivable = receivable scheme (received.Publication m) when signer signed octets are spelled again believed (subst (λ o. publication.Reads o m) (sym content) (text_again m));
+      receivable = receivable scheme (received.Publication m) when signer signed octets are spelled again believed (subst (λ o. publication.Reads o (publication.normal_form m)) (sym content) (text_again m writable));
     }
 
 -- ---- each refusal by its cause

@@ -16,7 +16,7 @@ use Rattle.rpki_sigmsg.specs.Spelling.{rewritten, CanBeSpelled}
 use Rattle.rpki_sigmsg.proofs.Again.{begins_loosely}
 use Rattle.rpki_sigmsg.proofs.HeldMessages.{message_held}
 use Rattle.rpki_publication.specs.Cms.{BeginsSigned}
-use Rattle.rpki_publication.proofs.Refused.{one_message}
+use Rattle.rpki_publication.specs.Message.{message_of}
 use Rattle.rpki_ca.specs.declared.command.Command.{Command}
 use Rattle.rpki_ca.specs.declared.command.Command.TheVariants.{Content, Receive, Create, Setup}
 use Rattle.rpki_ca.specs.declared.receiving.Kind.{Kind}
@@ -45,7 +45,7 @@ use Rattle.rpki_setup.specs.ChildRequest.{child_request_in}
 use Rattle.rpki_setup.specs.ParentResponse.{parent_response_in}
 use Rattle.rpki_setup.specs.PublisherRequest.{publisher_request_in}
 use Rattle.rpki_setup.specs.RepositoryResponse.{repository_response_in}
-use Rattle.rpki_message.proofs.Read.{one_message as one_setup}
+use Rattle.rpki_message.proofs.Read.{one_message}
 use Rattle.rpki_base.specs.Scheme.{Relation}
 use Rattle.rpki_ca.specs.Acceptance.{ReadsAs, Accepted, HoldsNoSigned, HoldsNoMessage, IsReceivedUnder, text_of}
 
@@ -61,7 +61,7 @@ one_signed octets m n p q = same (sym (decoded_ok (signed_message Ber) Ber octet
     same e = cc
 
 pub one_reading : (kind : Kind) (content : List ℕ) (m n : Received) → ReadsAs kind content m → ReadsAs kind content n → m ≡ n
-one_reading kinds.Publication content (received.Publication m) (received.Publication n) p q = ap received.Publication (one_message content m n p q)
+one_reading kinds.Publication content (received.Publication m) (received.Publication n) p q = ap received.Publication (one_message message_of content m n p q)
 
 -- ---- what is believed under a key is not unbelieved
 
@@ -279,10 +279,10 @@ setup_view scheme kind input when (Err refusals.ReadFault) r = inr (inr (refusal
 setup_view scheme kind input when (Err refusals.OutOfMemory) r = inr (inr (refusals.OutOfMemory, refl, r))
 
 one_setup_reading : (kind : SetupKind) (input : List ℕ) (m n : SetupMessage) → ReadsSetup kind input m → ReadsSetup kind input n → m ≡ n
-one_setup_reading setups.ChildRequest input (setup_messages.ChildRequest m) (setup_messages.ChildRequest n) p q = ap setup_messages.ChildRequest (one_setup child_request_in input m n p q)
-one_setup_reading setups.ParentResponse input (setup_messages.ParentResponse m) (setup_messages.ParentResponse n) p q = ap setup_messages.ParentResponse (one_setup parent_response_in input m n p q)
-one_setup_reading setups.PublisherRequest input (setup_messages.PublisherRequest m) (setup_messages.PublisherRequest n) p q = ap setup_messages.PublisherRequest (one_setup publisher_request_in input m n p q)
-one_setup_reading setups.RepositoryResponse input (setup_messages.RepositoryResponse m) (setup_messages.RepositoryResponse n) p q = ap setup_messages.RepositoryResponse (one_setup repository_response_in input m n p q)
+one_setup_reading setups.ChildRequest input (setup_messages.ChildRequest m) (setup_messages.ChildRequest n) p q = ap setup_messages.ChildRequest (one_message child_request_in input m n p q)
+one_setup_reading setups.ParentResponse input (setup_messages.ParentResponse m) (setup_messages.ParentResponse n) p q = ap setup_messages.ParentResponse (one_message parent_response_in input m n p q)
+one_setup_reading setups.PublisherRequest input (setup_messages.PublisherRequest m) (setup_messages.PublisherRequest n) p q = ap setup_messages.PublisherRequest (one_message publisher_request_in input m n p q)
+one_setup_reading setups.RepositoryResponse input (setup_messages.RepositoryResponse m) (setup_messages.RepositoryResponse n) p q = ap setup_messages.RepositoryResponse (one_message repository_response_in input m n p q)
 one_setup_reading setups.ChildRequest input (setup_messages.ChildRequest m) (setup_messages.ParentResponse n) p q = absurd q
 one_setup_reading setups.ChildRequest input (setup_messages.ChildRequest m) (setup_messages.PublisherRequest n) p q = absurd q
 one_setup_reading setups.ChildRequest input (setup_messages.ChildRequest m) (setup_messages.RepositoryResponse n) p q = absurd q

@@ -31,6 +31,13 @@ protocol_of (received.Publication m) = kinds.Publication
 abbrev pub text_of : Received → List ℕ
 text_of (received.Publication m) = publication.text_of m
 
+-- a message whose text is read as its normal form, and that form
+abbrev pub IsWritable : Received → Type 0
+IsWritable (received.Publication m) = publication.IsWritable m
+
+abbrev pub normal_form : Received → Received
+normal_form (received.Publication m) = received.Publication (publication.normal_form m)
+
 -- The octets begin with a signed message, in BER. One of the keys issued its certificate and its
 -- CRLs, the certificate's key signed it, and all fourteen checks hold under that key at the moment.
 -- Its content reads as the message.
@@ -111,9 +118,9 @@ FindsSigned (Err errors.OutOfMemory) = ⊥
 -- how an error of the publication protocol is passed on
 abbrev pub of_publication : publication_errors.Error → ReceiveError
 of_publication publication_error.CmsDecode = errors.CmsDecode
-of_publication (publication_error.XmlError e) = errors.XmlError
 of_publication (publication_error.Validation e) = errors.Validation e
 of_publication publication_error.OutOfMemory = errors.OutOfMemory
+of_publication other = errors.XmlError
 
 -- how an error is answered
 abbrev pub refusal_of : ReceiveError → Refusal

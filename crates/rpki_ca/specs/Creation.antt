@@ -19,7 +19,7 @@ use Rattle.rpki_ca.specs.declared.receiving.Kind.{Kind}
 use Rattle.rpki_ca.specs.declared.receiving.Received.{Received}
 use Rattle.rpki_ca.specs.declared.refusals.Refusal.{Refusal}
 use Rattle.rpki_ca.specs.declared.refusals.Refusal.TheVariants as refusals
-use Rattle.rpki_ca.specs.Acceptance.{ReadsAs, text_of, Accepted}
+use Rattle.rpki_ca.specs.Acceptance.{ReadsAs, text_of, normal_form, Accepted}
 use Rattle.rpki_ca.specs.Seen.{Seen, SignerSeen}
 
 -- ---- before the signer is asked
@@ -50,15 +50,15 @@ IsCreateRefusal kind input when other = ⊥
 
 -- ---- after it was asked
 
--- The octets are accepted as the message, under every list of keys that holds the issuing key, at
--- each second from 300 before the moment to 300 after it.
+-- The octets are accepted as the message's normal form, under every list of keys that holds the
+-- issuing key, at each second from 300 before the moment to 300 after it.
 abbrev pub IsReceivable : {Id : Type 0} → Relation → Kind → List ℕ → Received → ℤ → SignerSeen Id
     → Type 0
 IsReceivable scheme kind octets message when signer =
     (key : KeyFields) → Holds signer.before.keyring signer.id key
     → (keys : List KeyFields) → IsAmong keys key
     → (moment : ℤ) → (window when).not_before ≤ℤ moment → moment ≤ℤ (window when).not_after
-    → Accepted scheme kind octets keys moment message
+    → Accepted scheme kind octets keys moment (normal_form message)
 
 -- The octets are the DER of a signed message that was created with the message's text as its
 -- content, and the message is received of them.

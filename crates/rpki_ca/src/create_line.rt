@@ -7,7 +7,7 @@ ghost use Rattle.rpki_signer.specs.Limits.{Keeps};
 ghost use Rattle.rpki_sigmsg.specs.Making.{HasWindow, CreateFails};
 ghost use Rattle.rpki_sigmsg.specs.declared.create_error.CreateError.TheVariants as create;
 ghost use Rattle.rpki_publication.specs.Message as publication;
-ghost use Rattle.rpki_ca.specs.Acceptance.{ReadsAs, protocol_of, text_of};
+ghost use Rattle.rpki_ca.specs.Acceptance.{ReadsAs, IsWritable, protocol_of, text_of};
 ghost use Rattle.rpki_ca.specs.Answer.{IsLineOf};
 ghost use Rattle.rpki_ca.specs.Creation.{AreCreated, IsCreateAnswer, IsNoMessage};
 ghost use Rattle.rpki_ca.specs.Creation.{refusal_of_create};
@@ -43,6 +43,7 @@ impl<E: Drop> From<CreateError<E>> for Refusal {
 // The message of this kind that the input reads as.
 fn message_in(alloc: Global, kind: Kind, input: &[u8]) -> Result<Received, Refusal>
     ensures ok { IfOk result (λ m. ReadsAs kind input.now m) }
+    ensures writable { IfOk result IsWritable }
     ensures err { IfErr result (λ e. e ≢ Refusal.OutOfMemory
         → (e ≡ Refusal.XmlError) × IsNoMessage kind input.now) }
 {
@@ -63,6 +64,7 @@ fn publication_octets<P: Scheme, S: Signer<P>>(
     key: &S::KeyId,
     signer: &mut S,
 ) -> Result<Bytes, CreateError<S::Error>>
+    requires { publication.IsWritable message }
     ensures created { MatchResult result
         (AreCreated P.checks Kind.Publication (Received.Publication message) when
         (seen_signer key.now (S.state signer.old) (S.state signer.new)))
@@ -84,6 +86,7 @@ fn signed_octets<P: Scheme, S: Signer<P>>(
     key: &S::KeyId,
     signer: &mut S,
 ) -> Result<Bytes, CreateError<S::Error>>
+    requires { IsWritable message }
     ensures created { MatchResult result
         (AreCreated P.checks (protocol_of message) message when
         (seen_signer key.now (S.state signer.old) (S.state signer.new)))

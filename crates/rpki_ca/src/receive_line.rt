@@ -18,7 +18,7 @@ impl Received {
         ensures { IfOk result (λ octets. octets ≡ text_of self.now) }
     {
         match self {
-            Received::Publication(message) => message.to_xml_bytes(alloc),
+            Received::Publication(message) => message.text_bytes(alloc),
         }
     }
 }

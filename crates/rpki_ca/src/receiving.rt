@@ -26,7 +26,7 @@ pub enum Kind {
 }
 
 /// A message that was received.
-#[derive(Clone, Copy, Debug, PartialEq, Eq)]
+#[derive(Debug, Drop, PartialEq, Eq)]
 pub enum Received {
     /// A message of the publication protocol.
     Publication(publication::Message),
@@ -55,9 +55,9 @@ impl From<publication::Error> for ReceiveError {
     fn from(error: publication::Error) -> ReceiveError {
         match error {
             publication::Error::CmsDecode => ReceiveError::CmsDecode,
-            publication::Error::XmlError(_) => ReceiveError::XmlError,
             publication::Error::Validation(error) => ReceiveError::Validation(error),
             publication::Error::OutOfMemory => ReceiveError::OutOfMemory,
+            _ => ReceiveError::XmlError,
         }
     }
 }

@@ -240,7 +240,7 @@ impl PublicationCms {
         // The signer holds the same keys, whatever the answer.
         ensures keeps { Keeps (S.state signer.old) (S.state signer.new) }
     {
-        let text = Bytes::from_vec(message.text(alloc)?.into_bytes())?;
+        let text = message.text_bytes(alloc)?;
         let signed = SignedMessage::create(alloc, text, now, issuing_key_id, signer)?;
         Ok(PublicationCms { signed, message })
     }

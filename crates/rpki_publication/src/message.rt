@@ -161,8 +161,16 @@ impl Message {
         Ok(Bytes::from_vec(text.into_bytes())?)
     }
 
-    /// The text of the message, however long it is (RFC 8181, 2.1).
-    pub fn text(&self, alloc: Global) -> Result<String, OutOfMemory>
+    /// The octets of the message's text, however long it is (RFC 8181, 2.1).
+    pub fn text_bytes(&self, alloc: Global) -> Result<Bytes, OutOfMemory>
+        ensures { IfOk result (λ octets. octets ≡ text_of self.now) }
+    {
+        let text = self.text(alloc)?;
+        Ok(Bytes::from_vec(text.into_bytes())?)
+    }
+
+    // The text, however long it is.
+    fn text(&self, alloc: Global) -> Result<String, OutOfMemory>
         ensures { IfOk result (λ text. string_bytes text ≡ text_of self.now) }
     {
         Ok(Written { message: self }.to_string(alloc)?)

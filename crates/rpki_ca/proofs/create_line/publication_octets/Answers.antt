@@ -8,7 +8,7 @@ returns-in_err-to_bytes-clause-created g c = handed_on _ _ _ _ c.from_residual-i
 pub returns-clause-created : goal.returns-clause-created
 returns-clause-created g c =
     publication_created g.P.Scheme.checks c.args.message c.args.when _ c.in_ok-cms.cms.signed c.in_ok-to_bytes.field-0 c.in_ok-cms.ensures.created c.in_ok-to_bytes.ensures.octets c.in_ok-to_bytes.ensures.spelled
-    c.in_ok-cms.ensures.again c.in_ok-cms.ensures.believed
+    c.in_ok-cms.ensures.again c.in_ok-cms.ensures.believed c.requires
 
 pub returns-clause-too_long : goal.returns-clause-too_long
 returns-clause-too_long g c = ok_tells _ _ c.in_ok-cms.ensures.too_long
