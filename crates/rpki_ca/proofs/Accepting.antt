@@ -39,11 +39,18 @@ refused scheme octets keys when publication_error.Write r = absurd r
 refused scheme octets keys when publication_error.TooLong r = absurd r
 refused scheme octets keys when publication_error.OutOfMemory r = tt
 
-pub none_found : (X Y : Type 0) (e : Error) → FindsSigned {X = X} (Err (of_publication e)) → cms.FindsSigned {X = Y} (Err e)
-none_found X Y publication_error.CmsDecode f = f
-none_found X Y (publication_error.XmlError e) f = tt
-none_found X Y (publication_error.Validation e) f = tt
-none_found X Y publication_error.OutOfMemory f = f
+pub none_found : (X Y : Type 0) (octets : List ℕ) (e : Error) → cms.RefusesCms octets e → FindsSigned {X = X} (Err (of_publication e)) → cms.FindsSigned {X = Y} (Err e)
+none_found X Y octets publication_error.CmsDecode r f = f
+none_found X Y octets (publication_error.XmlError e) r f = tt
+none_found X Y octets (publication_error.Validation e) r f = absurd r
+none_found X Y octets publication_error.OutOfMemory r f = f
+none_found X Y octets publication_error.InvalidVersion r f = absurd r
+none_found X Y octets (publication_error.InvalidErrorCode t) r f = absurd r
+none_found X Y octets publication_error.NotQuery r f = absurd r
+none_found X Y octets publication_error.NotReply r f = absurd r
+none_found X Y octets publication_error.Read r f = absurd r
+none_found X Y octets publication_error.Write r f = absurd r
+none_found X Y octets publication_error.TooLong r f = absurd r
 
 pub failed : (scheme : Relation) (octets : List ℕ) (keys : List KeyFields) (when : ℤ) (c : cms.CmsFields) (m : MessageFields) (e : ValidationError) (r : Result ℕ ValidationError) → r ≡ Err e → cms.BeginsCms octets c → m ≡ c.signed
     → IsAnyValidation scheme m keys when r → FailsCheck scheme kinds.Publication octets keys when e

@@ -13,7 +13,7 @@ returns-in_err-cms-clause-answer g c =
 pub returns-in_err-cms-clause-least : goal.returns-in_err-cms-clause-least
 returns-in_err-cms-clause-least g c =
     let p = err_from_is_err_and c.from_residual.result c.from_residual.ensures.1 in
-    rw (p.1, p.2) (λ f. c.in_err-cms.ensures.least (none_found Received CmsFields c.in_err-cms.field-0.0 f))
+    rw (p.1, p.2) (λ f. c.in_err-cms.ensures.least (none_found Received CmsFields c.args.octets.now c.in_err-cms.field-0.0 c.in_err-cms.ensures.cms f))
 
 pub returns-in_err-place-clause-answer : goal.returns-in_err-place-clause-answer
 returns-in_err-place-clause-answer g c =
