@@ -13,15 +13,18 @@ A line is `NAME ber OCTETS STEP..`, with the steps of tools/stored.py. What the 
     checked,'MOMENT                   ok under key 0 of seed 1
     text                              the message as which the octets read as a text, as it is written
     list_query success                these messages as they are written, whatever the octets are
+    made_delta made_twice made_list made_withdrawals made_errors
+                                      messages that calls put together, as each call writes them: four times the same
     received,'MOMENT/NUMBER           the message as it is written, received under the key with this number of seed 1
     received_any,'MOMENT/NUMBER..     the same under one of these keys, and its place
     believed,.. signed_believed,..    the place of the key under which the message is believed, and the signed message
 """
 
+import base64
 import hashlib
 
 from messages import BREAKS, CONTENT_A, FIRST, LAST, NOW, QUERY, QUERY_MESSAGE, broken, indefinite, message, overlong, printable, segmented
-from stored import DONE, step, terms, write
+from stored import DONE, SIZES, step, terms, write
 
 REPLY = b'<msg xmlns="http://www.hactrn.net/uris/rpki/publication-spec/" version="4" type="reply"><success/></msg>'
 
@@ -35,7 +38,9 @@ SPELLED = {
     REPLY: [b"<msg type='reply' version='4'>\n  <success />\n</msg>"],
 }
 # Texts by themselves, besides.
-MORE_QUERIES = [b"<msg xmlns='urn:other' type='query' version='4'><list/></msg>"]
+MORE_QUERIES = [
+    b"<msg xmlns='urn:other' type='query' version='4'><list/></msg>", b"<msg version='4' type='query'><list tag='a'/></msg>",
+    b"<msg version='4' type='query'><list uri='rsync://h/m/' hash='%s'/></msg>" % (b"aB" * 32)]
 NO_TEXTS = [
     b"<msg version='' type='query'><list/></msg>",
     b"<msg version='4'><list/></msg>",
@@ -43,12 +48,14 @@ NO_TEXTS = [
     b"<message version='4' type='query'><list/></message>",
     b"<msg version='4' type='query' tag='a'><list/></msg>",
     b"<msg version='4' p:version='4' type='query'><list/></msg>",
-    b"<msg version='4' type='query'/>",
     b"<msg version='4' type='query'>list</msg>",
     b"<msg version='4' type='query'><list/></msg>.",
     b"<msg version='4' type='query'><list/><list/></msg>",
     b"<msg version='4' type='query'><list/><withdraw/></msg>",
-    b"<msg version='4' type='query'><list tag='a'/></msg>",
+    b"<msg version='4' type='query'><list tag='a' hash='b'/></msg>",
+    b"<msg version='4' type='reply'><success/><success/></msg>",
+    b"<msg version='4' type='reply'><success/><list uri='rsync://h/m/' hash='%s'/></msg>" % (b"aB" * 32),
+    b"<msg version='4' type='reply'><report_error error_code='other'/></msg>",
     b"<msg version='4' type='query'><list>a</list></msg>",
     b"<msg version='4' type='query'><list><a/></list></msg>",
     b"<msg version='4' type='reply'><list/></msg>",
@@ -67,6 +74,57 @@ def read(label, octets, content, written):
     return line(
         label, octets, step("decoded", content, written), step("signed", digest, True, written), step("message", written),
         step("checked", DONE, argument=NOW))
+
+
+def root(kind, *elements):
+    head = b'<msg xmlns="http://www.hactrn.net/uris/rpki/publication-spec/" version="4" type="%s"' % kind
+    return head + (b">" + b"".join(elements) + b"</msg>" if elements else b"/>")
+
+
+URI = b"rsync://localhost/ca/f.cer"
+
+
+def digest(octets):
+    return hashlib.sha256(octets).hexdigest().encode()
+
+
+def element(name, text=b"", **attributes):
+    start = b"<" + name + b"".join(b' %s="%s"' % (key.encode(), value) for key, value in attributes.items())
+    return start + (b">" + text + b"</" + name + b">" if text else b"/>")
+
+
+def made_lines():
+    """Messages that calls put together, of the octets `abc` and `abcd`."""
+    first, second = digest(b"abc"), digest(b"abcd")
+    changes = (
+        element(b"publish", base64.b64encode(b"abc"), tag=first, uri=URI),
+        element(b"publish", base64.b64encode(b"abcd"), tag=second, uri=URI, hash=first),
+        element(b"withdraw", tag=second, uri=URI, hash=second))
+    error = b"<report_error error_code=\"%s\"><error_text>%s</error_text></report_error>"
+    for label, text in (
+            ("delta", root(b"query", *changes)), ("twice", root(b"query", *changes, *changes)),
+            ("list", root(b"reply", *(element(b"list", uri=URI, hash=hash_) for hash_ in (first, second)))),
+            ("withdrawals", root(b"query", *(element(b"withdraw", tag=hash_, uri=URI, hash=hash_) for hash_ in (first, second)))),
+            ("errors", root(b"reply", error % (b"permission_failure", b"Client does not have permission to update this URI."),
+                error % (b"other_error", b"Found some other issue.")))):
+        yield line(f"made-{label}", b"", step(f"made_{label}", text, text, text, text))
+
+
+def size_lines():
+    """Parts of the sizes where a length or a count takes one octet more."""
+    for kind in b"query", b"reply":
+        yield line(f"text-of-empty-{kind.decode()}", root(kind), step("text", root(kind)))
+    for n in SIZES:
+        tag, content = b"t" * n, base64.b64encode(b"c" * n)
+        for label, kind, part in (
+                ("tag", b"query", element(b"withdraw", tag=tag, uri=URI, hash=digest(b""))),
+                ("content", b"query", element(b"publish", content, tag=b"", uri=URI)),
+                ("uri", b"reply", element(b"list", uri=(URI + b"u" * n)[:min(n, 65535)], hash=digest(b""))),
+                ("error-text", b"reply", b'<report_error error_code="other_error"><error_text>%s</error_text></report_error>' % tag)):
+            yield line(f"text-with-{label}-of-{n}", root(kind, part), step("text", root(kind, part)))
+        if n < 1000:
+            listed = root(b"reply", *[element(b"list", uri=URI, hash=digest(b""))] * n)
+            yield line(f"text-of-{n}-objects", listed, step("text", listed))
 
 
 def text_lines():
@@ -145,6 +203,8 @@ def lines():
     yield from text_lines()
     yield from received_lines()
     yield from rewritten_lines()
+    yield from made_lines()
+    yield from size_lines()
 
 
 if __name__ == "__main__":

@@ -4,8 +4,9 @@
     tools/run_cases.py               writes the rows of this script, and keeps the sets of cases that the file has
     tools/run_cases.py SET FOLDER    takes a set anew from a folder of cases
 
-The cases of a set are named SET-N. There are four: `ber`, messages with one CRL under one key in all spellings, and commands; `two`,
-messages with one or two CRLs under one to eight keys; `made`, messages that `create` makes; and `set`, setup messages. A case of a folder is case-N.words (one word a line), case-N.in (the
+The cases of a set are named SET-N. There are five: `ber`, messages with one CRL under one key in all spellings, and commands; `two`,
+messages with one or two CRLs under one to eight keys; `made`, messages that `create` makes; `set`, setup messages; and `pub`, all messages
+of the publication protocol, created and received. A case of a folder is case-N.words (one word a line), case-N.in (the
 input) and case-N.expected (the status in decimal, a line feed, then what is written); they come from a model that was written
 apart. The rows of this script are made of examples/query-list.hex, of examples/content.hex and of what stands here. No expected
 answer comes from the program under test.
@@ -43,7 +44,7 @@ ROOT = pathlib.Path(__file__).resolve().parent.parent
 CRATE = ROOT / "crates" / "run_cases"
 INPUT = (ROOT / "examples" / "query-list.hex").read_bytes()
 CONTENT_INPUT = (ROOT / "examples" / "content.hex").read_bytes()
-SETS = "ber", "two", "made", "set"
+SETS = "ber", "two", "made", "set", "pub"
 
 SETUP_MESSAGES = "child_request", "parent_response", "publisher_request", "repository_response"
 MOMENT = "1700000000"

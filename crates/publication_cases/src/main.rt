@@ -5,6 +5,7 @@
 //! file, by the formats and the rules of the toy scheme alone, and says what the calls are.
 #![tactic(auto)]
 
+mod made;
 mod receiving;
 mod signed;
 
@@ -75,6 +76,9 @@ impl Calls for Publications {
         step: &Step<'_>,
     ) -> Option<Result<Fields, DecodeError>> {
         if let Some(answer) = of_octets(alloc, cursor.here(), step) {
+            return Some(answer);
+        }
+        if let Some(answer) = made::answer(alloc, step.call) {
             return Some(answer);
         }
         of_keys(alloc, cursor.here(), step)

@@ -22,7 +22,7 @@ pub fn refused(alloc: Global, error: Error) -> Result<Fields, DecodeError> {
 
 /// A message as it is written.
 pub fn written(alloc: Global, message: &Message) -> Result<Fields, DecodeError> {
-    Ok(Fields::one(alloc, message.to_xml_bytes(alloc)?.as_slice())?)
+    Ok(Fields::one(alloc, message.text_bytes(alloc)?.as_slice())?)
 }
 
 /// The same of one that is read.
@@ -35,7 +35,7 @@ pub fn read_shown(alloc: Global, read: Result<Message, Error>) -> Result<Fields,
 
 fn whole_fields(alloc: Global, cms: &PublicationCms) -> Result<Fields, DecodeError> {
     let mut fields = Fields::one(alloc, cms.signed_message().content().as_slice())?;
-    fields.octets(cms.message().to_xml_bytes(alloc)?.as_slice())?;
+    fields.octets(cms.message().text_bytes(alloc)?.as_slice())?;
     Ok(fields)
 }
 
@@ -57,7 +57,7 @@ fn signed_fields(
 ) -> Result<Fields, DecodeError> {
     let mut fields = Fields::one(alloc, signed.digest())?;
     fields.octets(&[u8::from(signed.digest_holds())])?;
-    fields.octets(message.to_xml_bytes(alloc)?.as_slice())?;
+    fields.octets(message.text_bytes(alloc)?.as_slice())?;
     Ok(fields)
 }
 

@@ -1,0 +1,160 @@
+//! Messages that are put together by calls, and each call that writes a message.
+
+use bytes::Bytes;
+use rpki_der::DecodeError;
+use rpki_publication::{
+    ErrorReply, ListElement, ListReply, Message, Publish, PublishDelta, ReportError,
+    ReportErrorCode, Update, Withdraw,
+};
+use rpki_text::{Base64, Hash, MemorySink, MemorySource, uri};
+use std::alloc::Global;
+use stored_cases::Fields;
+
+fn uri_of(alloc: Global) -> Result<uri::Rsync, DecodeError> {
+    match uri::Rsync::from_str(alloc, "rsync://localhost/ca/f.cer") {
+        Ok(uri) => Ok(uri),
+        Err(_) => Err(DecodeError::OutOfMemory),
+    }
+}
+
+fn publish(alloc: Global) -> Result<Publish, DecodeError> {
+    let content = Base64::from_content(alloc, b"abc")?;
+    Ok(Publish::with_hash_tag(alloc, uri_of(alloc)?, content)?)
+}
+
+fn update(alloc: Global) -> Result<Update, DecodeError> {
+    let content = Base64::from_content(alloc, b"abcd")?;
+    let old_hash = Hash::from_data(b"abc");
+    Ok(Update::with_hash_tag(alloc, uri_of(alloc)?, content, old_hash)?)
+}
+
+fn withdraw(alloc: Global) -> Result<Withdraw, DecodeError> {
+    Ok(Withdraw::with_hash_tag(alloc, uri_of(alloc)?, Hash::from_data(b"abcd"))?)
+}
+
+// Whether all three are added, in this order.
+fn is_filled(
+    delta: &mut PublishDelta,
+    publish: Publish,
+    update: Update,
+    withdraw: Withdraw,
+) -> bool {
+    delta.add_publish(publish).is_ok()
+        && delta.add_update(update).is_ok()
+        && delta.add_withdraw(withdraw).is_ok()
+}
+
+// A publish, an update and a withdraw.
+fn delta(alloc: Global) -> Result<PublishDelta, DecodeError> {
+    let mut delta = PublishDelta::empty(alloc);
+    if is_filled(
+        &mut delta,
+        publish(alloc)?,
+        update(alloc)?,
+        withdraw(alloc)?,
+    ) {
+        return Ok(delta);
+    }
+    Err(DecodeError::OutOfMemory)
+}
+
+// The same twice, one behind the other.
+fn twice(alloc: Global) -> Result<PublishDelta, DecodeError> {
+    match delta(alloc)?.add(delta(alloc)?) {
+        Ok(delta) => Ok(delta),
+        Err(_) => Err(DecodeError::OutOfMemory),
+    }
+}
+
+// Two objects.
+fn list(alloc: Global) -> Result<ListReply, DecodeError> {
+    let mut list = ListReply::empty(alloc);
+    let first = ListElement::new(uri_of(alloc)?, Hash::from_data(b"abc"));
+    let second = ListElement::new(uri_of(alloc)?, Hash::from_data(b"abcd"));
+    if list.add_element(first).is_ok() && list.add_element(second).is_ok() {
+        return Ok(list);
+    }
+    Err(DecodeError::OutOfMemory)
+}
+
+fn withdrawals(alloc: Global) -> Result<PublishDelta, DecodeError> {
+    match list(alloc)?.into_withdraw_delta(alloc) {
+        Ok(delta) => Ok(delta),
+        Err(_) => Err(DecodeError::OutOfMemory),
+    }
+}
+
+// Two errors, the first by its code alone.
+fn errors(alloc: Global) -> Result<ErrorReply, DecodeError> {
+    let first = ReportError::with_code(alloc, ReportErrorCode::PermissionFailure)?;
+    let second = ReportError::new(ReportErrorCode::OtherError, None, None, None);
+    let Ok(mut reply) = ErrorReply::for_error(alloc, first) else {
+        return Err(DecodeError::OutOfMemory);
+    };
+    match reply.add_error(second) {
+        Ok(()) => Ok(reply),
+        Err(_) => Err(DecodeError::OutOfMemory),
+    }
+}
+
+// The message that a step names, if it names one.
+fn message(alloc: Global, call: &str) -> Result<Option<Message>, DecodeError> {
+    match call {
+        "made_delta" => Ok(Some(Message::delta(delta(alloc)?))),
+        "made_twice" => Ok(Some(Message::delta(twice(alloc)?))),
+        "made_list" => Ok(Some(Message::list_reply(list(alloc)?))),
+        "made_withdrawals" => Ok(Some(Message::delta(withdrawals(alloc)?))),
+        "made_errors" => Ok(Some(Message::error(errors(alloc)?))),
+        _ => Ok(None),
+    }
+}
+
+fn octets(alloc: Global, message: &Message) -> Result<Bytes, DecodeError> {
+    match message.to_xml_bytes(alloc) {
+        Ok(octets) => Ok(octets),
+        Err(_) => Err(DecodeError::OutOfMemory),
+    }
+}
+
+fn text(alloc: Global, message: &Message) -> Result<String, DecodeError> {
+    match message.to_xml_string(alloc) {
+        Ok(text) => Ok(text),
+        Err(_) => Err(DecodeError::OutOfMemory),
+    }
+}
+
+fn sunk(alloc: Global, message: &Message) -> Result<MemorySink, DecodeError> {
+    let mut sink = MemorySink::new(alloc, 1 << 20, 100, &[])?;
+    match message.write_xml(alloc, &mut sink) {
+        Ok(()) => Ok(sink),
+        Err(_) => Err(DecodeError::OutOfMemory),
+    }
+}
+
+fn read(alloc: Global, octets: &[u8]) -> Result<Message, DecodeError> {
+    let mut source = MemorySource::new(alloc, octets, 100, &[])?;
+    match Message::decode(alloc, &mut source) {
+        Ok(message) => Ok(message),
+        Err(_) => Err(DecodeError::Malformed),
+    }
+}
+
+/// The message as each call writes it, and as it is written once it is read of a source and cloned.
+pub fn written_by_each(alloc: Global, message: &Message) -> Result<Fields, DecodeError> {
+    let octets_of = octets(alloc, message)?;
+    let mut fields = Fields::one(alloc, octets_of.as_slice())?;
+    fields.octets(text(alloc, message)?.as_bytes())?;
+    fields.octets(sunk(alloc, message)?.written())?;
+    let again = read(alloc, octets_of.as_slice())?.clone(alloc)?;
+    fields.octets(again.text_bytes(alloc)?.as_slice())?;
+    Ok(fields)
+}
+
+/// The same of the message that a step names; None where it names none.
+pub fn answer(alloc: Global, call: &str) -> Option<Result<Fields, DecodeError>> {
+    match message(alloc, call) {
+        Ok(Some(message)) => Some(written_by_each(alloc, &message)),
+        Ok(None) => None,
+        Err(error) => Some(Err(error)),
+    }
+}
