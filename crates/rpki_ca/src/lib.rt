@@ -7,8 +7,8 @@
 //!   message is, if one of the one to eight keys issued its certificate for the moment;
 //!   [`receive_any`] is the same for octets, and [`receive`] for one key.
 //! - `create publication MOMENT` reads a message of the publication protocol and writes a signed
-//!   message with it, which is received as that message at each second from 300 before the moment to
-//!   300 after it.
+//!   message with it, which is received as that message's normal form at each second from 300 before
+//!   the moment to 300 after it.
 //! - `setup MESSAGE MOMENT` reads one of the four setup messages and writes it anew, if its
 //!   certificate is believed as a trust anchor's at the moment.
 //!

@@ -204,8 +204,8 @@ pub fn run<P: Scheme, I: Source, O: Sink, V: Verifier<P>, S: Signer<P>>(
         (seen O.written O.faults output.old output.new)) }
 
     // `create` ends with 0 only where the input reads as a message, and what was written is received
-    // as that message under every list of keys that holds the issuing key, at each second from 300
-    // before the moment to 300 after it.
+    // as that message's normal form under every list of keys that holds the issuing key, at each
+    // second from 300 before the moment to 300 after it.
     ensures created { (kind : Kind) (when : ℤ) → IsCreate words.now kind when → result.0 ≡ 0
         → IfSome (I.rest input.old) (λ rest. Creates P.checks kind when rest
         (seen_signer key.now (S.state signer.old) (S.state signer.new))
