@@ -28,7 +28,7 @@ abbrev pub query_elements : Query → Elements
 query_elements query.List = alone list_query_element
 query_elements (query.Delta changes) = elements_of change_element changes
 
--- `<success/>` (2.4)
+-- `<success/>` (2.2)
 abbrev pub success_element : Element
 success_element = leaf (codes "success") [] []
 

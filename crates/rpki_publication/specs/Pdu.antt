@@ -1,4 +1,4 @@
--- What the elements inside a message share (RFC 8181, 2.2 to 2.5): how they are written, and the attributes that are known. Names are
+-- What the elements inside a message share (RFC 8181, 2.2 to 2.4): how they are written, and the attributes that are known. Names are
 -- compared by their local parts.
 use Rattle.std.specs.Prelude.{ℕ, List, [], ◌∷◌, Option, None, Some, codes}
 use Rattle.rpki_common.specs.Chaining.{◌>>=◌}

@@ -1,4 +1,4 @@
--- An error that a server reports (RFC 8181, 2.5).
+-- An error that a server reports (RFC 8181, 2.4).
 use Rattle.std.specs.Prelude.{◌≡◌, ℕ, List, [], ◌∷◌, Bool, ◌||◌, Option, None, Some, IfSome, filter, codes}
 use Rattle.rpki_common.specs.Chaining.{◌>>=◌}
 use Rattle.rpki_common.specs.Items as items

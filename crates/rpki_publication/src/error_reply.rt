@@ -10,7 +10,7 @@ use std::alloc::Global;
 use std::fmt;
 use std::marker::Model;
 
-/// Errors that a server reports (RFC 8181, 2.5). In a clause it is the list of them.
+/// Errors that a server reports (RFC 8181, 2.4). In a clause it is the list of them.
 #[derive(Debug, Drop, PartialEq, Eq)]
 pub struct ErrorReply {
     errors: Sequence<ReportError>,

@@ -59,14 +59,14 @@ impl Message {
         Message::Reply(Reply::List(reply))
     }
 
-    /// The reply that all changes were made (RFC 8181, 2.4).
+    /// The reply that all changes were made (RFC 8181, 2.2).
     pub fn success() -> Message
         ensures { result ≡ message.Reply replies.Success }
     {
         Message::Reply(Reply::Success)
     }
 
-    /// The reply with errors (RFC 8181, 2.5).
+    /// The reply with errors (RFC 8181, 2.4).
     pub fn error(error: ErrorReply) -> Message
         ensures { result ≡ message.Reply (replies.ErrorReply error) }
     {

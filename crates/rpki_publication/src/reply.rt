@@ -16,9 +16,9 @@ use std::alloc::Global;
 pub enum Reply {
     /// What is published (RFC 8181, 2.3).
     List(ListReply),
-    /// That all changes were made (RFC 8181, 2.4).
+    /// That all changes were made (RFC 8181, 2.2).
     Success,
-    /// Errors (RFC 8181, 2.5).
+    /// Errors (RFC 8181, 2.4).
     ErrorReply(ErrorReply),
 }
 
@@ -62,9 +62,9 @@ pub enum ReplyPduType {
 pub enum ReplyPdu {
     /// An object that is published (RFC 8181, 2.3).
     List(ListElement),
-    /// That all changes were made (RFC 8181, 2.4).
+    /// That all changes were made (RFC 8181, 2.2).
     Success,
-    /// An error (RFC 8181, 2.5).
+    /// An error (RFC 8181, 2.4).
     Error(ReportError),
 }
 

@@ -14,7 +14,7 @@ use std::alloc::Global;
 use std::marker::Model;
 use std::rc::RcStr;
 
-/// An error that a server reports (RFC 8181, 2.5): its code, the tag of the element of the query that failed, a text, and that element.
+/// An error that a server reports (RFC 8181, 2.4): its code, the tag of the element of the query that failed, a text, and that element.
 /// In a clause it is the record of its fields.
 #[derive(Debug, Drop, PartialEq, Eq)]
 pub struct ReportError {
