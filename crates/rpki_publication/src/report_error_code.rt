@@ -63,24 +63,23 @@ impl ReportErrorCode {
         ensures { result.now ≡ default_text self.now }
     {
         match self {
-            ReportErrorCode::XmlError => "Encountered an XML problem.",
-            ReportErrorCode::PermissionFailure => {
-                "Client does not have permission to update this URI."
-            }
-            ReportErrorCode::BadCmsSignature => "Encountered bad CMS signature.",
-            ReportErrorCode::ObjectAlreadyPresent => {
+            Self::XmlError => "Encountered an XML problem.",
+            Self::PermissionFailure => { "Client does not have permission to update this URI." }
+            Self::BadCmsSignature => "Encountered bad CMS signature.",
+            Self::ObjectAlreadyPresent => {
                 "An object is already present at this URI, yet a \"hash\" attribute was not specified."
             }
-            ReportErrorCode::NoObjectPresent => {
+            Self::NoObjectPresent => {
                 "There is no object present at this URI, yet a \"hash\" attribute was specified."
             }
-            ReportErrorCode::NoObjectMatchingHash => {
+            Self::NoObjectMatchingHash => {
                 "The \"hash\" attribute supplied does not match the \"hash\" attribute of the object at this URI."
             }
-            ReportErrorCode::ConsistencyProblem => {
-                "Server detected an update that looks like it will cause a consistency problem (e.g., an object was deleted, but the manifest was not updated)."
+            Self::ConsistencyProblem => {
+                "Server detected an update that looks like it will cause a consistency problem \
+                 (e.g., an object was deleted, but the manifest was not updated)."
             }
-            ReportErrorCode::OtherError => "Found some other issue.",
+            Self::OtherError => "Found some other issue.",
         }
     }
 }
