@@ -1,0 +1,4 @@
+pub mod Gathering
+pub mod Captured
+pub mod Lawfulness
+pub mod Lists

@@ -1,0 +1,14 @@
+use Rattle.std.proofs.Common.{sym}
+use Rattle.rpki_cert.specs.KeyUsage.{key_usage}
+use Rattle.rpki_der.proofs.Insides.{gives_counted_err}
+use Rattle.rpki_der.proofs.Giving.{refuses_second, given_once, lacks_once, in_der_ok, in_der_err}
+use Rattle.rpki_cert.proofs.extensions.add_usage.Goals as goal
+
+pub returns-then-is_some : goal.returns-then-is_some
+returns-then-is_some g c = refuses_second _ _ _ _ _ (sym c.if-is_some.ensures)
+
+pub returns-in_err-usage : goal.returns-in_err-usage
+returns-in_err-usage g c = gives_counted_err _ _ _ _ _ _ _ _ c.from_residual.ensures.1 (lacks_once _ _ _ _ _ _ _ (sym c.if-is_some.ensures) (in_der_err (λ m. key_usage) _ c.new-cursor.result _ _ _ c.new-cursor.ensures c.in_err-usage.ensures))
+
+pub returns : goal.returns
+returns g c = given_once _ _ _ _ _ _ _ (sym c.if-is_some.ensures) (in_der_ok (λ m. key_usage) _ c.new-cursor.result _ _ _ _ c.new-cursor.ensures c.in_ok-usage.ensures)

@@ -1,0 +1,23 @@
+//! Resource certificates and certificate requests, as far as the provisioning protocol looks into them (RFC 6487; RFC 2986; RFC 8209).
+//!
+//! - [`Cert`] is a resource certificate: its exact octets and the key of its subject.
+//! - [`Csr`] is a request: [`RpkiCaCsr`] that of an authority, [`BgpsecCsr`] that of a router. It is decoded in DER, and keeps the
+//!   exact octets that are signed.
+//! - [`CsrAttributes`] says what the attributes of a kind of requests hold.
+#![tactic(auto)]
+
+mod access;
+mod attributes;
+mod cert;
+mod csr;
+mod csr_attributes;
+mod extended_key_usage;
+mod extensions;
+mod key_usage;
+mod object_identifiers;
+
+pub use cert::Cert;
+pub use csr::{BgpsecCsr, Csr, RpkiCaCsr};
+pub use csr_attributes::{BgpsecCsrAttributes, CsrAttributes, RpkiCaCsrAttributes};
+pub use extended_key_usage::ExtendedKeyUsage;
+pub use key_usage::KeyUsage;
