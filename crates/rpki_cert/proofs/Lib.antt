@@ -2,3 +2,5 @@ pub mod Gathering
 pub mod Captured
 pub mod Lawfulness
 pub mod Lists
+pub mod Asking
+pub mod Constructing

@@ -1,4 +1,4 @@
--- Said in contracts, and to be believed: ObjectIdentifiers, KeyUsage, ExtendedKeyUsage, Access, Extensions, CsrAttributes, Csr, Cert.
+-- Said in contracts, and to be believed: ObjectIdentifiers, KeyUsage, ExtendedKeyUsage, Access, Extensions, CsrAttributes, Csr, Cert, Making.
 -- Means for readers: Gathered.
 pub mod ObjectIdentifiers
 pub mod KeyUsage
@@ -9,3 +9,4 @@ pub mod Gathered
 pub mod CsrAttributes
 pub mod Csr
 pub mod Cert
+pub mod Making

@@ -9,6 +9,7 @@
 mod access;
 mod attributes;
 mod cert;
+mod construct;
 mod csr;
 mod csr_attributes;
 mod extended_key_usage;
@@ -16,8 +17,10 @@ mod extensions;
 mod key_usage;
 mod object_identifiers;
 
-pub use cert::Cert;
+pub use cert::{Cert, equal_certs_have_the_same_octets};
+pub use construct::{CsrError, construct_rpki_ca};
 pub use csr::{BgpsecCsr, Csr, RpkiCaCsr};
 pub use csr_attributes::{BgpsecCsrAttributes, CsrAttributes, RpkiCaCsrAttributes};
 pub use extended_key_usage::ExtendedKeyUsage;
 pub use key_usage::KeyUsage;
+pub use object_identifiers::request_identifiers_have_texts;

@@ -1,0 +1,282 @@
+//! Making requests.
+
+ghost use Rattle.std.specs.Prelude.{◌≡◌, ◌≢◌, ◌≤◌, ◌++◌, Some, None, length, IfOk, IfErr, IsOk, OnOk, MatchResult};
+ghost use Rattle.std.specs.Option.{option_copied};
+ghost use Rattle.rpki_der.specs.Writing.{der_primitive};
+ghost use Rattle.rpki_signer.specs.Signer.{AreDistinct, Stays};
+ghost use Rattle.rpki_signer.specs.declared.errors.MakeError.TheVariants as make;
+ghost use Rattle.rpki_text.specs.Uri.{rsync, fault_of};
+ghost use Rattle.rpki_text.specs.declared.uri.Error.TheVariants as fault;
+ghost use Rattle.rpki_cert.specs.declared.construct.CsrError.TheVariants as variant;
+ghost use Rattle.rpki_cert.specs.Making as spec;
+
+use crate::access::uri_tag;
+use crate::object_identifiers::{
+    CA_REPOSITORY, EXTENSION_REQUEST, KEY_USAGE, RPKI_MANIFEST, RPKI_NOTIFY, SUBJECT_INFO_ACCESS,
+};
+use bytes::Bytes;
+use rpki_base::{BASIC_CONSTRAINTS, Name, PublicKey, Scheme, SignedData, write_constructed};
+use rpki_der::{Captured, OutOfMemory, Tag, Writer};
+use rpki_signer::{MakeError, Signer, SigningError, key_within_limit, sign_within_limit};
+use rpki_text::uri::{self, Https, Rsync};
+use std::alloc::Global;
+use std::marker::Model;
+
+/// Why no request was made.
+#[derive(Debug, PartialEq, Eq, Drop)]
+pub enum CsrError<E> {
+    /// The URI of the repository with a slash behind it is unlawful. What is inside is never `OutOfMemory`.
+    Uri(uri::Error),
+    /// The signer gave a key or a signature of more than 2^16 octets, and its count of these rose.
+    TooLong,
+    /// The signer refused. What is inside is never `OutOfMemory`.
+    Signing(SigningError<E>),
+    /// Memory ran out.
+    OutOfMemory,
+}
+
+impl<E> From<OutOfMemory> for CsrError<E> {
+    ghost from_gives = { λ _ e. e ≡ variant.OutOfMemory };
+
+    fn from(_: OutOfMemory) -> CsrError<E> {
+        CsrError::OutOfMemory
+    }
+}
+
+impl<E> From<MakeError<E>> for CsrError<E> {
+    ghost use Rattle.rpki_cert.specs.Making.{csr_error_of};
+
+    ghost from_gives = { λ error e. e ≡ csr_error_of error };
+
+    fn from(error: MakeError<E>) -> CsrError<E> {
+        match error {
+            MakeError::TooLong => CsrError::TooLong,
+            MakeError::Signing(error) => CsrError::Signing(error),
+            MakeError::OutOfMemory => CsrError::OutOfMemory,
+        }
+    }
+}
+
+impl<E> From<uri::Error> for CsrError<E> {
+    ghost use Rattle.rpki_cert.specs.Making.{csr_error_of_uri};
+
+    ghost from_gives = { λ error e. e ≡ csr_error_of_uri error };
+
+    fn from(error: uri::Error) -> CsrError<E> {
+        match error {
+            uri::Error::OutOfMemory => CsrError::OutOfMemory,
+            uri::Error::TooLong => CsrError::Uri(uri::Error::TooLong),
+            uri::Error::BadCharacter => CsrError::Uri(uri::Error::BadCharacter),
+            uri::Error::BadScheme => CsrError::Uri(uri::Error::BadScheme),
+            uri::Error::BadUri => CsrError::Uri(uri::Error::BadUri),
+            uri::Error::DotSegments => CsrError::Uri(uri::Error::DotSegments),
+        }
+    }
+}
+
+// The URI of a directory: the URI itself, or with a slash behind it where its path names none.
+fn slashed(alloc: Global, uri: &Rsync) -> Result<Rsync, uri::Error>
+    ensures text { IfOk result (λ u. u ≡ spec.slashed uri.now) }
+    ensures lawful { OnOk result (fault_of rsync (spec.slashed uri.now) ≡ None) }
+    ensures fault { IfErr result (λ e.
+        e ≢ fault.OutOfMemory → fault_of rsync (spec.slashed uri.now) ≡ Some e) }
+{
+    if uri.path_is_dir() {
+        Ok(uri.clone(alloc)?)
+    } else {
+        uri.join(alloc, b"/")
+    }
+}
+
+// Appends a primitive value. What is longer than length octets can say is refused as want of memory.
+fn write_primitive(tag: Tag, content: &[u8], out: &mut Writer) -> Result<(), OutOfMemory>
+    ensures ok { OnOk result (out.new ≡ out.old ++ der_primitive tag content.now) }
+{
+    if content.len() >= 1 << 32 {
+        return Err(OutOfMemory);
+    }
+    out.primitive(tag, content)
+}
+
+// Appends an extension, whose flag is written also where it is false.
+fn write_extension(
+    identifier: &[u8],
+    critical: bool,
+    value: &Writer,
+    out: &mut Writer,
+) -> Result<(), OutOfMemory>
+    ensures ok { OnOk result
+        (out.new ≡ out.old ++ spec.requested_extension identifier.now critical value.now) }
+{
+    let flag = if critical { 0xFF } else { 0 };
+    let mut inner = out.inner();
+    write_primitive(Tag::OID, identifier, &mut inner)?;
+    inner.primitive(Tag::BOOLEAN, &[flag])?;
+    write_primitive(Tag::OCTET_STRING, value.as_slice(), &mut inner)?;
+    write_constructed(Tag::SEQUENCE, &inner, out)
+}
+
+// Appends a description of what is accessed and where.
+fn write_description(method: &[u8], uri: &str, out: &mut Writer) -> Result<(), OutOfMemory>
+    ensures ok { OnOk result (out.new ≡ out.old ++ spec.spelled_description method.now uri.now) }
+{
+    let mut inner = out.inner();
+    write_primitive(Tag::OID, method, &mut inner)?;
+    write_primitive(uri_tag(), uri.as_bytes(), &mut inner)?;
+    write_constructed(Tag::SEQUENCE, &inner, out)
+}
+
+// Appends the description of where changes are notified, if that is said.
+fn write_notify(uri: Option<&Https>, out: &mut Writer) -> Result<(), OutOfMemory>
+    ensures ok { OnOk result (out.new ≡ out.old ++ spec.spelled_notify (option_copied uri)) }
+{
+    match uri {
+        None => Ok(()),
+        Some(uri) => write_description(&RPKI_NOTIFY, uri.as_str(), out),
+    }
+}
+
+// Where the objects and the manifest of an authority are to be, and where changes are notified.
+//
+// In a clause it is the record of the three.
+#[derive(Drop)]
+struct Places<'a> {
+    ca_repository: Rsync,
+    rpki_manifest: &'a Rsync,
+    rpki_notify: Option<&'a Https>,
+}
+
+impl<'a> Model for Places<'a> {
+    ghost use Rattle.std.specs.Option.{option_copied};
+    ghost use Rattle.rpki_cert.specs.Making.{Places as PlacesFields};
+
+    ghost Value = { PlacesFields };
+
+    ghost view = { λ p. record {
+      ca_repository = p.ca_repository;
+      rpki_manifest = p.rpki_manifest.now;
+      rpki_notify = option_copied p.rpki_notify;
+    } };
+}
+
+impl<'a> Places<'a> {
+    // Appends the descriptions in a SEQUENCE.
+    fn write_access(&self, out: &mut Writer) -> Result<(), OutOfMemory>
+        ensures ok { OnOk result (out.new ≡ out.old ++ spec.spelled_access self.now) }
+    {
+        let mut inner = out.inner();
+        write_description(&CA_REPOSITORY, self.ca_repository.as_str(), &mut inner)?;
+        write_description(&RPKI_MANIFEST, self.rpki_manifest.as_str(), &mut inner)?;
+        write_notify(self.rpki_notify, &mut inner)?;
+        write_constructed(Tag::SEQUENCE, &inner, out)
+    }
+
+    // Appends the extensions.
+    fn write_extensions(&self, out: &mut Writer) -> Result<(), OutOfMemory>
+        ensures ok { OnOk result (out.new ≡ out.old ++ spec.spelled_extensions self.now) }
+    {
+        let mut flag = out.inner();
+        flag.primitive(Tag::BOOLEAN, &[0xFF])?;
+        let mut authority = out.inner();
+        authority.constructed(Tag::SEQUENCE, &flag)?;
+        write_extension(&BASIC_CONSTRAINTS, true, &authority, out)?;
+        let mut usage = out.inner();
+        usage.primitive(Tag::BIT_STRING, &[1, 6])?;
+        write_extension(&KEY_USAGE, true, &usage, out)?;
+        let mut access = out.inner();
+        self.write_access(&mut access)?;
+        write_extension(&SUBJECT_INFO_ACCESS, false, &access, out)
+    }
+
+    // Appends the attribute.
+    fn write_attribute(&self, out: &mut Writer) -> Result<(), OutOfMemory>
+        ensures ok { OnOk result (out.new ≡ out.old ++ spec.spelled_attribute self.now) }
+    {
+        let mut extensions = out.inner();
+        self.write_extensions(&mut extensions)?;
+        let mut list = out.inner();
+        write_constructed(Tag::SEQUENCE, &extensions, &mut list)?;
+        let mut inner = out.inner();
+        inner.primitive(Tag::OID, &EXTENSION_REQUEST)?;
+        write_constructed(Tag::SET, &list, &mut inner)?;
+        write_constructed(Tag::SEQUENCE, &inner, out)
+    }
+}
+
+// What is to be signed of the request for this key.
+#[tactic(auto, unfolding(crate::specs::Making::spelled_info))]
+fn request_info(alloc: Global, key: &PublicKey, places: &Places<'_>) -> Result<Bytes, OutOfMemory>
+    ensures { IfOk result (λ b. b ≡ spec.spelled_info key.now places.now) }
+{
+    let mut fields = Writer::new(alloc);
+    fields.primitive(Tag::INTEGER, &[0])?;
+    Name::from_pub_key(alloc, key)?.encode_ref(&mut fields)?;
+    key.encode_ref(&mut fields)?;
+    let mut attribute = Writer::new(alloc);
+    places.write_attribute(&mut attribute)?;
+    write_constructed(Tag::CTX_0, &attribute, &mut fields)?;
+    let mut out = Writer::new(alloc);
+    write_constructed(Tag::SEQUENCE, &fields, &mut out)?;
+    Ok(out.into_captured()?.into_bytes())
+}
+
+// The request, signed.
+fn sign_request<P: Scheme, S: Signer<P>>(
+    alloc: Global,
+    signer: &mut S,
+    key: &S::KeyId,
+    public_key: &PublicKey,
+    places: &Places<'_>,
+) -> Result<Captured, CsrError<S::Error>>
+    ensures signed { MatchResult result
+        (spec.IsSignedFor P.checks key.now public_key.now places.now
+        (S.state signer.old) (S.state signer.new))
+        (λ e. Stays (S.state signer.old) (S.state signer.new)
+        × spec.SigningOnly key.now (S.state signer.old) (S.state signer.new) e) }
+    ensures distinct { IsOk result → AreDistinct (S.state signer.new).keyring }
+{
+    let info = request_info(alloc, public_key, places)?;
+    let signature = sign_within_limit(alloc, key, info.as_slice(), signer)?;
+    let signed = SignedData::new(info, signature);
+    let mut out = Writer::new(alloc);
+    signed.encode_ref(&mut out)?;
+    Ok(out.into_captured()?)
+}
+
+/// The request of an authority for the signer's key: with its objects at `ca_repository`, to which a slash is added where its path is
+/// no directory, its manifest at `rpki_manifest`, and its changes notified at `rpki_notify`.
+///
+/// The signer gives the key, then the URI with its slash is tested, and then the signer signs; the first refusal decides. TooLong
+/// where the key or the signature has more than 2^16 octets.
+pub fn construct_rpki_ca<P: Scheme, S: Signer<P>>(
+    alloc: Global,
+    signer: &mut S,
+    key: &S::KeyId,
+    ca_repository: &Rsync,
+    rpki_manifest: &Rsync,
+    rpki_notify: Option<&Https>,
+) -> Result<Captured, CsrError<S::Error>>
+    ensures made { MatchResult result
+        (spec.IsRequestMade P.checks key.now
+        (record {
+          ca_repository = spec.slashed ca_repository.now;
+          rpki_manifest = rpki_manifest.now;
+          rpki_notify = option_copied rpki_notify;
+        })
+        (S.state signer.old) (S.state signer.new))
+        (λ e. Stays (S.state signer.old) (S.state signer.new)
+        × spec.ConstructFails key.now ca_repository.now
+        (S.state signer.old) (S.state signer.new) e) }
+
+    // No request is made of an unlawful URI.
+    ensures lawful { OnOk result (fault_of rsync (spec.slashed ca_repository.now) ≡ None) }
+{
+    let public_key = key_within_limit(alloc, key, signer)?;
+    let ca_repository = slashed(alloc, ca_repository)?;
+    let places = Places {
+        ca_repository,
+        rpki_manifest,
+        rpki_notify,
+    };
+    sign_request(alloc, signer, key, &public_key, &places)
+}
