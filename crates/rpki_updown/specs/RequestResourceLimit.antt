@@ -82,8 +82,3 @@ none_or_joined (first ∷ more) = join_with_byte 32 (first ∷ more)
 -- `none`, or the stated parts with a space between each two
 abbrev pub limit_text : LimitFields → List ℕ
 limit_text limit = none_or_joined (parts limit)
-
--- a part that is stated, behind a separator: a means for the writer
-abbrev pub shown_part : List ℕ → List ℕ → (List Run → List ℕ) → Option (List Run) → List ℕ
-shown_part separator name text None = []
-shown_part separator name text (Some stated) = separator ++ (name ++ text stated)

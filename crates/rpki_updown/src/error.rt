@@ -66,7 +66,10 @@ impl fmt::Display for Error {
                 error.fmt(f)
             }
             Error::Limit(set, limit) => {
-                write!(f, "Limit '{limit}' contains resources not held in set '{set}'")
+                write!(
+                    f,
+                    "Limit '{limit}' contains resources not held in set '{set}'"
+                )
             }
             Error::Read => f.write_str("reading failed"),
             Error::Write => f.write_str("writing failed"),

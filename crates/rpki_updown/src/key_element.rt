@@ -51,7 +51,7 @@ impl KeyElement {
     }
 
     /// The name and the key.
-    pub fn unpack(self) -> (ResourceClassName, KeyIdentifier)
+    pub(crate) fn unpack(self) -> (ResourceClassName, KeyIdentifier)
         ensures class_name { result.0 ≡ self.class_name }
         ensures key { result.1 ≡ self.key }
     {

@@ -22,7 +22,7 @@ pub fn printed_payload_type_is_read()
 {}
 
 /// What a limit leaves of a set has all that the limit states, and the limit leaves the same of it again.
-pub fn limit_of_its_own_result()
+pub fn limited_set_is_kept()
     ensures within { (limit : LimitFields) (set : Resources) → IsWithin limit set
         → IsWithin limit (limited_set limit set) }
     ensures same { (limit : LimitFields) (set : Resources)

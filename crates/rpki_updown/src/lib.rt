@@ -19,9 +19,7 @@ mod revocation_response;
 
 pub use error::Error;
 pub use key_element::KeyElement;
-pub use law::{
-    equal_values_are_the_same, limit_of_its_own_result, printed_payload_type_is_read,
-};
+pub use law::{equal_values_are_the_same, limited_set_is_kept, printed_payload_type_is_read};
 pub use not_performed_response::NotPerformedResponse;
 pub use payload_type::{PayloadType, PayloadTypeError};
 pub use request_resource_limit::RequestResourceLimit;
@@ -30,5 +28,5 @@ pub use revocation_request::RevocationRequest;
 pub use revocation_response::RevocationResponse;
 pub use rpki_base::{KeyIdentifier, ValidationError};
 pub use rpki_common::{OutOfMemory, Text};
-pub use rpki_sets::{AsBlocks, Ipv4Blocks, Ipv6Blocks, ResourceSet};
+pub use rpki_sets::{AsBlocks, BlocksError, Ipv4Blocks, Ipv6Blocks, ResourceSet};
 pub use rpki_xml::XmlError;

@@ -106,7 +106,11 @@ impl NotPerformedResponse {
     pub fn err_1202(alloc: Global) -> Result<NotPerformedResponse, OutOfMemory>
         ensures { IfOk result (λ r. r ≡ record { status = 1202; description = reason 1202 }) }
     {
-        described(alloc, 1202, "request - no resources allocated in resource class")
+        described(
+            alloc,
+            1202,
+            "request - no resources allocated in resource class",
+        )
     }
 
     /// The certificate request is malformed.
@@ -146,11 +150,7 @@ impl NotPerformedResponse {
 }
 
 // A response with this status and a copy of this text.
-fn described(
-    alloc: Global,
-    status: u64,
-    text: &str,
-) -> Result<NotPerformedResponse, OutOfMemory>
+fn described(alloc: Global, status: u64, text: &str) -> Result<NotPerformedResponse, OutOfMemory>
     ensures { IfOk result (λ r. r ≡ record { status = status; description = Some text.now }) }
 {
     let text = Text::from_str(alloc, text)?;

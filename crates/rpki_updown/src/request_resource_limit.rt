@@ -7,7 +7,8 @@ ghost use Rattle.std.specs.Fmt.{WritesOnOk};
 ghost use Rattle.std.specs.Option.{option_map};
 ghost use Rattle.rpki_sets.specs.Kinds.{text_of};
 ghost use Rattle.rpki_updown.specs.Answers.{RefusesLimit};
-ghost use Rattle.rpki_updown.specs.RequestResourceLimit.{no_limit, HasStated, IsWithin, limited, limited_set, are_same, are_same-equiv, limit_text, shown_part};
+ghost use Rattle.rpki_updown.specs.RequestResourceLimit.{no_limit, HasStated, IsWithin, limited, limited_set, are_same, are_same-equiv, limit_text};
+ghost use Rattle.rpki_updown.specs.Writing.{shown_part};
 
 use crate::error::Error;
 use rpki_common::OutOfMemory;
