@@ -28,7 +28,10 @@ fn kinds_of_messages_are_read(rt: HostRuntime) {
 fn kinds_of_messages_are_printed(rt: HostRuntime) -> Result<(), Fail> {
     let invalid = PayloadTypeError(Text::from_str(rt.alloc(), "Issue")?);
     let text = format!(in rt.alloc(); "{}; {}", PayloadType::ErrorResponse, Error::from(invalid))?;
-    assert_eq!(rt; text.as_str(), "error_response; Invalid payload type: Issue");
+    assert_eq!(rt;
+        text.as_str(),
+        "error_response; Invalid payload type: Issue"
+    );
     Ok(())
 }
 
@@ -80,11 +83,20 @@ fn nothing_is_issued(rt: HostRuntime) -> Result<(), Fail> {
     let text = printed(rt.alloc(), NotPerformedResponse::err_1201(rt.alloc()))?;
     assert_eq!(rt; text.as_str(), "1201 - request - no such resource class");
     let text = printed(rt.alloc(), NotPerformedResponse::err_1202(rt.alloc()))?;
-    assert_eq!(rt; text.as_str(), "1202 - request - no resources allocated in resource class");
+    assert_eq!(rt;
+        text.as_str(),
+        "1202 - request - no resources allocated in resource class"
+    );
     let text = printed(rt.alloc(), NotPerformedResponse::err_1203(rt.alloc()))?;
-    assert_eq!(rt; text.as_str(), "1203 - request - badly formed certificate request");
+    assert_eq!(rt;
+        text.as_str(),
+        "1203 - request - badly formed certificate request"
+    );
     let text = printed(rt.alloc(), NotPerformedResponse::err_1204(rt.alloc()))?;
-    assert_eq!(rt; text.as_str(), "1204 - request - already used key in request");
+    assert_eq!(rt;
+        text.as_str(),
+        "1204 - request - already used key in request"
+    );
     Ok(())
 }
 
@@ -95,7 +107,10 @@ fn nothing_is_revoked(rt: HostRuntime) -> Result<(), Fail> {
     let text = printed(rt.alloc(), NotPerformedResponse::err_1302(rt.alloc()))?;
     assert_eq!(rt; text.as_str(), "1302 - revoke - no such key");
     let text = printed(rt.alloc(), NotPerformedResponse::err_2001(rt.alloc()))?;
-    assert_eq!(rt; text.as_str(), "2001 - Internal Server Error - Request not performed");
+    assert_eq!(rt;
+        text.as_str(),
+        "2001 - Internal Server Error - Request not performed"
+    );
     let text = printed(rt.alloc(), Ok(NotPerformedResponse::new(7, None)))?;
     assert_eq!(rt; text.as_str(), "7");
     Ok(())
@@ -140,7 +155,10 @@ fn a_limit_is_applied(rt: HostRuntime) -> Result<(), Fail> {
     let some = limit(rt.alloc())?.apply_to(rt.alloc(), &held)?;
     assert!(rt; some == set(rt.alloc(), "10.0.0.0/8")?);
     let text = format!(in rt.alloc(); "{}", whole_limit(rt.alloc())?.apply_to(rt.alloc(), &held)?)?;
-    assert_eq!(rt; text.as_str(), "asn: '64496-64500', ipv4: '10.0.0.0/8', ipv6: ''");
+    assert_eq!(rt;
+        text.as_str(),
+        "asn: '64496-64500', ipv4: '10.0.0.0/8', ipv6: ''"
+    );
     Ok(())
 }
 

@@ -12,7 +12,7 @@ use Rattle.rpki_xml.specs.declared.error.XmlError.TheVariants as xml
 use Rattle.rpki_updown.specs.declared.error.Error.{Error}
 use Rattle.rpki_updown.specs.declared.error.Error.TheVariants as errors
 use Rattle.rpki_updown.specs.PayloadType.{payload_type_of_text}
-use Rattle.rpki_updown.specs.RequestResourceLimit.{LimitFields, IsWithin}
+use Rattle.rpki_updown.specs.RequestResourceLimit.{LimitFields, IsContained}
 
 -- ---- how errors of lower layers are passed on: want of memory is always OutOfMemory
 
@@ -60,6 +60,6 @@ RefusesPayloadType text _ = ⊥
 -- The answer is Limit, with the set and the limit, exactly where the set does not include all that is stated. OutOfMemory says nothing, and
 -- no other one comes.
 abbrev pub RefusesLimit : LimitFields → Resources → Error → Type 0
-RefusesLimit limit set (errors.Limit s l) = (s ≡ set) × (l ≡ limit) × ¬ (IsWithin limit set)
+RefusesLimit limit set (errors.Limit s l) = (s ≡ set) × (l ≡ limit) × ¬ (IsContained limit set)
 RefusesLimit limit set errors.OutOfMemory = ⊤
 RefusesLimit limit set _ = ⊥

@@ -30,7 +30,7 @@ HasStated None held = ⊤
 HasStated (Some stated) held = Includes held stated
 
 -- the set includes all that is stated
-pub record IsWithin (limit : LimitFields) (set : Resources) : Type 0 where
+pub record IsContained (limit : LimitFields) (set : Resources) : Type 0 where
   pub asn : HasStated limit.asn set.asn
   pub ipv4 : HasStated limit.ipv4 set.ipv4
   pub ipv6 : HasStated limit.ipv6 set.ipv6

@@ -5,7 +5,7 @@ ghost use Rattle.rpki_sets.specs.Resources.{Resources};
 ghost use Rattle.rpki_updown.specs.KeyElement.{KeyElementFields};
 ghost use Rattle.rpki_updown.specs.NotPerformedResponse.{NotPerformedFields};
 ghost use Rattle.rpki_updown.specs.PayloadType.{payload_type_of_text, payload_type_text};
-ghost use Rattle.rpki_updown.specs.RequestResourceLimit.{LimitFields, IsWithin, limited_set};
+ghost use Rattle.rpki_updown.specs.RequestResourceLimit.{LimitFields, IsContained, limited_set};
 ghost use Rattle.rpki_updown.specs.declared.payload_type.PayloadType.{PayloadType as Kind};
 
 use crate::key_element::KeyElement;
@@ -23,8 +23,8 @@ pub fn printed_payload_type_is_read()
 
 /// What a limit leaves of a set has all that the limit states, and the limit leaves the same of it again.
 pub fn limited_set_is_kept()
-    ensures within { (limit : LimitFields) (set : Resources) → IsWithin limit set
-        → IsWithin limit (limited_set limit set) }
+    ensures contained { (limit : LimitFields) (set : Resources) → IsContained limit set
+        → IsContained limit (limited_set limit set) }
     ensures same { (limit : LimitFields) (set : Resources)
         → limited_set limit (limited_set limit set) ≡ limited_set limit set }
 {}

@@ -7,7 +7,7 @@ ghost use Rattle.std.specs.Fmt.{WritesOnOk};
 ghost use Rattle.std.specs.Option.{option_map};
 ghost use Rattle.rpki_sets.specs.Kinds.{text_of};
 ghost use Rattle.rpki_updown.specs.Answers.{RefusesLimit};
-ghost use Rattle.rpki_updown.specs.RequestResourceLimit.{no_limit, HasStated, IsWithin, limited, limited_set, are_same, are_same-equiv, limit_text};
+ghost use Rattle.rpki_updown.specs.RequestResourceLimit.{no_limit, HasStated, IsContained, limited, limited_set, are_same, are_same-equiv, limit_text};
 ghost use Rattle.rpki_updown.specs.Writing.{shown_part};
 
 use crate::error::Error;
@@ -99,10 +99,10 @@ impl RequestResourceLimit {
     /// Limit, with equal copies of set and limit, exactly where something is stated that the set does not have.
     pub fn apply_to(&self, alloc: Global, set: &ResourceSet) -> Result<ResourceSet, Error>
         ensures set { IfOk result (λ s. s ≡ limited_set self.now set.now) }
-        ensures held { OnOk result (IsWithin self.now set.now) }
+        ensures contained { OnOk result (IsContained self.now set.now) }
         ensures refused { IfErr result (RefusesLimit self.now set.now) }
     {
-        if !self.is_within(set) {
+        if !self.is_contained(set) {
             return Err(Error::Limit(set.clone(alloc)?, self.clone(alloc)?));
         }
         let asn = limited(alloc, &self.asn, set.asn())?;
@@ -112,8 +112,8 @@ impl RequestResourceLimit {
     }
 
     // Whether the set has all that is stated.
-    fn is_within(&self, set: &ResourceSet) -> bool
-        ensures { IsTrue result ↔ IsWithin self.now set.now }
+    fn is_contained(&self, set: &ResourceSet) -> bool
+        ensures { IsTrue result ↔ IsContained self.now set.now }
     {
         has_stated(&self.asn, set.asn())
             && has_stated(&self.ipv4, set.ipv4())
