@@ -1,6 +1,7 @@
 //! Of the parts of provisioning messages, what no clause shows: that calls that take memory answer, and what is printed. The texts are those of
 //! the crate `rpki` (NLnet Labs).
 
+use rpki_sets::BlocksError;
 use rpki_updown::*;
 use std::alloc::Global;
 use std::test::Fail;

@@ -60,6 +60,7 @@ RefusesPayloadType text _ = ⊥
 -- The answer is Limit, with the set and the limit, exactly where the set does not include all that is stated. OutOfMemory says nothing, and
 -- no other one comes.
 abbrev pub RefusesLimit : LimitFields → Resources → Error → Type 0
-RefusesLimit limit set (errors.Limit s l) = (s ≡ set) × (l ≡ limit) × ¬ (IsContained limit set)
+RefusesLimit limit set (errors.Limit s l) =
+    (s ≡ set) × (l ≡ limit) × ¬ (IsContained limit set)
 RefusesLimit limit set errors.OutOfMemory = ⊤
 RefusesLimit limit set _ = ⊥

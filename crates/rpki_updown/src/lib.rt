@@ -3,6 +3,7 @@
 //! - [`ResourceClassName`] names a resource class; [`PayloadType`] is what kind of message one is.
 //! - [`RevocationRequest`] and [`RevocationResponse`] hold a [`KeyElement`]; [`NotPerformedResponse`] says why nothing was done.
 //! - [`RequestResourceLimit`] is the most that a certificate is asked for: applied to what a client holds, it gives what is certified.
+//! - [`limited_set_is_kept`], [`printed_payload_type_is_read`], [`equal_values_are_the_same`]: what holds of these parts.
 //!
 //! The elements that these parts are written as belong to the messages, and stand with them.
 #![tactic(auto)]
@@ -28,5 +29,5 @@ pub use revocation_request::RevocationRequest;
 pub use revocation_response::RevocationResponse;
 pub use rpki_base::{KeyIdentifier, ValidationError};
 pub use rpki_common::{OutOfMemory, Text};
-pub use rpki_sets::{AsBlocks, BlocksError, Ipv4Blocks, Ipv6Blocks, ResourceSet};
+pub use rpki_sets::{AsBlocks, Ipv4Blocks, Ipv6Blocks, ResourceSet};
 pub use rpki_xml::XmlError;
