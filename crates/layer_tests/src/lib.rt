@@ -12,3 +12,5 @@ mod outside;
 mod printed;
 #[cfg(test)]
 mod setup;
+#[cfg(test)]
+mod updown;

@@ -1,0 +1,9 @@
+-- Said in contracts, and to be believed: all but Writing. KeyElement, NotPerformedResponse, PayloadType and RequestResourceLimit are what the
+-- types of these names hold and print, Answers what calls answer, and Shown what errors print. Means: Writing for the writer of limits.
+pub mod Answers
+pub mod KeyElement
+pub mod NotPerformedResponse
+pub mod PayloadType
+pub mod RequestResourceLimit
+pub mod Shown
+pub mod Writing

@@ -1,0 +1,22 @@
+-- What errors print; nothing is said of the texts of the others.
+use Rattle.std.specs.Prelude.{ℕ, List, ◌++◌, Option, None, Some, codes}
+use Rattle.std.specs.Fmt.{decimal}
+use Rattle.rpki_sets.specs.Resources.{resources_text}
+use Rattle.rpki_xml.specs.declared.error.XmlError.TheVariants as xml
+use Rattle.rpki_updown.specs.declared.error.Error.{Error}
+use Rattle.rpki_updown.specs.declared.error.Error.TheVariants as errors
+use Rattle.rpki_updown.specs.RequestResourceLimit.{limit_text}
+
+abbrev pub shown_error : Error → Option (List ℕ)
+shown_error errors.InvalidVersion = Some (codes "Invalid protocol version, MUST be 1")
+shown_error (errors.XmlError xml.Malformed) = Some (codes "malformed XML")
+shown_error (errors.InvalidPayloadType e) = Some (codes "Invalid payload type: " ++ e.0)
+shown_error errors.InvalidCsrSyntax = Some (codes "Could not decode CSR")
+shown_error errors.CertSyntax = Some (codes "Could not decode certificate")
+shown_error errors.CmsDecode = Some (codes "Could not decode CMS")
+shown_error (errors.Validation e) =
+    Some (codes "CMS is not valid: " ++ (codes "check " ++ (decimal e.check ++ codes " failed")))
+shown_error (errors.Limit set limit) =
+    Some (codes "Limit '" ++ (limit_text limit ++ (codes "' contains resources not held in set '"
+    ++ (resources_text set ++ codes "'"))))
+shown_error _ = None

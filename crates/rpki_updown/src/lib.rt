@@ -1,0 +1,33 @@
+//! The parts of the messages of the provisioning protocol (RFC 6492), and its errors.
+//!
+//! - [`ResourceClassName`] names a resource class; [`PayloadType`] is what kind of message one is.
+//! - [`RevocationRequest`] and [`RevocationResponse`] hold a [`KeyElement`]; [`NotPerformedResponse`] says why nothing was done.
+//! - [`RequestResourceLimit`] is the most that a certificate is asked for: applied to what a client holds, it gives what is certified.
+//! - [`limited_set_is_kept`], [`printed_payload_type_is_read`], [`equal_values_are_the_same`]: what holds of these parts.
+//!
+//! The elements that these parts are written as belong to the messages, and stand with them.
+#![tactic(auto)]
+
+mod error;
+mod key_element;
+mod law;
+mod not_performed_response;
+mod payload_type;
+mod request_resource_limit;
+mod resource_class_name;
+mod revocation_request;
+mod revocation_response;
+
+pub use error::Error;
+pub use key_element::KeyElement;
+pub use law::{equal_values_are_the_same, limited_set_is_kept, printed_payload_type_is_read};
+pub use not_performed_response::NotPerformedResponse;
+pub use payload_type::{PayloadType, PayloadTypeError};
+pub use request_resource_limit::RequestResourceLimit;
+pub use resource_class_name::{ParentResourceClassName, ResourceClassName};
+pub use revocation_request::RevocationRequest;
+pub use revocation_response::RevocationResponse;
+pub use rpki_base::{KeyIdentifier, ValidationError};
+pub use rpki_common::{OutOfMemory, Text};
+pub use rpki_sets::{AsBlocks, Ipv4Blocks, Ipv6Blocks, ResourceSet};
+pub use rpki_xml::XmlError;
