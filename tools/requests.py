@@ -142,31 +142,36 @@ def answered(kind, shown):
     return step(kind, *(shown if shown else [MALFORMED]))
 
 
-def read(label, mode="der", router=False, reads=True, holds=True, strictly=None, **options):
-    """A request of one kind, which is read as one, or isn't; it is never read as one of the other kind, nor as a certificate."""
+def read(label, mode="der", router=False, reads=True, holds=True, strictly=None, goes_on=True, **options):
+    """A request of one kind, which is read as one, or isn't; it is never read as one of the other kind, nor as a certificate. Where
+    it is read and gone on from, that is by a cursor too."""
     o = options_of(router, **options)
     own, other = KINDS[router], KINDS[not router]
     octets, shown = request(o) + NULL, fields(o, router) if reads else None
     strict = shown if mode == "der" or strictly else None
     steps = [answered(own, strict), step(other, MALFORMED), step("certificate", MALFORMED)]
-    steps += [step(f"{own}_holds", *([holds] if strict else [MALFORMED])), answered(f"next_{own}", shown)]
-    yield line(label, mode, octets, *steps, *([step("capture", NULL)] if shown else []))
+    steps.append(step(f"{own}_holds", *([holds] if strict else [MALFORMED])))
+    steps += [answered(f"next_{own}", shown)] if goes_on or not reads else []
+    yield line(label, mode, octets, *steps, *([step("capture", NULL)] if shown and goes_on else []))
 
 
 def attributes_line(label, authority, router, **options):
-    """The attributes by themselves, as those of both kinds, and with something behind them."""
+    """The attributes by themselves, as those of both kinds."""
     o = options_of(**options)
-    octets = attributes(o)
-    yield line(f"{label}-attributes", "both", octets, answered("authority_attributes", authority and authority_attributes(o)),
+    yield line(f"{label}-attributes", "der", attributes(o), answered("authority_attributes", authority and authority_attributes(o)),
         answered("router_attributes", router and purpose_fields(o)))
-    yield line(f"{label}-attributes-behind", "der", octets + NULL, step("authority_attributes", MALFORMED),
-        step("router_attributes", MALFORMED))
 
 
 def both(label, authority=True, router=True, **options):
     """The same said in a request of each kind, and by itself."""
-    yield from read(label, reads=authority, **options)
-    yield from read(f"{label}-router", router=True, reads=router, **options)
+    yield from read(label, reads=authority, goes_on=False, **options)
+    yield from read(f"{label}-router", router=True, reads=router, goes_on=False, **options)
+    yield from attributes_line(label, authority, router, **options)
+
+
+def alone(label, authority=True, router=True, **options):
+    """The same said in a request of an authority, and by itself."""
+    yield from read(label, reads=authority, goes_on=False, **options)
     yield from attributes_line(label, authority, router, **options)
 
 
@@ -179,6 +184,10 @@ def neither(label, **options):
 
 def good_cases():
     yield from both("good")
+    yield from read("gone-on-from")
+    yield from read("gone-on-from-router", router=True)
+    octets = attributes(options_of())
+    yield line("attributes-behind", "both", octets + NULL, step("authority_attributes", MALFORMED), step("router_attributes", MALFORMED))
     yield from read("without-null", algorithm=seq(RSA_SHA256))
     yield from read("key-without-null", spelled_key=seq(seq(RSA), bits(key_bits(1, 0))))
     yield from read("key-with-unused-bits", spelled_key=seq(seq(RSA, NULL), value(3, b"\7" + key_bits(1, 0))))
@@ -331,17 +340,17 @@ def value_cases():
     """What basicConstraints, keyUsage and extKeyUsage hold."""
     _, used, where = ASKED
     held = lambda octets: dict(extensions=[extension(BASIC_CONSTRAINTS, octets, TRUE), used, where])
-    yield from both("constraints-of-nothing", basic=False, **held(seq()))
-    yield from both("constraints-of-false", basic=False, **held(seq(FALSE)))
+    yield from alone("constraints-of-nothing", basic=False, **held(seq()))
+    yield from alone("constraints-of-false", basic=False, **held(seq(FALSE)))
     for label, octets in (("a-null", NULL), ("octets", b"xyz"), ("another-value", seq(FALSE)), ("half-a-value", b"\x30\x05")):
-        yield from both(f"constraints-with-{label}-behind", **held(seq(TRUE) + octets))
+        yield from alone(f"constraints-with-{label}-behind", **held(seq(TRUE) + octets))
     for label, octets in {
             "a-length": seq(TRUE, integer(0)), "length-1": seq(TRUE, integer(1)), "a-length-alone": seq(integer(0)), "a-null": seq(NULL),
             "two-flags": seq(TRUE, TRUE), "flag-01": seq(b"\1\1\1"), "a-long-flag": seq(b"\1\2\xff\xff"), "an-empty-flag": seq(b"\1\0"),
             "a-set": value(0x31, TRUE), "a-flag-alone": TRUE, "no-octets": b"", "an-indefinite-length": indefinite(0x30, TRUE),
             "an-overlong-length": value(0x30, TRUE, overlong), "too-few-octets": b"\x30\3\1\1", "an-end-mark": b"\0\0",
             "something-before": NULL + seq(TRUE)}.items():
-        yield from neither(f"constraints-of-{label}", **held(octets))
+        yield from alone(f"constraints-of-{label}", False, False, **held(octets))
     yield from usage_cases()
     yield from purpose_cases()
 
@@ -349,27 +358,27 @@ def value_cases():
 def usage_cases():
     ca, _, where = ASKED
     held = lambda octets: dict(extensions=[ca, extension(KEY_USAGE, octets, TRUE), where])
-    yield from both("usage-of-an-entity", usage="ee", **held(EE))
-    yield from both("usage-with-a-null-behind", **held(CA + NULL))
-    yield from both("usage-with-octets-behind", usage="ee", **held(EE + b"\xff\xff"))
+    yield from alone("usage-of-an-entity", usage="ee", **held(EE))
+    yield from alone("usage-with-a-null-behind", **held(CA + NULL))
+    yield from alone("usage-with-octets-behind", usage="ee", **held(EE + b"\xff\xff"))
     for digits in (
             "03020006", "03020206", "03020086", "03020186", "03020100", "03020102", "03020104", "03020107", "0303010600", "0303010006", "030100",
             "0300", "03020080", "03020700", "03020640", "030207a0", "03020680", "0303078000", "030205a0", "0304010600", "02020106",
             "04020106", "0381020106", "230403020106", "2380030201060000", "", "03", "0302", "030201", "300403020106"):
-        yield from neither(f"usage-{digits or 'of-nothing'}", **held(bytes.fromhex(digits)))
+        yield from alone(f"usage-{digits or 'of-nothing'}", False, False, **held(bytes.fromhex(digits)))
 
 
 def purpose_cases():
     held = lambda octets: dict(extensions=[*ASKED, extension(EXTENDED_KEY_USAGE, octets)])
-    yield from both("purposes-with-octets-behind", purposes=[BGPSEC_ROUTER], **held(seq(BGPSEC_ROUTER) + b"\xff"))
-    yield from both("router-behind-the-purposes", router=False, purposes=[SERVER], **held(seq(SERVER) + BGPSEC_ROUTER))
+    yield from alone("purposes-with-octets-behind", purposes=[BGPSEC_ROUTER], **held(seq(BGPSEC_ROUTER) + b"\xff"))
+    yield from alone("router-behind-the-purposes", router=False, purposes=[SERVER], **held(seq(SERVER) + BGPSEC_ROUTER))
     for label, octets in {
             "a-null": seq(NULL), "a-null-behind": seq(BGPSEC_ROUTER, NULL), "a-null-before": seq(NULL, BGPSEC_ROUTER),
             "an-empty-identifier": seq(value(6, b"")), "an-open-identifier": seq(BGPSEC_ROUTER, value(6, b"\x2b\x86")),
             "a-constructed-identifier": seq(value(0x26, BGPSEC_ROUTER)), "a-set": value(0x31, BGPSEC_ROUTER), "one-alone": BGPSEC_ROUTER,
             "no-octets": b"", "an-indefinite-length": indefinite(0x30, BGPSEC_ROUTER), "a-sequence": seq(seq(BGPSEC_ROUTER)),
             "an-overlong-identifier": seq(value(6, BGPSEC_ROUTER[2:], overlong))}.items():
-        yield from neither(f"purposes-of-{label}", **held(octets))
+        yield from alone(f"purposes-of-{label}", False, False, **held(octets))
 
 
 # ---- locations
@@ -392,7 +401,7 @@ OTHER_KINDS = {
 
 
 def located(label, descriptions, found):
-    yield from both(label, extensions=[*ASKED[:2], access(*descriptions)], found=found)
+    yield from alone(label, extensions=[*ASKED[:2], access(*descriptions)], found=found)
 
 
 def location_cases():
@@ -463,8 +472,8 @@ def spelled_uri_cases():
 
 def no_description_cases():
     held = lambda octets: dict(extensions=[*ASKED[:2], extension(SUBJECT_INFO_ACCESS, octets)])
-    yield from both("access-with-octets-behind", **held(seq(*DESCRIBED) + b"\xff"))
-    yield from both("access-with-another-behind", **held(seq(*DESCRIBED[:2]) + seq(DESCRIBED[2])), found=(*HERE[:2], None))
+    yield from alone("access-with-octets-behind", **held(seq(*DESCRIBED) + b"\xff"))
+    yield from alone("access-with-another-behind", **held(seq(*DESCRIBED[:2]) + seq(DESCRIBED[2])), found=(*HERE[:2], None))
     for label, octets in {
             "no-octets": b"", "a-null": seq(NULL), "a-null-behind": seq(*DESCRIBED, NULL), "a-set": value(0x31, b"".join(DESCRIBED)),
             "one-description": DESCRIBED[0][2:], "a-set-described": seq(value(0x31, DESCRIBED[0][2:])), "a-method-alone": seq(*DESCRIBED, seq(REPOSITORY)),
@@ -477,7 +486,7 @@ def no_description_cases():
             "an-overlong-name": seq(seq(REPOSITORY, value(0xA4, value(0x30, b"", overlong)))),
             "a-name-of-no-value": seq(seq(REPOSITORY, value(0xA4, b"\x30"))), "an-end-mark": seq(seq(REPOSITORY, b"\0\0")),
             "too-few-octets": seq(*DESCRIBED)[:-1], "segments-of-no-value": seq(seq(REPOSITORY, value(0xA6, HERE[0])))}.items():
-        yield from neither(f"access-of-{label}", **held(octets))
+        yield from alone(f"access-of-{label}", False, False, **held(octets))
 
 
 # ---- BER
@@ -692,7 +701,7 @@ def openssl_cases():
     yield from of_openssl(
         "entity", named((6, 0x13, b"NL"), (10, 12, b"Example"), (3, 12, b"Carol")),
         (False, "ee", joined(SERVER, BGPSEC_ROUTER), b"", b"rsync://localhost/repo/x.mft", b""), rsa=True)
-    yield from of_openssl("on-a-curve", CAROL, None)
+    yield from of_openssl("on-a-curve", CAROL, (b"",), router=True)
     yield from of_openssl("router", ROUTER_NAME, (joined(BGPSEC_ROUTER),), router=True)
     yield from of_openssl("without-purpose", ROUTER_NAME, (b"",), router=True)
     yield from of_openssl("another-purpose", ROUTER_NAME, None, router=True)
