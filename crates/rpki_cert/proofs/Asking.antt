@@ -1,43 +1,41 @@
 -- What is written of an authority's request is read again as that request.
 use Rattle.std.specs.Prelude.{⊤}
-use Rattle.std.proofs.Common.{◌≡◌, ℕ, ◌+◌, ◌≤◌, ◌<◌, Bool, true, false, Option, None, Some, List, [], ◌∷◌, ◌++◌, length, refl, sym, ap, subst, ◌∙◌, arith, length-append}
-use Rattle.std.specs.Prelude.{unwrap_or, bytes_eq, is_none, if◌then◌else◌, filter}
+use Rattle.std.proofs.Common.{◌≡◌, ℕ, ◌+◌, ◌≤◌, ◌<◌, true, false, Option, None, Some, List, [], ◌∷◌, ◌++◌, length, refl, ap, arith, length-append}
+use Rattle.std.specs.Prelude.{unwrap_or, is_none, if◌then◌else◌}
 use Rattle.rpki_common.specs.Chaining.{◌>>=◌}
 use Rattle.rpki_common.specs.Items.{at_most_one, only}
 use Rattle.rpki_der.specs.declared.mode.Mode.{Mode}
 use Rattle.rpki_der.specs.declared.mode.Mode.TheVariants.{Ber, Der}
 use Rattle.rpki_der.specs.Bits.{bit_string}
 use Rattle.rpki_der.specs.Boolean.{boolean}
-use Rattle.rpki_der.specs.Grammar.{within, first, optional, every, done, so, primitive, wrapped}
+use Rattle.rpki_der.specs.Grammar.{first, optional, every, done, so, primitive, wrapped}
 use Rattle.rpki_der.specs.Identifier.{IsTag}
 use Rattle.rpki_der.specs.InDer.{in_der}
 use Rattle.rpki_der.specs.Integer.{integer_is}
 use Rattle.rpki_der.specs.OctetString.{joined, octets_under, octet_string}
 use Rattle.rpki_der.specs.Oid.{oid, oid_is}
 use Rattle.rpki_der.specs.Tags.{sequence, set, context, oid_tag, boolean_tag, integer_tag, bit_string_tag, octet_string_tag}
-use Rattle.rpki_der.specs.Takes.{BeginsAs}
 use Rattle.rpki_der.specs.Value.{Value, Values, End, ◌▸◌}
 use Rattle.rpki_der.specs.Writing.{der_primitive, der_constructed, primitive_value, Spells}
 use Rattle.rpki_der.proofs.Written.{spells_followed, spells_primitive}
 use Rattle.rpki_base.specs.ObjectIdentifiers.{basic_constraints as basic_name}
-use Rattle.rpki_base.specs.Extension.{ExtensionFields, extension, is}
+use Rattle.rpki_base.specs.Extension.{ExtensionFields, extension}
 use Rattle.rpki_base.specs.Name.{name}
 use Rattle.rpki_base.specs.PublicKey.{KeyFields, public_key, spelled_key, CanBeSpelled as KeyCanBeSpelled}
 use Rattle.rpki_base.specs.WritingLaws.{is_sequence, is_oid}
 use Rattle.rpki_text.specs.Uri.{Kind, rsync, https, fault_of}
 use Rattle.rpki_idcert.specs.Making.{name_of_key}
-use Rattle.rpki_idcert.proofs.Pieces.{Piece, begins_as, of_whole, constructed, wrapping, inside_is}
+use Rattle.rpki_idcert.proofs.Pieces.{Piece, of_whole, constructed, wrapping, inside_is}
 use Rattle.rpki_idcert.proofs.ReadAgain.{no_pieces, is_boolean, is_integer, is_octets, is_context_0, IsSaid, an_extension, Pieces, and_pieces, one_piece, key_info_piece, name_is_read}
-use Rattle.rpki_idcert.proofs.Sizes.{primitive_size, constructed_size, content_within}
-use Rattle.rpki_cert.specs.declared.key_usage.KeyUsage.{KeyUsage}
+use Rattle.rpki_idcert.proofs.Sizes.{primitive_size, constructed_size}
 use Rattle.rpki_cert.specs.declared.key_usage.KeyUsage.TheVariants.{Ca}
 use Rattle.rpki_cert.specs.ObjectIdentifiers as names
 use Rattle.rpki_cert.specs.KeyUsage.{key_usage}
 use Rattle.rpki_cert.specs.Access.{AccessFields, Description, access_description, lawful, located, either, first_located, accessed, subject_info_access}
-use Rattle.rpki_cert.specs.Extensions.{authority, authority_in, usage_in, purposes_in, access_in, is_known, RequestedExtensions, requested, extension_list}
+use Rattle.rpki_cert.specs.Extensions.{authority, authority_in, usage_in, access_in, RequestedExtensions, requested, extension_list}
 use Rattle.rpki_cert.specs.CsrAttributes.{extension_request, attributes, of_authority, ca_attributes, CaAttributes}
 use Rattle.rpki_cert.specs.Csr.{RequestFields, request_info}
-use Rattle.rpki_cert.specs.Making.{Places, asked_of, flag, requested_extension, spelled_authority, spelled_usage, spelled_description, spelled_notify, spelled_access, authority_extension, usage_extension, attribute_name, spelled_extensions, spelled_attribute, spelled_version, spelled_info}
+use Rattle.rpki_cert.specs.Making.{Places, asked_of, requested_extension, spelled_authority, spelled_usage, spelled_description, spelled_notify, spelled_access, authority_extension, usage_extension, attribute_name, spelled_extensions, spelled_attribute, spelled_version, spelled_info}
 
 -- ---- tags
 

@@ -27,7 +27,6 @@ use Rattle.rpki_cert.specs.declared.key_usage.KeyUsage.TheVariants.{Ca}
 use Rattle.rpki_cert.specs.ObjectIdentifiers as names
 use Rattle.rpki_cert.specs.Csr.{RequestFields, certification_request}
 use Rattle.rpki_cert.specs.CsrAttributes.{CaAttributes, ca_attributes}
-use Rattle.rpki_cert.specs.Access.{AccessFields}
 
 -- ---- what is asked for
 
