@@ -4,10 +4,11 @@
 
     bench/create.py [MB ..]
 
-A text is the query `list` with that much in front of it: white space (`white`), or one comment (`comment`). `create` reads it all, and
-signs the small text that the query is written as, which is what it hashes; so far no message that it reads is large. OpenSSL takes the
-octets as they are, hashes them all and writes them all. It signs with RSA, under a key and a certificate of its own, which are made in
-a temporary folder with the texts and removed; the program signs with the toy scheme. Printed are, for each shape and size:
+A text is the query `list` with that much in front of it: white space (`white`), or one comment (`comment`); `create` reads it all, and
+signs the small text that the query is written as, which is what it hashes. Or it is a query that changes very many small objects
+(`delta`, as in bench/publication.py), as it is written, so that all of it is hashed. OpenSSL takes the octets as they are, hashes them
+all and writes them all. It signs with RSA, under a key and a certificate of its own, which are made in a temporary folder with the texts
+and removed; the program signs with the toy scheme. Printed are, for each shape and size:
 
 - status, seconds, MB/s, peak MB: the program's exit status, the best of three runs with its start, millions of octets of the text a
   second, and the most memory that it held, in millions of octets;
@@ -23,6 +24,8 @@ import tempfile
 import time
 
 from measuring import PROGRAM, TOP, best_of_three, build_program
+from publication import delta as changes
+from publication import small
 
 sys.path.insert(0, os.path.join(TOP, "tools"))
 import messages  # noqa: E402
@@ -36,6 +39,10 @@ def white(size):
 
 def comment(size):
     return b"<!--" + b"x" * (size - len(messages.QUERY) - 7) + b"-->" + messages.QUERY
+
+
+def delta(size):
+    return changes(small, size)[0]
 
 
 def openssl_words(folder):
@@ -73,7 +80,7 @@ def main():
           f"{'hash s':>7} {'ratio':>6}")
     with tempfile.TemporaryDirectory() as folder:
         signing, path = openssl_words(folder), os.path.join(folder, "text")
-        for shape in (white, comment):
+        for shape in (white, comment, delta):
             for size in sizes:
                 text = shape(size * 2**20)
                 with open(path, "wb") as target:

@@ -17,6 +17,9 @@ it builds none; REVOKED has commas between its numbers, and `-` stands for an em
 Or a line is `NAME created MOMENT KEY FAILING CONTENT MESSAGE`: what `SignedMessage::create` makes with the toy signer of seed 1 under
 the key with this number, `moment`, `key_not_found` or `signer` where it refuses; FAILING lists the signer's calls that fail.
 
+Or a line is `NAME unsigned MOMENT SERIAL CONTENT MESSAGE`: the message with this number of its certificate whose attributes key 1 of seed 1
+signs and whose certificate and CRL key 0 does, where the signatures come from elsewhere; or `moment`.
+
 The toy scheme: a key's bits are its seed and its number, eight octets each, the most significant first. A signature is the SHA-256
 of the key's bits and what is signed behind them. A key identifier is the SHA-1 of the bits.
 """
@@ -633,10 +636,13 @@ def drawn_serial(seed, number):
     return int.from_bytes(octets, "big") & ~(1 << 159)
 
 
-def created(content, moment):
+def numbered(content, moment, serial):
     window = moment - 300, moment + 300
-    return message(
-        content=content, serial=drawn_serial(1, 2), signed_at=moment, validity=window, updates=window, crl_number=moment * 1000)
+    return message(content=content, serial=serial, signed_at=moment, validity=window, updates=window, crl_number=moment * 1000)
+
+
+def created(content, moment):
+    return numbered(content, moment, drawn_serial(1, 2))
 
 
 def created_line(label, content, moment, expected, key="0", failing="-"):
@@ -655,9 +661,27 @@ def created_cases():
         yield created_line(f"failing-{call}", QUERY, NOW, "signer", failing=str(call))
     yield created_line("failing-later", QUERY, NOW, created(QUERY, NOW).hex(), failing=str(CALLS + 1))
     yield created_line("under-no-key", QUERY, NOW, "key_not_found", key="1")
+    # The attributes are signed before the key is asked for, and the key is asked for before the CRL is signed.
+    for call, answer in (1, "signer"), (2, "signer"), (3, "key_not_found"):
+        yield created_line(f"under-no-key-failing-{call}", QUERY, NOW, answer, key="1", failing=str(call))
     for last in (NOW - 301, NOW - 300, NOW + 300, NOW + 301):
         answer = "ok" if abs(last - NOW) <= 300 else "verification-5"
         yield from case(f"created-at-{last}", created(QUERY, NOW), answer, moment=last)
+
+
+def unsigned_line(label, content, moment, serial):
+    has_window = 300 <= moment <= 253402300499
+    expected = numbered(content, moment, serial).hex() if has_window else "moment"
+    return " ".join((f"unsigned-{label}", "unsigned", str(moment), str(serial), content.hex() or "-", expected))
+
+
+def unsigned_cases():
+    for n in (0, *SIZES):
+        yield unsigned_line(f"of-{n}", varied(n), NOW, 1)
+    for moment in (299, 300, 2524607900, 253402300499, 253402300500):
+        yield unsigned_line(f"at-{moment}", QUERY, moment, 7)
+    for serial in (0, 127, 128, 255, 256, LARGEST):
+        yield unsigned_line(f"numbered-{serial}", QUERY, NOW, serial)
 
 
 def agree_elsewhere():
@@ -673,7 +697,7 @@ def main():
         compare(bytes.fromhex(pathlib.Path(sys.argv[1]).read_text()))
         return
     agree_elsewhere()
-    written = [*lines(), *built_cases(), *created_cases()]
+    written = [*lines(), *built_cases(), *created_cases(), *unsigned_cases()]
     names = [line.split(" ")[0] for line in written]
     assert len(names) == len(set(names))
     (CRATE / "data" / "cases.txt").write_text("".join(line + "\n" for line in written))

@@ -12,9 +12,20 @@ A line is `NAME ber OCTETS STEP..`, with the steps of tools/stored.py. What the 
     rewritten                         the signed message as it is written again
     checked,'MOMENT                   ok under key 0 of seed 1
     text                              the message as which the octets read as a text, as it is written
+    query reply                       the query or the reply that this message is, as it is written
+    lent                              its parts: of changes how many they are, whether there is none, and of each its kind, tag, URI, octets
+                                      and digest; of objects `list`, `-`, URI and digest; of errors code, tag, text and what failed, and
+                                      what is printed of all; a `-` stands for what is absent
+    handed                            of changes and objects the same without the first two
+    created,'MOMENT                   the signed message that the toy signer makes of the message, whether it is decoded as that, and as
+                                      which text
     list_query success                these messages as they are written, whatever the octets are
-    made_delta made_twice made_list made_withdrawals made_errors
+    made_delta made_twice made_list made_withdrawals made_errors made_three made_denial made_failure
                                       messages that calls put together, as each call writes them: four times the same
+    created_three,'MOMENT             what `created` says of made_three
+    code,'TEXT                        the code as it is printed, and its words
+    errors                            InvalidVersion, Read, Write, TooLong and OutOfMemory as they are printed
+    copies                            whether copies of the elements of replies are equal
     received,'MOMENT/NUMBER           the message as it is written, received under the key with this number of seed 1
     received_any,'MOMENT/NUMBER..     the same under one of these keys, and its place
     believed,.. signed_believed,..    the place of the key under which the message is believed, and the signed message
@@ -23,7 +34,8 @@ A line is `NAME ber OCTETS STEP..`, with the steps of tools/stored.py. What the 
 import base64
 import hashlib
 
-from messages import BREAKS, CONTENT_A, FIRST, LAST, NOW, QUERY, QUERY_MESSAGE, broken, indefinite, message, overlong, printable, segmented
+from messages import (
+    BREAKS, CONTENT_A, FIRST, LAST, NOW, QUERY, QUERY_MESSAGE, broken, created, indefinite, message, overlong, printable, segmented)
 from stored import DONE, SIZES, step, terms, write
 
 REPLY = b'<msg xmlns="http://www.hactrn.net/uris/rpki/publication-spec/" version="4" type="reply"><success/></msg>'
@@ -93,6 +105,85 @@ def element(name, text=b"", **attributes):
     return start + (b">" + text + b"</" + name + b">" if text else b"/>")
 
 
+def report(code, *parts, **attributes):
+    """An error, with a text and the element of the query that failed."""
+    inside = [element(name, text) for name, text in zip((b"error_text", b"failed_pdu"), parts)]
+    return element(b"report_error", b"".join(inside), error_code=code, **attributes)
+
+
+def laid_out(name, text=b"", depth=1, **attributes):
+    """An element with an attribute a line, in the order of their names, and its text or its elements in lines of their own."""
+    space = b"\n" + b"  " * depth
+    start = space + b"<" + name + b"".join(space + b'    %s="%s"' % (key.encode(), attributes[key]) for key in sorted(attributes))
+    end = space + b"</" + name + b">"
+    return start + (b">" + (text if text.startswith(b"\n") else space + b"  " + text) + end if text else b"/>")
+
+
+def laid_out_root(kind, *elements):
+    """A message with a declaration, and with comments between the elements."""
+    start = b'<?xml version="1.0" encoding="us-ascii"?>\n<!-- a -->\n<msg\n    type="%s"\n    version="4"\n' % kind
+    namespace = b'    xmlns="http://www.hactrn.net/uris/rpki/publication-spec/">\n'
+    return start + namespace + b"\n  <!-- b -->".join((b"  <!-- none or more -->", *elements)) + b"\n</msg>\n<!-- c -->\n"
+
+
+OLD, NEW, MORE = digest(b"an older object"), digest(b"an object"), URI.replace(b"f.cer", b"g.mft")
+OBJECT, WORDS = base64.b64encode(b"an object"), b"There is none &amp; was none."
+
+
+def shaped_queries():
+    """Queries of the kinds that RFC 8181, section 3, shows: label, the elements as they are laid out there, and as they are written."""
+    yield ("publish", [laid_out(b"publish", OBJECT, tag=b"", uri=URI)],
+        [element(b"publish", OBJECT, tag=b"", uri=URI)])
+    yield ("update", [laid_out(b"publish", OBJECT, hash=OLD, tag=b"a", uri=URI)],
+        [element(b"publish", OBJECT, tag=b"a", uri=URI, hash=OLD)])
+    yield ("withdraw", [laid_out(b"withdraw", hash=NEW, tag=b"a", uri=URI)],
+        [element(b"withdraw", tag=b"a", uri=URI, hash=NEW)])
+    yield ("changes",
+        [laid_out(b"publish", OBJECT, tag=b"a", uri=URI), laid_out(b"withdraw", hash=OLD.upper(), tag=b"b", uri=MORE),
+            laid_out(b"publish", OBJECT, uri=MORE)],
+        [element(b"publish", OBJECT, tag=b"a", uri=URI), element(b"withdraw", tag=b"b", uri=MORE, hash=OLD),
+            element(b"publish", OBJECT, tag=b"", uri=MORE)])
+    yield "list", [laid_out(b"list")], [element(b"list")]
+
+
+def shaped_replies():
+    """The same of replies. An error without a text is written with that of its code."""
+    yield "success", [laid_out(b"success")], [element(b"success")]
+    failed = laid_out(b"failed_pdu", laid_out(b"publish", OBJECT, depth=3, hash=OLD, tag=b"a", uri=URI), depth=2)
+    words = laid_out(b"error_text", WORDS, depth=2)
+    yield ("error", [laid_out(b"report_error", words + failed, error_code=b"no_object_present", tag=b"a")],
+        [report(b"no_object_present", WORDS, element(b"publish", OBJECT, tag=b"a", uri=URI, hash=OLD), tag=b"a")])
+    yield ("bare-error", [laid_out(b"report_error", error_code=b"permission_failure", tag=b"a")],
+        [report(b"permission_failure", b"Client does not have permission to update this URI.", tag=b"a")])
+    yield ("errors",
+        [laid_out(b"report_error", error_code=b"other_error", tag=b"a"), laid_out(b"report_error", words, error_code=b"xml_error")],
+        [report(b"other_error", b"Found some other issue.", tag=b"a"), report(b"xml_error", WORDS)])
+    yield ("objects", [laid_out(b"list", hash=OLD, uri=MORE), laid_out(b"list", hash=NEW, uri=URI)],
+        [element(b"list", uri=MORE, hash=OLD), element(b"list", uri=URI, hash=NEW)])
+
+
+def shaped():
+    """Messages as RFC 8181, section 3, lays them out, and as they are written, each with a label."""
+    for kind, shapes in (b"query", shaped_queries()), (b"reply", shaped_replies()):
+        for label, spelled, written in shapes:
+            yield f"{kind.decode()}-of-{label}", laid_out_root(kind, *spelled), root(kind, *written)
+
+
+def mixed():
+    """Elements, each lawful, that make no message together, and the message's kind."""
+    change, listed, success = element(b"publish", uri=URI), element(b"list", uri=URI, hash=digest(b"")), element(b"success")
+    error, query = report(b"other_error", b"a"), element(b"list")
+    yield "a-list-and-a-publish", b"query", (query, change)
+    yield "a-publish-and-a-list", b"query", (change, query)
+    yield "a-success-and-a-list", b"reply", (success, listed)
+    yield "a-list-and-a-success", b"reply", (listed, success)
+    yield "a-success-twice", b"reply", (success, success)
+    yield "an-error-and-a-success", b"reply", (error, success)
+    yield "a-success-and-an-error", b"reply", (success, error)
+    yield "a-list-and-an-error", b"reply", (listed, error)
+    yield "an-error-and-a-list", b"reply", (error, listed)
+
+
 def made_lines():
     """Messages that calls put together, of the octets `abc` and `abcd`."""
     first, second = digest(b"abc"), digest(b"abcd")
@@ -108,6 +199,80 @@ def made_lines():
             ("errors", root(b"reply", error % (b"permission_failure", b"Client does not have permission to update this URI."),
                 error % (b"other_error", b"Found some other issue.")))):
         yield line(f"made-{label}", b"", step(f"made_{label}", text, text, text, text))
+
+
+def three_lines():
+    """Changes of three objects of one octet, put together, created, decoded and taken to pieces."""
+    uris = [b"rsync://localhost/ca/f%d.txt" % number for number in (1, 2, 3)]
+    first, second, third = digest(b"a"), digest(b"b"), digest(b"d")
+    text = root(b"query",
+        element(b"publish", b"YQ==", tag=first, uri=uris[0]), element(b"publish", b"Yg==", tag=second, uri=uris[1], hash=digest(b"c")),
+        element(b"withdraw", tag=third, uri=uris[2], hash=third))
+    held = [b"publish", first, uris[0], b"a", b"update", second, uris[1], b"b", bytes.fromhex(digest(b"c").decode()), b"withdraw", third,
+        uris[2], bytes.fromhex(third.decode())]
+    signed = created(text, NOW)
+    yield line("made-three", text, step("made_three", text, text, text, text), step("created_three", signed, True, text, argument=NOW),
+        step("created", signed, True, text, argument=NOW), step("lent", 3, False, *held), step("handed", *held), step("query", text))
+    yield received("received-three", signed, text)
+
+
+ALL_CODES = (
+    ("xml_error", "Encountered an XML problem."),
+    ("permission_failure", "Client does not have permission to update this URI."),
+    ("bad_cms_signature", "Encountered bad CMS signature."),
+    ("object_already_present", 'An object is already present at this URI, yet a "hash" attribute was not specified.'),
+    ("no_object_present", 'There is no object present at this URI, yet a "hash" attribute was specified.'),
+    ("no_object_matching_hash", 'The "hash" attribute supplied does not match the "hash" attribute of the object at this URI.'),
+    ("consistency_problem", "Server detected an update that looks like it will cause a consistency problem (e.g., an object was "
+        "deleted, but the manifest was not updated)."),
+    ("other_error", "Found some other issue."))
+
+
+def code_lines():
+    """Codes and errors, as they are printed; and errors of which each code is written with its words."""
+    yield line("codes", b"", *[step("code", code, words, argument=code) for code, words in ALL_CODES],
+        *[step("code", "refused", f"Invalid error code: {text}", argument=text) for text in ("foo", "XML_ERROR", "xml_error_")])
+    yield line("errors", b"", step("errors", "Invalid version", "reading failed", "writing failed", "too long", "out of memory"),
+        step("copies", True, True, True))
+    errors = root(b"reply", *(report(code.encode(), words.encode()) for code, words in ALL_CODES))
+    yield line("errors-of-all-codes", root(b"reply", *(element(b"report_error", error_code=code.encode()) for code, _ in ALL_CODES)),
+        step("text", errors))
+    denial = root(b"reply", report(b"permission_failure", b"Client does not have permission to update this URI."))
+    yield line("made-denial", denial, step("made_denial", *[denial] * 4), step("lent", "permission_failure", "-",
+        "Client does not have permission to update this URI.", "-",
+        "error reply including: error code: permission_failure, text: Client does not have permission to update this URI. "))
+    hash_ = digest(b"abcd")
+    withdraw = element(b"withdraw", tag=hash_, uri=URI, hash=hash_)
+    failure = root(b"reply", report(b"no_object_present", b"a &lt; b", withdraw, tag=b"a"))
+    yield line("made-failure", failure, step("made_failure", *[failure] * 4), step("lent", "no_object_present", "a", "a < b", "withdraw",
+        hash_, URI, bytes.fromhex(hash_.decode()), "error reply including: error code: no_object_present, text: a < b "))
+
+
+def part_lines():
+    """What messages are taken to, and the other kind refused."""
+    listed = root(b"reply", *(element(b"list", uri=uri, hash=hash_) for uri, hash_ in ((MORE, OLD), (URI, NEW))))
+    held = ["list", "-", MORE, bytes.fromhex(OLD.decode()), "list", "-", URI, bytes.fromhex(NEW.decode())]
+    yield line("parts-of-objects", listed, step("lent", *held), step("handed", *held), step("reply", listed),
+        step("query", "refused", "was not a query message"))
+    yield line("parts-of-list", QUERY, step("lent", "list"), step("query", QUERY), step("reply", "refused", "was not a reply message"))
+    yield line("parts-of-success", REPLY, step("lent", "success"), step("reply", REPLY), step("query", "refused", "was not a query message"))
+    bare = element(b"publish", uri=URI)
+    empty_tag = element(b"publish", tag=b"", uri=URI)
+    yield line("parts-without-tag", root(b"query", bare), step("lent", 1, False, "publish", "-", URI, b""),
+        step("handed", "publish", "-", URI, b""), step("text", root(b"query", empty_tag)))
+    yield line("parts-of-no-change", root(b"query"), step("lent", 0, True), step("query", root(b"query")))
+    code, words = b"other_error", "error reply including: error code: other_error error code: xml_error "
+    errors = root(b"reply", element(b"report_error", element(b"failed_pdu", element(b"list")), error_code=code),
+        element(b"report_error", error_code=b"xml_error", tag=b"b"))
+    yield line("parts-of-errors", errors, step("lent", "other_error", "-", "-", "list", "xml_error", "b", "-", "-", words))
+    for number, text in enumerate((b"", b"<msg/>")):
+        yield line(f"parts-of-none-{number}", text, *[step(call, *NO_XML) for call in ("lent", "handed", "query", "reply")])
+
+
+def created_lines():
+    for n in SIZES:
+        text = root(b"query", element(b"publish", base64.b64encode(b"c" * n), tag=b"", uri=URI))
+        yield line(f"created-with-content-of-{n}", text, step("created", created(text, NOW), True, text, argument=NOW))
 
 
 def size_lines():
@@ -203,8 +368,8 @@ def lines():
     yield from text_lines()
     yield from received_lines()
     yield from rewritten_lines()
-    yield from made_lines()
-    yield from size_lines()
+    for part in (made_lines, three_lines, code_lines, part_lines, created_lines, size_lines):
+        yield from part()
 
 
 if __name__ == "__main__":

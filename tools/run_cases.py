@@ -37,7 +37,8 @@ import pathlib
 import sys
 
 from certificates import certificate, own_anchor
-from messages import CONTENT_A, NOW, QUERY, built, indefinite, key_bits, own_crl, overlong, segmented, value
+from messages import CONTENT_A, NOW, QUERY, built, created, indefinite, key_bits, message, own_crl, overlong, segmented, value
+from publication import mixed, root, shaped
 from stored import terms
 
 ROOT = pathlib.Path(__file__).resolve().parent.parent
@@ -228,6 +229,21 @@ def create_rows():
         yield f"create-{label}", words, QUERY, USAGE
 
 
+def shape_rows():
+    """Messages that are laid out as those of RFC 8181, section 3, created and received; and elements that make none together."""
+    for label, spelled, written in shaped():
+        yield f"create-{label}", create(), spelled, (0, created(written, NOW).hex().encode())
+        yield f"receive-{label}", receive(), message(content=spelled).hex().encode(), (0, written)
+    for kind in b"query", b"reply":
+        text = b'<msg type="%s"/>' % kind
+        yield f"create-{kind.decode()}-of-nothing", create(), text, (0, created(root(kind), NOW).hex().encode())
+        yield f"receive-{kind.decode()}-of-nothing", receive(), message(content=text).hex().encode(), (0, root(kind))
+    for label, kind, elements in mixed():
+        text = root(kind, *elements)
+        yield f"create-{label}", create(), text, XML_ERROR
+        yield f"receive-{label}", receive(), message(content=text).hex().encode(), XML_ERROR
+
+
 def setup_rows():
     """Words of `setup` that are none, and inputs that are no setup message."""
     for label, words in (("alone", ("setup",)), ("without-moment", ("setup", "child_request")), ("at-no-moment", ("setup", "child_request", "01")),
@@ -252,10 +268,13 @@ def setup_message(root, attributes, child, text, namespace=b"http://www.hactrn.n
 def anchor_rows():
     """Setup messages with a certificate that is valid for 61 seconds, written as servers do, in lines of base64."""
     octets = certificate(own_anchor(NOW, NOW + 60))
-    written, lines = base64.b64encode(octets), base64.encodebytes(octets)
+    written, lines = base64.b64encode(octets), base64.encodebytes(octets).splitlines()
+    commented = b"\n    " + lines[0] + b"<!-- a comment within -->\r\n\t" + b"\n    ".join(lines[1:]) + b"\n"
     for parts in ROOTS:
         kind = parts[0].decode()
-        given, loose = (0, setup_message(*parts, written)), setup_message(*parts, b"\n" + lines, space=b"\n<!-- -->\n  ")
+        given, loose = (0, setup_message(*parts, written)), setup_message(*parts, commented, space=b"\n<!-- -->\n  ")
+        declared = b'<?xml version="1.0"?>\n' + loose.replace(b'" ', b'"\n    ')
+        yield f"{kind}-with-a-declaration", ("setup", kind, MOMENT), declared, given
         for moment in NOW, NOW + 60:
             yield f"{kind}-at-{moment}", ("setup", kind, str(moment)), loose, given
         for moment in NOW - 1, NOW + 61:
@@ -405,9 +424,8 @@ def case(name, words, given, status, written):
 
 
 def rows():
-    for row in (*moment_rows(), *key_rows(), *list_rows(), *word_rows(), *input_rows(), *crl_rows(), *create_rows(), *setup_rows(), *anchor_rows(),
-                *content_rows(),
-                *built_rows()):
+    for row in (*moment_rows(), *key_rows(), *list_rows(), *word_rows(), *input_rows(), *crl_rows(), *create_rows(), *shape_rows(),
+                *setup_rows(), *anchor_rows(), *content_rows(), *built_rows()):
         name, words, given, (status, text) = row
         yield case(name, words, given, status, text + b"\n")
     for name, call, words, answer in (*moments(), *keys(), *commands(), *orders()):

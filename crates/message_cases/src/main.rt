@@ -1,12 +1,13 @@
 //! Decodes and validates stored signed messages, and says how many answers differ from the expected.
 //!
-//! A line of data/cases.txt is `NAME MODE FORMAT SEED MOMENT EXPECTED HEX`, `NAME built MOMENT SEED REVOKED CONTENT MESSAGE`, or
-//! `NAME created MOMENT KEY FAILING CONTENT MESSAGE`; tools/messages.py, which writes the file by the formats and by the toy rules
-//! alone, says what the words are. Of a message that is read, the view is compared too.
+//! A line of data/cases.txt is `NAME MODE FORMAT SEED MOMENT EXPECTED HEX`, `NAME built MOMENT SEED REVOKED CONTENT MESSAGE`,
+//! `NAME created MOMENT KEY FAILING CONTENT MESSAGE`, or `NAME unsigned MOMENT SERIAL CONTENT MESSAGE`; tools/messages.py, which writes
+//! the file by the formats and by the toy rules alone, says what the words are. Of a message that is read, the view is compared too.
 #![tactic(auto)]
 
 mod building;
 mod creating;
+mod unsigned;
 
 use rpki_base::{PublicKey, PublicKeyFormat, Time};
 use rpki_idcert::{ValidationError, ValidationKind};
@@ -185,6 +186,7 @@ impl Cases for Messages {
         match line.split_whitespace().nth(1) {
             Some("built") => building::holds(alloc, line),
             Some("created") => creating::holds(alloc, line),
+            Some("unsigned") => unsigned::holds(alloc, line),
             _ => is_validated(alloc, line),
         }
     }

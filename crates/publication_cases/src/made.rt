@@ -3,33 +3,38 @@
 use bytes::Bytes;
 use rpki_der::DecodeError;
 use rpki_publication::{
-    ErrorReply, ListElement, ListReply, Message, Publish, PublishDelta, ReportError,
-    ReportErrorCode, Update, Withdraw,
+    ErrorReply, ListElement, ListReply, Message, Publish, PublishDelta, PublishDeltaElement,
+    QueryPdu, ReportError, ReportErrorCode, Text, Update, Withdraw,
 };
 use rpki_text::{Base64, Hash, MemorySink, MemorySource, uri};
 use std::alloc::Global;
 use stored_cases::Fields;
 
-fn uri_of(alloc: Global) -> Result<uri::Rsync, DecodeError> {
-    match uri::Rsync::from_str(alloc, "rsync://localhost/ca/f.cer") {
+fn uri_of(alloc: Global, text: &str) -> Result<uri::Rsync, DecodeError> {
+    match uri::Rsync::from_str(alloc, text) {
         Ok(uri) => Ok(uri),
         Err(_) => Err(DecodeError::OutOfMemory),
     }
 }
 
+/// Where the objects of most messages are.
+pub fn place(alloc: Global) -> Result<uri::Rsync, DecodeError> {
+    uri_of(alloc, "rsync://localhost/ca/f.cer")
+}
+
 fn publish(alloc: Global) -> Result<Publish, DecodeError> {
     let content = Base64::from_content(alloc, b"abc")?;
-    Ok(Publish::with_hash_tag(alloc, uri_of(alloc)?, content)?)
+    Ok(Publish::with_hash_tag(alloc, place(alloc)?, content)?)
 }
 
 fn update(alloc: Global) -> Result<Update, DecodeError> {
     let content = Base64::from_content(alloc, b"abcd")?;
     let old_hash = Hash::from_data(b"abc");
-    Ok(Update::with_hash_tag(alloc, uri_of(alloc)?, content, old_hash)?)
+    Ok(Update::with_hash_tag(alloc, place(alloc)?, content, old_hash)?)
 }
 
 fn withdraw(alloc: Global) -> Result<Withdraw, DecodeError> {
-    Ok(Withdraw::with_hash_tag(alloc, uri_of(alloc)?, Hash::from_data(b"abcd"))?)
+    Ok(Withdraw::with_hash_tag(alloc, place(alloc)?, Hash::from_data(b"abcd"))?)
 }
 
 // Whether all three are added, in this order.
@@ -58,7 +63,37 @@ fn delta(alloc: Global) -> Result<PublishDelta, DecodeError> {
     Err(DecodeError::OutOfMemory)
 }
 
-// The same twice, one behind the other.
+fn first_of_three(alloc: Global) -> Result<Publish, DecodeError> {
+    let uri = uri_of(alloc, "rsync://localhost/ca/f1.txt")?;
+    Ok(Publish::with_hash_tag(alloc, uri, Base64::from_content(alloc, b"a")?)?)
+}
+
+fn second_of_three(alloc: Global) -> Result<Update, DecodeError> {
+    let uri = uri_of(alloc, "rsync://localhost/ca/f2.txt")?;
+    let content = Base64::from_content(alloc, b"b")?;
+    Ok(Update::with_hash_tag(alloc, uri, content, Hash::from_data(b"c"))?)
+}
+
+fn third_of_three(alloc: Global) -> Result<Withdraw, DecodeError> {
+    let uri = uri_of(alloc, "rsync://localhost/ca/f3.txt")?;
+    Ok(Withdraw::with_hash_tag(alloc, uri, Hash::from_data(b"d"))?)
+}
+
+/// Changes of three objects of one octet each.
+pub fn three(alloc: Global) -> Result<Message, DecodeError> {
+    let mut delta = PublishDelta::empty(alloc);
+    if is_filled(
+        &mut delta,
+        first_of_three(alloc)?,
+        second_of_three(alloc)?,
+        third_of_three(alloc)?,
+    ) {
+        return Ok(Message::delta(delta));
+    }
+    Err(DecodeError::OutOfMemory)
+}
+
+// The changes of `delta` twice, one behind the other.
 fn twice(alloc: Global) -> Result<PublishDelta, DecodeError> {
     match delta(alloc)?.add(delta(alloc)?) {
         Ok(delta) => Ok(delta),
@@ -69,8 +104,8 @@ fn twice(alloc: Global) -> Result<PublishDelta, DecodeError> {
 // Two objects.
 fn list(alloc: Global) -> Result<ListReply, DecodeError> {
     let mut list = ListReply::empty(alloc);
-    let first = ListElement::new(uri_of(alloc)?, Hash::from_data(b"abc"));
-    let second = ListElement::new(uri_of(alloc)?, Hash::from_data(b"abcd"));
+    let first = ListElement::new(place(alloc)?, Hash::from_data(b"abc"));
+    let second = ListElement::new(place(alloc)?, Hash::from_data(b"abcd"));
     if list.add_element(first).is_ok() && list.add_element(second).is_ok() {
         return Ok(list);
     }
@@ -97,6 +132,31 @@ fn errors(alloc: Global) -> Result<ErrorReply, DecodeError> {
     }
 }
 
+fn reply_of(alloc: Global, error: ReportError) -> Result<ErrorReply, DecodeError> {
+    match ErrorReply::for_error(alloc, error) {
+        Ok(reply) => Ok(reply),
+        Err(_) => Err(DecodeError::OutOfMemory),
+    }
+}
+
+// One error, by its code alone.
+fn denial(alloc: Global) -> Result<ErrorReply, DecodeError> {
+    let error = ReportError::with_code(alloc, ReportErrorCode::PermissionFailure)?;
+    reply_of(alloc, error)
+}
+
+// One error of all its parts.
+fn failure(alloc: Global) -> Result<ErrorReply, DecodeError> {
+    let tag = Text::from_str(alloc, "a")?.into_rc_str();
+    let text = Text::from_str(alloc, "a < b")?.into_rc_str();
+    let failed = QueryPdu::PublishDeltaElement(PublishDeltaElement::Withdraw(withdraw(alloc)?));
+    let code = ReportErrorCode::NoObjectPresent;
+    reply_of(
+        alloc,
+        ReportError::new(code, Some(tag), Some(text), Some(failed)),
+    )
+}
+
 // The message that a step names, if it names one.
 fn message(alloc: Global, call: &str) -> Result<Option<Message>, DecodeError> {
     match call {
@@ -105,6 +165,9 @@ fn message(alloc: Global, call: &str) -> Result<Option<Message>, DecodeError> {
         "made_list" => Ok(Some(Message::list_reply(list(alloc)?))),
         "made_withdrawals" => Ok(Some(Message::delta(withdrawals(alloc)?))),
         "made_errors" => Ok(Some(Message::error(errors(alloc)?))),
+        "made_three" => Ok(Some(three(alloc)?)),
+        "made_denial" => Ok(Some(Message::error(denial(alloc)?))),
+        "made_failure" => Ok(Some(Message::error(failure(alloc)?))),
         _ => Ok(None),
     }
 }

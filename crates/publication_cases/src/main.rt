@@ -5,10 +5,14 @@
 //! file, by the formats and the rules of the toy scheme alone, and says what the calls are.
 #![tactic(auto)]
 
+mod creating;
 mod made;
+mod parts;
+mod printed;
 mod receiving;
 mod signed;
 
+use crate::creating::{created, created_again};
 use crate::receiving::{
     believed, received, received_any, received_any_counted, received_counted, signed_believed,
 };
@@ -66,6 +70,28 @@ fn of_octets(alloc: Global, octets: &[u8], step: &Step<'_>) -> Option<Result<Fie
     }
 }
 
+// What is asked of a text, or of a message that calls put together; None where the step is none of these.
+fn of_text(alloc: Global, octets: &[u8], step: &Step<'_>) -> Option<Result<Fields, DecodeError>> {
+    match step.call {
+        "lent" => Some(parts::lent(alloc, Message::decode_slice(alloc, octets))),
+        "handed" => Some(parts::handed(alloc, Message::decode_slice(alloc, octets))),
+        "query" => Some(parts::query(alloc, Message::decode_slice(alloc, octets))),
+        "reply" => Some(parts::reply(alloc, Message::decode_slice(alloc, octets))),
+        "created" => {
+            let read = Message::decode_slice(alloc, octets);
+            Some(created_again(alloc, read, &step.argument))
+        }
+        "created_three" => match made::three(alloc) {
+            Ok(message) => Some(created(alloc, message, &step.argument)),
+            Err(error) => Some(Err(error)),
+        },
+        "code" => Some(printed::code(alloc, &step.argument)),
+        "errors" => Some(printed::errors(alloc)),
+        "copies" => Some(printed::copies(alloc)),
+        _ => made::answer(alloc, step.call),
+    }
+}
+
 struct Publications;
 
 impl Calls for Publications {
@@ -78,7 +104,7 @@ impl Calls for Publications {
         if let Some(answer) = of_octets(alloc, cursor.here(), step) {
             return Some(answer);
         }
-        if let Some(answer) = made::answer(alloc, step.call) {
+        if let Some(answer) = of_text(alloc, cursor.here(), step) {
             return Some(answer);
         }
         of_keys(alloc, cursor.here(), step)

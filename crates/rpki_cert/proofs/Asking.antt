@@ -1,43 +1,41 @@
 -- What is written of an authority's request is read again as that request.
 use Rattle.std.specs.Prelude.{⊤}
-use Rattle.std.proofs.Common.{◌≡◌, ℕ, ◌+◌, ◌≤◌, ◌<◌, Bool, true, false, Option, None, Some, List, [], ◌∷◌, ◌++◌, length, refl, sym, ap, subst, ◌∙◌, arith, length-append}
-use Rattle.std.specs.Prelude.{unwrap_or, bytes_eq, is_none, if◌then◌else◌, filter}
+use Rattle.std.proofs.Common.{◌≡◌, ℕ, ◌+◌, ◌≤◌, ◌<◌, true, false, Option, None, Some, List, [], ◌∷◌, ◌++◌, length, refl, ap, arith, length-append}
+use Rattle.std.specs.Prelude.{unwrap_or, is_none, if◌then◌else◌}
 use Rattle.rpki_common.specs.Chaining.{◌>>=◌}
 use Rattle.rpki_common.specs.Items.{at_most_one, only}
 use Rattle.rpki_der.specs.declared.mode.Mode.{Mode}
 use Rattle.rpki_der.specs.declared.mode.Mode.TheVariants.{Ber, Der}
 use Rattle.rpki_der.specs.Bits.{bit_string}
 use Rattle.rpki_der.specs.Boolean.{boolean}
-use Rattle.rpki_der.specs.Grammar.{within, first, optional, every, done, so, primitive, wrapped}
+use Rattle.rpki_der.specs.Grammar.{first, optional, every, done, so, primitive, wrapped}
 use Rattle.rpki_der.specs.Identifier.{IsTag}
 use Rattle.rpki_der.specs.InDer.{in_der}
 use Rattle.rpki_der.specs.Integer.{integer_is}
 use Rattle.rpki_der.specs.OctetString.{joined, octets_under, octet_string}
 use Rattle.rpki_der.specs.Oid.{oid, oid_is}
 use Rattle.rpki_der.specs.Tags.{sequence, set, context, oid_tag, boolean_tag, integer_tag, bit_string_tag, octet_string_tag}
-use Rattle.rpki_der.specs.Takes.{BeginsAs}
 use Rattle.rpki_der.specs.Value.{Value, Values, End, ◌▸◌}
 use Rattle.rpki_der.specs.Writing.{der_primitive, der_constructed, primitive_value, Spells}
 use Rattle.rpki_der.proofs.Written.{spells_followed, spells_primitive}
 use Rattle.rpki_base.specs.ObjectIdentifiers.{basic_constraints as basic_name}
-use Rattle.rpki_base.specs.Extension.{ExtensionFields, extension, is}
+use Rattle.rpki_base.specs.Extension.{ExtensionFields, extension}
 use Rattle.rpki_base.specs.Name.{name}
 use Rattle.rpki_base.specs.PublicKey.{KeyFields, public_key, spelled_key, CanBeSpelled as KeyCanBeSpelled}
 use Rattle.rpki_base.specs.WritingLaws.{is_sequence, is_oid}
 use Rattle.rpki_text.specs.Uri.{Kind, rsync, https, fault_of}
 use Rattle.rpki_idcert.specs.Making.{name_of_key}
-use Rattle.rpki_idcert.proofs.Pieces.{Piece, begins_as, of_whole, constructed, wrapping, inside_is}
+use Rattle.rpki_idcert.proofs.Pieces.{Piece, of_whole, constructed, wrapping, inside_is}
 use Rattle.rpki_idcert.proofs.ReadAgain.{no_pieces, is_boolean, is_integer, is_octets, is_context_0, IsSaid, an_extension, Pieces, and_pieces, one_piece, key_info_piece, name_is_read}
-use Rattle.rpki_idcert.proofs.Sizes.{primitive_size, constructed_size, content_within}
-use Rattle.rpki_cert.specs.declared.key_usage.KeyUsage.{KeyUsage}
+use Rattle.rpki_idcert.proofs.Sizes.{primitive_size, constructed_size}
 use Rattle.rpki_cert.specs.declared.key_usage.KeyUsage.TheVariants.{Ca}
 use Rattle.rpki_cert.specs.ObjectIdentifiers as names
 use Rattle.rpki_cert.specs.KeyUsage.{key_usage}
 use Rattle.rpki_cert.specs.Access.{AccessFields, Description, access_description, lawful, located, either, first_located, accessed, subject_info_access}
-use Rattle.rpki_cert.specs.Extensions.{authority, authority_in, usage_in, purposes_in, access_in, is_known, RequestedExtensions, requested, extension_list}
+use Rattle.rpki_cert.specs.Extensions.{authority, authority_in, usage_in, access_in, RequestedExtensions, requested, extension_list}
 use Rattle.rpki_cert.specs.CsrAttributes.{extension_request, attributes, of_authority, ca_attributes, CaAttributes}
 use Rattle.rpki_cert.specs.Csr.{RequestFields, request_info}
-use Rattle.rpki_cert.specs.Making.{Places, asked_of, flag, requested_extension, spelled_authority, spelled_usage, spelled_description, spelled_notify, spelled_access, spelled_extensions, spelled_attribute, spelled_version, spelled_info}
+use Rattle.rpki_cert.specs.Making.{Places, asked_of, requested_extension, spelled_authority, spelled_usage, spelled_description, spelled_notify, spelled_access, authority_extension, usage_extension, attribute_name, spelled_extensions, spelled_attribute, spelled_version, spelled_info}
 
 -- ---- tags
 
@@ -88,7 +86,7 @@ unfolding done ◌>>=◌
 flagged_reads mode identifier value n = rw (n (primitive_value boolean_tag (0 ∷ []) ▸ primitive_value octet_string_tag value ▸ End), false_read mode (primitive_value octet_string_tag value ▸ End), octets_read mode value End) refl
 
 flagged : (mode : Mode) (identifier value : List ℕ) → IsSaid identifier value → Piece mode (extension mode) (requested_extension identifier false value) (record { identifier = identifier; critical = false; value = value })
-unfolding extension
+unfolding extension requested_extension
 flagged mode identifier value s =
     constructed mode sequence _ (extension_in mode) (flagged_values identifier value) _ is_sequence (omega (arith, s.short, flagged_size identifier value)) (flagged_spells mode identifier value s.short) (flagged_reads mode identifier value s.named)
 
@@ -130,12 +128,13 @@ description_size : (method uri : List ℕ) → length (der_primitive oid_tag met
 description_size method uri = omega (arith, length-append (der_primitive oid_tag method) (der_primitive (context 6) uri), primitive_size oid_tag method, primitive_size (context 6) uri)
 
 description_piece : (method uri : List ℕ) → IsMethod method → length uri ≤ 65535 → Piece Der access_description (spelled_description method uri) (described method uri)
-unfolding access_description
+unfolding access_description spelled_description
 description_piece method uri m h =
     constructed Der sequence (der_primitive oid_tag method ++ der_primitive (context 6) uri) _ (primitive_value oid_tag method ▸ primitive_value (context 6) uri ▸ End) (described method uri) is_sequence (omega (arith, m.short, h, description_size method uri))
     (spells_followed Der _ _ _ _ (spells_primitive Der oid_tag method is_oid (omega (arith, m.short))) (spells_primitive Der (context 6) uri is_uri (omega (arith, h)))) (description_reads method uri m.named)
 
 spelled_size : (method uri : List ℕ) → length method ≤ 20 → length uri ≤ 65535 → length (spelled_description method uri) ≤ 66000
+unfolding spelled_description
 spelled_size method uri m h = omega (arith, m, h, description_size method uri, constructed_size sequence (der_primitive oid_tag method ++ der_primitive (context 6) uri))
 
 repository_method : IsMethod names.ca_repository
@@ -252,10 +251,26 @@ extensions_said p =
 whole_access : (p : Places) → AreUris p → length (spelled_access p) ≤ 199000
 whole_access p u = omega (arith, access_size p u, constructed_size sequence (access_parts p))
 
+authority_said : Piece Der (extension Der) authority_extension (record { identifier = basic_name; critical = true; value = spelled_authority })
+unfolding authority_extension requested_extension
+authority_said = an_extension Der basic_name true spelled_authority (record { named = named_basic; short = omega arith })
+
+usage_said : Piece Der (extension Der) usage_extension (record { identifier = names.key_usage; critical = true; value = spelled_usage })
+unfolding usage_extension requested_extension
+usage_said = an_extension Der names.key_usage true spelled_usage (record { named = named_usage; short = omega arith })
+
+authority_size : length authority_extension ≤ 100
+unfolding authority_extension requested_extension
+authority_size = omega arith
+
+usage_size : length usage_extension ≤ 100
+unfolding usage_extension requested_extension
+usage_size = omega arith
+
 extensions_pieces : (p : Places) → AreUris p → Pieces Der (extension Der) (spelled_extensions p) (extensions_said p)
 extensions_pieces p u =
-    and_pieces Der (extension Der) _ _ _ _ (an_extension Der basic_name true spelled_authority (record { named = named_basic; short = omega arith }))
-    (and_pieces Der (extension Der) _ _ _ _ (an_extension Der names.key_usage true spelled_usage (record { named = named_usage; short = omega arith }))
+    and_pieces Der (extension Der) _ _ _ _ authority_said
+    (and_pieces Der (extension Der) _ _ _ _ usage_said
     (one_piece Der (extension Der) _ _ (flagged Der names.subject_info_access (spelled_access p) (record { named = named_access; short = omega (arith, whole_access p u) }))))
 
 abbrev requested_of : Places → RequestedExtensions
@@ -269,13 +284,8 @@ list_reads : (vs : Values) (all : List ExtensionFields) (r : RequestedExtensions
 unfolding ◌>>=◌
 list_reads vs all r e f = rw e f
 
-abbrev first_extension : List ℕ
-first_extension = requested_extension basic_name true spelled_authority
-
-abbrev second_extension : List ℕ
-second_extension = requested_extension names.key_usage true spelled_usage
-
 third_size : (p : Places) → AreUris p → length (requested_extension names.subject_info_access false (spelled_access p)) ≤ 200000
+unfolding requested_extension
 third_size p u =
     omega (
       arith,
@@ -288,9 +298,11 @@ extensions_size : (p : Places) → AreUris p → length (spelled_extensions p) �
 extensions_size p u =
     omega (
       arith,
+      authority_size,
+      usage_size,
       third_size p u,
-      length-append first_extension (second_extension ++ requested_extension names.subject_info_access false (spelled_access p)),
-      length-append second_extension (requested_extension names.subject_info_access false (spelled_access p)),
+      length-append authority_extension (usage_extension ++ requested_extension names.subject_info_access false (spelled_access p)),
+      length-append usage_extension (requested_extension names.subject_info_access false (spelled_access p)),
     )
 
 list_piece : (p : Places) → AreUris p → Piece Der (extension_list Der) (der_constructed sequence (spelled_extensions p)) (requested_of p)
@@ -310,23 +322,31 @@ set_size p u = omega (arith, list_size p u, constructed_size set (der_constructe
 
 -- ---- the attribute
 
+name_spells : Spells Der attribute_name (primitive_value oid_tag names.extension_request ▸ End)
+unfolding attribute_name
+name_spells = spells_primitive Der oid_tag names.extension_request is_oid (omega arith)
+
+name_size : length attribute_name ≤ 20
+unfolding attribute_name
+name_size = omega arith
+
 attribute_reads : (p : Places) (v : Value) → wrapped set (extension_list Der) v ≡ Some (requested_of p)
     → (first (oid_is names.extension_request) (primitive_value oid_tag names.extension_request ▸ v ▸ End) >>= λ kind. first (wrapped set (extension_list Der)) kind.1 >>= λ extensions. done extensions.0 extensions.1) ≡ Some (requested_of p)
 unfolding first oid_is oid so done ◌>>=◌
 attribute_reads p v e = rw e refl
 
 abbrev attribute_parts : Places → List ℕ
-attribute_parts p = der_primitive oid_tag names.extension_request ++ der_constructed set (der_constructed sequence (spelled_extensions p))
+attribute_parts p = attribute_name ++ der_constructed set (der_constructed sequence (spelled_extensions p))
 
 attribute_size : (p : Places) → AreUris p → length (attribute_parts p) ≤ 204000
-attribute_size p u = omega (arith, set_size p u, length-append (der_primitive oid_tag names.extension_request) (der_constructed set (der_constructed sequence (spelled_extensions p))))
+attribute_size p u = omega (arith, name_size, set_size p u, length-append attribute_name (der_constructed set (der_constructed sequence (spelled_extensions p))))
 
 attribute_piece : (p : Places) → AreUris p → Piece Der (extension_request Der) (spelled_attribute p) (requested_of p)
 unfolding extension_request
 attribute_piece p u =
     let q = set_piece p u in
     constructed Der sequence (attribute_parts p) _ (primitive_value oid_tag names.extension_request ▸ q.value ▸ End) (requested_of p) is_sequence (omega (arith, attribute_size p u))
-    (spells_followed Der _ _ _ _ (spells_primitive Der oid_tag names.extension_request is_oid (omega arith)) q.spells) (attribute_reads p q.value q.reads)
+    (spells_followed Der _ _ _ _ name_spells q.spells) (attribute_reads p q.value q.reads)
 
 whole_attribute : (p : Places) → AreUris p → length (spelled_attribute p) ≤ 205000
 whole_attribute p u = omega (arith, attribute_size p u, constructed_size sequence (attribute_parts p))

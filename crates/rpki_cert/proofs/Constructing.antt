@@ -1,12 +1,12 @@
 -- A request that was signed for the signer's key.
 use Rattle.std.proofs.lemmas.Bool.Decides.{nat_tests}
 use Rattle.rpki_common.proofs.Truths.{some_none}
-use Rattle.rpki_text.specs.Uri.{Kind, rsync, fault_of}
+use Rattle.rpki_text.specs.Uri.{Kind, rsync, https, fault_of}
 use Rattle.rpki_text.specs.declared.uri.Error.{Error}
 use Rattle.rpki_text.specs.declared.uri.Error.TheVariants as uri
 use Rattle.rpki_signer.specs.declared.errors.MakeError.{MakeError}
 use Rattle.rpki_signer.specs.declared.errors.MakeError.TheVariants as make
-use Rattle.std.proofs.Common.{Bool, true, false, ◌≡◌, ℕ, ◌+◌, ◌<◌, ◌≤◌, Option, None, Some, Result, Ok, Err, List, [], ◌∷◌, ◌++◌, length, refl, sym, ap, subst, ◌∙◌, arith, length-append}
+use Rattle.std.proofs.Common.{Bool, true, false, ◌≡◌, ℕ, ◌<◌, Option, None, Some, Result, Ok, Err, List, [], ◌++◌, length, refl, sym, ap, subst, ◌∙◌, arith, length-append}
 use Rattle.std.specs.Prelude.{MatchResult, nat_lt, if◌then◌else◌}
 use Rattle.rpki_der.specs.declared.mode.Mode.TheVariants.{Der}
 use Rattle.rpki_der.specs.Tags.{sequence, context}
@@ -17,10 +17,11 @@ use Rattle.rpki_der.specs.Writing.{der_constructed}
 use Rattle.rpki_base.specs.declared.algorithm.SigningAlgorithm.TheVariants.{RsaSha256}
 use Rattle.rpki_base.specs.Bits.{spelled_bits}
 use Rattle.rpki_base.specs.PublicKey.{KeyFields, spelled_key, spelled_parts, CanBeSpelled as KeyCanBeSpelled}
-use Rattle.rpki_base.specs.RpkiSignatureAlgorithm.{x509_algorithm, spelled_x509}
+use Rattle.rpki_base.specs.RpkiSignatureAlgorithm.{RpkiAlgorithm, x509_algorithm, spelled_x509}
 use Rattle.rpki_base.specs.Scheme.{Relation}
-use Rattle.rpki_base.specs.SignedData.{signed_value, spelled_data, CanBeSpelled}
-use Rattle.rpki_signer.specs.Limits.{MakeFails, IsShortKey, default_algorithm}
+use Rattle.rpki_base.specs.Signature.{SignatureParts}
+use Rattle.rpki_base.specs.SignedData.{SignedParts, spelled_data, CanBeSpelled}
+use Rattle.rpki_signer.specs.Limits.{MakeFails, IsShortKey, IsShortSignature, default_algorithm}
 use Rattle.rpki_signer.specs.Signer.{SignerState, Holds, AreDistinct, Stays}
 use Rattle.rpki_signer.proofs.Keyrings.{one_key}
 use Rattle.rpki_signer.proofs.States.{stays_then, stays_keeps, fails_before}
@@ -32,8 +33,8 @@ use Rattle.rpki_cert.specs.declared.construct.CsrError.{CsrError}
 use Rattle.rpki_cert.specs.declared.construct.CsrError.TheVariants as csr
 use Rattle.rpki_cert.specs.Csr.{request_info, certification_request}
 use Rattle.rpki_cert.specs.CsrAttributes.{ca_attributes}
-use Rattle.rpki_cert.specs.Making.{Places, asked_of, spelled_version, spelled_attribute, spelled_info, request_signed, CaRequest, IsRequestMade, IsSignedFor, SigningOnly, ConstructFails, IsKeyFound, slashed, csr_error_of, csr_error_of_uri}
-use Rattle.rpki_cert.proofs.Asking.{IsUri, AreUris, info_piece}
+use Rattle.rpki_cert.specs.Making.{Places, IsLawfulIfThere, AreLawful, asked_of, spelled_version, spelled_attribute, spelled_info, request_signed, CaRequest, IsRequestMade, IsSignedFor, SigningOnly, ConstructFails, IsKeyFound, slashed, csr_error_of, csr_error_of_uri}
+use Rattle.rpki_cert.proofs.Asking.{IsUri, IsUriIfThere, AreUris, info_piece}
 
 abbrev request_of : KeyFields → Places → List ℕ → CaRequest
 request_of key places value = record { signed = request_signed key places value; tbs = asked_of key places }
@@ -89,7 +90,7 @@ request_made scheme id places a b c key octets u d k s =
 
 pub fails_result : {I E : Type 0} (id : I) (repository : List ℕ) (a b c : SignerState I) (e : CsrError E) → Stays a b → Stays b c × SigningOnly id b c e → Stays a c × ConstructFails id repository a c e
 fails_result id repository a b c (csr.Uri x) k s = absurd s.1
-fails_result id repository a b c csr.TooLong k s = (stays_then a b c k s.0, fails_before RsaSha256 id a b c make.TooLong (stays_keeps a b k) s.1)
+fails_result {E = E} id repository a b c csr.TooLong k s = (stays_then a b c k s.0, fails_before {E = E} RsaSha256 id a b c make.TooLong (stays_keeps a b k) s.1)
 fails_result id repository a b c (csr.Signing x) k s = (stays_then a b c k s.0, fails_before RsaSha256 id a b c (make.Signing x) (stays_keeps a b k) s.1)
 fails_result id repository a b c csr.OutOfMemory k s = (stays_then a b c k s.0, tt)
 
@@ -128,3 +129,27 @@ pub is_uri_short : (kind : Kind) (text : List ℕ) → fault_of kind text ≡ No
 is_uri_short kind text e =
     let s : nat_lt 65535 (length text) ≡ false = short_fault (nat_lt 65535 (length text)) _ e in
     (e, grind (arith, nat_tests))
+
+if_there : (uri : Option (List ℕ)) → IsLawfulIfThere uri → IsUriIfThere https uri
+if_there None l = tt
+if_there (Some uri) l = is_uri_short https uri l
+
+pub are_uris : (places : Places) → AreLawful places → AreUris places
+are_uris places l = record { repository = is_uri_short rsync places.ca_repository l.ca_repository; manifest = is_uri_short rsync places.rpki_manifest l.rpki_manifest; notify = if_there places.rpki_notify l.rpki_notify }
+
+-- ---- what was signed
+
+parts_same : (i j : List ℕ) (s : SignatureParts RpkiAlgorithm) (a : RpkiAlgorithm) → i ≡ j → s.algorithm ≡ a → ◌≡◌ {A = SignedParts RpkiAlgorithm} (record { slice = i; signature = s }) (record { slice = j; signature = record { algorithm = a; value = s.value } })
+parts_same i j s a e f = rw (← e) (ap (λ (x : RpkiAlgorithm). record { slice = i; signature = record { algorithm = x; value = s.value } }) f)
+
+pub signed_for : {I : Type 0} (scheme : Relation) (id : I) (key : KeyFields) (places : Places) (a b : SignerState I) (info message captured start out : List ℕ) (signature : SignatureParts RpkiAlgorithm) (signed : SignedParts RpkiAlgorithm)
+    → info ≡ spelled_info key places → message ≡ info → IsShortSignature scheme RsaSha256 id message a b signature.value → signature.algorithm ≡ default_algorithm → signed ≡ record { slice = info; signature = signature }
+    → start ≡ [] → out ≡ start ++ spelled_data spelled_x509 signed → CanBeSpelled spelled_x509 signed → captured ≡ out → IsSignedFor scheme id key places a b captured
+signed_for scheme id key places a b info message captured start out signature signed e f s g h k l m n =
+    let same : signed ≡ request_signed key places signature.value = h ∙ parts_same info (spelled_info key places) signature default_algorithm e g in
+    record {
+      value = signature.value;
+      is = n ∙ l ∙ ap (λ o. o ++ spelled_data spelled_x509 signed) k ∙ ap (λ (d : SignedParts RpkiAlgorithm). spelled_data spelled_x509 d) same;
+      spelled = subst (λ (d : SignedParts RpkiAlgorithm). CanBeSpelled spelled_x509 d) same m;
+      signed = subst (λ o. IsShortSignature scheme RsaSha256 id o a b signature.value) (f ∙ e) s;
+    }

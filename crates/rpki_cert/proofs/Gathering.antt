@@ -11,10 +11,10 @@ use Rattle.rpki_der.specs.Tags.{sequence, context}
 use Rattle.rpki_der.specs.Value.{Value, Values}
 use Rattle.rpki_der.specs.Grammar.{within, wrapped, every, gather, so}
 use Rattle.rpki_der.specs.InDer.{in_der}
-use Rattle.rpki_der.proofs.Leftovers.{gather_every, gather_same, within_then, within_same, wrapped_so, wrapped_same}
+use Rattle.rpki_der.proofs.Leftovers.{gather_every, gather_same, within_then, within_same, wrapped_same}
 use Rattle.rpki_base.specs.ObjectIdentifiers.{basic_constraints as basic_name}
 use Rattle.rpki_base.specs.Extension.{ExtensionFields, extension, gathered, is}
-use Rattle.rpki_text.specs.Uri.{Kind, rsync, https}
+use Rattle.rpki_text.specs.Uri.{rsync, https}
 use Rattle.rpki_cert.specs.declared.key_usage.KeyUsage.{KeyUsage}
 use Rattle.rpki_cert.specs.ObjectIdentifiers as names
 use Rattle.rpki_cert.specs.KeyUsage.{key_usage}

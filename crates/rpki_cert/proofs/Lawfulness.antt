@@ -1,6 +1,6 @@
 -- A lawful URI is a text.
 use Rattle.std.proofs.Common.{◌≡◌, ℕ, ◌<◌, Bool, true, false, Option, None, Some, List, [], ◌∷◌, refl, arith}
-use Rattle.std.specs.Prelude.{bytes_eq, is_none, if◌then◌else◌, not, nat_lt, length}
+use Rattle.std.specs.Prelude.{bytes_eq, is_none, if◌then◌else◌, not}
 use Rattle.std.specs.List.{list_all}
 use Rattle.std.specs.Str.{IsUtf8, IsAscii}
 use Rattle.std.proofs.lemmas.Str.{IsUtf8-from_ascii}
@@ -11,7 +11,7 @@ use Rattle.rpki_text.specs.declared.uri.Error.{Error}
 use Rattle.rpki_text.specs.declared.uri.Error.TheVariants.{TooLong, BadCharacter}
 use Rattle.rpki_common.specs.Chaining.{◌>>=◌}
 use Rattle.rpki_cert.specs.Access.{Description, lawful, located}
-use Rattle.rpki_text.specs.Uri.{Kind, is_uri_octet, fault_of, uri_fault}
+use Rattle.rpki_text.specs.Uri.{Kind, is_uri_octet, fault_of}
 
 octet_low : (o : ℕ) → is_uri_octet o ≡ true → o < 128
 octet_low o h = grind (arith, nat_tests)

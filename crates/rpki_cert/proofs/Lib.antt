@@ -4,3 +4,4 @@ pub mod Lawfulness
 pub mod Lists
 pub mod Asking
 pub mod Constructing
+pub mod Rewriting

@@ -2,7 +2,7 @@
 use Rattle.std.specs.Prelude.{ℕ, bytes_eq, is_none, if◌then◌else◌, Option, None, Some, List, [], ◌∷◌}
 use Rattle.rpki_common.specs.Chaining.{◌>>=◌}
 use Rattle.rpki_der.specs.Tags.{sequence, context}
-use Rattle.rpki_der.specs.Value.{Value, Values}
+use Rattle.rpki_der.specs.Value.{Value}
 use Rattle.rpki_der.specs.Grammar.{within, first, every, done, primitive}
 use Rattle.rpki_der.specs.Oid.{oid}
 use Rattle.rpki_text.specs.Uri.{Kind, rsync, https, fault_of}

@@ -6,7 +6,7 @@ use Rattle.rpki_der.specs.Tags.{sequence, context}
 use Rattle.rpki_der.specs.Value.{Value, spelling}
 use Rattle.rpki_der.specs.Grammar.{within, first, every, done, wrapped}
 use Rattle.rpki_der.specs.Whole.{whole_of}
-use Rattle.rpki_base.specs.Extension.{ExtensionFields, extension}
+use Rattle.rpki_base.specs.Extension.{extension}
 use Rattle.rpki_base.specs.Name.{name}
 use Rattle.rpki_base.specs.PublicKey.{KeyFields, public_key}
 use Rattle.rpki_base.specs.RpkiSignatureAlgorithm.{RpkiAlgorithm, algorithm, x509_algorithm}

@@ -1,5 +1,5 @@
 -- What a key may be used for (RFC 5280, 4.2.1.3; RFC 6487, 4.8.4).
-use Rattle.std.specs.Prelude.{ℕ, ◌==◌, ◌&&◌, bytes_eq, if◌then◌else◌, Option, None, Some, [], ◌∷◌}
+use Rattle.std.specs.Prelude.{◌==◌, ◌&&◌, bytes_eq, if◌then◌else◌, Option, None, Some, [], ◌∷◌}
 use Rattle.rpki_der.specs.Value.{Value}
 use Rattle.rpki_der.specs.Grammar.{so}
 use Rattle.rpki_der.specs.Bits.{BitFields, bit_string}

@@ -12,7 +12,7 @@ use Rattle.rpki_base.specs.PublicKey.{KeyFields, spelled_key}
 use Rattle.rpki_base.specs.RpkiSignatureAlgorithm.{RpkiAlgorithm, x509_algorithm, spelled_x509}
 use Rattle.rpki_base.specs.Scheme.{Relation}
 use Rattle.rpki_base.specs.SignedData.{SignedParts, Signed, spelled_data, CanBeSpelled}
-use Rattle.rpki_text.specs.Uri.{rsync, fault_of, path_of, names_directory, joined}
+use Rattle.rpki_text.specs.Uri.{rsync, https, fault_of, path_of, names_directory, joined}
 use Rattle.rpki_text.specs.declared.uri.Error.{Error}
 use Rattle.rpki_text.specs.declared.uri.Error.TheVariants as uri
 use Rattle.rpki_signer.specs.declared.errors.MakeError.{MakeError}
@@ -27,7 +27,6 @@ use Rattle.rpki_cert.specs.declared.key_usage.KeyUsage.TheVariants.{Ca}
 use Rattle.rpki_cert.specs.ObjectIdentifiers as names
 use Rattle.rpki_cert.specs.Csr.{RequestFields, certification_request}
 use Rattle.rpki_cert.specs.CsrAttributes.{CaAttributes, ca_attributes}
-use Rattle.rpki_cert.specs.Access.{AccessFields}
 
 -- ---- what is asked for
 
@@ -40,6 +39,16 @@ pub record Places : Type 0 where
   pub ca_repository : List ℕ
   pub rpki_manifest : List ℕ
   pub rpki_notify : Option (List ℕ)
+
+-- each is a lawful URI
+abbrev pub IsLawfulIfThere : Option (List ℕ) → Type 0
+IsLawfulIfThere None = ⊤
+IsLawfulIfThere (Some uri) = fault_of https uri ≡ None
+
+pub record AreLawful (places : Places) : Type 0 where
+  pub ca_repository : fault_of rsync places.ca_repository ≡ None
+  pub rpki_manifest : fault_of rsync places.rpki_manifest ≡ None
+  pub rpki_notify : IsLawfulIfThere places.rpki_notify
 
 -- the request of an authority that signs certificates and CRLs
 abbrev pub asked_of : KeyFields → Places → RequestFields CaAttributes
@@ -65,7 +74,7 @@ flag true = 255 ∷ []
 flag false = 0 ∷ []
 
 -- an extension of a request; the flag is written also where it is false
-abbrev pub requested_extension : List ℕ → Bool → List ℕ → List ℕ
+unfoldable pub requested_extension : List ℕ → Bool → List ℕ → List ℕ
 requested_extension identifier critical value =
     der_constructed sequence (der_primitive oid_tag identifier
     ++ (der_primitive boolean_tag (flag critical) ++ der_primitive octet_string_tag value))
@@ -78,7 +87,7 @@ spelled_authority = der_constructed sequence (der_primitive boolean_tag (flag tr
 abbrev pub spelled_usage : List ℕ
 spelled_usage = der_primitive bit_string_tag (1 ∷ 6 ∷ [])
 
-abbrev pub spelled_description : List ℕ → List ℕ → List ℕ
+unfoldable pub spelled_description : List ℕ → List ℕ → List ℕ
 spelled_description method uri =
     der_constructed sequence (der_primitive oid_tag method ++ der_primitive (context 6) uri)
 
@@ -92,14 +101,22 @@ spelled_access places = der_constructed sequence
     ++ (spelled_description names.rpki_manifest places.rpki_manifest
     ++ spelled_notify places.rpki_notify))
 
+unfoldable pub authority_extension : List ℕ
+authority_extension = requested_extension basic_constraints_name true spelled_authority
+
+unfoldable pub usage_extension : List ℕ
+usage_extension = requested_extension names.key_usage true spelled_usage
+
 abbrev pub spelled_extensions : Places → List ℕ
 spelled_extensions places =
-    requested_extension basic_constraints_name true spelled_authority
-    ++ (requested_extension names.key_usage true spelled_usage
+    authority_extension ++ (usage_extension
     ++ requested_extension names.subject_info_access false (spelled_access places))
 
+unfoldable pub attribute_name : List ℕ
+attribute_name = der_primitive oid_tag names.extension_request
+
 abbrev pub spelled_attribute : Places → List ℕ
-spelled_attribute places = der_constructed sequence (der_primitive oid_tag names.extension_request
+spelled_attribute places = der_constructed sequence (attribute_name
     ++ der_constructed set (der_constructed sequence (spelled_extensions places)))
 
 abbrev pub spelled_version : List ℕ

@@ -2,7 +2,8 @@
 
 ghost use Rattle.std.specs.Prelude.{◌≡◌, ◌≢◌, ◌≤◌, ◌++◌, Some, None, length, IfOk, IfErr, IsOk, OnOk, MatchResult};
 ghost use Rattle.std.specs.Option.{option_copied};
-ghost use Rattle.rpki_der.specs.Writing.{der_primitive};
+ghost use Rattle.rpki_der.specs.Tags.{sequence, set};
+ghost use Rattle.rpki_der.specs.Writing.{der_primitive, der_constructed};
 ghost use Rattle.rpki_signer.specs.Signer.{AreDistinct, Stays};
 ghost use Rattle.rpki_signer.specs.declared.errors.MakeError.TheVariants as make;
 ghost use Rattle.rpki_text.specs.Uri.{rsync, fault_of};
@@ -99,6 +100,7 @@ fn write_primitive(tag: Tag, content: &[u8], out: &mut Writer) -> Result<(), Out
 }
 
 // Appends an extension, whose flag is written also where it is false.
+#[tactic(auto, unfolding(crate::specs::Making::requested_extension))]
 fn write_extension(
     identifier: &[u8],
     critical: bool,
@@ -116,7 +118,38 @@ fn write_extension(
     write_constructed(Tag::SEQUENCE, &inner, out)
 }
 
+// Appends basicConstraints: a SEQUENCE of TRUE.
+#[tactic(auto, unfolding(crate::specs::Making::authority_extension))]
+fn write_authority(out: &mut Writer) -> Result<(), OutOfMemory>
+    ensures ok { OnOk result (out.new ≡ out.old ++ spec.authority_extension) }
+{
+    let mut flag = out.inner();
+    flag.primitive(Tag::BOOLEAN, &[0xFF])?;
+    let mut value = out.inner();
+    value.constructed(Tag::SEQUENCE, &flag)?;
+    write_extension(&BASIC_CONSTRAINTS, true, &value, out)
+}
+
+// Appends keyUsage: keyCertSign and cRLSign.
+#[tactic(auto, unfolding(crate::specs::Making::usage_extension))]
+fn write_usage(out: &mut Writer) -> Result<(), OutOfMemory>
+    ensures ok { OnOk result (out.new ≡ out.old ++ spec.usage_extension) }
+{
+    let mut value = out.inner();
+    value.primitive(Tag::BIT_STRING, &[1, 6])?;
+    write_extension(&KEY_USAGE, true, &value, out)
+}
+
+// Appends the name of the attribute.
+#[tactic(auto, unfolding(crate::specs::Making::attribute_name))]
+fn write_attribute_name(out: &mut Writer) -> Result<(), OutOfMemory>
+    ensures ok { OnOk result (out.new ≡ out.old ++ spec.attribute_name) }
+{
+    out.primitive(Tag::OID, &EXTENSION_REQUEST)
+}
+
 // Appends a description of what is accessed and where.
+#[tactic(auto, unfolding(crate::specs::Making::spelled_description))]
 fn write_description(method: &[u8], uri: &str, out: &mut Writer) -> Result<(), OutOfMemory>
     ensures ok { OnOk result (out.new ≡ out.old ++ spec.spelled_description method.now uri.now) }
 {
@@ -128,7 +161,7 @@ fn write_description(method: &[u8], uri: &str, out: &mut Writer) -> Result<(), O
 
 // Appends the description of where changes are notified, if that is said.
 fn write_notify(uri: Option<&Https>, out: &mut Writer) -> Result<(), OutOfMemory>
-    ensures ok { OnOk result (out.new ≡ out.old ++ spec.spelled_notify (option_copied uri)) }
+    ensures ok { OnOk result (out.new ≡ out.old ++ spec.spelled_notify (option_copied uri.entry)) }
 {
     match uri {
         None => Ok(()),
@@ -175,31 +208,44 @@ impl<'a> Places<'a> {
     fn write_extensions(&self, out: &mut Writer) -> Result<(), OutOfMemory>
         ensures ok { OnOk result (out.new ≡ out.old ++ spec.spelled_extensions self.now) }
     {
-        let mut flag = out.inner();
-        flag.primitive(Tag::BOOLEAN, &[0xFF])?;
-        let mut authority = out.inner();
-        authority.constructed(Tag::SEQUENCE, &flag)?;
-        write_extension(&BASIC_CONSTRAINTS, true, &authority, out)?;
-        let mut usage = out.inner();
-        usage.primitive(Tag::BIT_STRING, &[1, 6])?;
-        write_extension(&KEY_USAGE, true, &usage, out)?;
         let mut access = out.inner();
         self.write_access(&mut access)?;
+        write_authority(out)?;
+        write_usage(out)?;
         write_extension(&SUBJECT_INFO_ACCESS, false, &access, out)
+    }
+
+    // Appends the one value of the attribute in a SET.
+    fn write_value(&self, out: &mut Writer) -> Result<(), OutOfMemory>
+        ensures ok { OnOk result (out.new ≡ out.old
+            ++ der_constructed set (der_constructed sequence (spec.spelled_extensions self.now))) }
+    {
+        let mut extensions = out.inner();
+        self.write_extensions(&mut extensions)?;
+        let mut list = out.inner();
+        write_constructed(Tag::SEQUENCE, &extensions, &mut list)?;
+        write_constructed(Tag::SET, &list, out)
     }
 
     // Appends the attribute.
     fn write_attribute(&self, out: &mut Writer) -> Result<(), OutOfMemory>
         ensures ok { OnOk result (out.new ≡ out.old ++ spec.spelled_attribute self.now) }
     {
-        let mut extensions = out.inner();
-        self.write_extensions(&mut extensions)?;
-        let mut list = out.inner();
-        write_constructed(Tag::SEQUENCE, &extensions, &mut list)?;
         let mut inner = out.inner();
-        inner.primitive(Tag::OID, &EXTENSION_REQUEST)?;
-        write_constructed(Tag::SET, &list, &mut inner)?;
+        write_attribute_name(&mut inner)?;
+        self.write_value(&mut inner)?;
         write_constructed(Tag::SEQUENCE, &inner, out)
+    }
+}
+
+// Each of the places is a lawful URI.
+fn are_lawful(places: &Places<'_>)
+    ensures { spec.AreLawful places.now }
+{
+    let _ = places.ca_repository.as_str();
+    let _ = places.rpki_manifest.as_str();
+    if let Some(uri) = places.rpki_notify {
+        let _ = uri.as_str();
     }
 }
 
@@ -261,7 +307,7 @@ pub fn construct_rpki_ca<P: Scheme, S: Signer<P>>(
         (record {
           ca_repository = spec.slashed ca_repository.now;
           rpki_manifest = rpki_manifest.now;
-          rpki_notify = option_copied rpki_notify;
+          rpki_notify = option_copied rpki_notify.entry;
         })
         (S.state signer.old) (S.state signer.new))
         (λ e. Stays (S.state signer.old) (S.state signer.new)
@@ -278,5 +324,6 @@ pub fn construct_rpki_ca<P: Scheme, S: Signer<P>>(
         rpki_manifest,
         rpki_notify,
     };
+    are_lawful(&places);
     sign_request(alloc, signer, key, &public_key, &places)
 }

@@ -15,6 +15,7 @@ mod csr_attributes;
 mod extended_key_usage;
 mod extensions;
 mod key_usage;
+mod law;
 mod object_identifiers;
 
 pub use cert::{Cert, equal_certs_have_the_same_octets};
@@ -23,4 +24,5 @@ pub use csr::{BgpsecCsr, Csr, RpkiCaCsr};
 pub use csr_attributes::{BgpsecCsrAttributes, CsrAttributes, RpkiCaCsrAttributes};
 pub use extended_key_usage::ExtendedKeyUsage;
 pub use key_usage::KeyUsage;
+pub use law::written_requests_are_read;
 pub use object_identifiers::request_identifiers_have_texts;

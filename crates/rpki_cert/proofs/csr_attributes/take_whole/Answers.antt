@@ -1,5 +1,5 @@
 use Rattle.rpki_der.proofs.Reading.{not_ended}
-use Rattle.rpki_der.proofs.Wholes.{whole_ok, whole_more, whole_none, whole_err, takes_fresh, refuses_fresh}
+use Rattle.rpki_der.proofs.Wholes.{whole_more, whole_none, whole_err, takes_fresh, refuses_fresh}
 use Rattle.rpki_cert.specs.CsrAttributes.{attributes}
 use Rattle.rpki_cert.proofs.csr_attributes.take_whole.Goals as goal
 

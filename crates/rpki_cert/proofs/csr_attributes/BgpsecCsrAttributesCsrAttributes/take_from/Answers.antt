@@ -1,6 +1,6 @@
 use Rattle.std.proofs.Common.{sym}
 use Rattle.rpki_der.proofs.Wholes.{whole_err}
-use Rattle.rpki_cert.specs.CsrAttributes.{router_attributes, of_router}
+use Rattle.rpki_cert.specs.CsrAttributes.{router_attributes}
 use Rattle.rpki_cert.proofs.Captured.{whole_some, whole_no, whole_refused}
 use Rattle.rpki_cert.proofs.csr_attributes.BgpsecCsrAttributesCsrAttributes.take_from.Goals as goal
 

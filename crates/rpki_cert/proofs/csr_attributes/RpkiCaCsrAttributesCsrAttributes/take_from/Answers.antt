@@ -1,6 +1,6 @@
 use Rattle.std.proofs.Common.{sym}
 use Rattle.rpki_der.proofs.Wholes.{whole_err}
-use Rattle.rpki_cert.specs.CsrAttributes.{ca_attributes, of_authority}
+use Rattle.rpki_cert.specs.CsrAttributes.{ca_attributes}
 use Rattle.rpki_cert.proofs.Captured.{whole_some, whole_no, whole_refused}
 use Rattle.rpki_cert.proofs.csr_attributes.RpkiCaCsrAttributesCsrAttributes.take_from.Goals as goal
 

@@ -2,7 +2,6 @@ use Rattle.std.proofs.Common.{rules, ◌≡◌, true, false, refl}
 use Rattle.std.specs.Prelude.{bytes_eq}
 use Rattle.rpki_base.specs.ObjectIdentifiers.{basic_constraints as basic_name}
 use Rattle.rpki_cert.specs.ObjectIdentifiers as names
-use Rattle.rpki_cert.specs.Gathered.{FoundSoFar}
 use Rattle.rpki_der.proofs.Insides.{gives_counted_err}
 use Rattle.rpki_der.proofs.Giving.{given_as, lacks_as, given_bind, lacks_bind}
 use Rattle.rpki_cert.proofs.Captured.{lacks_at_once}

@@ -1,0 +1,60 @@
+//! Messages that are created, and read again.
+
+use crate::signed::refused;
+use rpki_base::{PublicKeyFormat, Time};
+use rpki_der::DecodeError;
+use rpki_publication::{Error, Message, PublicationCms};
+use rpki_signer::{Signer, ToyScheme, ToySigner};
+use std::alloc::Global;
+use stored_cases::Fields;
+
+// What the toy signer of seed 1 creates of the message, with its one key, number 0.
+fn created_of(alloc: Global, message: Message, when: Time) -> Result<PublicationCms, DecodeError> {
+    let mut signer = ToySigner::new(alloc, 1, &[])?;
+    let Ok(key) = Signer::<ToyScheme>::create_key(&mut signer, alloc, PublicKeyFormat::Rsa) else {
+        return Err(DecodeError::OutOfMemory);
+    };
+    match PublicationCms::create::<ToyScheme, ToySigner>(alloc, message, when, &key, &mut signer) {
+        Ok(cms) => Ok(cms),
+        Err(_) => Err(DecodeError::Malformed),
+    }
+}
+
+// The octets, whether they are decoded as the message, and as which text.
+fn shown(alloc: Global, cms: &PublicationCms) -> Result<Fields, DecodeError> {
+    let octets = cms.clone(alloc)?.to_bytes(alloc)?;
+    let mut fields = Fields::one(alloc, octets.as_slice())?;
+    match PublicationCms::decode(alloc, octets.as_slice()) {
+        Ok(again) => {
+            fields.octets(&[u8::from(again.message() == cms.message())])?;
+            fields.octets(again.message().text_bytes(alloc)?.as_slice())?;
+            Ok(fields)
+        }
+        Err(error) => refused(alloc, error),
+    }
+}
+
+fn moment_of(argument: &[u8]) -> Option<Time> {
+    Time::new(std::str::from_utf8(argument).ok()?.parse::<i64>().ok()?)
+}
+
+/// The octets of the signed message that is created of this message at the moment of the argument, whether they are decoded as it,
+/// and as which text.
+pub fn created(alloc: Global, message: Message, argument: &[u8]) -> Result<Fields, DecodeError> {
+    let Some(when) = moment_of(argument) else {
+        return Err(DecodeError::Malformed);
+    };
+    shown(alloc, &created_of(alloc, message, when)?)
+}
+
+/// The same of a message that was read.
+pub fn created_again(
+    alloc: Global,
+    read: Result<Message, Error>,
+    argument: &[u8],
+) -> Result<Fields, DecodeError> {
+    match read {
+        Ok(message) => created(alloc, message, argument),
+        Err(error) => refused(alloc, error),
+    }
+}
