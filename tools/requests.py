@@ -34,18 +34,18 @@ import hashlib
 from types import SimpleNamespace
 
 import openssl_requests as openssl
-from certificates import FALSE, TRUE, constraints, extension, key_of, spelled_key
+from certificates import FALSE, TRUE, constraints, extension, spelled_key
 from messages import (
-    ALGORITHM, BASIC_CONSTRAINTS, FIRST, LAST, NULL, RSA, RSA_SHA256, SUBJECT_KEY, bits, indefinite, integer, key_bits, name,
-    octet_string, oid, overlong, seq, sign, time, value)
-from stored import MALFORMED, SIZES, step, terms, write
+    ALGORITHM, BASIC_CONSTRAINTS, NULL, RSA, RSA_SHA256, SUBJECT_KEY, bits, indefinite, integer, key_bits, name,
+    octet_string, oid, overlong, seq, sign, value)
+from resource_certificates import UNKNOWN, answered, certificate_cases, key_fields, line, longer, loose
+from stored import MALFORMED, SIZES, step, write
 from values import EC, P256, ROUTER, attribute, relative
 
 KEY_USAGE, EXTENDED_KEY_USAGE, SUBJECT_INFO_ACCESS = oid("2.5.29.15"), oid("2.5.29.37"), oid("1.3.6.1.5.5.7.1.11")
 EXTENSION_REQUEST, CHALLENGE_PASSWORD = oid("1.2.840.113549.1.9.14"), oid("1.2.840.113549.1.9.7")
 REPOSITORY, MANIFEST, NOTIFY, SIGNED_OBJECT = (oid(f"1.3.6.1.5.5.7.48.{n}") for n in (5, 10, 13, 11))
 BGPSEC_ROUTER, SERVER = oid("1.3.6.1.5.5.7.3.30"), oid("1.3.6.1.5.5.7.3.1")
-UNKNOWN = oid("1.3.6.1.4.1.99999.1")
 CA, EE = bytes.fromhex("03020106"), bytes.fromhex("03020780")
 HERE = b"rsync://localhost/repo/ca/", b"rsync://localhost/repo/ca/ca.mft", b"https://localhost/notify.xml"
 
@@ -99,11 +99,6 @@ def request(o):
     return o.whole(info(o), o.algorithm, o.spelled_bits or bits(signature_of(o)))
 
 
-def key_fields(key):
-    form, octets = key_of(key)
-    return form, octets, hashlib.sha1(octets).digest()
-
-
 def contents(identifier):
     """The contents of a value whose length is one octet."""
     return identifier[2:]
@@ -131,15 +126,7 @@ def fields(o, router=False):
     return o.subject, *key_fields(o.key), *asked, *signed_fields(o)
 
 
-def line(label, mode, octets, *steps):
-    return " ".join([label, mode, terms(octets) or "'", *steps])
-
-
 KINDS = "authority", "router"
-
-
-def answered(kind, shown):
-    return step(kind, *(shown if shown else [MALFORMED]))
 
 
 def read(label, mode="der", router=False, reads=True, holds=True, strictly=None, goes_on=True, **options):
@@ -158,7 +145,8 @@ def read(label, mode="der", router=False, reads=True, holds=True, strictly=None,
 def attributes_line(label, authority, router, **options):
     """The attributes by themselves, as those of both kinds."""
     o = options_of(**options)
-    yield line(f"{label}-attributes", "der", attributes(o), answered("authority_attributes", authority and authority_attributes(o)),
+    yield line(f"{label}-attributes", "der", attributes(o), answered("authority_attributes",
+        authority and authority_attributes(o)),
         answered("router_attributes", router and purpose_fields(o)))
 
 
@@ -187,7 +175,8 @@ def good_cases():
     yield from read("gone-on-from")
     yield from read("gone-on-from-router", router=True)
     octets = attributes(options_of())
-    yield line("attributes-behind", "both", octets + NULL, step("authority_attributes", MALFORMED), step("router_attributes", MALFORMED))
+    yield line("attributes-behind", "both", octets + NULL, step("authority_attributes", MALFORMED),
+        step("router_attributes", MALFORMED))
     yield from read("without-null", algorithm=seq(RSA_SHA256))
     yield from read("key-without-null", spelled_key=seq(seq(RSA), bits(key_bits(1, 0))))
     yield from read("key-with-unused-bits", spelled_key=seq(seq(RSA, NULL), value(3, b"\7" + key_bits(1, 0))))
@@ -211,10 +200,12 @@ def good_cases():
 
 def algorithm_cases():
     for label, algorithm in (
-            ("rsa", seq(RSA, NULL)), ("sha1", seq(oid("1.2.840.113549.1.1.5"), NULL)), ("sha384", seq(oid("1.2.840.113549.1.1.12"), NULL)),
+            ("rsa", seq(RSA, NULL)), ("sha1", seq(oid("1.2.840.113549.1.1.5"), NULL)),
+            ("sha384", seq(oid("1.2.840.113549.1.1.12"), NULL)),
             ("parameters", seq(RSA_SHA256, seq())), ("long-null", seq(RSA_SHA256, value(5, b"\0"))),
             ("two-nulls", seq(RSA_SHA256, NULL, NULL)), ("of-nothing", seq()), ("set", value(0x31, RSA_SHA256 + NULL)),
-            ("identifier-alone", RSA_SHA256), ("router-with-null", seq(ROUTER[2:], NULL)), ("ecdsa-sha384", seq(oid("1.2.840.10045.4.3.3"))),
+            ("identifier-alone", RSA_SHA256), ("router-with-null", seq(ROUTER[2:], NULL)),
+            ("ecdsa-sha384", seq(oid("1.2.840.10045.4.3.3"))),
             ("missing", b"")):
         yield from read(f"algorithm-{label}", reads=False, algorithm=algorithm)
         yield from read(f"algorithm-{label}-router", router=True, reads=False, algorithm=algorithm)
@@ -222,30 +213,37 @@ def algorithm_cases():
 
 def frame_cases():
     pairs = {
-        "version-1": dict(version=integer(1)), "version-2": dict(version=integer(2)), "version-padded": dict(version=b"\2\2\0\0"),
-        "version-minus-1": dict(version=b"\2\1\xff"), "version-empty": dict(version=b"\2\0"), "version-missing": dict(version=b""),
+        "version-1": dict(version=integer(1)), "version-2": dict(version=integer(2)),
+        "version-padded": dict(version=b"\2\2\0\0"),
+        "version-minus-1": dict(version=b"\2\1\xff"), "version-empty": dict(version=b"\2\0"),
+        "version-missing": dict(version=b""),
         "version-tagged": dict(version=value(0xA0, integer(0))), "version-boolean": dict(version=FALSE),
         "subject-missing": dict(subject=b""), "subject-set": dict(subject=value(0x31, b"")),
         "subject-of-one": dict(subject=seq(relative(seq(oid("2.5.4.3"))))),
         "subject-of-three": dict(subject=seq(relative(seq(oid("2.5.4.3"), NULL, NULL)))),
         "subject-without-set": dict(subject=seq(attribute(oid("2.5.4.3"), NULL))),
-        "key-missing": dict(spelled_key=seq()), "key-of-another-kind": dict(spelled_key=seq(seq(oid("1.2.840.10040.4.1"), NULL), bits(b""))),
+        "key-missing": dict(spelled_key=seq()),
+        "key-of-another-kind": dict(spelled_key=seq(seq(oid("1.2.840.10040.4.1"), NULL), bits(b""))),
         "key-on-no-curve": dict(spelled_key=seq(seq(EC), bits(b""))),
         "key-on-another-curve": dict(spelled_key=seq(seq(EC, oid("1.3.132.0.34")), bits(b""))),
         "key-of-octets": dict(spelled_key=seq(seq(RSA, NULL), octet_string(b""))),
         "key-behind": dict(spelled_key=seq(seq(RSA, NULL), bits(b""), NULL)),
         "key-with-8-unused-bits": dict(spelled_key=seq(seq(RSA, NULL), value(3, b"\x08\0"))),
         "key-with-unused-bits-of-none": dict(spelled_key=seq(seq(RSA, NULL), value(3, b"\1"))),
-        "behind-the-info": dict(info=lambda *parts: seq(*parts, NULL)), "info-set": dict(info=lambda *parts: value(0x31, b"".join(parts))),
-        "behind-the-bits": dict(whole=lambda *parts: seq(*parts, NULL)), "whole-set": dict(whole=lambda *parts: value(0x31, b"".join(parts))),
+        "behind-the-info": dict(info=lambda *parts: seq(*parts, NULL)),
+        "info-set": dict(info=lambda *parts: value(0x31, b"".join(parts))),
+        "behind-the-bits": dict(whole=lambda *parts: seq(*parts, NULL)),
+        "whole-set": dict(whole=lambda *parts: value(0x31, b"".join(parts))),
         "bits-missing": dict(whole=lambda *parts: seq(*parts[:2])), "bits-of-octets": dict(spelled_bits=octet_string(b"\0\0")),
         "bits-of-nothing": dict(spelled_bits=value(3, b"")), "bits-8-unused": dict(spelled_bits=value(3, b"\x08\0")),
-        "bits-1-unused-of-none": dict(spelled_bits=value(3, b"\1")), "bits-in-segments": dict(spelled_bits=value(0x23, bits(b"a"))),
+        "bits-1-unused-of-none": dict(spelled_bits=value(3, b"\1")),
+        "bits-in-segments": dict(spelled_bits=value(0x23, bits(b"a"))),
     }
     for label, options in pairs.items():
         yield from read(label, reads=False, **options)
         yield from read(f"{label}-router", router=True, reads=False, **options)
-    for label, octets in (("nothing", b""), ("cut", request(options_of())[:-1]), ("cut-router", request(options_of(router=True))[:-1]),
+    for label, octets in (("nothing", b""), ("cut", request(options_of())[:-1]),
+        ("cut-router", request(options_of(router=True))[:-1]),
             ("null", NULL)):
         yield line(label, "both", octets, *[step(call, MALFORMED) for call in (
             "authority", "router", "certificate", "next_authority", "next_router", "next_certificate", "authority_attributes",
@@ -256,15 +254,18 @@ def attribute_cases():
     asked = seq(EXTENSION_REQUEST, value(0x31, seq(*ASKED)))
     password = seq(CHALLENGE_PASSWORD, value(0x31, value(12, b"a")))
     for label, octets in {
-            "no-attribute": b"", "two-attributes": asked + asked, "another-attribute": password, "another-attribute-behind": asked + password,
-            "another-attribute-before": password + asked, "extensions-under-another-name": seq(CHALLENGE_PASSWORD, value(0x31, seq(*ASKED))),
+            "no-attribute": b"", "two-attributes": asked + asked, "another-attribute": password,
+            "another-attribute-behind": asked + password,
+            "another-attribute-before": password + asked,
+            "extensions-under-another-name": seq(CHALLENGE_PASSWORD, value(0x31, seq(*ASKED))),
             "extensions-under-the-signing-time": seq(oid("1.2.840.113549.1.9.5"), value(0x31, seq(*ASKED))),
             "attribute-of-nothing": seq(), "attribute-without-values": seq(EXTENSION_REQUEST),
             "attribute-of-no-value": seq(EXTENSION_REQUEST, value(0x31, b"")),
             "attribute-of-two-values": seq(EXTENSION_REQUEST, value(0x31, seq(*ASKED) * 2)),
             "attribute-of-two-values-the-second-empty": seq(EXTENSION_REQUEST, value(0x31, seq(*ASKED) + seq())),
             "attribute-behind": seq(EXTENSION_REQUEST, value(0x31, seq(*ASKED)), NULL),
-            "attribute-without-set": seq(EXTENSION_REQUEST, seq(*ASKED)), "attribute-of-a-sequence": seq(EXTENSION_REQUEST, seq(seq(*ASKED))),
+            "attribute-without-set": seq(EXTENSION_REQUEST, seq(*ASKED)),
+            "attribute-of-a-sequence": seq(EXTENSION_REQUEST, seq(seq(*ASKED))),
             "attribute-set": value(0x31, EXTENSION_REQUEST + value(0x31, seq(*ASKED))),
             "extensions-without-sequence": seq(EXTENSION_REQUEST, value(0x31, b"".join(ASKED))),
             "extensions-set": seq(EXTENSION_REQUEST, value(0x31, value(0x31, b"".join(ASKED)))),
@@ -273,8 +274,10 @@ def attribute_cases():
     for label, tagged in {
             "attributes-missing": lambda asked: b"", "attributes-under-1": lambda asked: value(0xA1, asked),
             "attributes-under-3": lambda asked: value(0xA3, asked), "attributes-in-a-set": lambda asked: value(0x31, asked),
-            "attributes-untagged": lambda asked: asked, "attributes-wrapped-twice": lambda asked: value(0xA0, value(0xA0, asked)),
-            "attributes-primitive": lambda asked: value(0x80, asked), "attributes-twice": lambda asked: value(0xA0, asked) * 2}.items():
+            "attributes-untagged": lambda asked: asked,
+            "attributes-wrapped-twice": lambda asked: value(0xA0, value(0xA0, asked)),
+            "attributes-primitive": lambda asked: value(0x80, asked),
+            "attributes-twice": lambda asked: value(0xA0, asked) * 2}.items():
         yield from neither(label, tagged=tagged)
 
 
@@ -291,7 +294,8 @@ def extension_cases():
     yield from both("with-purposes", **with_router)
     yield from both("purposes-alone", authority=False, **{**with_router, "extensions": [purposes(BGPSEC_ROUTER)]})
     yield from both("another-purpose", router=False, extensions=[purposes(SERVER), *ASKED], purposes=[SERVER])
-    yield from both("two-other-purposes", router=False, extensions=[purposes(SERVER, SERVER), *ASKED], purposes=[SERVER, SERVER])
+    yield from both("two-other-purposes", router=False, extensions=[purposes(SERVER, SERVER), *ASKED],
+        purposes=[SERVER, SERVER])
     yield from both("router-last", extensions=[purposes(SERVER, BGPSEC_ROUTER), *ASKED], purposes=[SERVER, BGPSEC_ROUTER])
     yield from both("router-first", extensions=[purposes(BGPSEC_ROUTER, SERVER), *ASKED], purposes=[BGPSEC_ROUTER, SERVER])
     for label, near in (("shorter", "1.3.6.1.5.5.7.3"), ("longer", "1.3.6.1.5.5.7.3.30.1"), ("another", "1.3.6.1.5.5.7.3.31")):
@@ -313,14 +317,17 @@ def flag_cases():
         (EXTENDED_KEY_USAGE, seq(BGPSEC_ROUTER))]
     for label, flag in (("unflagged", b""), ("flagged-false", FALSE), ("flagged-true", TRUE)):
         yield from both(label, extensions=[extension(kind, held, flag) for kind, held in known], purposes=[BGPSEC_ROUTER])
-    for label, flag in (("flagged-01", b"\1\1\1"), ("flagged-twice", TRUE * 2), ("flagged-null", NULL), ("flagged-long", b"\1\2\xff\xff")):
+    for label, flag in (("flagged-01", b"\1\1\1"), ("flagged-twice", TRUE * 2), ("flagged-null", NULL),
+        ("flagged-long", b"\1\2\xff\xff")):
         yield from neither(label, extensions=[extension(kind, held, flag) for kind, held in known])
 
 
 def unknown_cases():
     for label, kind in (
-            ("unknown", UNKNOWN), ("subject-key", SUBJECT_KEY), ("subject-name", oid("2.5.29.17")), ("policies", oid("2.5.29.32")),
-            ("longer-usage", oid("2.5.29.15.1")), ("shorter-usage", oid("2.5.29")), ("of-the-authority", oid("1.3.6.1.5.5.7.1.1"))):
+            ("unknown", UNKNOWN), ("subject-key", SUBJECT_KEY), ("subject-name", oid("2.5.29.17")),
+            ("policies", oid("2.5.29.32")),
+            ("longer-usage", oid("2.5.29.15.1")), ("shorter-usage", oid("2.5.29")),
+            ("of-the-authority", oid("1.3.6.1.5.5.7.1.1"))):
         held = octet_string(bytes(20)) if kind == SUBJECT_KEY else seq()
         yield from neither(f"{label}-extension", extensions=[*ASKED, extension(kind, held)])
         yield from neither(f"{label}-extension-first", extensions=[extension(kind, held, FALSE), *ASKED])
@@ -329,7 +336,8 @@ def unknown_cases():
     yield from neither("unknown-extension-twice", extensions=[*ASKED, extension(UNKNOWN, b""), extension(UNKNOWN, b"")])
     for label, spelled in {
             "without-value": seq(BASIC_CONSTRAINTS, TRUE), "of-bits": seq(BASIC_CONSTRAINTS, bits(seq(TRUE))),
-            "behind": seq(BASIC_CONSTRAINTS, octet_string(seq(TRUE)), NULL), "turned": seq(BASIC_CONSTRAINTS, octet_string(seq(TRUE)), TRUE),
+            "behind": seq(BASIC_CONSTRAINTS, octet_string(seq(TRUE)), NULL),
+            "turned": seq(BASIC_CONSTRAINTS, octet_string(seq(TRUE)), TRUE),
             "set": value(0x31, BASIC_CONSTRAINTS + octet_string(seq(TRUE))), "null": NULL, "empty": seq(),
             "in-segments": seq(BASIC_CONSTRAINTS, value(0x24, octet_string(seq(TRUE)))),
             "bare": seq(BASIC_CONSTRAINTS, seq(TRUE))}.items():
@@ -345,8 +353,10 @@ def value_cases():
     for label, octets in (("a-null", NULL), ("octets", b"xyz"), ("another-value", seq(FALSE)), ("half-a-value", b"\x30\x05")):
         yield from alone(f"constraints-with-{label}-behind", **held(seq(TRUE) + octets))
     for label, octets in {
-            "a-length": seq(TRUE, integer(0)), "length-1": seq(TRUE, integer(1)), "a-length-alone": seq(integer(0)), "a-null": seq(NULL),
-            "two-flags": seq(TRUE, TRUE), "flag-01": seq(b"\1\1\1"), "a-long-flag": seq(b"\1\2\xff\xff"), "an-empty-flag": seq(b"\1\0"),
+            "a-length": seq(TRUE, integer(0)), "length-1": seq(TRUE, integer(1)), "a-length-alone": seq(integer(0)),
+            "a-null": seq(NULL),
+            "two-flags": seq(TRUE, TRUE), "flag-01": seq(b"\1\1\1"), "a-long-flag": seq(b"\1\2\xff\xff"),
+            "an-empty-flag": seq(b"\1\0"),
             "a-set": value(0x31, TRUE), "a-flag-alone": TRUE, "no-octets": b"", "an-indefinite-length": indefinite(0x30, TRUE),
             "an-overlong-length": value(0x30, TRUE, overlong), "too-few-octets": b"\x30\3\1\1", "an-end-mark": b"\0\0",
             "something-before": NULL + seq(TRUE)}.items():
@@ -362,8 +372,10 @@ def usage_cases():
     yield from alone("usage-with-a-null-behind", **held(CA + NULL))
     yield from alone("usage-with-octets-behind", usage="ee", **held(EE + b"\xff\xff"))
     for digits in (
-            "03020006", "03020206", "03020086", "03020186", "03020100", "03020102", "03020104", "03020107", "0303010600", "0303010006", "030100",
-            "0300", "03020080", "03020700", "03020640", "030207a0", "03020680", "0303078000", "030205a0", "0304010600", "02020106",
+            "03020006", "03020206", "03020086", "03020186", "03020100", "03020102", "03020104", "03020107", "0303010600",
+            "0303010006", "030100",
+            "0300", "03020080", "03020700", "03020640", "030207a0", "03020680", "0303078000", "030205a0", "0304010600",
+            "02020106",
             "04020106", "0381020106", "230403020106", "2380030201060000", "", "03", "0302", "030201", "300403020106"):
         yield from alone(f"usage-{digits or 'of-nothing'}", False, False, **held(bytes.fromhex(digits)))
 
@@ -375,7 +387,8 @@ def purpose_cases():
     for label, octets in {
             "a-null": seq(NULL), "a-null-behind": seq(BGPSEC_ROUTER, NULL), "a-null-before": seq(NULL, BGPSEC_ROUTER),
             "an-empty-identifier": seq(value(6, b"")), "an-open-identifier": seq(BGPSEC_ROUTER, value(6, b"\x2b\x86")),
-            "a-constructed-identifier": seq(value(0x26, BGPSEC_ROUTER)), "a-set": value(0x31, BGPSEC_ROUTER), "one-alone": BGPSEC_ROUTER,
+            "a-constructed-identifier": seq(value(0x26, BGPSEC_ROUTER)), "a-set": value(0x31, BGPSEC_ROUTER),
+            "one-alone": BGPSEC_ROUTER,
             "no-octets": b"", "an-indefinite-length": indefinite(0x30, BGPSEC_ROUTER), "a-sequence": seq(seq(BGPSEC_ROUTER)),
             "an-overlong-identifier": seq(value(6, BGPSEC_ROUTER[2:], overlong))}.items():
         yield from alone(f"purposes-of-{label}", False, False, **held(octets))
@@ -385,23 +398,30 @@ def purpose_cases():
 
 AWAY = b"rsync://example.net/module/other/", b"rsync://example.net/module/other.mft", b"https://example.net/other.xml"
 BAD_RSYNC = {
-    "another-scheme": b"https://localhost/repo/ca/", "no-scheme": b"localhost/repo/ca/", "one-slash": b"rsync:/localhost/repo/", "no-module":
-    b"rsync://localhost/", "module-without-slash": b"rsync://localhost/repo", "no-host": b"rsync:///repo/", "empty-module":
-    b"rsync://localhost//", "dots": b"rsync://localhost/repo/../x", "dot": b"rsync://localhost/repo/.", "dot-module": b"rsync://localhost/./x",
-    "space": b"rsync://localhost/repo/a b", "quote": b'rsync://localhost/repo/"', "percent-like": b"rsync://localhost/repo/^", "zero":
-    b"rsync://localhost/repo/\0", "utf-8": "rsync://localhost/repo/\u00e9".encode(), "latin-1": b"rsync://localhost/repo/\xe9", "delete":
-    b"rsync://localhost/repo/\x7f", "empty": b"", "scheme-alone": b"rsync://", "space-before": b" rsync://localhost/repo/"}
+    "another-scheme": b"https://localhost/repo/ca/", "no-scheme": b"localhost/repo/ca/", "one-slash": b"rsync:/localhost/repo/",
+    "no-module": b"rsync://localhost/", "module-without-slash": b"rsync://localhost/repo", "no-host": b"rsync:///repo/",
+    "empty-module": b"rsync://localhost//", "dots": b"rsync://localhost/repo/../x", "dot": b"rsync://localhost/repo/.",
+    "dot-module": b"rsync://localhost/./x", "space": b"rsync://localhost/repo/a b", "quote": b'rsync://localhost/repo/"',
+    "caret": b"rsync://localhost/repo/^", "zero": b"rsync://localhost/repo/\0",
+    "utf-8": "rsync://localhost/repo/\u00e9".encode(), "latin-1": b"rsync://localhost/repo/\xe9",
+    "delete": b"rsync://localhost/repo/\x7f", "empty": b"", "scheme-alone": b"rsync://",
+    "space-before": b" rsync://localhost/repo/"}
 BAD_HTTPS = {
-    "another-scheme": b"rsync://localhost/repo/ca/", "http": b"http://localhost/notify.xml", "no-host": b"https:///notify.xml", "scheme-alone":
-    b"https://", "dots": b"https://localhost/../x", "dot": b"https://localhost/a/./x", "space": b"https://localhost/a b", "utf-8":
-    "https://localhost/\u00e9".encode(), "empty": b""}
+    "another-scheme": b"rsync://localhost/repo/ca/", "http": b"http://localhost/notify.xml", "no-host": b"https:///notify.xml",
+    "scheme-alone": b"https://", "dots": b"https://localhost/../x", "dot": b"https://localhost/a/./x",
+    "space": b"https://localhost/a b", "utf-8": "https://localhost/\u00e9".encode(), "empty": b""}
 OTHER_KINDS = {
-    "mail": (0x81, b"%s"), "dns": (0x82, b"%s"), "scheme-85": (0x85, b"%s"), "address": (0x87, b"%s"), "registered": (0x88, b"%s"),
-    "context-6-of-two-octets": (None, b""), "ia5": (0x16, b"%s"), "utf-8": (0x0C, b"%s"), "application": (0x46, b"%s"), "private": (0xC6, b"%s")}
+    "mail": 0x81, "dns": 0x82, "scheme-85": 0x85, "address": 0x87, "registered": 0x88,
+    "context-6-of-two-octets": None, "ia5": 0x16, "utf-8": 0x0C, "application": 0x46, "private": 0xC6}
 
 
 def located(label, descriptions, found):
     yield from alone(label, extensions=[*ASKED[:2], access(*descriptions)], found=found)
+
+
+def deep(levels):
+    """A name in that many values round it."""
+    return value(0xA0, deep(levels - 1)) if levels else seq()
 
 
 def location_cases():
@@ -421,13 +441,14 @@ def location_cases():
             yield from located(f"{label}-{kind}-first", [description(method, location), *DESCRIBED], HERE)
             yield from located(f"{label}-{kind}-last", [*others, own, description(method, location)], HERE)
             yield from located(f"{label}-{kind}-alone", [*others, description(method, location)], without)
-        for kind, (tag, _) in OTHER_KINDS.items():
-            other = seq(method, b"\x9f\x06" + bytes([len(AWAY[at])]) + AWAY[at]) if tag is None else description(method, AWAY[at], tag)
+        for kind, tag in OTHER_KINDS.items():
+            other = description(method, AWAY[at], tag) if tag else seq(method, b"\x9f\x06" + value(0, AWAY[at])[1:])
             yield from located(f"{label}-of-{kind}-first", [other, *DESCRIBED], HERE)
             yield from located(f"{label}-of-{kind}-alone", [*others, other], without)
         yield from located(f"{label}-in-segments", [seq(method, value(0xA6, value(0x16, AWAY[at]))), *DESCRIBED], HERE)
         yield from located(f"{label}-in-empty-segments", [seq(method, value(0xA6, b"")), *others], without)
         yield from located(f"{label}-of-a-name", [seq(method, value(0xA4, name(1, 0))), *DESCRIBED], HERE)
+        yield from located(f"{label}-of-a-deep-name", [seq(method, deep(300)), *DESCRIBED], HERE)
         yield from located(f"{label}-of-null", [seq(method, NULL), *DESCRIBED], HERE)
     yield from constructed_uri_cases()
     yield from method_cases()
@@ -451,16 +472,20 @@ def method_cases():
         yield from located(f"method-{label}-alone", [description(method, location) for location in AWAY], (None,) * 3)
         yield from located(f"method-{label}-of-null", [seq(method, NULL), *DESCRIBED], HERE)
     one = HERE[0]
-    yield from located("one-location", [description(method, one) for method in (REPOSITORY, MANIFEST, NOTIFY)], (one, one, None))
-    yield from located("exchanged", [description(NOTIFY, HERE[0]), description(REPOSITORY, HERE[2]), description(MANIFEST, HERE[1])],
+    yield from located("one-location", [description(method, one) for method in (REPOSITORY, MANIFEST, NOTIFY)],
+        (one, one, None))
+    yield from located("exchanged", [description(NOTIFY, HERE[0]), description(REPOSITORY, HERE[2]),
+        description(MANIFEST, HERE[1])],
         (None, HERE[1], None))
 
 
 def spelled_uri_cases():
     """URIs are kept as they are written."""
     for label, uri in (
-            ("module", b"rsync://localhost/repo/"), ("upper-case", b"RSYNC://LocalHost/Repo/X"), ("mixed-case", b"rSyNc://h/m/"),
-            ("port", b"rsync://localhost:8873/repo/x"), ("marks", b"rsync://h/m/!#$%&'()*+,-;=?@[]_~"), ("slashes", b"rsync://h/m//a//"),
+            ("module", b"rsync://localhost/repo/"), ("upper-case", b"RSYNC://LocalHost/Repo/X"),
+            ("mixed-case", b"rSyNc://h/m/"),
+            ("port", b"rsync://localhost:8873/repo/x"), ("marks", b"rsync://h/m/!#$%&'()*+,-;=?@[]_~"),
+            ("slashes", b"rsync://h/m//a//"),
             ("near-dots", b"rsync://h/m/.../..a/a../.a")):
         yield from located(f"uri-{label}", [description(REPOSITORY, uri), description(MANIFEST, uri)], (uri, uri, None))
     for label, uri in (
@@ -475,9 +500,12 @@ def no_description_cases():
     yield from alone("access-with-octets-behind", **held(seq(*DESCRIBED) + b"\xff"))
     yield from alone("access-with-another-behind", **held(seq(*DESCRIBED[:2]) + seq(DESCRIBED[2])), found=(*HERE[:2], None))
     for label, octets in {
-            "no-octets": b"", "a-null": seq(NULL), "a-null-behind": seq(*DESCRIBED, NULL), "a-set": value(0x31, b"".join(DESCRIBED)),
-            "one-description": DESCRIBED[0][2:], "a-set-described": seq(value(0x31, DESCRIBED[0][2:])), "a-method-alone": seq(*DESCRIBED, seq(REPOSITORY)),
-            "two-locations": seq(seq(REPOSITORY, value(0x86, HERE[0]), value(0x86, HERE[0]))), "an-empty-description": seq(*DESCRIBED, seq()),
+            "no-octets": b"", "a-null": seq(NULL), "a-null-behind": seq(*DESCRIBED, NULL),
+            "a-set": value(0x31, b"".join(DESCRIBED)),
+            "one-description": DESCRIBED[0][2:], "a-set-described": seq(value(0x31, DESCRIBED[0][2:])),
+            "a-method-alone": seq(*DESCRIBED, seq(REPOSITORY)),
+            "two-locations": seq(seq(REPOSITORY, value(0x86, HERE[0]), value(0x86, HERE[0]))),
+            "an-empty-description": seq(*DESCRIBED, seq()),
             "no-method": seq(seq(value(0x86, HERE[0]))), "turned": seq(seq(value(0x86, HERE[0]), REPOSITORY)),
             "an-indefinite-length": indefinite(0x30, b"".join(DESCRIBED)),
             "an-indefinite-description": seq(indefinite(0x30, REPOSITORY + value(0x86, HERE[0]))),
@@ -492,25 +520,19 @@ def no_description_cases():
 # ---- BER
 
 
-def loose(*parts):
-    return indefinite(0x30, b"".join(parts))
-
-
-def longer(*parts):
-    return value(0x30, b"".join(parts), overlong)
-
-
 def ber_cases():
     """Requests are in DER; the calls that go on from a cursor follow its mode, but for what extensions hold."""
     segments = lambda octets: indefinite(0x24, octet_string(octets[:3]) + octet_string(octets[3:]))
     spelled = lambda spell: [extension(BASIC_CONSTRAINTS, seq(TRUE), string=spell), *ASKED[1:]]
     for label, options in {
-            "indefinite": dict(whole=loose), "overlong": dict(whole=longer), "indefinite-info": dict(info=loose), "overlong-info": dict(info=longer),
+            "indefinite": dict(whole=loose), "overlong": dict(whole=longer), "indefinite-info": dict(info=loose),
+            "overlong-info": dict(info=longer),
             "indefinite-subject": dict(subject=loose()), "overlong-subject": dict(subject=value(0x30, b"", overlong)),
             "overlong-version": dict(version=value(2, b"\0", overlong)),
             "indefinite-attributes": dict(tagged=lambda asked: indefinite(0xA0, asked)),
             "indefinite-attribute": dict(attribute=loose(EXTENSION_REQUEST, indefinite(0x31, loose(*ASKED)))),
-            "segments": dict(extensions=spelled(segments)), "overlong-value": dict(extensions=spelled(lambda x: value(4, x, overlong))),
+            "segments": dict(extensions=spelled(segments)),
+            "overlong-value": dict(extensions=spelled(lambda x: value(4, x, overlong))),
             "loosely-flagged": dict(extensions=[extension(BASIC_CONSTRAINTS, seq(TRUE), b"\1\1\1"), *ASKED[1:]]),
             "overlong-bits": dict(spelled_bits=None)}.items():
         for router in (False, True):
@@ -546,10 +568,12 @@ def size_cases():
         part = b"a" * n
         yield from read(f"subject-of-{n}", subject=seq(relative(attribute(oid("2.5.4.3"), value(12, part)))))
         yield from read(f"subject-of-{n}-names", subject=seq(*[relative(attribute(oid("2.5.4.3"), NULL))] * n))
-        yield from read(f"key-of-{n}", key=("rsa", part), signature=hashlib.sha256(part + info(options_of(key=("rsa", part)))).digest())
+        yield from read(f"key-of-{n}", key=("rsa",
+            part), signature=hashlib.sha256(part + info(options_of(key=("rsa", part)))).digest())
         yield from read(f"signature-of-{n}", signature=part, holds=False)
         yield from read(f"signature-of-{n}-router", router=True, signature=part, holds=False)
-        yield from read(f"extension-of-{n}", extensions=[*ASKED[:1], extension(KEY_USAGE, CA.ljust(n, b"\xff"), TRUE), ASKED[2]])
+        yield from read(f"extension-of-{n}", extensions=[*ASKED[:1], extension(KEY_USAGE, CA.ljust(n, b"\xff"), TRUE),
+            ASKED[2]])
         many = [SERVER] * (n - 1) + [BGPSEC_ROUTER]
         yield from read(f"{n}-purposes", router=True, extensions=[purposes(*many)], purposes=many)
         yield from read(f"{n}-descriptions", extensions=[*ASKED[:2], access(*[seq(REPOSITORY, NULL)] * n, *DESCRIBED)])
@@ -562,115 +586,6 @@ def long_uri_cases(n):
     found = (rsync, rsync, https) if n <= 65535 else HERE
     longs = [description(REPOSITORY, rsync), description(MANIFEST, rsync), description(NOTIFY, https)]
     yield from read(f"locations-of-{n}", extensions=[*ASKED[:2], access(*longs, *DESCRIBED)], found=found)
-
-
-# ---- certificates
-
-# What a certificate is made of.
-CERTIFICATE = dict(
-    version=value(0xA0, integer(2)), serial=integer(1), inner=ALGORITHM, issuer=name(1, 0), validity=seq(time(FIRST), time(LAST)),
-    subject=name(1, 1), key=1, spelled_key=None, extensions=(), tagged=lambda xs: value(0xA3, seq(*xs)), outer=ALGORITHM, spelled_bits=bits(b"\0"),
-    behind=b"", tbs=seq, whole=seq)
-
-
-def certificate_of(**options):
-    o = SimpleNamespace(**{**CERTIFICATE, **options})
-    tbs = o.tbs(o.version, o.serial, o.inner, o.issuer, o.validity, o.subject, o.spelled_key or spelled_key(o.key),
-        o.tagged(o.extensions), o.behind)
-    return o.whole(tbs, o.outer, o.spelled_bits)
-
-
-def certificate_fields(octets, key):
-    return *key_fields(key), octets, base64.b64encode(octets)
-
-
-def certified(label, mode="der", reads=True, key=1, **options):
-    octets = certificate_of(key=key, **options)
-    shown = certificate_fields(octets, key) if reads else None
-    strict = shown if mode == "der" else None
-    yield line(f"certificate-{label}", mode, octets + NULL, answered("certificate", strict), step("authority", MALFORMED),
-        step("router", MALFORMED), answered("next_certificate", shown), *([step("capture", NULL)] if shown else []))
-
-
-def certificate_cases():
-    yield from certified("good")
-    unread = [extension(UNKNOWN, b"\0\xff", TRUE), extension(UNKNOWN, b"", FALSE), *ASKED, *ASKED, extension(BASIC_CONSTRAINTS, b"x"),
-        extension(SUBJECT_KEY, b""), extension(KEY_USAGE, indefinite(0x30, b""))]
-    yield from certified("with-extensions", extensions=ASKED)
-    yield from certified("with-unread-extensions", extensions=unread)
-    for label, options in {
-            "on-a-curve": dict(key=("ec", bytes(range(65)))), "of-no-bits": dict(key=("rsa", b"")),
-            "key-without-null": dict(spelled_key=seq(seq(RSA), bits(key_bits(1, 1)))),
-            "key-with-unused-bits": dict(spelled_key=seq(seq(RSA, NULL), value(3, b"\7" + key_bits(1, 1)))),
-            "inner-without-null": dict(inner=seq(RSA_SHA256)), "outer-without-null": dict(outer=seq(RSA_SHA256)),
-            "unused-bits": dict(spelled_bits=value(3, b"\7\xff")), "empty-signature": dict(spelled_bits=bits(b"")),
-            "empty-names": dict(issuer=seq(), subject=seq()), "serial-0": dict(serial=integer(0)),
-            "serial-of-20": dict(serial=integer((1 << 160) - 1)), "validity-backwards": dict(validity=seq(time(LAST), time(FIRST)))}.items():
-        yield from certified(label, **options)
-    yield from no_certificate_cases()
-    yield from certificate_ber_cases()
-    yield from equality_cases()
-    yield from certificate_size_cases()
-
-
-def no_certificate_cases():
-    for label, options in {
-            "without-extensions": dict(tagged=lambda xs: b""), "extensions-empty": dict(tagged=lambda xs: value(0xA3, b"")),
-            "extensions-twice": dict(tagged=lambda xs: value(0xA3, seq() * 2)), "extensions-under-2": dict(tagged=lambda xs: value(0xA2, seq())),
-            "extensions-tagged-twice": dict(tagged=lambda xs: value(0xA3, seq()) * 2),
-            "extensions-set": dict(tagged=lambda xs: value(0xA3, value(0x31, b""))), "v1": dict(version=b"", tagged=lambda xs: b""),
-            "v1-with-extensions": dict(version=b""), "v1-spelled": dict(version=value(0xA0, integer(0))), "v2": dict(version=value(0xA0, integer(1))),
-            "v4": dict(version=value(0xA0, integer(3))), "version-behind": dict(version=value(0xA0, integer(2) + NULL)),
-            "version-untagged": dict(version=integer(2)), "unique-issuer": dict(tagged=lambda xs: value(0x81, b"\0") + value(0xA3, seq())),
-            "unique-subject": dict(tagged=lambda xs: value(0x82, b"\0") + value(0xA3, seq())), "serial-negative": dict(serial=b"\2\1\xff"),
-            "serial-of-21": dict(serial=integer(1 << 160)), "serial-padded": dict(serial=b"\2\2\0\1"), "inner-rsa": dict(inner=seq(RSA, NULL)),
-            "inner-router": dict(inner=ROUTER), "outer-rsa": dict(outer=seq(RSA, NULL)), "outer-router": dict(outer=ROUTER),
-            "issuer-set": dict(issuer=value(0x31, b"")), "subject-null": dict(subject=NULL), "validity-of-one": dict(validity=seq(time(FIRST))),
-            "key-of-another-kind": dict(spelled_key=seq(seq(oid("1.2.840.10040.4.1"), NULL), bits(b""))), "behind": dict(behind=NULL),
-            "behind-the-bits": dict(whole=lambda *parts: seq(*parts, NULL)), "bits-missing": dict(spelled_bits=b""),
-            "bits-of-octets": dict(spelled_bits=octet_string(b"\0")), "bits-8-unused": dict(spelled_bits=value(3, b"\x08\0")),
-            "extension-null": dict(extensions=[NULL]), "extension-without-value": dict(extensions=[seq(UNKNOWN)]),
-            "extension-of-null": dict(extensions=[seq(UNKNOWN, NULL)]), "extension-behind": dict(extensions=[seq(UNKNOWN, octet_string(b""), NULL)]),
-            "extension-flagged-01": dict(extensions=[seq(UNKNOWN, b"\1\1\1", octet_string(b""))]),
-            "extension-in-segments": dict(extensions=[seq(UNKNOWN, value(0x24, octet_string(b"a")))]),
-            "extension-set": dict(extensions=[value(0x31, UNKNOWN + octet_string(b""))]), "whole-set": dict(whole=lambda *parts: value(0x31, b"".join(parts))),
-            "tbs-set": dict(tbs=lambda *parts: value(0x31, b"".join(parts)))}.items():
-        yield from certified(label, reads=False, **options)
-    yield line("certificate-cut", "both", certificate_of()[:-1], step("certificate", MALFORMED), step("next_certificate", MALFORMED))
-
-
-def certificate_ber_cases():
-    """A certificate keeps its exact octets."""
-    for label, options in {
-            "indefinite": dict(whole=loose), "overlong": dict(whole=longer), "indefinite-tbs": dict(tbs=loose), "overlong-tbs": dict(tbs=longer),
-            "indefinite-extensions": dict(tagged=lambda xs: indefinite(0xA3, loose(*xs))), "indefinite-algorithm": dict(outer=loose(RSA_SHA256, NULL)),
-            "indefinite-subject": dict(subject=loose()), "overlong-bits": dict(spelled_bits=value(3, b"\0", overlong)),
-            "extension-segments": dict(extensions=[seq(UNKNOWN, value(0x24, octet_string(b"a")))]),
-            "extension-loosely-flagged": dict(extensions=[seq(UNKNOWN, b"\1\1\1", octet_string(b""))])}.items():
-        yield from certified(f"{label}-in-ber", "ber", **options)
-        yield from certified(f"{label}-in-der", reads=False, **options)
-
-
-def equality_cases():
-    """Certificates are equal where their octets are, whatever stands behind them."""
-    good = certificate_of()
-    for label, other, equal in (
-            ("itself", good, True), ("itself-and-more", good + b"xyz", True), ("another-signature", certificate_of(spelled_bits=bits(b"\1")), False),
-            ("another-key", certificate_of(key=2), False), ("another-serial", certificate_of(serial=integer(2)), False),
-            ("another-null", certificate_of(outer=seq(RSA_SHA256)), False),
-            ("another-extension", certificate_of(extensions=[extension(UNKNOWN, b"")]), False),
-            ("the-same-key-without-null", certificate_of(spelled_key=seq(seq(RSA), bits(key_bits(1, 1)))), False)):
-        yield line(f"certificate-and-{label}", "der", good + NULL, step("equal", equal, argument=other))
-
-
-def certificate_size_cases():
-    for n in SIZES:
-        part = b"a" * n
-        yield from certified(f"subject-of-{n}", subject=seq(relative(attribute(oid("2.5.4.3"), value(12, part)))))
-        yield from certified(f"key-of-{n}", key=("rsa", part))
-        yield from certified(f"signature-of-{n}", spelled_bits=bits(part))
-        yield from certified(f"extension-of-{n}", extensions=[extension(UNKNOWN, part)])
-        yield from certified(f"{n}-extensions", extensions=[extension(UNKNOWN, b"")] * n)
 
 
 # ---- of other software
@@ -689,7 +604,8 @@ def of_openssl(label, subject, asked, router=False, rsa=False):
     """A request, with what `openssl req -text` and `openssl asn1parse` print of it; where nothing is asked, it is malformed."""
     octets, (first, last), key, signature = openssl.PLACES[label]
     shown = asked and (
-        subject, "rsa" if rsa else "ec", octets[slice(*key)], openssl.RSA_IDENTIFIER if rsa else openssl.POINT_IDENTIFIER, *asked,
+        subject, "rsa" if rsa else "ec", octets[slice(*key)], openssl.RSA_IDENTIFIER if rsa else openssl.POINT_IDENTIFIER,
+        *asked,
         octets[first:last], octets[signature:], octets)
     own, other = KINDS[router], KINDS[not router]
     yield line(f"openssl-{label}", "der", octets, answered(own, shown), step(other, MALFORMED), step("certificate", MALFORMED),
@@ -717,8 +633,8 @@ def openssl_cases():
 
 
 def asked_for(repository, manifest=None, notify=None, form="rsa", key=0, failing=None):
-    words = form, str(key), "-" if failing is None else str(failing), repository, manifest or "rsync://localhost/repo/ca.mft", notify or "-"
-    return " ".join(words).encode()
+    call = "-" if failing is None else str(failing)
+    return " ".join([form, str(key), call, repository, manifest or "rsync://localhost/repo/ca.mft", notify or "-"]).encode()
 
 
 def made(label, repository, slashed, manifest="rsync://localhost/repo/ca.mft", notify=None, failing=None):
@@ -727,7 +643,8 @@ def made(label, repository, slashed, manifest="rsync://localhost/repo/ca.mft", n
     places = [description(method, location.encode()) for method, location in places]
     o = options_of(extensions=[constraints(TRUE), usage(), extension(SUBJECT_INFO_ACCESS, seq(*places), FALSE)],
         found=(slashed.encode(), manifest.encode(), notify.encode() if notify else None))
-    yield line(f"made-{label}", "der", request(o), step("made", request(o), 0, argument=asked_for(repository, manifest, notify, failing=failing)),
+    yield line(f"made-{label}", "der", request(o), step("made", request(o), 0,
+        argument=asked_for(repository, manifest, notify, failing=failing)),
         answered("authority", fields(o)), step("router", MALFORMED), step("authority_holds", True))
 
 
@@ -749,7 +666,8 @@ def making_cases():
         yield from made(label, text, text, notify=notify)
     yield from made("upper-case", "RSYNC://LocalHost/Repo/X", "RSYNC://LocalHost/Repo/X/", notify="HTTPS://LocalHost")
     yield from made("near-dots", "rsync://localhost/repo/...", "rsync://localhost/repo/.../")
-    yield from made("one-location", "rsync://localhost/repo/x", "rsync://localhost/repo/x/", manifest="rsync://localhost/repo/x/")
+    yield from made("one-location", "rsync://localhost/repo/x", "rsync://localhost/repo/x/",
+        manifest="rsync://localhost/repo/x/")
     for size in (127, 128, 255, 256, 65534):
         text = long_text("rsync://localhost/repo/", size)
         yield from made(f"repository-of-{size}", text, text + "/", notify=notify)
@@ -769,7 +687,8 @@ def unmade_cases():
     for call in 1, 2:
         yield from unmade(f"call-{call}-failing", "signer", 1, failing=call)
         yield from unmade(f"call-{call}-failing-on-a-curve", "signer", 1, form="ec", failing=call)
-        yield from unmade(f"call-{call}-failing-with-notify", "signer", 1, failing=call, notify="https://localhost/repo/notify.xml")
+        yield from unmade(f"call-{call}-failing-with-notify", "signer", 1, failing=call,
+            notify="https://localhost/repo/notify.xml")
     yield from unmade("key-missing-at-a-failing-call", "signer", 1, key=5, failing=1)
     yield from unmade("key-missing-before-a-failing-call", "key not found", key=5, failing=2)
     yield from unmade("too-long", "uri too long", repository=long)
