@@ -2,9 +2,9 @@
 
 use rpki_base::{PublicKeyFormat, ToyFault};
 use rpki_cert::{CsrError, construct_rpki_ca};
-use rpki_der::DecodeError;
+use rpki_der::{Captured, DecodeError};
 use rpki_signer::{Signer, SigningError, ToyScheme, ToySigner};
-use rpki_text::uri::{Error, Uri, UriKind};
+use rpki_text::uri::{Error, Https, Rsync, Uri, UriKind};
 use std::alloc::Global;
 use stored_cases::{Fields, Step};
 
@@ -110,35 +110,62 @@ fn refusal(error: CsrError<ToyFault>) -> Result<&'static str, DecodeError> {
     }
 }
 
-// What the signer makes, or why it makes nothing.
-fn constructed(
-    alloc: Global,
-    asked: &Asked<'_>,
-    signer: &mut ToySigner,
-) -> Result<Fields, DecodeError> {
+// Where the objects and the manifest are to be, and where changes are notified.
+#[derive(Drop)]
+struct Places {
+    repository: Rsync,
+    manifest: Rsync,
+    notify: Option<Https>,
+}
+
+fn places_of(alloc: Global, asked: &Asked<'_>) -> Result<Places, DecodeError> {
     let repository = uri_of(alloc, asked.repository)?;
     let manifest = uri_of(alloc, asked.manifest)?;
     let notify = notify_of(alloc, asked.notify)?;
-    match construct_rpki_ca::<ToyScheme, ToySigner>(
+    Ok(Places {
+        repository,
+        manifest,
+        notify,
+    })
+}
+
+// What the signer makes.
+fn constructed(
+    alloc: Global,
+    key: u64,
+    places: &Places,
+    signer: &mut ToySigner,
+) -> Result<Captured, CsrError<ToyFault>> {
+    construct_rpki_ca::<ToyScheme, ToySigner>(
         alloc,
         signer,
-        &asked.key,
-        &repository,
-        &manifest,
-        notify.as_ref(),
-    ) {
+        &key,
+        &places.repository,
+        &places.manifest,
+        places.notify.as_ref(),
+    )
+}
+
+// What was made, or why nothing was made.
+fn shown(
+    alloc: Global,
+    answer: Result<Captured, CsrError<ToyFault>>,
+) -> Result<Fields, DecodeError> {
+    match answer {
         Ok(captured) => Ok(Fields::one(alloc, captured.as_slice())?),
         Err(error) => Ok(Fields::one(alloc, refusal(error)?.as_bytes())?),
     }
 }
 
-// The same, and how many calls of the signer failed.
+// What the signer makes or why it makes nothing, and how many of its calls failed.
 fn made(alloc: Global, argument: &[u8]) -> Result<Fields, DecodeError> {
     let Some(asked) = asked_of(argument) else {
         return Err(DecodeError::Malformed);
     };
+    let places = places_of(alloc, &asked)?;
     let mut signer = asked_signer(alloc, &asked)?;
-    let mut fields = constructed(alloc, &asked, &mut signer)?;
+    let answer = constructed(alloc, asked.key, &places, &mut signer);
+    let mut fields = shown(alloc, answer)?;
     fields.print(alloc, signer.faults())?;
     Ok(fields)
 }
