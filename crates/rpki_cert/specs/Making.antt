@@ -18,6 +18,7 @@ use Rattle.rpki_text.specs.declared.uri.Error.TheVariants as uri
 use Rattle.rpki_signer.specs.declared.errors.MakeError.{MakeError}
 use Rattle.rpki_signer.specs.declared.errors.MakeError.TheVariants as make
 use Rattle.rpki_signer.specs.declared.errors.SigningError.TheVariants as signing
+use Rattle.rpki_signer.specs.Errors.{signing_text}
 use Rattle.rpki_signer.specs.Limits.{IsShort, IsShortSignature, default_algorithm}
 use Rattle.rpki_signer.specs.Signer.{SignerState, Holds, Stays, SigningFails}
 use Rattle.rpki_idcert.specs.Making.{name_of_key}
@@ -202,3 +203,10 @@ csr_error_of make.OutOfMemory = csr.OutOfMemory
 abbrev pub csr_error_of_uri : {E : Type 0} → Error → CsrError E
 csr_error_of_uri uri.OutOfMemory = csr.OutOfMemory
 csr_error_of_uri error = csr.Uri error
+
+-- what is printed, where the signer's own errors have these texts
+abbrev pub csr_text : {E : Type 0} → (E → Option (List ℕ)) → CsrError E → Option (List ℕ)
+csr_text text (csr.Uri error) = Some (codes "the URI with its slash is unlawful")
+csr_text text csr.TooLong = Some (codes "key or signature too long")
+csr_text text (csr.Signing error) = signing_text text error
+csr_text text csr.OutOfMemory = Some (codes "out of memory")

@@ -21,6 +21,7 @@ use rpki_der::{Captured, OutOfMemory, Tag, Writer};
 use rpki_signer::{MakeError, Signer, SigningError, key_within_limit, sign_within_limit};
 use rpki_text::uri::{self, Https, Rsync};
 use std::alloc::Global;
+use std::fmt;
 use std::marker::Model;
 
 /// Why no request was made.
@@ -71,6 +72,21 @@ impl<E> From<uri::Error> for CsrError<E> {
             uri::Error::BadScheme => CsrError::Uri(uri::Error::BadScheme),
             uri::Error::BadUri => CsrError::Uri(uri::Error::BadUri),
             uri::Error::DotSegments => CsrError::Uri(uri::Error::DotSegments),
+        }
+    }
+}
+
+impl<E: fmt::Display> fmt::Display for CsrError<E> {
+    ghost use Rattle.rpki_cert.specs.Making.{csr_text};
+
+    ghost output = { λ error. csr_text E.output error };
+
+    fn fmt<W: fmt::Write>(&self, f: &mut fmt::Formatter<W>) -> fmt::Result {
+        match self {
+            CsrError::Uri(_) => f.write_str("the URI with its slash is unlawful"),
+            CsrError::TooLong => f.write_str("key or signature too long"),
+            CsrError::Signing(error) => write!(f, "{error}"),
+            CsrError::OutOfMemory => f.write_str("out of memory"),
         }
     }
 }
