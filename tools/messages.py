@@ -661,6 +661,9 @@ def created_cases():
         yield created_line(f"failing-{call}", QUERY, NOW, "signer", failing=str(call))
     yield created_line("failing-later", QUERY, NOW, created(QUERY, NOW).hex(), failing=str(CALLS + 1))
     yield created_line("under-no-key", QUERY, NOW, "key_not_found", key="1")
+    # The attributes are signed before the key is asked for, and the key is asked for before the CRL is signed.
+    for call, answer in (1, "signer"), (2, "signer"), (3, "key_not_found"):
+        yield created_line(f"under-no-key-failing-{call}", QUERY, NOW, answer, key="1", failing=str(call))
     for last in (NOW - 301, NOW - 300, NOW + 300, NOW + 301):
         answer = "ok" if abs(last - NOW) <= 300 else "verification-5"
         yield from case(f"created-at-{last}", created(QUERY, NOW), answer, moment=last)
