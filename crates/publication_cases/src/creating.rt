@@ -20,18 +20,36 @@ fn created_of(alloc: Global, message: Message, when: Time) -> Result<Publication
     }
 }
 
-// The octets, whether they are decoded as the message, and as which text.
-fn shown(alloc: Global, cms: &PublicationCms) -> Result<Fields, DecodeError> {
-    let octets = cms.clone(alloc)?.to_bytes(alloc)?;
-    let mut fields = Fields::one(alloc, octets.as_slice())?;
-    match PublicationCms::decode(alloc, octets.as_slice()) {
-        Ok(again) => {
-            fields.octets(&[u8::from(again.message() == cms.message())])?;
-            fields.octets(again.message().text_bytes(alloc)?.as_slice())?;
-            Ok(fields)
-        }
+// The octets, whether the message that they are decoded as is the one that was created, and its text.
+fn both_shown(
+    alloc: Global,
+    octets: &[u8],
+    again: &Message,
+    message: &Message,
+) -> Result<Fields, DecodeError> {
+    let text = again.text_bytes(alloc)?;
+    let mut fields = Fields::one(alloc, octets)?;
+    fields.octets(&[u8::from(again == message)])?;
+    fields.octets(text.as_slice())?;
+    Ok(fields)
+}
+
+fn decoded_shown(alloc: Global, octets: &[u8], message: &Message) -> Result<Fields, DecodeError> {
+    match PublicationCms::decode(alloc, octets) {
+        Ok(again) => both_shown(alloc, octets, again.message(), message),
         Err(error) => refused(alloc, error),
     }
+}
+
+// The same, of what a copy is written as.
+fn shown(alloc: Global, copy: &PublicationCms) -> Result<Fields, DecodeError> {
+    let octets = copy.to_bytes(alloc)?;
+    decoded_shown(alloc, octets.as_slice(), copy.message())
+}
+
+fn copy_shown(alloc: Global, cms: &PublicationCms) -> Result<Fields, DecodeError> {
+    let copy = cms.clone(alloc)?;
+    shown(alloc, &copy)
 }
 
 fn moment_of(argument: &[u8]) -> Option<Time> {
@@ -44,7 +62,8 @@ pub fn created(alloc: Global, message: Message, argument: &[u8]) -> Result<Field
     let Some(when) = moment_of(argument) else {
         return Err(DecodeError::Malformed);
     };
-    shown(alloc, &created_of(alloc, message, when)?)
+    let cms = created_of(alloc, message, when)?;
+    copy_shown(alloc, &cms)
 }
 
 /// The same of a message that was read.

@@ -37,20 +37,29 @@ pub fn errors(alloc: Global) -> Result<Fields, DecodeError> {
     Ok(fields)
 }
 
-// Appends whether a copy is equal.
-fn append_copy(alloc: Global, fields: &mut Fields, pdu: &ReplyPdu) -> Result<(), DecodeError> {
+fn is_copied(alloc: Global, pdu: &ReplyPdu) -> Result<bool, DecodeError> {
     let copy = pdu.clone(alloc)?;
-    Ok(fields.octets(&[u8::from(copy == *pdu)])?)
+    Ok(copy == *pdu)
+}
+
+fn object_is_copied(alloc: Global) -> Result<bool, DecodeError> {
+    let object = ListElement::new(place(alloc)?, Hash::from_data(b"abc"));
+    is_copied(alloc, &ReplyPdu::List(object))
+}
+
+fn error_is_copied(alloc: Global) -> Result<bool, DecodeError> {
+    let failed = Some(QueryPdu::List);
+    let error = ReportError::new(ReportErrorCode::OtherError, None, None, failed);
+    is_copied(alloc, &ReplyPdu::Error(error))
 }
 
 /// Whether copies of the elements of replies are equal.
 pub fn copies(alloc: Global) -> Result<Fields, DecodeError> {
-    let mut fields = Fields::new(alloc);
-    let object = ListElement::new(place(alloc)?, Hash::from_data(b"abc"));
-    append_copy(alloc, &mut fields, &ReplyPdu::List(object))?;
-    append_copy(alloc, &mut fields, &ReplyPdu::Success)?;
-    let failed = Some(QueryPdu::List);
-    let error = ReportError::new(ReportErrorCode::OtherError, None, None, failed);
-    append_copy(alloc, &mut fields, &ReplyPdu::Error(error))?;
+    let object = object_is_copied(alloc)?;
+    let success = is_copied(alloc, &ReplyPdu::Success)?;
+    let error = error_is_copied(alloc)?;
+    let mut fields = Fields::truth(alloc, object)?;
+    fields.octets(&[u8::from(success)])?;
+    fields.octets(&[u8::from(error)])?;
     Ok(fields)
 }
