@@ -29,16 +29,16 @@ use std::sync::ledger::{Blank, Ledger};
 ///
 /// In a clause it is the record of the three.
 #[derive(Drop)]
-pub(crate) struct CsrContent<Attrs: CsrAttributes> {
+pub(crate) struct CsrContent<Attributes: CsrAttributes> {
     subject: Name,
     public_key: PublicKey,
-    attributes: Attrs,
+    attributes: Attributes,
 }
 
-impl<Attrs: CsrAttributes> Model for CsrContent<Attrs> {
+impl<Attributes: CsrAttributes> Model for CsrContent<Attributes> {
     ghost use Rattle.rpki_cert.specs.Csr.{RequestFields};
 
-    ghost Value = { RequestFields Attrs };
+    ghost Value = { RequestFields Attributes };
 
     ghost view = { λ c. record {
       subject = c.subject;
@@ -51,28 +51,28 @@ impl<Attrs: CsrAttributes> Model for CsrContent<Attrs> {
 ///
 /// In a clause it is these two.
 #[derive(Drop)]
-pub struct Csr<Alg: SignatureAlgorithm, Attrs: CsrAttributes> {
+pub struct Csr<Alg: SignatureAlgorithm, Attributes: CsrAttributes> {
     signed: SignedData<Alg>,
-    content: CsrContent<Attrs>,
+    content: CsrContent<Attributes>,
 }
 
 /// The request of an authority for a resource certificate (RFC 6487, 6).
-pub type RpkiCaCsr = Csr<RpkiSignatureAlgorithm, RpkiCaCsrAttributes>;
+pub type RpkiCaCsr = Csr<rpki_base::RpkiSignatureAlgorithm, RpkiCaCsrAttributes>;
 
 /// The request of a router for a BGPsec certificate (RFC 8209, 3.2).
-pub type BgpsecCsr = Csr<BgpsecSignatureAlgorithm, BgpsecCsrAttributes>;
+pub type BgpsecCsr = Csr<rpki_base::BgpsecSignatureAlgorithm, BgpsecCsrAttributes>;
 
-impl<Alg: SignatureAlgorithm, Attrs: CsrAttributes> Model for Csr<Alg, Attrs> {
+impl<Alg: SignatureAlgorithm, Attributes: CsrAttributes> Model for Csr<Alg, Attributes> {
     ghost use Rattle.rpki_base.specs.SignedData.{Signed};
     ghost use Rattle.rpki_cert.specs.Csr.{RequestFields};
 
-    ghost Value = { Signed Alg (RequestFields Attrs) };
+    ghost Value = { Signed Alg (RequestFields Attributes) };
 
     ghost view = { λ c. record { signed = c.signed; tbs = c.content } };
 }
 
 /// # Data access
-impl<Alg: SignatureAlgorithm, Attrs: CsrAttributes> Csr<Alg, Attrs> {
+impl<Alg: SignatureAlgorithm, Attributes: CsrAttributes> Csr<Alg, Attributes> {
     /// The name of the subject.
     pub fn subject(&self) -> &Name
         ensures { result.now ≡ self.now.tbs.subject }
@@ -88,7 +88,7 @@ impl<Alg: SignatureAlgorithm, Attrs: CsrAttributes> Csr<Alg, Attrs> {
     }
 
     /// What the attributes say.
-    pub fn attributes(&self) -> &Attrs
+    pub fn attributes(&self) -> &Attributes
         ensures { result.now ≡ self.now.tbs.attributes }
     {
         &self.content.attributes
@@ -148,21 +148,21 @@ impl<Alg: SignatureAlgorithm> Csr<Alg, RpkiCaCsrAttributes> {
     }
 }
 
-impl<Attrs: CsrAttributes> CsrContent<Attrs> {
+impl<Attributes: CsrAttributes> CsrContent<Attributes> {
     // What stands next. It ticks once for each header and each end mark that it reads.
     fn take_from_counted<L: Ledger>(
         alloc: Global,
         cursor: &mut Cursor<'_>,
         steps: &mut Steps<L>,
-    ) -> Result<CsrContent<Attrs>, DecodeError>
-        ensures { TakesCounted 2 (request_info Attrs.reads cursor.old.mode) (λ x. x)
+    ) -> Result<CsrContent<Attributes>, DecodeError>
+        ensures { TakesCounted 2 (request_info Attributes.reads cursor.old.mode) (λ x. x)
             cursor.old cursor.new steps.old steps.new result }
     {
         cursor.enter_counted(Tag::SEQUENCE, steps)?;
         take_integer_if_counted(cursor, 0, steps)?;
         let subject = Name::take_from_counted(alloc, cursor, steps)?;
         let public_key = PublicKey::take_from_counted(alloc, cursor, steps)?;
-        let attributes = Attrs::take_from_counted(alloc, cursor, steps)?;
+        let attributes = Attributes::take_from_counted(alloc, cursor, steps)?;
         cursor.leave_counted(steps)?;
         Ok(CsrContent {
             subject,
@@ -173,30 +173,30 @@ impl<Attrs: CsrAttributes> CsrContent<Attrs> {
 }
 
 // The octets of what stands next, and what they say.
-fn take_held<'a, Attrs: CsrAttributes, L: Ledger>(
+fn take_held<'a, Attributes: CsrAttributes, L: Ledger>(
     alloc: Global,
     cursor: &mut Cursor<'a>,
     steps: &mut Steps<L>,
-) -> Result<(&'a [u8], CsrContent<Attrs>), DecodeError>
-    ensures { TakesCounted 2 (with_octets (request_info Attrs.reads cursor.old.mode))
+) -> Result<(&'a [u8], CsrContent<Attributes>), DecodeError>
+    ensures { TakesCounted 2 (with_octets (request_info Attributes.reads cursor.old.mode))
         (λ x. (x.0.now, x.1)) cursor.old cursor.new steps.old steps.new result }
 {
     let start = cursor.here();
-    let content = CsrContent::<Attrs>::take_from_counted(alloc, cursor, steps)?;
+    let content = CsrContent::<Attributes>::take_from_counted(alloc, cursor, steps)?;
     let octets = cursor.since(start);
     Ok((octets, content))
 }
 
 /// # Decoding
-impl<Alg: SignatureAlgorithm, Attrs: CsrAttributes> Csr<Alg, Attrs> {
+impl<Alg: SignatureAlgorithm, Attributes: CsrAttributes> Csr<Alg, Attributes> {
     /// The request at the beginning of the octets, in DER; what stands behind it isn't read.
     ///
     /// Malformed exactly where no beginning of the octets is a request of this kind.
-    pub fn decode(alloc: Global, octets: &[u8]) -> Result<Csr<Alg, Attrs>, DecodeError>
-        ensures { Decodes (certification_request Attrs.reads Alg.reads Der) (λ c. c)
+    pub fn decode(alloc: Global, octets: &[u8]) -> Result<Csr<Alg, Attributes>, DecodeError>
+        ensures { Decodes (certification_request Attributes.reads Alg.reads Der) (λ c. c)
             Der octets.now result }
     {
-        decode_within::<Alg, Attrs, Brand>(alloc, octets, Blank::new(1))
+        decode_within::<Alg, Attributes, Brand>(alloc, octets, Blank::new(1))
     }
 
     /// The same, at a price: it ticks once for each header that it reads, at least once for each value and at most twice an octet
@@ -205,12 +205,12 @@ impl<Alg: SignatureAlgorithm, Attrs: CsrAttributes> Csr<Alg, Attrs> {
         alloc: Global,
         octets: &[u8],
         steps: &mut Steps<L>,
-    ) -> Result<Csr<Alg, Attrs>, DecodeError>
-        ensures { DecodesCounted 2 (certification_request Attrs.reads Alg.reads Der) (λ c. c)
+    ) -> Result<Csr<Alg, Attributes>, DecodeError>
+        ensures { DecodesCounted 2 (certification_request Attributes.reads Alg.reads Der) (λ c. c)
             Der octets.now steps.old steps.new result }
     {
         let mut cursor = Cursor::new(alloc, Mode::Der, octets);
-        Csr::<Alg, Attrs>::take_from_counted(alloc, &mut cursor, steps)
+        Csr::<Alg, Attributes>::take_from_counted(alloc, &mut cursor, steps)
     }
 
     /// The request that stands next. It ticks once for each header and each end mark that it reads.
@@ -218,13 +218,13 @@ impl<Alg: SignatureAlgorithm, Attrs: CsrAttributes> Csr<Alg, Attrs> {
         alloc: Global,
         cursor: &mut Cursor<'_>,
         steps: &mut Steps<L>,
-    ) -> Result<Csr<Alg, Attrs>, DecodeError>
+    ) -> Result<Csr<Alg, Attributes>, DecodeError>
         ensures { TakesCounted 2
-            (certification_request Attrs.reads Alg.reads cursor.old.mode) (λ c. c)
+            (certification_request Attributes.reads Alg.reads cursor.old.mode) (λ c. c)
             cursor.old cursor.new steps.old steps.new result }
     {
         cursor.enter_counted(Tag::SEQUENCE, steps)?;
-        let (octets, content) = take_held::<Attrs, L>(alloc, cursor, steps)?;
+        let (octets, content) = take_held::<Attributes, L>(alloc, cursor, steps)?;
         let slice = Bytes::copy_from_slice(alloc, octets)?;
         let signature = leave_signature::<Alg, L>(alloc, cursor, steps)?;
         let signed = SignedData::new(slice, signature);
@@ -232,23 +232,23 @@ impl<Alg: SignatureAlgorithm, Attrs: CsrAttributes> Csr<Alg, Attrs> {
     }
 }
 
-fn decode_within<Alg: SignatureAlgorithm, Attrs: CsrAttributes, L: Ledger>(
+fn decode_within<Alg: SignatureAlgorithm, Attributes: CsrAttributes, L: Ledger>(
     alloc: Global,
     octets: &[u8],
     blank: Blank,
-) -> Result<Csr<Alg, Attrs>, DecodeError>
+) -> Result<Csr<Alg, Attributes>, DecodeError>
     requires name { blank.name ≡ L.name }
     requires parts { blank.parts ≡ L.parts }
     requires some { 0 < blank.parts }
-    ensures { Decodes (certification_request Attrs.reads Alg.reads Der) (λ c. c)
+    ensures { Decodes (certification_request Attributes.reads Alg.reads Der) (λ c. c)
         Der octets.now result }
 {
     let mut steps = Steps::<L>::new(blank);
-    Csr::<Alg, Attrs>::decode_counted(alloc, octets, &mut steps)
+    Csr::<Alg, Attributes>::decode_counted(alloc, octets, &mut steps)
 }
 
 /// # Validation
-impl<Alg: SignatureAlgorithm, Attrs: CsrAttributes> Csr<Alg, Attrs> {
+impl<Alg: SignatureAlgorithm, Attributes: CsrAttributes> Csr<Alg, Attributes> {
     /// Refused exactly where the signature is none of the signed octets under the request's own key. It takes no memory.
     pub fn verify_signature<P: Scheme, V: Verifier<P>>(
         &self,
@@ -263,7 +263,7 @@ impl<Alg: SignatureAlgorithm, Attrs: CsrAttributes> Csr<Alg, Attrs> {
 }
 
 /// # Encoding
-impl<Alg: SignatureAlgorithm, Attrs: CsrAttributes> Csr<Alg, Attrs> {
+impl<Alg: SignatureAlgorithm, Attributes: CsrAttributes> Csr<Alg, Attributes> {
     /// Appends the request in DER, with the octets that are signed as they are. After a refusal nothing is appended; a request that
     /// is longer than length octets can say is refused as want of memory.
     pub fn encode_ref(&self, out: &mut Writer) -> Result<(), OutOfMemory>

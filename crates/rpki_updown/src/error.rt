@@ -66,10 +66,10 @@ impl fmt::Display for Error {
                 error.fmt(f)
             }
             Error::Limit(set, limit) => {
-                write!(
-                    f,
-                    "Limit '{limit}' contains resources not held in set '{set}'"
-                )
+                f.write_str("Limit '")?;
+                limit.fmt(f)?;
+                f.write_str("' contains resources not held in set '")?;
+                write!(f, "{set}'")
             }
             Error::Read => f.write_str("reading failed"),
             Error::Write => f.write_str("writing failed"),

@@ -50,7 +50,7 @@ impl RequestResourceLimit {
     pub fn is_empty(&self) -> bool
         ensures { IsTrue result ↔ (self.now ≡ no_limit) }
     {
-        self.asn.is_none() && self.ipv4.is_none() && self.ipv6.is_none()
+        self.ipv6.is_none() && self.ipv4.is_none() && self.asn.is_none()
     }
 
     /// Limits the AS numbers to these.

@@ -23,7 +23,7 @@ pub struct ResourceClassName {
 }
 
 /// The name by which a class is called at the parent.
-pub type ParentResourceClassName = ResourceClassName;
+pub type ParentResourceClassName = crate::resource_class_name::ResourceClassName;
 
 impl Model for ResourceClassName {
     ghost use Rattle.std.specs.Prelude.{ℕ, List};

@@ -1,4 +1,5 @@
--- written by tools/answers.py rpki_cert csr CsrContent.take_from_counted Csr request_info enter_counted take_integer_if_counted subject public_key attributes@g.Attrs.CsrAttributes.reads leave_counted
+-- written by tools/answers.py rpki_cert csr CsrContent.take_from_counted Csr request_info enter_counted take_integer_if_counted subject public_key attributes@g.Attributes.CsrAttributes.reads
+--     leave_counted
 use Rattle.std.proofs.Common.{refl, ◌∙◌}
 use Rattle.rpki_cert.specs.Csr.{request_info}
 use Rattle.rpki_der.proofs.Counting.{reads_done, reads_first, refuses_inside, refuses_within, stops_done, stops_first, stops_later, takes_err, takes_within}
@@ -39,7 +40,7 @@ returns-in_err-attributes g c = takes_err _ _ _ _ _ _ _ _ _ c.from_residual-in_e
     (stops_later _ _ _ _ _ _ _ _ _ _ _ _ refl c.in_ok-subject.ensures
     (stops_later _ _ _ _ _ _ _ _ _ _ _ _ refl c.in_ok-public_key.ensures
     (stops_first _ _ _ _ _ _ _ _ refl
-    (refuses_in _ g.Attrs.CsrAttributes.reads _ _ _ _ _ (c.in_ok-public_key.ensures.takes.mode ∙ c.in_ok-subject.ensures.takes.mode ∙ c.in_ok-take_integer_if_counted.ensures.takes.mode
+    (refuses_in _ g.Attributes.CsrAttributes.reads _ _ _ _ _ (c.in_ok-public_key.ensures.takes.mode ∙ c.in_ok-subject.ensures.takes.mode ∙ c.in_ok-take_integer_if_counted.ensures.takes.mode
     ∙ c.in_ok-enter_counted.ensures.place.mode) c.in_err-attributes.ensures))))))
 
 pub returns-in_err-leave_counted : goal.returns-in_err-leave_counted
@@ -50,7 +51,7 @@ returns-in_err-leave_counted g c = takes_err _ _ _ _ _ _ _ _ _ c.from_residual-i
     (stops_later _ _ _ _ _ _ _ _ _ _ _ _ refl c.in_ok-subject.ensures
     (stops_later _ _ _ _ _ _ _ _ _ _ _ _ refl c.in_ok-public_key.ensures
     (stops_later _ _ _ _ _ _ _ _ _ _ _ _ refl
-    (takes_in _ g.Attrs.CsrAttributes.reads _ _ _ _ _ _ (c.in_ok-public_key.ensures.takes.mode ∙ c.in_ok-subject.ensures.takes.mode ∙ c.in_ok-take_integer_if_counted.ensures.takes.mode
+    (takes_in _ g.Attributes.CsrAttributes.reads _ _ _ _ _ _ (c.in_ok-public_key.ensures.takes.mode ∙ c.in_ok-subject.ensures.takes.mode ∙ c.in_ok-take_integer_if_counted.ensures.takes.mode
     ∙ c.in_ok-enter_counted.ensures.place.mode) c.in_ok-attributes.ensures)
     (stops_done _ _ _ _ _ _ c.in_err-leave_counted.ensures.place c.in_err-leave_counted.ensures.refused))))))
 
@@ -61,6 +62,6 @@ returns g c = takes_within _ _ _ _ _ _ _ _ _ _ _ refl c.in_ok-enter_counted.ensu
     (reads_first _ _ _ _ _ _ _ _ _ _ _ _ _ refl c.in_ok-subject.ensures
     (reads_first _ _ _ _ _ _ _ _ _ _ _ _ _ refl c.in_ok-public_key.ensures
     (reads_first _ _ _ _ _ _ _ _ _ _ _ _ _ refl
-    (takes_in _ g.Attrs.CsrAttributes.reads _ _ _ _ _ _ (c.in_ok-public_key.ensures.takes.mode ∙ c.in_ok-subject.ensures.takes.mode ∙ c.in_ok-take_integer_if_counted.ensures.takes.mode
+    (takes_in _ g.Attributes.CsrAttributes.reads _ _ _ _ _ _ (c.in_ok-public_key.ensures.takes.mode ∙ c.in_ok-subject.ensures.takes.mode ∙ c.in_ok-take_integer_if_counted.ensures.takes.mode
     ∙ c.in_ok-enter_counted.ensures.place.mode) c.in_ok-attributes.ensures)
     (reads_done _ _ _ _ _ _ refl c.in_ok-leave_counted.ensures.place c.in_ok-leave_counted.ensures.ticks)))))
