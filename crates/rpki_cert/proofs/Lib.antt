@@ -5,3 +5,5 @@ pub mod Lists
 pub mod Asking
 pub mod Constructing
 pub mod Rewriting
+pub mod Slices
+pub mod Shorter

@@ -26,5 +26,8 @@ pub use csr_attributes::{BgpsecCsrAttributes, CsrAttributes, RpkiCaCsrAttributes
 pub use extended_key_usage::ExtendedKeyUsage;
 pub use invalid_attribute::InvalidAttribute;
 pub use key_usage::KeyUsage;
-pub use law::written_requests_are_read;
+pub use law::{
+    octets_determine_certificates, read_certificates_are_no_longer, written_certificates_are_read,
+    written_requests_are_no_longer, written_requests_are_read,
+};
 pub use object_identifiers::request_identifiers_have_texts;
