@@ -19,3 +19,5 @@ pub mod Wholes
 pub mod BigEndian
 pub mod ReadBack
 pub mod Ipv6Writing
+pub mod Printed
+pub mod Lengths

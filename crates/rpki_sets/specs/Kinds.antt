@@ -1,5 +1,5 @@
 -- What the three kinds of numbers have in common: how items are read, and how runs are written.
-use Rattle.std.specs.Prelude.{◌≡◌, ◌≢◌, ℕ, ◌+◌, ◌<◌, ◌≤◌, ◌^◌, nat_le, Bool, ◌==◌, if◌then◌else◌, Option, None, Some, List, [], ◌∷◌, ◌++◌, codes, flat_map}
+use Rattle.std.specs.Prelude.{◌≡◌, ◌≢◌, ℕ, ◌+◌, ◌<◌, ◌≤◌, ◌^◌, nat_le, Bool, ◌&&◌, ◌||◌, ◌==◌, if◌then◌else◌, Option, None, Some, List, [], ◌∷◌, ◌++◌, codes, flat_map}
 use Rattle.std.specs.List.{All}
 use Rattle.std.specs.Fmt.{decimal}
 use Rattle.rpki_common.specs.Chaining.{◌>>=◌}
@@ -81,6 +81,10 @@ unfoldable pub text_of : Kind → List Run → List ℕ
 text_of kind [] = []
 text_of kind (run ∷ more) = run_text kind run ++ flat_map (λ next. codes "," ++ run_text kind next)
     more
+
+-- an octet of a printed set: `,`, `-`, `.`, `/`, a digit or `:`, which follow each other, or `a` to `f`
+abbrev pub is_set_octet : ℕ → Bool
+is_set_octet octet = nat_le 44 octet && nat_le octet 58 || nat_le 97 octet && nat_le octet 102
 
 -- ---- what is asked of a kind
 

@@ -4,7 +4,8 @@
 //!   such a set is the list of its maximal runs in ascending order; each set has one such list, so `≡` says that the
 //!   numbers are the same ([`equal_sets_have_equal_runs`]).
 //! - A text means the union of its items, whatever way it is spelled. What a set prints is the one text that is made of
-//!   its maximal runs, and is read as the same set ([`Blocks::text_is_read_back`]).
+//!   its maximal runs, and is read as the same set ([`Blocks::text_is_read_back`], [`printed_set_is_read`]). Its octets and
+//!   its length are known ([`printed_sets_are_plain`], [`printed_sets_are_short`]).
 //! - Reading takes time in proportion to n log n of the number of items, `contains` and `==` to the number of runs.
 //! - [`ResourceSet`] holds one set of each kind.
 #![tactic(auto)]
@@ -33,6 +34,7 @@ pub use ipv4::{Ipv4Addresses, Ipv4Blocks};
 pub use ipv6::{Ipv6Addresses, Ipv6Blocks};
 pub use laws::{
     equal_sets_have_equal_runs, ipv4_number_is, ipv6_number_is, prefix_length_is,
+    printed_set_is_read, printed_sets_are_plain, printed_sets_are_short, read_sets_are_sets,
     union_has_the_numbers,
 };
 pub use numbers::Numbers;
