@@ -60,7 +60,7 @@ spelled_text-encode content = standing (encode_of standard content) (encoded sta
 
 -- ---- it has no white space
 
-abbrev is_black : ℕ → Bool
+abbrev pub is_black : ℕ → Bool
 is_black c = not (is_white c)
 
 begins_black : (text : List ℕ) → list_all is_black text ≡ true → without_white text ≡ text
@@ -73,7 +73,7 @@ reversed test (c ∷ text) h =
     let p = both (test c) (list_all test text) h in
     ap (list_all test) (reverse-append (c ∷ []) text) ∙ list_all-append test (reverse text) (c ∷ []) ∙ are_true _ _ (reversed test text p.1) (are_true _ _ p.0 refl)
 
-black_trimmed : (text : List ℕ) → list_all is_black text ≡ true → trimmed text ≡ text
+pub black_trimmed : (text : List ℕ) → list_all is_black text ≡ true → trimmed text ≡ text
 unfolding trimmed
 black_trimmed text h =
     ap (λ (t : List ℕ). reverse (without_white (reverse t))) (begins_black text h) ∙ ap reverse (begins_black (reverse text) (reversed is_black text h)) ∙ reverse-reverse text
@@ -88,30 +88,31 @@ member test [] k h lt = absurd (omega arith)
 member test (x ∷ t) zero h lt = (both (test x) (list_all test t) h).0
 member test (x ∷ t) (suc k) h lt = member test t k (both (test x) (list_all test t) h).1 (omega arith)
 
-index : (k : ℕ) → k < 64 → is_octet (slice_index (engine_symbols standard) k) ≡ true
-index k lt = member is_octet (engine_symbols standard) k refl lt
+index : (t : List ℕ) (k : ℕ) → AreOctets t → length t ≡ 64 → k < 64 → is_octet (slice_index t k) ≡ true
+index t k o n lt = member is_octet t k o (omega arith)
 
 rest_bytes : (x : ℕ) (m : List ℕ) → IsBytes (x ∷ m) → IsBytes m
 rest_bytes x m h i = h (suc i)
 
-octet_symbols : (m : List ℕ) → IsBytes m → AreOctets (encode_symbols (engine_symbols standard) m)
+-- the same of any alphabet of such octets
+pub symbols-octets : (t m : List ℕ) → AreOctets t → length t ≡ 64 → IsBytes m → AreOctets (encode_symbols t m)
 unfolding encode_symbols
-octet_symbols [] h = refl
-octet_symbols (a ∷ []) h =
+symbols-octets t [] o n h = refl
+symbols-octets t (a ∷ []) o n h =
     let p : a < 256 = h 0 in
-    rw (index (a / 4) (omega arith), index (a % 4 * 16) (omega arith)) refl
-octet_symbols (a ∷ b ∷ []) h =
+    rw (index t (a / 4) o n (omega arith), index t (a % 4 * 16) o n (omega arith)) refl
+symbols-octets t (a ∷ b ∷ []) o n h =
     let p : a < 256 = h 0 in
     let q : b < 256 = h 1 in
-    rw (index (a / 4) (omega arith), index (a % 4 * 16 + b / 16) (omega arith), index (b % 16 * 4) (omega arith)) refl
-octet_symbols (a ∷ b ∷ c ∷ rest) h =
+    rw (index t (a / 4) o n (omega arith), index t (a % 4 * 16 + b / 16) o n (omega arith), index t (b % 16 * 4) o n (omega arith)) refl
+symbols-octets t (a ∷ b ∷ c ∷ rest) o n h =
     let p : a < 256 = h 0 in
     let q : b < 256 = h 1 in
     let r : c < 256 = h 2 in
-    rw (index (a / 4) (omega arith), index (a % 4 * 16 + b / 16) (omega arith), index (b % 16 * 4 + c / 64) (omega arith), index (c % 64) (omega arith))
-    (octet_symbols rest (rest_bytes c rest (rest_bytes b (c ∷ rest) (rest_bytes a (b ∷ c ∷ rest) h))))
+    rw (index t (a / 4) o n (omega arith), index t (a % 4 * 16 + b / 16) o n (omega arith), index t (b % 16 * 4 + c / 64) o n (omega arith), index t (c % 64) o n (omega arith))
+    (symbols-octets t rest o n (rest_bytes c rest (rest_bytes b (c ∷ rest) (rest_bytes a (b ∷ c ∷ rest) h))))
 
 pub encode-octets : (content : List ℕ) → IsBytes content → AreOctets (encode_of standard content)
 encode-octets content h =
     list_all-append is_octet (encode_symbols (engine_symbols standard) content) (replicate (padding_len (length content)) 61)
-    ∙ are_true _ _ (octet_symbols content h) (padding is_octet (padding_len (length content)) refl)
+    ∙ are_true _ _ (symbols-octets (engine_symbols standard) content refl refl h) (padding is_octet (padding_len (length content)) refl)

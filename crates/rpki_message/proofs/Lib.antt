@@ -1,7 +1,11 @@
 pub mod Attributes
 pub mod Base64s
+pub mod Bounds
 pub mod Characters
+pub mod Elements
 pub mod Inside
+pub mod Lawful
+pub mod Plain
 pub mod Read
 pub mod Sizes
 pub mod Spelt

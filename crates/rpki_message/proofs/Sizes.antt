@@ -1,9 +1,9 @@
 -- The names, values and texts of a document's element are together no longer than the document.
-use Rattle.std.proofs.Common.{◌≡◌, ℕ, zero, suc, ◌+◌, ◌≤◌, Bool, true, false, cond, List, [], ◌∷◌, ◌++◌, length, Option, Some, None, filter, reverse, refl, sym, ap, subst, arith, length-append}
+use Rattle.std.proofs.Common.{◌≡◌, ℕ, zero, suc, ◌+◌, ◌≤◌, Bool, true, false, cond, List, [], ◌∷◌, ◌++◌, length, Option, Some, None, filter, reverse, refl, ap, subst, arith, length-append}
 use Rattle.std.specs.Prelude.{codes, nat_eq, not, ◌||◌}
 use Rattle.std.proofs.lemmas.List.{length-reverse}
 use Rattle.rpki_common.specs.Chaining.{◌>>=◌}
-use Rattle.rpki_xml.specs.Content.{Tag, Piece, run, passed_over, leaf, start, end, Content, nothing, and_run, and_passed_over, and_leaf, and_element, pieces, behind, is_declaration, handed_on, is_white, without_white, trimmed, characters, text_of, head_of, elements_in}
+use Rattle.rpki_xml.specs.Content.{Tag, Piece, run, passed_over, leaf, start, end, Content, nothing, and_run, and_passed_over, and_leaf, and_element, pieces, behind, is_declaration, is_white, without_white, trimmed, characters, text_of, elements_in}
 use Rattle.rpki_xml.specs.Element.{Attribute, Head, Elements, none, first, Element, alone}
 use Rattle.rpki_xml.specs.Lexing.{front_of, back_of, or_else, entity_at, any_entity_at, character_at, name_at, past_white, end_at, repeated, until, ends_at, value_in, quoted_at, attribute_at, no_attribute, closed_at, tag_at, past_next, passed_at, behind_front, run_at, markup_at, piece_at, Repeats, IsDocument}
 use Rattle.rpki_xml.specs.Name.{is_name, is_name_octet}
@@ -240,11 +240,11 @@ total_append : (xs ys : List Piece) → total piece_weight (xs ++ ys) ≡ total 
 total_append [] ys = omega arith
 total_append (x ∷ xs) ys = let e = total_append xs ys in omega (arith, e)
 
-handed_size : (list : List Attribute) → values (handed_on list) ≤ values list
-handed_size [] = omega arith
-handed_size (a ∷ list) = go (not (is_declaration a)) (handed_size list)
+pub filter_values : (f : Attribute → Bool) (list : List Attribute) → values (filter f list) ≤ values list
+filter_values f [] = omega arith
+filter_values f (a ∷ list) = go (f a) (filter_values f list)
   where
-    go : (t : Bool) → values (handed_on list) ≤ values list → values (cond t (a ∷ handed_on list) (handed_on list)) ≤ values (a ∷ list)
+    go : (b : Bool) → values (filter f list) ≤ values list → values (cond b (a ∷ filter f list) (filter f list)) ≤ values (a ∷ list)
     go true h = omega (arith, h)
     go false h = omega (arith, h)
 
@@ -269,11 +269,11 @@ content_size : (c : Content) → size (elements_in c) + length (characters c) �
 content_size nothing = omega arith
 content_size (and_run text c) = let h = content_size c in let e = length-append text (characters c) in omega (arith, h, e)
 content_size (and_passed_over c) = let h = content_size c in omega (arith, h)
-content_size (and_leaf tag c) = let h = content_size c in let a = handed_size tag.attributes in omega (arith, h, a)
+content_size (and_leaf tag c) = let h = content_size c in let a = filter_values (λ a. not (is_declaration a)) tag.attributes in omega (arith, h, a)
 content_size (and_element tag inside c) =
     let h = content_size inside in
     let k = content_size c in
-    let a = handed_size tag.attributes in
+    let a = filter_values (λ a. not (is_declaration a)) tag.attributes in
     let t = text_size (elements_in inside) (characters inside) in
     let e = total_append (pieces inside) (end tag.name ∷ pieces c) in
     omega (arith, h, k, a, t, e)

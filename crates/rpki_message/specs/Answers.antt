@@ -1,6 +1,6 @@
 -- What calls answer that read messages and write them, for any table of messages and any type of errors. An error is seen by its cause,
 -- where it has one: `cause_of` says which.
-use Rattle.std.specs.Prelude.{◌≡◌, ◌≤◌, ◌<◌, ◌^◌, ◌+◌, ℕ, List, length, Result, Ok, Err, Option, None, Some, IfOk, IfErr, IfSome, OnOk, ⊤}
+use Rattle.std.specs.Prelude.{◌≡◌, ◌≤◌, ◌<◌, ◌^◌, ◌+◌, ℕ, List, length, Result, Ok, Err, Option, Some, IfOk, IfErr, IfSome, OnOk, ⊤}
 use Rattle.std.specs.Io.KnownBytes.{Appends, IsAtEnd}
 use Rattle.rpki_common.specs.Causes.{Rose}
 use Rattle.rpki_text.specs.Sink.{AppendsPart}

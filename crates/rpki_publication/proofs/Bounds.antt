@@ -1,7 +1,6 @@
 -- The text of a message that was read has at most 40 octets for each octet read, and 1024 more.
-use Rattle.std.proofs.Common.{◌≡◌, ℕ, ◌+◌, ◌*◌, ◌≤◌, Bool, true, false, cond, List, [], ◌∷◌, ◌++◌, length, Option, Some, None, filter, refl, ap, subst, arith, length-append, IfSome}
-use Rattle.std.specs.Prelude.{codes, nat_eq, ◌&&◌, if◌then◌else◌, unwrap_or}
-use Rattle.std.specs.List.{flat_map, AllByRecursion}
+use Rattle.std.proofs.Common.{◌≡◌, ℕ, ◌+◌, ◌*◌, ◌≤◌, Bool, true, false, List, [], ◌∷◌, ◌++◌, length, Option, Some, None, filter, refl, ap, subst, arith, length-append, IfSome}
+use Rattle.std.specs.Prelude.{codes, if◌then◌else◌}
 use Rattle.std.specs.Str.{bytes_eq}
 use Rattle.std.proofs.lemmas.List.{append-nil}
 use Rattle.base64.specs.Engines.{standard}
@@ -10,22 +9,22 @@ use Rattle.hex.specs.Hex.{lower_digits, encode_lower}
 use Rattle.hex.proofs.HexLemmas.{length-encode_with}
 use Rattle.rpki_common.specs.Chaining.{◌>>=◌}
 use Rattle.rpki_common.specs.Items as items
-use Rattle.rpki_common.proofs.Truths.{none_some, same_some, same_octets}
+use Rattle.rpki_common.proofs.Truths.{none_some, same_some}
 use Rattle.rpki_message.specs.Inside.{text_inside}
+use Rattle.rpki_message.specs.Parts.{attribute}
 use Rattle.rpki_message.specs.UriText.{uri_of_text}
 use Rattle.rpki_message.proofs.Attributes.{then_some}
+use Rattle.rpki_message.proofs.Bounds.{AtMost, attribute_size, end_size, inside_size, optional_attribute_size, leaf_size, named_size, optional_size, uri_size, there_size, content_size, whole, IsPart, parts, some_parts, last_part, found_part, each_size}
+use Rattle.rpki_message.proofs.Lawful.{IsLawful, there}
 use Rattle.rpki_message.proofs.Sizes.{values, weight, size, document_size}
-use Rattle.rpki_message.proofs.Spelt.{content_spelled}
-use Rattle.rpki_message.proofs.Uris.{lawful_text}
-use Rattle.rpki_text.specs.Base64.{is_not_space, base64_content}
+use Rattle.rpki_text.specs.Base64.{base64_content}
 use Rattle.rpki_text.specs.Hash.{digest_of_text}
-use Rattle.rpki_text.specs.Uri.{rsync, fault_of}
+use Rattle.rpki_text.specs.Uri.{rsync}
 use Rattle.rpki_xml.specs.Draft.{optional_attribute}
-use Rattle.rpki_xml.specs.Element.{Attribute, Head, Elements, none, first, Element, elements_of, listed, is_nil, is_none}
-use Rattle.rpki_xml.specs.Lettered.{AreOctets, IsLetteredHead, AreLettered}
-use Rattle.rpki_xml.specs.Name.{behind_colon, local_name}
-use Rattle.rpki_xml.specs.Spelling.{text_character, value_character, spelled, spelled_all, spelled_attribute, spelled_attributes, spelled_start, spelled_inside, spelled_value, spelled_text, spelled_end}
-use Rattle.rpki_xml.specs.Tables.{require, is_named, is_called, value_of, optional, optional_by, where_there, each_of, at_most_one_child, the_child, is_first_named}
+use Rattle.rpki_xml.specs.Element.{Head, Elements, Element, listed, is_none}
+use Rattle.rpki_xml.specs.Lettered.{IsLetteredHead, AreLettered}
+use Rattle.rpki_xml.specs.Spelling.{spelled, spelled_all, spelled_attribute, spelled_attributes, spelled_value, spelled_text, spelled_end}
+use Rattle.rpki_xml.specs.Tables.{require, is_named, optional, optional_by, each_of, at_most_one_child, the_child, is_first_named}
 use Rattle.rpki_xml.specs.Trimmed.{AreTrimmed}
 use Rattle.rpki_xml.proofs.Letters.{document_lettered}
 use Rattle.rpki_xml.proofs.Trims.{document_trimmed}
@@ -45,66 +44,16 @@ use Rattle.rpki_publication.specs.Change.{change_element, published, publish_in,
 use Rattle.rpki_publication.specs.ListElement.{ListElementFields}
 use Rattle.rpki_publication.specs.ListReply.{list_element, list_element_in}
 use Rattle.rpki_publication.specs.Message.{query_elements, reply_elements, root_element, element_of, text_of, query_in, reply_in, success_in, body_in, message_of, Reads}
-use Rattle.rpki_publication.specs.Pdu.{attribute, leaf, QueryAttributes, query_attributes_in, ReplyAttributes, reply_attributes_in}
+use Rattle.rpki_publication.specs.Pdu.{QueryAttributes, query_attributes_in, ReplyAttributes, reply_attributes_in}
 use Rattle.rpki_publication.specs.Publish.{tag_text}
 use Rattle.rpki_publication.specs.ReportError.{ReportErrorFields, ErrorDetails, is_error_text, is_failed_pdu, error_text_in, failed_pdu_in, pdu_where_there, details_in, report_error_in, report_error_element, failed_pdu_elements, shown_text}
 use Rattle.rpki_publication.specs.ReportErrorCode.{code_text, default_text}
 use Rattle.rpki_publication.proofs.Digits.{hash_spelled}
 use Rattle.rpki_publication.specs.Writing.{start_text}
-use Rattle.rpki_publication.proofs.Texts.{leaf_spelled, error_text, failed_text, bare_text, root_text}
-use Rattle.rpki_publication.proofs.Writable.{IsLawful, query_attributes, reply_attributes, there}
+use Rattle.rpki_publication.proofs.Texts.{error_text, failed_text, bare_text, root_text}
+use Rattle.rpki_publication.proofs.Writable.{query_attributes, reply_attributes}
 
 -- ---- what texts are spelled as
-
-value_size : (c : ℕ) → length (value_character c) ≤ 6
-value_size c = go (nat_eq c 34) (nat_eq c 39) (nat_eq c 38) (nat_eq c 60) (nat_eq c 62)
-  where
-    go : (p q r s t : Bool) → length (if p then codes "&quot;" else if q then codes "&apos;" else if r then codes "&amp;" else if s then codes "&lt;" else if t then codes "&gt;" else c ∷ []) ≤ 6
-    go true q r s t = omega arith
-    go false true r s t = omega arith
-    go false false true s t = omega arith
-    go false false false true t = omega arith
-    go false false false false true = omega arith
-    go false false false false false = omega arith
-
-text_size : (c : ℕ) → length (text_character c) ≤ 6
-text_size c = go (nat_eq c 38) (nat_eq c 60) (nat_eq c 62)
-  where
-    go : (r s t : Bool) → length (if r then codes "&amp;" else if s then codes "&lt;" else if t then codes "&gt;" else c ∷ []) ≤ 6
-    go true s t = omega arith
-    go false true t = omega arith
-    go false false true = omega arith
-    go false false false = omega arith
-
-flat_size : (f : ℕ → List ℕ) → ((c : ℕ) → length (f c) ≤ 6) → (text : List ℕ) → length (flat_map f text) ≤ 6 * length text
-flat_size f h [] = omega arith
-flat_size f h (c ∷ text) =
-    let a = h c in
-    let b = flat_size f h text in
-    let e = length-append (f c) (flat_map f text) in
-    omega (arith, a, b, e)
-
-attribute_size : (name value : List ℕ) → length (spelled_attribute name value) ≤ length name + 6 * length value + 4
-unfolding spelled_value
-attribute_size name value =
-    let a = flat_size value_character value_size value in
-    let e = length-append name (61 ∷ 34 ∷ (flat_map value_character value ++ 34 ∷ [])) in
-    let g = length-append (flat_map value_character value) (34 ∷ []) in
-    omega (arith, a, e, g)
-
-end_size : (name : List ℕ) → length (spelled_end name) ≤ length name + 3
-end_size name = let e = length-append name (62 ∷ []) in omega (arith, e)
-
-inside_size : (name text : List ℕ) → length (text_inside name text) ≤ length name + 6 * length text + 4
-unfolding spelled_text
-inside_size name [] = omega arith
-inside_size name (c ∷ text) =
-    let t = flat_map text_character (c ∷ text) in
-    let a = flat_size text_character text_size (c ∷ text) in
-    let e = length-append (t ++ []) (spelled_end name) in
-    let g = ap (λ (l : List ℕ). length l) (append-nil t) in
-    let h = end_size name in
-    omega (arith, a, e, g, h)
 
 hash_size : (hash : List ℕ) → IsDigest hash → length (spelled_attribute (codes "hash") (encode_lower hash)) ≤ 72
 hash_size hash h =
@@ -115,77 +64,6 @@ hash_size hash h =
     let n = h.0 in
     omega (arith, e, a, b, d, n)
 
-leaf_size : (name : List ℕ) (attributes : List Attribute) (text : List ℕ) → length (spelled (leaf name attributes text)) ≤ 2 * length name + length (spelled_attributes attributes) + 6 * length text + 5
-leaf_size name attributes text =
-    let e = ap (λ (l : List ℕ). length l) (leaf_spelled name attributes text) in
-    let a = length-append name (spelled_attributes attributes ++ text_inside name text) in
-    let b = length-append (spelled_attributes attributes) (text_inside name text) in
-    let i = inside_size name text in
-    omega (arith, e, a, b, i)
-
--- ---- what is known of an element
-
-named_true : (b : Bool) (x : Unit {0}) → require b ≡ Some x → b ≡ true
-named_true true x e = refl
-named_true false x e = absurd (none_some x e)
-
-local_size : (name : List ℕ) → length (local_name name) ≤ length name
-local_size name = go (behind_colon name) (behind name)
-  where
-    behind : (n : List ℕ) → IfSome (behind_colon n) (λ l. length l ≤ length n)
-    behind [] = tt
-    behind (c ∷ n) = step (nat_eq c 58) (behind_colon n) (behind n)
-      where
-        step : (b : Bool) (o : Option (List ℕ)) → IfSome o (λ l. length l ≤ length n) → IfSome (cond b (Some n) o) (λ l. length l ≤ length (c ∷ n))
-        step true o h = omega arith
-        step false None h = tt
-        step false (Some l) h = omega (arith, h)
-
-    go : (o : Option (List ℕ)) → IfSome o (λ l. length l ≤ length name) → length (unwrap_or o name) ≤ length name
-    go None h = omega arith
-    go (Some l) h = h
-
-named_size : (local : List ℕ) (h : Head) (x : Unit {0}) → require (is_named local h) ≡ Some x → length local ≤ length h.name
-named_size local h x e =
-    let is = ap (λ (l : List ℕ). length l) (same_octets (local_name h.name) local (named_true (is_named local h) x e)) in
-    let s = local_size h.name in
-    omega (arith, is, s)
-
-filter_values : (f : Attribute → Bool) (list : List Attribute) → values (filter f list) ≤ values list
-filter_values f [] = omega arith
-filter_values f (a ∷ list) = go (f a) (filter_values f list)
-  where
-    go : (b : Bool) → values (filter f list) ≤ values list → values (cond b (a ∷ filter f list) (filter f list)) ≤ values (a ∷ list)
-    go true h = omega (arith, h)
-    go false h = omega (arith, h)
-
-abbrev AtMost : ℕ → Option (List ℕ) → Type 0
-AtMost n o = IfSome o (λ v. length v ≤ n)
-
-one_value : (list : List Attribute) (n : ℕ) (o : Option (List ℕ)) → values list ≤ n → items.at_most_one value_of list ≡ Some o → AtMost n o
-unfolding items.at_most_one ◌>>=◌
-one_value [] n o le e = subst (AtMost n) (same_some None o e) tt
-one_value (a ∷ []) n o le e = subst (AtMost n) (same_some (Some a.value) o e) (omega (arith, le))
-one_value (a ∷ b ∷ more) n o le e = absurd (none_some o e)
-
-optional_size : (local : List ℕ) (h : Head) (o : Option (List ℕ)) → optional local h ≡ Some o → AtMost (values h.attributes) o
-unfolding optional
-optional_size local h o e = one_value (filter (is_called local) h.attributes) (values h.attributes) o (filter_values (is_called local) h.attributes) e
-
-uri_there : (n : ℕ) (text u : Option (List ℕ)) → AtMost n text → where_there (uri_of_text rsync) text ≡ Some u → AtMost n u
-unfolding uri_of_text
-uri_there n None u h e = subst (AtMost n) (same_some None u e) tt
-uri_there n (Some text) u h e =
-    let p = then_some (uri_of_text rsync text) (λ x. Some (Some x)) u e in
-    let is = (lawful_text text (fault_of rsync text) p.0 p.1).1 in
-    subst (AtMost n) (same_some (Some p.0) u p.2) (subst (λ (l : List ℕ). length l ≤ n) is h)
-
-uri_size : (h : Head) (u : Option (List ℕ)) → optional_by (uri_of_text rsync) (codes "uri") h ≡ Some u → AtMost (values h.attributes) u
-unfolding optional_by
-uri_size h u e =
-    let p = then_some (optional (codes "uri") h) (where_there (uri_of_text rsync)) u e in
-    uri_there (values h.attributes) p.0 u (optional_size (codes "uri") h p.0 p.1) p.2
-
 query_sizes : (h : Head) (a : QueryAttributes) → query_attributes_in h ≡ Some a → AtMost (values h.attributes) a.tag × AtMost (values h.attributes) a.uri
 unfolding query_attributes_in
 query_sizes h a is =
@@ -194,7 +72,7 @@ query_sizes h a is =
     let u = then_some (optional_by (uri_of_text rsync) (codes "uri") h) _ a t.2 in
     let d = then_some (optional_by digest_of_text (codes "hash") h) _ a u.2 in
     subst (λ (b : QueryAttributes). AtMost (values h.attributes) b.tag × AtMost (values h.attributes) b.uri) (same_some (record { tag = t.0; uri = u.0; hash = d.0 }) a d.2)
-    (optional_size (codes "tag") h t.0 t.1, uri_size h u.0 u.1)
+    (optional_size (codes "tag") h t.0 t.1, uri_size rsync (codes "uri") h u.0 u.1)
 
 reply_sizes : (h : Head) (a : ReplyAttributes) → reply_attributes_in h ≡ Some a → AtMost (values h.attributes) a.tag × AtMost (values h.attributes) a.uri
 unfolding reply_attributes_in
@@ -205,28 +83,11 @@ reply_sizes h a is =
     let t = then_some (optional (codes "tag") h) _ a u.2 in
     let c = then_some _ _ a t.2 in
     subst (λ (b : ReplyAttributes). AtMost (values h.attributes) b.tag × AtMost (values h.attributes) b.uri) (same_some (record { hash = d.0; uri = u.0; tag = t.0; error_code = c.0 }) a c.2)
-    (optional_size (codes "tag") h t.0 t.1, uri_size h u.0 u.1)
+    (optional_size (codes "tag") h t.0 t.1, uri_size rsync (codes "uri") h u.0 u.1)
 
 tag_size : (n : ℕ) (tag : Option (List ℕ)) → AtMost n tag → length (tag_text tag) ≤ n
 tag_size n None h = omega arith
 tag_size n (Some tag) h = h
-
-uri_of : (n : ℕ) (o : Option (List ℕ)) (u : List ℕ) → o ≡ Some u → AtMost n o → length u ≤ n
-uri_of n o u e h = subst (AtMost n) e h
-
-filtered : (f : ℕ → Bool) (text : List ℕ) → length (filter f text) ≤ length text
-filtered f [] = omega arith
-filtered f (c ∷ text) = go (f c) (filtered f text)
-  where
-    go : (b : Bool) → length (filter f text) ≤ length text → length (cond b (c ∷ filter f text) (filter f text)) ≤ length (c ∷ text)
-    go true h = omega (arith, h)
-    go false h = omega (arith, h)
-
-content_size : (text content : List ℕ) → AreOctets text → base64_content text ≡ Some content → length (encode_of standard content) ≤ length text
-content_size text content l e =
-    let s = ap (λ (t : List ℕ). length t) (content_spelled text content l e) in
-    let f = filtered is_not_space text in
-    omega (arith, s, f)
 
 -- ---- elements of a query
 
@@ -277,7 +138,7 @@ publish_short e c l is =
     let u = then_some a.0.uri _ c a.2 in
     let b = then_some (base64_content e.head.text) _ c u.2 in
     let n = values e.head.attributes in
-    let k = published_size a.0.tag u.0 b.0 a.0.hash n (length e.head.text) s.0 (uri_of n a.0.uri u.0 u.1 s.1) w.hash' (content_size e.head.text b.0 l.text b.1) in
+    let k = published_size a.0.tag u.0 b.0 a.0.hash n (length e.head.text) s.0 (there_size n a.0.uri u.0 u.1 s.1) w.hash' (content_size e.head.text b.0 l.text b.1) in
     let long = named_size (codes "publish") e.head p.0 p.1 in
     (subst (λ (x : PublishDeltaElement). length (spelled (change_element x)) ≤ 13 * weight e.head + 120) (same_some (published a.0.tag u.0 b.0 a.0.hash) c b.2) (omega (arith, k)), omega (arith, long))
 
@@ -293,7 +154,7 @@ withdraw_short e c l is =
     let d = then_some a.0.hash _ c u.2 in
     let n = values e.head.attributes in
     let k = leaf_size (codes "withdraw") (attribute (codes "tag") (tag_text a.0.tag) ∷ attribute (codes "uri") u.0 ∷ attribute (codes "hash") (encode_lower d.0) ∷ []) [] in
-    let b = three_attributes (tag_text a.0.tag) u.0 d.0 n (tag_size n a.0.tag s.0) (uri_of n a.0.uri u.0 u.1 s.1) (there IsDigest a.0.hash d.0 d.1 w.hash') in
+    let b = three_attributes (tag_text a.0.tag) u.0 d.0 n (tag_size n a.0.tag s.0) (there_size n a.0.uri u.0 u.1 s.1) (there IsDigest a.0.hash d.0 d.1 w.hash') in
     let long = named_size (codes "withdraw") e.head p.0 p.1 in
     (subst (λ (x : PublishDeltaElement). length (spelled (change_element x)) ≤ 13 * weight e.head + 120) (same_some (change.Withdraw (record { tag = a.0.tag; uri = u.0; hash = d.0 })) c d.2) (omega (arith, k, b)), omega (arith, long))
 
@@ -318,9 +179,6 @@ pdu_short e pdu l is = go (is_named (codes "list") e.head) is
 
 -- ---- elements of a reply
 
-abbrev whole : Element → ℕ
-whole e = weight e.head + size e.children
-
 change_size : (e : Element) (c : PublishDeltaElement) → IsLawful e → change_in e ≡ Some c → length (spelled (change_element c)) ≤ 40 * whole e
 change_size e c l is = let s = change_short e c l.head is in let a = s.0 in let b = s.1 in omega (arith, a, b)
 
@@ -338,7 +196,7 @@ object_size e x l is =
     let long = named_size (codes "list") e.head p.0 p.1 in
     let h = hash_size d.0 (there IsDigest a.0.hash d.0 d.1 w.hash') in
     let v = attribute_size (codes "uri") u.0 in
-    let m = uri_of n a.0.uri u.0 u.1 s.1 in
+    let m = there_size n a.0.uri u.0 u.1 s.1 in
     let last = spelled_attribute (codes "hash") (encode_lower d.0) in
     let k = leaf_size (codes "list") (list_element (record { uri = u.0; hash = d.0 })).head.attributes [] in
     let f = length-append (spelled_attribute (codes "uri") u.0) (last ++ []) in
@@ -371,13 +229,6 @@ shown_size : (c : ReportErrorCode) (text : Option (List ℕ)) (n : ℕ) → AtMo
 shown_size c None n h = let d = default_size c in omega (arith, d)
 shown_size c (Some text) n h = let i = inside_size (codes "error_text") text in omega (arith, i, h)
 
-own_tag_size : (tag : Option (List ℕ)) (n : ℕ) → AtMost n tag → length (spelled_attributes (optional_attribute (codes "tag") tag)) ≤ 6 * n + 7
-own_tag_size None n h = omega arith
-own_tag_size (Some tag) n h =
-    let a = attribute_size (codes "tag") tag in
-    let g = ap (λ (l : List ℕ). length l) (append-nil (spelled_attribute (codes "tag") tag)) in
-    omega (arith, a, g, h)
-
 abbrev IsSmallPdu : ℕ → QueryPdu → Type 0
 IsSmallPdu n pdu = length (spelled (query_pdu_element pdu)) ≤ 13 * n + 120
 
@@ -389,44 +240,12 @@ failed_size (Some pdu) n h =
     let b = length-append (spelled (query_pdu_element pdu)) (codes "</failed_pdu>") in
     omega (arith, e, a, b, h)
 
--- what the children are, each no greater than all of them
-record IsPart (n : ℕ) (e : Element) : Type 0 where
-  head : IsLetteredHead e.head
-  below : AreLettered e.children
-  fits : whole e ≤ n
-
-parts : (es : Elements) (n : ℕ) → AreLettered es → size es ≤ n → AllByRecursion (IsPart n) (listed es)
-parts none n l h = tt
-parts (first head children rest) n l h = (record { head = l.0; below = l.1.0; fits = omega (arith, h) }, parts rest n l.1.1 (omega (arith, h)))
-
-some_parts : (n : ℕ) (f : Element → Bool) (list : List Element) → AllByRecursion (IsPart n) list → AllByRecursion (IsPart n) (filter f list)
-some_parts n f [] l = tt
-some_parts n f (e ∷ list) l = go (f e) (some_parts n f list l.1)
-  where
-    go : (b : Bool) → AllByRecursion (IsPart n) (filter f list) → AllByRecursion (IsPart n) (cond b (e ∷ filter f list) (filter f list))
-    go true g = (l.0, g)
-    go false g = g
-
-last_part : {X : Type 0} (n : ℕ) (f : Element → Option (Option X)) (P : X → Type 0) → ((e : Element) (x : Option X) → IsPart n e → f e ≡ Some x → IfSome x P)
-    → (list : List Element) (before found : Option X) → AllByRecursion (IsPart n) list → IfSome before P → items.the_last before f list ≡ Some found → IfSome found P
-unfolding items.the_last
-last_part {X} n f P h [] before found l b is = subst (λ (o : Option X). IfSome o P) (same_some before found is) b
-last_part {X} n f P h (e ∷ list) before found l b is =
-    let p = then_some (f e) (λ x. items.the_last x f list) found is in
-    last_part n f P h list p.0 found l.1 (h e p.0 l.0 p.1) p.2
-
 text_part : (n : ℕ) (e : Element) (text : Option (List ℕ)) → IsPart n e → error_text_in e ≡ Some text → AtMost n text
 unfolding error_text_in
 text_part n e text l is =
     let p = then_some _ _ text is in
     let k = l.fits in
     subst (AtMost n) (same_some (Some e.head.text) text p.2) (omega (arith, k))
-
-found_part : (n : ℕ) (children : Elements) (found : Option Element) → AreLettered children → size children ≤ n → at_most_one_child children ≡ Some found → IfSome found (IsPart n)
-found_part n none found l h is = subst (λ (o : Option Element). IfSome o (IsPart n)) (same_some None found is) tt
-found_part n (first k cs none) found l h is =
-    subst (λ (o : Option Element). IfSome o (IsPart n)) (same_some (Some (record { head = k; children = cs })) found is) (record { head = l.0; below = l.1.0; fits = omega (arith, h) })
-found_part n (first k cs (first m ds rest)) found l h is = absurd (none_some found is)
 
 pdu_at : (n : ℕ) (found : Option Element) (pdu : Option QueryPdu) → IfSome found (IsPart n) → pdu_where_there found ≡ Some pdu → IfSome pdu (IsSmallPdu n)
 pdu_at n None pdu l is = subst (λ (o : Option QueryPdu). IfSome o (IsSmallPdu n)) (same_some None pdu is) tt
@@ -478,7 +297,7 @@ report_size r v n t x p =
     let e5 = length-append i (f ++ end) in
     let e6 = length-append f end in
     let s1 = code_size r.error_code in
-    let s2 = own_tag_size r.tag v t in
+    let s2 = optional_attribute_size (codes "tag") r.tag v t in
     let s3 = shown_size r.error_code r.error_text n x in
     let s4 = failed_size r.failed_pdu n p in
     let s5 = end_size (codes "report_error") in
@@ -498,29 +317,6 @@ error_size e r l is =
     let z = report_size m (values e.head.attributes) (size e.children) s.0 k.text k.pdu in
     let long = named_size (codes "report_error") e.head p.0 p.1 in
     subst (λ (y : ReportErrorFields). length (spelled (report_error_element y)) ≤ 40 * whole e) (same_some m r d.2) (omega (arith, z, long))
-
--- ---- all elements
-
-abbrev start_of : Element → List ℕ
-start_of x = spelled_start x.head ++ spelled_inside (is_nil x.head.text && is_none x.children) x.head.name (spelled_text x.head.text ++ spelled_all x.children)
-
-each_size : {X : Type 0} (f : Element → Option X) (g : X → Element) → ((e : Element) (x : X) → IsLawful e → f e ≡ Some x → length (spelled (g x)) ≤ 40 * whole e)
-    → (es : Elements) (xs : List X) → AreLettered es → AreTrimmed es → each_of f es ≡ Some xs → length (spelled_all (elements_of g xs)) ≤ 40 * size es
-unfolding each_of
-each_size {X} f g h none xs l t is = subst (λ (list : List X). length (spelled_all (elements_of g list)) ≤ 0) (same_some [] xs is) (omega arith)
-each_size {X} f g h (first head children rest) xs l t is =
-    let e : Element = record { head = head; children = children } in
-    let p = then_some (f e) _ xs is in
-    let q = then_some (each_of f rest) _ xs p.2 in
-    let one = h e p.0 (record { head = l.0; trimmed' = t.0; below = l.1.0; trims = t.1.0 }) p.1 in
-    let more = each_size f g h rest q.0 l.1.1 t.1.1 q.1 in
-    subst (λ (list : List X). length (spelled_all (elements_of g list)) ≤ 40 * size (first head children rest)) (same_some (p.0 ∷ q.0) xs q.2) (joined (g p.0) (elements_of g q.0) (40 * whole e) (40 * size rest) (40 * size (first head children rest)) one more (omega arith))
-  where
-    joined : (x : Element) (xs : Elements) (a b c : ℕ) → length (spelled x) ≤ a → length (spelled_all xs) ≤ b → a + b ≤ c → length (spelled_all (first x.head x.children xs)) ≤ c
-    joined x xs a b c h k le =
-        let alone' = ap (λ (l : List ℕ). length l) (append-nil (start_of x)) in
-        let e = length-append (start_of x) (spelled_all xs) in
-        omega (arith, h, k, le, alone', e)
 
 -- ---- messages
 

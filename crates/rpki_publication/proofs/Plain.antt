@@ -1,16 +1,17 @@
 -- The elements that writable messages are written as are plain: they are read again.
-use Rattle.std.proofs.Common.{◌≡◌, ℕ, true, false, List, [], ◌∷◌, Option, Some, None, refl, IfSome}
+use Rattle.std.proofs.Common.{◌≡◌, ℕ, List, [], ◌∷◌, Option, Some, None, refl, IfSome}
 use Rattle.std.specs.Prelude.{codes}
 use Rattle.std.specs.List.{AllByRecursion}
 use Rattle.base64.specs.Engines.{standard}
 use Rattle.base64.specs.GeneralPurpose.{encode_of}
 use Rattle.rpki_message.proofs.Base64s.{encode-trimmed, encode-octets}
-use Rattle.rpki_message.proofs.Uris.{uri_octets}
-use Rattle.rpki_text.specs.Uri.{rsync}
-use Rattle.rpki_xml.specs.Content.{is_declaration, is_distinct, trimmed}
-use Rattle.rpki_xml.specs.Element.{Attribute, Elements, none, first, alone, elements_of}
+use Rattle.rpki_message.proofs.Plain.{attribute_plain, uri_plain, leaf_plain}
+use Rattle.rpki_message.specs.Parts.{attribute, leaf}
+use Rattle.rpki_text.specs.Uri.{rsync, fault_of}
+use Rattle.rpki_xml.specs.Content.{is_declaration, trimmed}
+use Rattle.rpki_xml.specs.Element.{Elements, none, first, alone, elements_of}
 use Rattle.rpki_xml.specs.Lettered.{AreOctets}
-use Rattle.rpki_xml.specs.PlainElement.{IsPlainName, IsPlainAttribute, IsPlainHead, ArePlain}
+use Rattle.rpki_xml.specs.PlainElement.{IsPlainAttribute, IsPlainHead, ArePlain}
 use Rattle.rpki_xml.proofs.Octets.{written_is_read}
 use Rattle.rpki_publication.specs.declared.message.Message.{Message}
 use Rattle.rpki_publication.specs.declared.message.Message.TheVariants as message
@@ -26,18 +27,11 @@ use Rattle.rpki_publication.specs.Change.{change_element, query_pdu_element, IsW
 use Rattle.rpki_publication.specs.ListElement.{ListElementFields}
 use Rattle.rpki_publication.specs.ListReply.{list_element, IsWritableListElement}
 use Rattle.rpki_publication.specs.Message.{root_element, element_of, text_of, Reads, IsWritable, normal_form}
-use Rattle.rpki_publication.specs.Pdu.{attribute, leaf}
 use Rattle.rpki_publication.specs.Publish.{tag_text}
 use Rattle.rpki_publication.specs.ReportError.{ReportErrorFields, report_error_element, failed_pdu_elements, shown_text, IsWritableError}
 use Rattle.rpki_publication.specs.ReportErrorCode.{code_text, default_text}
 use Rattle.rpki_publication.proofs.Again.{message_again}
 use Rattle.rpki_publication.proofs.Digits.{digest_octets}
-
-attribute_plain : (name value : List ℕ) → IsPlainName name → is_declaration (attribute name value) ≡ false → AreOctets value → IsPlainAttribute (attribute name value)
-attribute_plain name value n d v = record { name = n; handed_on = d; value = v }
-
-leaf_plain : (name : List ℕ) (attributes : List Attribute) (text : List ℕ) → IsPlainName name → AllByRecursion IsPlainAttribute attributes → is_distinct attributes ≡ true → trimmed text ≡ text → AreOctets text → IsPlainHead (leaf name attributes text).head
-leaf_plain name attributes text n a d t o = record { name = n; namespace = tt; attributes = a; distinct = d; trimmed = t; text = o }
 
 tag_octets : (tag : Option (List ℕ)) → IfSome tag AreOctets → AreOctets (tag_text tag)
 tag_octets None h = refl
@@ -47,9 +41,9 @@ tag_plain : (tag : Option (List ℕ)) → IfSome tag AreOctets → IsPlainAttrib
 unfolding is_declaration
 tag_plain tag h = attribute_plain (codes "tag") (tag_text tag) (record { lawful = refl; octets = refl; plain = refl }) refl (tag_octets tag h)
 
-uri_plain : (uri : List ℕ) → AreOctets uri → IsPlainAttribute (attribute (codes "uri") uri)
+rsync_plain : (uri : List ℕ) → fault_of rsync uri ≡ None → IsPlainAttribute (attribute (codes "uri") uri)
 unfolding is_declaration
-uri_plain uri h = attribute_plain (codes "uri") uri (record { lawful = refl; octets = refl; plain = refl }) refl h
+rsync_plain uri h = uri_plain rsync (codes "uri") uri (record { lawful = refl; octets = refl; plain = refl }) refl h
 
 hash_plain : (hash : List ℕ) → AreOctets hash → IsPlainAttribute (attribute (codes "hash") hash)
 unfolding is_declaration
@@ -60,15 +54,15 @@ hash_plain hash h = attribute_plain (codes "hash") hash (record { lawful = refl;
 change_plain : (c : PublishDeltaElement) (rest : Elements) → IsWritableChange c → ArePlain rest → ArePlain (first (change_element c).head (change_element c).children rest)
 unfolding change_element trimmed
 change_plain (change.Publish p) rest h r = (
-  leaf_plain (codes "publish") _ (encode_of standard p.content) (record { lawful = refl; octets = refl; plain = refl }) (tag_plain p.tag h.tag, (uri_plain p.uri (uri_octets rsync p.uri h.uri), tt)) refl (encode-trimmed p.content) (encode-octets p.content h.content),
+  leaf_plain (codes "publish") _ (encode_of standard p.content) (record { lawful = refl; octets = refl; plain = refl }) (tag_plain p.tag h.tag, (rsync_plain p.uri h.uri, tt)) refl (encode-trimmed p.content) (encode-octets p.content h.content),
   ((λ e. absurd cc), (tt, r)),
 )
 change_plain (change.Update u) rest h r = (
-  leaf_plain (codes "publish") _ (encode_of standard u.content) (record { lawful = refl; octets = refl; plain = refl }) (tag_plain u.tag h.tag, (uri_plain u.uri (uri_octets rsync u.uri h.uri), (hash_plain _ (digest_octets u.hash h.hash), tt))) refl (encode-trimmed u.content) (encode-octets u.content h.content),
+  leaf_plain (codes "publish") _ (encode_of standard u.content) (record { lawful = refl; octets = refl; plain = refl }) (tag_plain u.tag h.tag, (rsync_plain u.uri h.uri, (hash_plain _ (digest_octets u.hash h.hash), tt))) refl (encode-trimmed u.content) (encode-octets u.content h.content),
   ((λ e. absurd cc), (tt, r)),
 )
 change_plain (change.Withdraw w) rest h r = (
-  leaf_plain (codes "withdraw") _ [] (record { lawful = refl; octets = refl; plain = refl }) (tag_plain w.tag h.tag, (uri_plain w.uri (uri_octets rsync w.uri h.uri), (hash_plain _ (digest_octets w.hash h.hash), tt))) refl refl refl,
+  leaf_plain (codes "withdraw") _ [] (record { lawful = refl; octets = refl; plain = refl }) (tag_plain w.tag h.tag, (rsync_plain w.uri h.uri, (hash_plain _ (digest_octets w.hash h.hash), tt))) refl refl refl,
   ((λ e. refl), (tt, r)),
 )
 
@@ -89,7 +83,7 @@ pdu_plain (pdus.PublishDeltaElement c) h = change_plain c none h tt
 
 object_plain : (x : ListElementFields) → IsWritableListElement x → IsPlainHead (list_element x).head
 unfolding trimmed
-object_plain x h = leaf_plain (codes "list") _ [] (record { lawful = refl; octets = refl; plain = refl }) (uri_plain x.uri (uri_octets rsync x.uri h.uri), (hash_plain _ (digest_octets x.hash h.hash), tt)) refl refl refl
+object_plain x h = leaf_plain (codes "list") _ [] (record { lawful = refl; octets = refl; plain = refl }) (rsync_plain x.uri h.uri, (hash_plain _ (digest_octets x.hash h.hash), tt)) refl refl refl
 
 objects_plain : (list : List ListElementFields) → AllByRecursion IsWritableListElement list → ArePlain (elements_of list_element list)
 objects_plain [] h = tt

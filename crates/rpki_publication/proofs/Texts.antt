@@ -6,31 +6,19 @@ use Rattle.base64.specs.Engines.{standard}
 use Rattle.base64.specs.GeneralPurpose.{encode_of}
 use Rattle.hex.specs.Hex.{encode_lower}
 use Rattle.rpki_message.specs.Inside.{text_inside}
+use Rattle.rpki_message.proofs.Elements.{leaf_spelled, two, three}
 use Rattle.rpki_xml.specs.Draft.{optional_attribute}
-use Rattle.rpki_xml.specs.Element.{Attribute, Elements, is_none}
+use Rattle.rpki_xml.specs.Element.{Elements, is_none}
 use Rattle.rpki_xml.specs.Spelling.{spelled, spelled_all, spelled_attribute, spelled_attributes, spelled_namespace, spelled_text, spelled_end}
 use Rattle.rpki_publication.specs.declared.query_pdu.QueryPdu.{QueryPdu}
 use Rattle.rpki_publication.specs.Change.{publish_element, update_element, withdraw_element, query_pdu_element}
 use Rattle.rpki_publication.specs.ListElement.{ListElementFields}
 use Rattle.rpki_publication.specs.ListReply.{list_element}
 use Rattle.rpki_publication.specs.Message.{NAMESPACE, root_element}
-use Rattle.rpki_publication.specs.Pdu.{leaf}
 use Rattle.rpki_publication.specs.Publish.{PublishFields, UpdateFields, WithdrawFields, tag_text}
 use Rattle.rpki_publication.specs.ReportError.{ReportErrorFields, report_error_element, failed_pdu_elements, shown_text}
 use Rattle.rpki_publication.specs.ReportErrorCode.{code_text}
 use Rattle.rpki_publication.specs.Writing.{start_text}
-
-leaf_parts : (n attributes inside : List ℕ) → (60 ∷ (n ++ ([] ++ attributes)) ++ inside) ++ [] ≡ 60 ∷ (n ++ (attributes ++ inside))
-leaf_parts n attributes inside = append-nil (60 ∷ (n ++ attributes) ++ inside) ∙ ap (λ (l : List ℕ). 60 ∷ l) (append_assoc n attributes inside)
-
-pub leaf_spelled : (n : List ℕ) (attributes : List Attribute) (text : List ℕ) → spelled (leaf n attributes text) ≡ 60 ∷ (n ++ (spelled_attributes attributes ++ text_inside n text))
-leaf_spelled n attributes text = leaf_parts n (spelled_attributes attributes) (text_inside n text)
-
-two : (a b inside : List ℕ) → a ++ (b ++ inside) ≡ (a ++ (b ++ [])) ++ inside
-two a b inside = sym (append_assoc a (b ++ []) inside ∙ ap (λ (l : List ℕ). a ++ l) (append_assoc b [] inside))
-
-three : (a b c inside : List ℕ) → a ++ (b ++ (c ++ inside)) ≡ (a ++ (b ++ (c ++ []))) ++ inside
-three a b c inside = sym (append_assoc a (b ++ (c ++ [])) inside ∙ ap (λ (l : List ℕ). a ++ l) (sym (two b c inside)))
 
 abbrev tag_part : List ℕ → List ℕ
 tag_part tag = spelled_attribute (codes "tag") tag

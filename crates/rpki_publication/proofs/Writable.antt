@@ -1,15 +1,14 @@
 -- Every message that is read is writable.
-use Rattle.std.proofs.Common.{◌≡◌, ◌≢◌, ℕ, Bool, true, false, List, [], ◌∷◌, Option, Some, None, cond, refl, subst, ◌∙◌, IfSome}
+use Rattle.std.proofs.Common.{◌≡◌, ◌≢◌, ℕ, Bool, true, false, List, [], ◌∷◌, Option, Some, None, refl, subst, ◌∙◌, IfSome}
 use Rattle.std.specs.Prelude.{codes, filter, if◌then◌else◌}
-use Rattle.std.specs.List.{AllByRecursion}
 use Rattle.std.specs.Str.{bytes_eq}
 use Rattle.base64.specs.GeneralPurpose.{IsBytes}
 use Rattle.rpki_common.specs.Chaining.{◌>>=◌}
 use Rattle.rpki_common.specs.Items as items
 use Rattle.rpki_common.proofs.Truths.{none_some, same_some}
 use Rattle.rpki_message.proofs.Attributes.{then_some, optional_lettered}
+use Rattle.rpki_message.proofs.Lawful.{IsLawful, lawful, some_lawful, each_writable, last_writable, child_lawful, there, uri_read}
 use Rattle.rpki_message.proofs.Spelt.{content_bytes}
-use Rattle.rpki_message.proofs.Uris.{there_lawful}
 use Rattle.rpki_message.specs.UriText.{uri_of_text}
 use Rattle.rpki_text.specs.Base64.{base64_content}
 use Rattle.rpki_text.specs.Hash.{digest_of_text}
@@ -39,40 +38,6 @@ use Rattle.rpki_publication.specs.Pdu.{QueryAttributes, query_attributes_in, Rep
 use Rattle.rpki_publication.specs.ReportError.{ReportErrorFields, ErrorDetails, is_error_text, is_failed_pdu, error_text_in, failed_pdu_in, pdu_where_there, details_in, report_error_in, IsWritableError}
 use Rattle.rpki_publication.proofs.Digits.{digest_read}
 
--- ---- what is known of each element of a document
-
-pub record IsLawful (e : Element) : Type 0 where
-  pub head : IsLetteredHead e.head
-  pub trimmed' : trimmed e.head.text ≡ e.head.text
-  pub below : AreLettered e.children
-  pub trims : AreTrimmed e.children
-
-abbrev AreLawful : List Element → Type 0
-AreLawful list = AllByRecursion IsLawful list
-
-lawful : (es : Elements) → AreLettered es → AreTrimmed es → AreLawful (listed es)
-lawful none l t = tt
-lawful (first h cs rest) l t = (record { head = l.0; trimmed' = t.0; below = l.1.0; trims = t.1.0 }, lawful rest l.1.1 t.1.1)
-
-some_lawful : (f : Element → Bool) (list : List Element) → AreLawful list → AreLawful (filter f list)
-some_lawful f [] l = tt
-some_lawful f (e ∷ list) l = go (f e) (some_lawful f list l.1)
-  where
-    go : (b : Bool) → AreLawful (filter f list) → AreLawful (cond b (e ∷ filter f list) (filter f list))
-    go true g = (l.0, g)
-    go false g = g
-
-each_writable : {X : Type 0} (f : Element → Option X) (P : X → Type 0) → ((e : Element) (x : X) → IsLawful e → f e ≡ Some x → P x)
-    → (es : Elements) (xs : List X) → AreLettered es → AreTrimmed es → each_of f es ≡ Some xs → AllByRecursion P xs
-unfolding each_of
-each_writable {X} f P h none xs l t is = subst (λ (list : List X). AllByRecursion P list) (same_some [] xs is) tt
-each_writable {X} f P h (first head children rest) xs l t is =
-    let e : Element = record { head = head; children = children } in
-    let p = then_some (f e) _ xs is in
-    let q = then_some (each_of f rest) _ xs p.2 in
-    subst (λ (list : List X). AllByRecursion P list) (same_some (p.0 ∷ q.0) xs q.2)
-    (h e p.0 (record { head = l.0; trimmed' = t.0; below = l.1.0; trims = t.1.0 }) p.1, each_writable f P h rest q.0 l.1.1 t.1.1 q.1)
-
 -- ---- attributes
 
 there_digest : (text h : Option (List ℕ)) → where_there digest_of_text text ≡ Some h → IfSome h IsDigest
@@ -80,10 +45,6 @@ there_digest None h e = subst (λ (o : Option (List ℕ)). IfSome o IsDigest) (s
 there_digest (Some text) h e =
     let p = then_some (digest_of_text text) (λ x. Some (Some x)) h e in
     subst (λ (o : Option (List ℕ)). IfSome o IsDigest) (same_some (Some p.0) h p.2) (digest_read text p.0 p.1)
-
-uri_read : (h : Head) (u : Option (List ℕ)) → optional_by (uri_of_text rsync) (codes "uri") h ≡ Some u → IfSome u (λ v. fault_of rsync v ≡ None)
-unfolding optional_by
-uri_read h u e = let p = then_some (optional (codes "uri") h) (where_there (uri_of_text rsync)) u e in there_lawful rsync p.0 u p.2
 
 hash_read : (h : Head) (d : Option (List ℕ)) → optional_by digest_of_text (codes "hash") h ≡ Some d → IfSome d IsDigest
 unfolding optional_by
@@ -102,7 +63,7 @@ query_attributes h a l is =
     let u = then_some (optional_by (uri_of_text rsync) (codes "uri") h) _ a t.2 in
     let d = then_some (optional_by digest_of_text (codes "hash") h) _ a u.2 in
     subst (λ (b : QueryAttributes). AreWritable b.tag b.uri b.hash) (same_some (record { tag = t.0; uri = u.0; hash = d.0 }) a d.2)
-    (record { tag' = optional_lettered (codes "tag") h t.0 l t.1; uri' = uri_read h u.0 u.1; hash' = hash_read h d.0 d.1 })
+    (record { tag' = optional_lettered (codes "tag") h t.0 l t.1; uri' = uri_read rsync (codes "uri") h u.0 u.1; hash' = hash_read h d.0 d.1 })
 
 pub reply_attributes : (h : Head) (a : ReplyAttributes) → IsLetteredHead h → reply_attributes_in h ≡ Some a → AreWritable a.tag a.uri a.hash
 unfolding reply_attributes_in
@@ -113,10 +74,7 @@ reply_attributes h a l is =
     let t = then_some (optional (codes "tag") h) _ a u.2 in
     let c = then_some _ _ a t.2 in
     subst (λ (b : ReplyAttributes). AreWritable b.tag b.uri b.hash) (same_some (record { hash = d.0; uri = u.0; tag = t.0; error_code = c.0 }) a c.2)
-    (record { tag' = optional_lettered (codes "tag") h t.0 l t.1; uri' = uri_read h u.0 u.1; hash' = hash_read h d.0 d.1 })
-
-pub there : (P : List ℕ → Type 0) (o : Option (List ℕ)) (x : List ℕ) → o ≡ Some x → IfSome o P → P x
-there P o x e h = subst (λ (p : Option (List ℕ)). IfSome p P) e h
+    (record { tag' = optional_lettered (codes "tag") h t.0 l t.1; uri' = uri_read rsync (codes "uri") h u.0 u.1; hash' = hash_read h d.0 d.1 })
 
 -- ---- elements of a query
 
@@ -187,11 +145,6 @@ text_lawful e text l is =
     let p = then_some _ _ text is in
     subst (λ (o : Option (List ℕ)). IfSome o IsLawfulText) (same_some (Some e.head.text) text p.2) (l.head.text, l.trimmed')
 
-child_lawful : (children : Elements) (found : Option Element) → AreLettered children → at_most_one_child children ≡ Some found → IfSome found (λ e. IsLetteredHead e.head)
-child_lawful none found l is = subst (λ (o : Option Element). IfSome o (λ e. IsLetteredHead e.head)) (same_some None found is) tt
-child_lawful (first h cs none) found l is = subst (λ (o : Option Element). IfSome o (λ e. IsLetteredHead e.head)) (same_some (Some (record { head = h; children = cs })) found is) l.0
-child_lawful (first h cs (first k ds rest)) found l is = absurd (none_some found is)
-
 pdu_there : (found : Option Element) (pdu : Option QueryPdu) → IfSome found (λ e. IsLetteredHead e.head) → pdu_where_there found ≡ Some pdu → IfSome pdu IsWritablePdu
 pdu_there None pdu l is = subst (λ (o : Option QueryPdu). IfSome o IsWritablePdu) (same_some None pdu is) tt
 pdu_there (Some e) pdu l is =
@@ -204,14 +157,6 @@ failed_writable e pdu l is =
     let p = then_some _ _ pdu is in
     let q = then_some (at_most_one_child e.children) pdu_where_there pdu p.2 in
     pdu_there q.0 pdu (child_lawful e.children q.0 l.below q.1) q.2
-
-last_writable : {X : Type 0} (f : Element → Option (Option X)) (P : X → Type 0) → ((e : Element) (x : Option X) → IsLawful e → f e ≡ Some x → IfSome x P)
-    → (list : List Element) (before found : Option X) → AreLawful list → IfSome before P → items.the_last before f list ≡ Some found → IfSome found P
-unfolding items.the_last
-last_writable {X} f P h [] before found l b is = subst (λ (o : Option X). IfSome o P) (same_some before found is) b
-last_writable {X} f P h (e ∷ list) before found l b is =
-    let p = then_some (f e) (λ x. items.the_last x f list) found is in
-    last_writable f P h list p.0 found l.1 (h e p.0 l.0 p.1) p.2
 
 record AreDetails (d : ErrorDetails) : Type 0 where
   text : IfSome d.error_text IsLawfulText

@@ -4,6 +4,7 @@ use Rattle.base64.specs.Engines.{standard}
 use Rattle.base64.specs.GeneralPurpose.{encode_of, IsBytes}
 use Rattle.hex.specs.Hex as hex
 use Rattle.rpki_common.specs.Chaining.{◌>>=◌}
+use Rattle.rpki_message.specs.Parts.{attribute, leaf}
 use Rattle.rpki_text.specs.Base64.{base64_content}
 use Rattle.rpki_text.specs.Uri.{rsync, fault_of}
 use Rattle.rpki_xml.specs.Element.{Element, is_none}
@@ -13,7 +14,7 @@ use Rattle.rpki_publication.specs.declared.publish_delta_element.PublishDeltaEle
 use Rattle.rpki_publication.specs.declared.publish_delta_element.PublishDeltaElement.TheVariants as change
 use Rattle.rpki_publication.specs.declared.query_pdu.QueryPdu.{QueryPdu}
 use Rattle.rpki_publication.specs.declared.query_pdu.QueryPdu.TheVariants as pdu
-use Rattle.rpki_publication.specs.Pdu.{attribute, leaf, query_attributes_in}
+use Rattle.rpki_publication.specs.Pdu.{query_attributes_in}
 use Rattle.rpki_publication.specs.Publish.{PublishFields, UpdateFields, WithdrawFields, tag_text}
 
 -- ---- what is written

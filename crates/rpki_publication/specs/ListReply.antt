@@ -2,12 +2,13 @@
 use Rattle.std.specs.Prelude.{◌≡◌, [], ◌∷◌, Option, None, Some, codes}
 use Rattle.hex.specs.Hex.{encode_lower}
 use Rattle.rpki_common.specs.Chaining.{◌>>=◌}
+use Rattle.rpki_message.specs.Parts.{attribute, leaf}
 use Rattle.rpki_text.specs.Uri.{rsync, fault_of}
 use Rattle.rpki_xml.specs.Element.{Element}
 use Rattle.rpki_xml.specs.Tables.{require, is_named, is_empty}
 use Rattle.rpki_publication.specs.Change.{IsDigest}
 use Rattle.rpki_publication.specs.ListElement.{ListElementFields}
-use Rattle.rpki_publication.specs.Pdu.{attribute, leaf, reply_attributes_in}
+use Rattle.rpki_publication.specs.Pdu.{reply_attributes_in}
 use Rattle.rpki_publication.specs.Publish.{WithdrawFields}
 
 abbrev pub list_element : ListElementFields → Element

@@ -5,6 +5,7 @@ use Rattle.std.specs.List.{AllByRecursion}
 use Rattle.std.specs.Str.{bytes_eq}
 use Rattle.rpki_common.specs.Chaining.{◌>>=◌}
 use Rattle.rpki_message.specs.Reading as reading
+use Rattle.rpki_message.specs.Parts.{attribute, leaf}
 use Rattle.rpki_xml.specs.Element.{Elements, Element, alone, elements_of, is_nil}
 use Rattle.rpki_xml.specs.Tables.{require, is_named, is_first_named, only, required, given_or_absent, is_empty, the_child, each_of}
 use Rattle.rpki_xml.specs.Spelling.{spelled}
@@ -16,7 +17,7 @@ use Rattle.rpki_publication.specs.declared.reply.Reply.{Reply}
 use Rattle.rpki_publication.specs.declared.reply.Reply.TheVariants as reply
 use Rattle.rpki_publication.specs.Change.{list_query_element, list_query_in, change_element, change_in, IsWritableChange, normal_change}
 use Rattle.rpki_publication.specs.ListReply.{list_element, list_element_in, IsWritableListElement}
-use Rattle.rpki_publication.specs.Pdu.{attribute, leaf, reply_attributes_in}
+use Rattle.rpki_publication.specs.Pdu.{reply_attributes_in}
 use Rattle.rpki_publication.specs.ReportError.{report_error_element, report_error_in, IsWritableError, normal_error}
 
 abbrev pub NAMESPACE : List ℕ

@@ -1,24 +1,13 @@
--- What the elements inside a message share (RFC 8181, 2.2 to 2.4): how they are written, and the attributes that are known. Names are
--- compared by their local parts.
-use Rattle.std.specs.Prelude.{ℕ, List, [], ◌∷◌, Option, None, Some, codes}
+-- The attributes that the elements inside a message may have (RFC 8181, 2.2 to 2.4). Names are compared by their local parts.
+use Rattle.std.specs.Prelude.{ℕ, List, [], ◌∷◌, Option, Some, codes}
 use Rattle.rpki_common.specs.Chaining.{◌>>=◌}
 use Rattle.rpki_message.specs.UriText.{uri_of_text}
 use Rattle.rpki_text.specs.Hash.{digest_of_text}
 use Rattle.rpki_text.specs.Uri.{rsync}
-use Rattle.rpki_xml.specs.Element.{Attribute, Head, none, Element}
+use Rattle.rpki_xml.specs.Element.{Head}
 use Rattle.rpki_xml.specs.Tables.{only, optional, optional_by}
 use Rattle.rpki_publication.specs.ReportErrorCode.{code_of_text}
 use Rattle.rpki_publication.specs.declared.report_error_code.ReportErrorCode.{ReportErrorCode}
-
-abbrev pub attribute : List ℕ → List ℕ → Attribute
-attribute name value = record { name = name; value = value }
-
--- an element without children
-abbrev pub leaf : List ℕ → List Attribute → List ℕ → Element
-leaf name attributes text = record {
-  head = record { name = name; namespace = None; attributes = attributes; text = text };
-  children = none;
-}
 
 -- The attributes of an element in a query. Each that is there has to be lawful, also where the element has no use for it.
 pub record QueryAttributes : Type 0 where

@@ -2,6 +2,7 @@
 use Rattle.std.specs.Prelude.{◌≡◌, ℕ, List, [], ◌∷◌, Bool, ◌||◌, Option, None, Some, IfSome, filter, codes}
 use Rattle.rpki_common.specs.Chaining.{◌>>=◌}
 use Rattle.rpki_common.specs.Items as items
+use Rattle.rpki_message.specs.Parts.{attribute, leaf}
 use Rattle.rpki_xml.specs.Content.{trimmed}
 use Rattle.rpki_xml.specs.Draft.{optional_attribute}
 use Rattle.rpki_xml.specs.Element.{Elements, none, Element, alone, first, listed, is_none, is_nil}
@@ -10,7 +11,7 @@ use Rattle.rpki_xml.specs.Tables.{require, is_named, at_most_one_child}
 use Rattle.rpki_publication.specs.declared.query_pdu.QueryPdu.{QueryPdu}
 use Rattle.rpki_publication.specs.declared.report_error_code.ReportErrorCode.{ReportErrorCode}
 use Rattle.rpki_publication.specs.Change.{query_pdu_element, query_pdu_in, IsWritablePdu, normal_pdu}
-use Rattle.rpki_publication.specs.Pdu.{attribute, leaf, reply_attributes_in}
+use Rattle.rpki_publication.specs.Pdu.{reply_attributes_in}
 use Rattle.rpki_publication.specs.ReportErrorCode.{code_text, default_text}
 
 pub record ReportErrorFields : Type 0 where

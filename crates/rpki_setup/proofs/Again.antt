@@ -4,6 +4,7 @@ use Rattle.std.specs.Prelude.{codes}
 use Rattle.base64.specs.GeneralPurpose.{IsBytes}
 use Rattle.rpki_common.specs.Chaining.{◌>>=◌}
 use Rattle.rpki_common.specs.Items as items
+use Rattle.rpki_message.specs.Parts.{attribute}
 use Rattle.rpki_text.specs.Handle.{IsHandle}
 use Rattle.rpki_text.specs.Uri.{rsync, https, fault_of}
 use Rattle.rpki_text.proofs.Base64Laws.{base64_content-encode}
@@ -20,10 +21,11 @@ use Rattle.rpki_setup.specs.PublisherRequest.{PublisherRequestFields, publisher_
 use Rattle.rpki_message.specs.Reading.{ReadsAs}
 use Rattle.rpki_setup.specs.RepoInfo.{repo_info_in}
 use Rattle.rpki_setup.specs.RepositoryResponse.{RepositoryResponseFields, repository_response_element, repository_response_text, repository_response_in, IsWritableRepositoryResponse}
-use Rattle.rpki_setup.specs.Root.{attribute, root_in, handle_in, certificate_in, one_certificate_in}
+use Rattle.rpki_setup.specs.Root.{root_in, handle_in, certificate_in, one_certificate_in}
 use Rattle.rpki_setup.specs.ServiceUri.{service_uri_in, service_text, IsWritableService}
 use Rattle.rpki_setup.specs.declared.service_uri.ServiceUri.{ServiceUri}
-use Rattle.rpki_setup.proofs.Plain.{attribute_plain, element_plain}
+use Rattle.rpki_setup.proofs.Plain.{element_plain}
+use Rattle.rpki_message.proofs.Plain.{attribute_plain}
 use Rattle.rpki_message.proofs.Uris.{uri_is, handle_octets, uri_octets}
 use Rattle.rpki_setup.proofs.Lawful.{service_again, service_octets}
 

@@ -1,17 +1,16 @@
 -- The elements that messages are written as are plain: they are read again.
-use Rattle.std.proofs.Common.{◌≡◌, ℕ, true, false, List, ◌∷◌, refl}
+use Rattle.std.proofs.Common.{◌≡◌, ℕ, true, List, [], ◌∷◌, refl}
 use Rattle.std.specs.Prelude.{codes}
 use Rattle.std.specs.List.{AllByRecursion}
-use Rattle.base64.specs.GeneralPurpose.{IsBytes}
+use Rattle.base64.specs.Engines.{standard}
+use Rattle.base64.specs.GeneralPurpose.{encode_of, IsBytes}
 use Rattle.rpki_xml.specs.Content.{is_declaration, is_distinct, trimmed}
 use Rattle.rpki_xml.specs.Element.{Attribute, alone}
-use Rattle.rpki_xml.specs.Lettered.{AreOctets}
 use Rattle.rpki_xml.specs.PlainElement.{IsPlainName, IsPlainAttribute, IsPlainHead, ArePlain}
-use Rattle.rpki_setup.specs.Root.{attribute, certificate_element, root_element}
+use Rattle.rpki_setup.specs.Root.{certificate_element, root_element}
+use Rattle.rpki_message.specs.Parts.{attribute}
 use Rattle.rpki_message.proofs.Base64s.{encode-trimmed, encode-octets}
-
-pub attribute_plain : (name value : List ℕ) → IsPlainName name → is_declaration (attribute name value) ≡ false → AreOctets value → IsPlainAttribute (attribute name value)
-attribute_plain name value n d v = record { name = n; handed_on = d; value = v }
+use Rattle.rpki_message.proofs.Plain.{leaf_plain}
 
 root_plain : (name : List ℕ) (attributes : List Attribute) (child octets : List ℕ) → IsPlainName name → AllByRecursion IsPlainAttribute attributes
     → is_distinct (attribute (codes "version") (codes "1") ∷ attributes) ≡ true → IsPlainHead (root_element name attributes (certificate_element child octets)).head
@@ -26,7 +25,7 @@ root_plain name attributes child octets n a d = record {
 }
 
 certificate_plain : (name octets : List ℕ) → IsPlainName name → IsBytes octets → IsPlainHead (certificate_element name octets).head
-certificate_plain name octets n b = record { name = n; namespace = tt; attributes = tt; distinct = refl; trimmed = encode-trimmed octets; text = encode-octets octets b }
+certificate_plain name octets n b = leaf_plain name [] (encode_of standard octets) n tt refl (encode-trimmed octets) (encode-octets octets b)
 
 pub element_plain : (name : List ℕ) (attributes : List Attribute) (child octets : List ℕ) → IsPlainName name → AllByRecursion IsPlainAttribute attributes
     → is_distinct (attribute (codes "version") (codes "1") ∷ attributes) ≡ true → IsPlainName child → IsBytes octets → ArePlain (alone (root_element name attributes (certificate_element child octets)))

@@ -1,5 +1,5 @@
 -- What a root is spelled as, in the parts that it is written in.
-use Rattle.std.proofs.Common.{◌≡◌, ℕ, List, [], ◌∷◌, ◌++◌, Some, sym, ap, append_assoc}
+use Rattle.std.proofs.Common.{◌≡◌, ℕ, List, [], ◌∷◌, ◌++◌, Some, sym, append_assoc}
 use Rattle.std.proofs.lemmas.List.{append-nil}
 use Rattle.std.specs.Prelude.{codes}
 use Rattle.base64.specs.Engines.{standard}
@@ -9,6 +9,7 @@ use Rattle.rpki_xml.specs.Spelling.{spelled, spelled_text, spelled_attribute, sp
 use Rattle.rpki_setup.specs.Root.{setup_namespace, certificate_element, root_element}
 use Rattle.rpki_setup.specs.Writing.{start_text, inside_text}
 use Rattle.rpki_message.specs.Inside.{text_inside}
+use Rattle.rpki_message.proofs.Elements.{leaf_spelled}
 
 parts : (n space version attributes child end : List ℕ) → (60 ∷ (n ++ (space ++ (version ++ attributes))) ++ 62 ∷ (child ++ end)) ++ [] ≡ 60 ∷ (n ++ (space ++ version)) ++ (attributes ++ 62 ∷ (child ++ end))
 parts n space version attributes child end = simp (append_assoc, append-nil)
@@ -21,8 +22,5 @@ root_spelled name attributes child octets =
 
 -- ---- an element that holds a certificate
 
-started : (n inside : List ℕ) → 60 ∷ [] ++ (n ++ inside) ≡ (60 ∷ (n ++ ([] ++ [])) ++ inside) ++ []
-started n inside = simp (append_assoc, append-nil) (ap (λ (l : List ℕ). 60 ∷ l) (sym (append-nil (n ++ inside))))
-
 pub certificate_spelled : (n octets : List ℕ) → 60 ∷ [] ++ (n ++ text_inside n (encode_of standard octets)) ≡ spelled (certificate_element n octets)
-certificate_spelled n octets = started n (text_inside n (encode_of standard octets))
+certificate_spelled n octets = sym (leaf_spelled n [] (encode_of standard octets))

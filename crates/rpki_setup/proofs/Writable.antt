@@ -1,5 +1,5 @@
 -- Every message that is read is writable.
-use Rattle.std.proofs.Common.{◌≡◌, ℕ, Bool, true, false, List, [], ◌∷◌, Option, Some, None, refl, subst, IfSome}
+use Rattle.std.proofs.Common.{◌≡◌, ℕ, Bool, true, false, List, Option, Some, None, refl, subst, IfSome}
 use Rattle.std.specs.Prelude.{codes, filter, if◌then◌else◌}
 use Rattle.base64.specs.GeneralPurpose.{IsBytes}
 use Rattle.rpki_common.specs.Chaining.{◌>>=◌}
@@ -10,7 +10,7 @@ use Rattle.rpki_text.specs.Uri.{rsync, https}
 use Rattle.rpki_text.proofs.HandleLaws.{IsHandle-from_test}
 use Rattle.rpki_xml.specs.Element.{Head, Elements, Element, listed}
 use Rattle.rpki_xml.specs.Lettered.{AreOctets, IsLetteredHead, AreLettered}
-use Rattle.rpki_xml.specs.Tables.{optional, optional_by, required, where_there, the_child}
+use Rattle.rpki_xml.specs.Tables.{optional, optional_by, required, the_child}
 use Rattle.rpki_xml.proofs.Letters.{document_lettered}
 use Rattle.rpki_setup.specs.ChildRequest.{ChildRequestFields, child_request_in, IsWritableChildRequest}
 use Rattle.rpki_setup.specs.ParentResponse.{ParentResponseFields, parent_response_in, holds_certificate, some_certificate, last_certificate_in, IsWritableParentResponse}
@@ -23,8 +23,9 @@ use Rattle.rpki_message.specs.UriText.{uri_of_text}
 use Rattle.rpki_setup.specs.ServiceUri.{is_http, service_uri_of_text, service_uri_in, service_text, IsWritableService}
 use Rattle.rpki_setup.specs.declared.service_uri.ServiceUri.{ServiceUri}
 use Rattle.rpki_setup.specs.declared.service_uri.ServiceUri.TheVariants.{Https, Http}
-use Rattle.rpki_message.proofs.Attributes.{then_some, required_lettered, optional_lettered, child_lettered, AreHeads, heads_lettered, some_heads}
-use Rattle.rpki_message.proofs.Uris.{uri_lawful, there_lawful}
+use Rattle.rpki_message.proofs.Attributes.{then_some, required_lettered, optional_lettered, child_lettered, some_holds, last_holds, heads_lettered}
+use Rattle.rpki_message.proofs.Lawful.{uri_read}
+use Rattle.rpki_message.proofs.Uris.{uri_lawful}
 use Rattle.rpki_setup.proofs.Services.{kept}
 use Rattle.rpki_message.proofs.Spelt.{content_bytes}
 use Rattle.rpki_setup.proofs.Lawful.{https_again}
@@ -54,13 +55,12 @@ unfolding service_uri_in
 service_read h s l e = let p = then_some (required (codes "service_uri") h) service_uri_of_text s e in service_lawful p.0 s (required_lettered (codes "service_uri") h p.0 l p.1) p.2
 
 info_read : (h : Head) (info : RepoInfoFields) → repo_info_in h ≡ Some info → IsWritableRepoInfo info
-unfolding repo_info_in optional_by
+unfolding repo_info_in
 info_read h info e =
     let p = then_some (required (codes "sia_base") h) _ info e in
     let q = then_some (uri_of_text rsync p.0) _ info p.2 in
-    let r = then_some (optional (codes "rrdp_notification_uri") h >>= where_there (uri_of_text https)) _ info q.2 in
-    let s = then_some (optional (codes "rrdp_notification_uri") h) (where_there (uri_of_text https)) r.0 r.1 in
-    subst IsWritableRepoInfo (same_some (record { sia_base = q.0; rrdp_notification_uri = r.0 }) info r.2) (record { sia_base = uri_lawful rsync p.0 q.0 q.1; notification = there_lawful https s.0 r.0 s.2 })
+    let r = then_some (optional_by (uri_of_text https) (codes "rrdp_notification_uri") h) _ info q.2 in
+    subst IsWritableRepoInfo (same_some (record { sia_base = q.0; rrdp_notification_uri = r.0 }) info r.2) (record { sia_base = uri_lawful rsync p.0 q.0 q.1; notification = uri_read https (codes "rrdp_notification_uri") h r.0 r.1 })
 
 -- ---- certificates
 
@@ -82,19 +82,13 @@ some_bytes e found l is =
     let p = then_some (certificate_in (codes "parent_bpki_ta") e) (λ octets. Some (Some octets)) found is in
     subst (λ (o : Option (List ℕ)). IfSome o IsBytes) (same_some (Some p.0) found p.2) (certificate_bytes (codes "parent_bpki_ta") e p.0 l p.1)
 
-last_of : (list : List Element) (before found : Option (List ℕ)) → AreHeads list → IfSome before IsBytes → items.the_last before some_certificate list ≡ Some found → IfSome found IsBytes
-unfolding items.the_last
-last_of [] before found l b is = subst (λ (o : Option (List ℕ)). IfSome o IsBytes) (same_some before found is) b
-last_of (e ∷ list) before found l b is =
-    let p = then_some (some_certificate e) (λ x. items.the_last x some_certificate list) found is in
-    last_of list p.0 found l.1 (some_bytes e p.0 l.0 p.1) p.2
-
 last_bytes : (children : Elements) (octets : List ℕ) → AreLettered children → last_certificate_in children ≡ Some octets → IsBytes octets
 unfolding last_certificate_in
 last_bytes children octets l is =
     let p = then_some _ _ octets is in
     let q = then_some (items.the_last None some_certificate (filter holds_certificate (listed children))) (λ found. found) octets p.2 in
-    let bytes = last_of (filter holds_certificate (listed children)) None q.0 (some_heads holds_certificate (listed children) (heads_lettered children l)) tt q.1 in
+    let heads = some_holds (λ e. IsLetteredHead e.head) holds_certificate (listed children) (heads_lettered children l) in
+    let bytes = last_holds (λ e. IsLetteredHead e.head) IsBytes some_certificate some_bytes (filter holds_certificate (listed children)) None q.0 heads tt q.1 in
     subst (λ (o : Option (List ℕ)). IfSome o IsBytes) q.2 bytes
 
 -- ---- the messages

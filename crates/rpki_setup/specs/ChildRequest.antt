@@ -2,13 +2,14 @@
 use Rattle.std.specs.Prelude.{ℕ, List, [], ◌∷◌, Option, Some, IfSome, codes}
 use Rattle.base64.specs.GeneralPurpose.{IsBytes}
 use Rattle.rpki_common.specs.Chaining.{◌>>=◌}
+use Rattle.rpki_message.specs.Parts.{attribute}
 use Rattle.rpki_text.specs.Handle.{IsHandle}
 use Rattle.rpki_xml.specs.Draft.{optional_attribute}
 use Rattle.rpki_xml.specs.Element.{Element}
 use Rattle.rpki_xml.specs.Lettered.{AreOctets}
 use Rattle.rpki_xml.specs.Spelling.{spelled}
 use Rattle.rpki_xml.specs.Tables.{only, optional}
-use Rattle.rpki_setup.specs.Root.{attribute, certificate_element, root_element, root_in, handle_in, one_certificate_in}
+use Rattle.rpki_setup.specs.Root.{certificate_element, root_element, root_in, handle_in, one_certificate_in}
 
 pub record ChildRequestFields : Type 0 where
   -- the octets of the child's BPKI trust anchor

@@ -3,6 +3,7 @@ use Rattle.std.specs.Prelude.{ℕ, List, ◌∷◌, Bool, ◌||◌, ◌&&◌, Op
 use Rattle.base64.specs.GeneralPurpose.{IsBytes}
 use Rattle.rpki_common.specs.Chaining.{◌>>=◌}
 use Rattle.rpki_common.specs.Items as items
+use Rattle.rpki_message.specs.Parts.{attribute}
 use Rattle.rpki_text.specs.Handle.{IsHandle}
 use Rattle.rpki_xml.specs.Draft.{optional_attribute}
 use Rattle.rpki_xml.specs.Element.{Elements, Element, listed, is_none}
@@ -10,7 +11,7 @@ use Rattle.rpki_xml.specs.Lettered.{AreOctets}
 use Rattle.rpki_xml.specs.Spelling.{spelled}
 use Rattle.rpki_xml.specs.Tables.{is_named, optional}
 use Rattle.rpki_setup.specs.declared.service_uri.ServiceUri.{ServiceUri}
-use Rattle.rpki_setup.specs.Root.{attribute, certificate_element, root_element, root_in, handle_in, certificate_in}
+use Rattle.rpki_setup.specs.Root.{certificate_element, root_element, root_in, handle_in, certificate_in}
 use Rattle.rpki_setup.specs.ServiceUri.{service_uri_in, service_text, IsWritableService}
 
 pub record ParentResponseFields : Type 0 where

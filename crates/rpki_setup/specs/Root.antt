@@ -5,9 +5,10 @@ use Rattle.std.specs.Str.{bytes_eq}
 use Rattle.base64.specs.Engines.{standard}
 use Rattle.base64.specs.GeneralPurpose.{encode_of}
 use Rattle.rpki_common.specs.Chaining.{◌>>=◌}
+use Rattle.rpki_message.specs.Parts.{attribute, leaf}
 use Rattle.rpki_text.specs.Base64.{base64_content}
 use Rattle.rpki_text.specs.Handle.{handle_of_text}
-use Rattle.rpki_xml.specs.Element.{Attribute, Head, Elements, none, Element, alone, is_none, is_nil}
+use Rattle.rpki_xml.specs.Element.{Attribute, Head, Elements, Element, alone, is_none, is_nil}
 use Rattle.rpki_xml.specs.Tables.{require, is_named, required, given_or_absent, the_child}
 
 abbrev pub setup_namespace : List ℕ
@@ -17,17 +18,11 @@ setup_namespace = codes "http://www.hactrn.net/uris/rpki/rpki-setup/"
 abbrev pub setup_namespace_bare : List ℕ
 setup_namespace_bare = codes "http://www.hactrn.net/uris/rpki/rpki-setup"
 
-abbrev pub attribute : List ℕ → List ℕ → Attribute
-attribute name value = record { name = name; value = value }
-
 -- ---- what is written
 
 -- an element that holds a certificate: octets in base64, and nothing else
 abbrev pub certificate_element : List ℕ → List ℕ → Element
-certificate_element name octets = record {
-  head = record { name = name; namespace = None; attributes = []; text = encode_of standard octets };
-  children = none;
-}
+certificate_element name octets = leaf name [] (encode_of standard octets)
 
 -- a root of version 1 with these further attributes, and one element in it
 abbrev pub root_element : List ℕ → List Attribute → Element → Element

@@ -1,6 +1,5 @@
 use Rattle.std.proofs.Common.{◌≡◌, inr, ap, ◌∙◌}
 use Rattle.rpki_sigmsg.specs.Message.{MessageFields}
-use Rattle.rpki_publication.specs.Message.{text_of}
 use Rattle.rpki_publication.proofs.cms.PublicationCms.create.Goals as goal
 
 pub invariant_of-result : goal.invariant_of-result
