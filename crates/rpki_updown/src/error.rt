@@ -17,8 +17,8 @@ use rpki_xml::{Mismatch, XmlError};
 use std::alloc::{AllocError, AllocFailed};
 use std::fmt;
 
-/// Why a message was not read, written or believed, and why a limit does not hold. `InvalidVersion` is never answered: what is no message is
-/// `XmlError`.
+/// Why a message was not read, written or believed, and why a limit does not hold. `InvalidVersion` is never answered: what is no message
+/// is `XmlError`.
 #[derive(Debug, Drop, PartialEq, Eq)]
 pub enum Error {
     /// Never answered.

@@ -10,8 +10,8 @@ use std::alloc::Global;
 use std::fmt;
 use std::marker::Model;
 
-/// A key and the resource class in which it is certified: the element `key` (RFC 6492, 3.5.1 and 3.5.2). In a clause it is the record of its
-/// fields.
+/// A key and the resource class in which it is certified: the element `key` (RFC 6492, 3.5.1 and 3.5.2). In a clause it is the record of
+/// its fields.
 #[derive(Debug, Drop, PartialEq, Eq, Hash)]
 pub struct KeyElement {
     class_name: ResourceClassName,
