@@ -1,0 +1,16 @@
+use Rattle.std.proofs.Common.{rules}
+use Rattle.rpki_common.specs.Chaining.{◌>>=◌}
+use Rattle.rpki_provisioning.specs.NotPerformed.{status_in}
+use Rattle.rpki_provisioning.proofs.parts.status_in.Goals as goal
+
+pub returns-in_err-require : goal.returns-in_err-require
+unfolding status_in ◌>>=◌
+returns-in_err-require c = search rules
+
+pub returns-in_err-require-2 : goal.returns-in_err-require-2
+unfolding status_in ◌>>=◌
+returns-in_err-require-2 c = search rules
+
+pub returns : goal.returns
+unfolding status_in ◌>>=◌
+returns c = search rules

@@ -1,0 +1,107 @@
+-- What can be written so that it is read again.
+use Rattle.std.specs.Prelude.{◌≡◌, ◌<◌, ◌^◌, None, Some, IfSome, length}
+use Rattle.std.specs.List.{AllByRecursion}
+use Rattle.base64.specs.GeneralPurpose.{IsBytes}
+use Rattle.rpki_base.specs.Civil.{IsMoment}
+use Rattle.rpki_cert.specs.Cert.{CertFields}
+use Rattle.rpki_sets.specs.Resources.{Resources}
+use Rattle.rpki_sets.specs.Runs.{IsSet}
+use Rattle.rpki_text.specs.Handle.{IsHandle}
+use Rattle.rpki_text.specs.Uri.{rsync, fault_of}
+use Rattle.rpki_updown.specs.Entitlements.{IssuedFields, SigningFields, ClassFields, IssuanceFields, IssuanceRequestFields, CaRequest}
+use Rattle.rpki_updown.specs.KeyElement.{KeyElementFields}
+use Rattle.rpki_updown.specs.NotPerformedResponse.{NotPerformedFields}
+use Rattle.rpki_updown.specs.RequestResourceLimit.{LimitFields}
+use Rattle.rpki_xml.specs.Content.{trimmed}
+use Rattle.rpki_xml.specs.Lettered.{AreOctets}
+use Rattle.rpki_provisioning.specs.declared.payload.Payload.{Payload}
+use Rattle.rpki_provisioning.specs.declared.payload.Payload.TheVariants as payload
+use Rattle.rpki_provisioning.specs.Shape.{MessageFields, certificate_of, request_octets, request_of}
+
+-- ---- sets. That they are sets of their kind's numbers is kept by their types.
+
+pub record IsWritableLimit (l : LimitFields) : Type 0 where
+  pub asn : IfSome l.asn (IsSet 32)
+  pub ipv4 : IfSome l.ipv4 (IsSet 32)
+  pub ipv6 : IfSome l.ipv6 (IsSet 128)
+
+pub record IsWritableSet (s : Resources) : Type 0 where
+  pub asn : IsSet 32 s.asn
+  pub ipv4 : IsSet 32 s.ipv4
+  pub ipv6 : IsSet 128 s.ipv6
+
+-- ---- certificates
+
+-- Its octets are octets, and read as it: so it is with each certificate that was decoded in DER.
+pub record IsCertificate (c : CertFields) : Type 0 where
+  pub octets : IsBytes c.slice
+  pub read : certificate_of c.slice ≡ Some c
+
+-- That the URI is lawful is kept by its type.
+pub record IsWritableIssued (c : IssuedFields) : Type 0 where
+  pub uri : fault_of rsync c.uri ≡ None
+  pub req_limit : IsWritableLimit c.req_limit
+  pub cert : IsCertificate c.cert
+
+pub record IsWritableSigning (c : SigningFields) : Type 0 where
+  pub url : fault_of rsync c.url ≡ None
+  pub cert : IsCertificate c.cert
+
+-- ---- classes. Their names consist of octets that a document may have; that the time is a moment is kept by its type.
+
+pub record IsWritableClass (c : ClassFields) : Type 0 where
+  pub class_name : AreOctets c.class_name
+  pub resource_set : IsWritableSet c.resource_set
+  pub not_after : IsMoment c.not_after
+  pub issued_certs : AllByRecursion IsWritableIssued c.issued_certs
+  pub signing_cert : IsWritableSigning c.signing_cert
+
+pub record IsWritableIssuance (i : IssuanceFields) : Type 0 where
+  pub class_name : AreOctets i.class_name
+  pub resource_set : IsWritableSet i.resource_set
+  pub not_after : IsMoment i.not_after
+  pub issued_cert : IsWritableIssued i.issued_cert
+  pub signing_cert : IsWritableSigning i.signing_cert
+
+-- ---- requests and keys
+
+-- What is written of it are octets, and they read as it: so it is with each request that was decoded in DER.
+pub record IsRequest (r : CaRequest) : Type 0 where
+  pub octets : IsBytes (request_octets r)
+  pub read : request_of (request_octets r) ≡ Some r
+
+pub record IsWritableRequest (a : IssuanceRequestFields) : Type 0 where
+  pub class_name : AreOctets a.class_name
+  pub limit : IsWritableLimit a.limit
+  pub csr : IsRequest a.csr
+
+-- That the identifier is 20 octets is kept by its type.
+pub record IsWritableKey (k : KeyElementFields) : Type 0 where
+  pub class_name : AreOctets k.class_name
+  pub octets : IsBytes k.key
+  pub count : length k.key ≡ 20
+
+-- ---- what was not performed. The description consists of octets that a document may have, and has no outer white space; that the status
+-- fits 64 bits is kept by its type.
+
+pub record IsWritableNotPerformed (r : NotPerformedFields) : Type 0 where
+  pub status : r.status < 2 ^ 64
+  pub description : IfSome r.description AreOctets
+  pub trimmed : IfSome r.description (λ t. trimmed t ≡ t)
+
+-- ---- messages
+
+abbrev pub IsWritablePayload : Payload → Type 0
+IsWritablePayload payload.List = Unit {0}
+IsWritablePayload (payload.ListResponse classes) = AllByRecursion IsWritableClass classes
+IsWritablePayload (payload.Issue request) = IsWritableRequest request
+IsWritablePayload (payload.IssueResponse response) = IsWritableIssuance response
+IsWritablePayload (payload.Revoke request) = IsWritableKey request
+IsWritablePayload (payload.RevokeResponse response) = IsWritableKey response
+IsWritablePayload (payload.ErrorResponse response) = IsWritableNotPerformed response
+
+-- That the two are handles is kept by their type.
+pub record IsWritable (m : MessageFields) : Type 0 where
+  pub sender : IsHandle m.sender
+  pub recipient : IsHandle m.recipient
+  pub payload : IsWritablePayload m.payload
