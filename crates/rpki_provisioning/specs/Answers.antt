@@ -63,7 +63,8 @@ IsOfShape _ = ⊥
 
 -- ---- messages from a source
 
--- The same of what a source had still to give; and Read only where its faults rose, TooLong only where it had more than 2^31 octets to give.
+-- The same of what a source had still to give; and Read only where its faults rose, TooLong only where it had more than 2^31 octets to
+-- give.
 abbrev pub RefusesSource : Option (List ℕ) → ℕ → ℕ → Error → Type 0
 RefusesSource rest faults now (errors.XmlError e) = (e ≡ xml.Malformed) × IfSome rest HasNoShape
 RefusesSource rest faults now errors.CertSyntax = IfSome rest HoldsNoCertificate
@@ -81,7 +82,8 @@ IsOfAll (Err errors.CertSyntax) = ⊤
 IsOfAll (Err errors.InvalidCsrSyntax) = ⊤
 IsOfAll _ = ⊥
 
--- What a call answers that reads a source to its end and takes what it gives for a message: by what the source had still to give, before and
+-- What a call answers that reads a source to its end and takes what it gives for a message: by what the source had still to give, before
+-- and
 -- after, and by its count of faults.
 pub record Parses (rest left : Option (List ℕ)) (faults now : ℕ) (result : Result MessageFields Error) : Type 0 where
   -- all that there was is the message, or the answer has its cause

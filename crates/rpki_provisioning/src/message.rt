@@ -31,7 +31,8 @@ use std::sync::ledger::{Blank, Ledger};
 /// The media type of messages that are sent over HTTP (RFC 6492, 3).
 pub const CONTENT_TYPE: &'static str = "application/rpki-updown";
 
-/// A message of the provisioning protocol (RFC 6492, 3.2): who sends it to whom, and what it says. In a clause it is the record of the three.
+/// A message of the provisioning protocol (RFC 6492, 3.2): who sends it to whom, and what it says. In a clause it is the record of the
+/// three.
 #[derive(Drop)]
 pub struct Message {
     sender: SenderHandle,
@@ -255,7 +256,8 @@ impl Message {
 /// # Reading and writing
 impl Message {
     /// The message that all that a source has to give is: a document of XML of at most 2^31 octets. XmlError exactly where it has not the
-    /// form of one, CertSyntax and InvalidCsrSyntax where it has, and a certificate or the request in it is none; TooLong where it is longer,
+    /// form of one, CertSyntax and InvalidCsrSyntax where it has, and a certificate or the request in it is none; TooLong where it is
+    /// longer,
     /// Read only where the source failed.
     pub fn decode<I: Source>(alloc: Global, source: &mut I) -> Result<Message, Error>
         ensures { Parses (I.rest source.old) (I.rest source.new) (I.faults source.old)
@@ -287,7 +289,8 @@ impl Message {
         Message::decode_slice_counted(alloc, octets, &mut steps)
     }
 
-    /// As [`Message::decode_slice`]. It ticks once for each header that it reads, in certificates and requests: at most twice for each octet
+    /// As [`Message::decode_slice`]. It ticks once for each header that it reads, in certificates and requests: at most twice for each
+    /// octet
     /// that it was given, and 8 times more.
     pub fn decode_slice_counted<L: Ledger>(
         alloc: Global,

@@ -7,7 +7,7 @@ ghost use Rattle.rpki_updown.specs.Entitlements.{asked_with, class_with, issuanc
 
 use rpki_common::OutOfMemory;
 use rpki_updown::{
-    IssuanceRequest, IssuanceResponse, NotPerformedResponse, PayloadType,
+    IssuanceRequest, IssuanceResponse, NotPerformedResponse, PayloadType as Kind,
     ResourceClassListResponse, RevocationRequest, RevocationResponse,
     equal_class_lists_have_the_same_octets, equal_classes_have_the_same_octets,
     equal_values_are_the_same,
@@ -35,17 +35,17 @@ pub enum Payload {
 
 impl Payload {
     /// The kind.
-    pub fn payload_type(&self) -> PayloadType
+    pub fn payload_type(&self) -> Kind
         ensures { result ≡ payload_type_of self.now }
     {
         match self {
-            Payload::List => PayloadType::List,
-            Payload::ListResponse(_) => PayloadType::ListResponse,
-            Payload::Issue(_) => PayloadType::Issue,
-            Payload::IssueResponse(_) => PayloadType::IssueResponse,
-            Payload::Revoke(_) => PayloadType::Revoke,
-            Payload::RevokeResponse(_) => PayloadType::RevokeResponse,
-            Payload::ErrorResponse(_) => PayloadType::ErrorResponse,
+            Payload::List => Kind::List,
+            Payload::ListResponse(_) => Kind::ListResponse,
+            Payload::Issue(_) => Kind::Issue,
+            Payload::IssueResponse(_) => Kind::IssueResponse,
+            Payload::Revoke(_) => Kind::Revoke,
+            Payload::RevokeResponse(_) => Kind::RevokeResponse,
+            Payload::ErrorResponse(_) => Kind::ErrorResponse,
         }
     }
 
