@@ -51,6 +51,7 @@ pub utc_refuses : (p q : Position) (b a : ℕ) (text : List ℕ) → CountedOne 
 unfolding Refuses
 utc_refuses p q b a text c e = record {
   refuses = λ v rest h. let s = at_most_one p.mode p.here c.takes.value v q.here rest c.takes.begins h in subst (λ (w : Value). time w ≡ None) s.value (utc_none c.takes.value text c.takes.reads e);
+  least = omega (arith, c.least);
   most = omega (arith, c.most);
 }
 
@@ -82,11 +83,11 @@ neither p Malformed none n = λ v rest h. generalized_reads v (none v rest h) �
 neither p OutOfMemory none n = tt
 
 pub generalized_refuses : (p : Position) (b m a : ℕ) (error : DecodeError) → Refuses (primitive utc_time_tag) p Malformed → m ≡ b + 1 → a ≡ m + 1 → CountedRefuses 1 (so (primitive generalized_time_tag) generalized_time) p m a error → CountedRefuses 1 time p b a error
-generalized_refuses p b m a error none i j n = record { refuses = neither p error none n.refuses; most = omega (arith, i, j) }
+generalized_refuses p b m a error none i j n = record { refuses = neither p error none n.refuses; least = omega (arith, i, j); most = omega (arith, i, j) }
 
 pub refuses_memory : (p : Position) (b a : ℕ) → a ≡ b + 1 → CountedRefuses 1 time p b a OutOfMemory
 unfolding Refuses
-refuses_memory p b a i = record { refuses = tt; most = omega (arith, i) }
+refuses_memory p b a i = record { refuses = tt; least = omega (arith, i); most = omega (arith, i) }
 
 -- ---- the one value that octets are
 

@@ -52,7 +52,7 @@ refused c grammar p q b a octets Malformed t n = λ v rest h.
 refused c grammar p q b a octets OutOfMemory t n = tt
 
 pub captured_refuses : {X : Type 0} (c : ℕ) (grammar : Value → Option X) (p q : Position) (b a : ℕ) (octets : List ℕ) (e : DecodeError) → CountedOne c any p q b a octets → RefusesWhole grammar p.mode octets e → CountedRefuses c grammar p b a e
-captured_refuses c grammar p q b a octets e t n = record { refuses = refused c grammar p q b a octets e t n; most = most_left c (left p) (left q) b a t.most }
+captured_refuses c grammar p q b a octets e t n = record { refuses = refused c grammar p q b a octets e t n; least = omega (arith, t.least); most = most_left c (left p) (left q) b a t.most }
 
 pub captured_result : {X : Type 0} (c : ℕ) (grammar : Value → Option X) (mode : Mode) (p q : Position) (b a : ℕ) (octets : List ℕ) (r : Result X DecodeError) → mode ≡ p.mode → CountedOne c any p q b a octets → HoldsOne grammar (λ x. x) mode octets r → TakesCounted c grammar (λ x. x) p q b a r
 captured_result c grammar mode p q b a octets (Ok x) m t w = captured_takes c grammar p q b a octets x t (subst (λ n. IsWhole grammar n octets x) m w)
@@ -65,7 +65,7 @@ unread grammar p Malformed n = λ v rest h. absurd (some_none _ (n v rest h))
 unread grammar p OutOfMemory n = tt
 
 pub uncaptured : {X : Type 0} (c : ℕ) (grammar : Value → Option X) (p : Position) (b a : ℕ) (e : DecodeError) → CountedRefuses c any p b a e → CountedRefuses c grammar p b a e
-uncaptured c grammar p b a e n = record { refuses = unread grammar p e n.refuses; most = n.most }
+uncaptured c grammar p b a e n = record { refuses = unread grammar p e n.refuses; least = n.least; most = n.most }
 
 -- a location
 pub whole_value : {X : Type 0} (grammar : Value → Option X) (mode : Mode) (v : Value) (octets : List ℕ) → IsValue mode v → any v ≡ Some octets → whole_of grammar mode octets ≡ grammar v
@@ -91,7 +91,7 @@ unfolding Lacks
 lacking o e = e
 
 pub lacks_at_once : {X : Type 0} (c : ℕ) (o : Option X) (octets : List ℕ) (b : ℕ) → o ≡ None → CountedLacks c o octets b b Malformed
-lacks_at_once c o octets b e = record { lacks = lacking o e; most = omega (arith) }
+lacks_at_once c o octets b e = record { lacks = lacking o e; least = omega arith; most = omega arith }
 
 -- ---- what is read, seen in another way
 

@@ -104,7 +104,7 @@ counted_one grammar old new before after x i l k b r e m t = record {
 }
 
 pub refuses_at_once : {X : Type 0} (c : ℕ) (grammar : Value → Option X) (old : Position) (before after : ℕ) (error : DecodeError) → Refuses grammar old error → after ≡ before + 1 → CountedRefuses c grammar old before after error
-refuses_at_once c grammar old before after error r t = record { refuses = r; most = omega (arith, t) }
+refuses_at_once c grammar old before after error r t = record { refuses = r; least = omega (arith, t); most = omega (arith, t) }
 
 -- the value that was read, without its ticks
 pub uncounted_one : {X : Type 0} (c : ℕ) (grammar : Value → Option X) (old new : Position) (before after : ℕ) (x : X) → CountedOne c grammar old new before after x → TakesOne grammar old new x
@@ -147,10 +147,10 @@ takes_within c k tag fields s p q b m a y fits g t r =
 pub refuses_inside : {Y : Type 0} (c k : ℕ) (tag : List ℕ) (fields : Values → Option Y) (s p : Position) (b m a : ℕ) (e : DecodeError) → nat_lt k (2 * c) ≡ true → Goes tag s p → m ≡ b + 1 → CountedStops c k fields p m a e → CountedRefuses c (within tag fields) s b a e
 refuses_inside c k tag fields s p b m a e fits g t n =
     let into = most_into c (left s) (left p) b m k t (goes_left tag s p g) fits in
-    record { refuses = reading.refuses_inside tag fields s p e g n.stops; most = omega (arith, into, n.most) }
+    record { refuses = reading.refuses_inside tag fields s p e g n.stops; least = omega (arith, t, n.least); most = omega (arith, into, n.most) }
 
 pub refuses_within : {Y : Type 0} (c : ℕ) (tag : List ℕ) (fields : Values → Option Y) (s : Position) (b a : ℕ) (e : DecodeError) → RefusesToEnter tag s e → a ≡ b + 1 → CountedRefuses c (within tag fields) s b a e
-refuses_within c tag fields s b a e n t = record { refuses = reading.refuses_within tag fields s e n; most = omega (arith, t) }
+refuses_within c tag fields s b a e n t = record { refuses = reading.refuses_within tag fields s e n; least = omega (arith, t); most = omega (arith, t) }
 
 -- ---- a field
 
@@ -176,12 +176,14 @@ reads_first c d k field next p p' q b m a x y fits t r = record {
 pub stops_later : {X Y : Type 0} (c d k : ℕ) (field : Value → Option X) (next : X × Values → Option Y) (p p' : Position) (b m a : ℕ) (x : X) (e : DecodeError) → nat_lt c d ≡ false → CountedOne d field p p' b m x → CountedStops c k (λ vs. next (x, vs)) p' m a e → CountedStops c k (λ vs. first field vs >>= next) p b a e
 stops_later c d k field next p p' b m a x e fits t n = record {
   stops = reading.stops_later field next p p' x e t.takes n.stops;
+  least = omega (arith, t.least, n.least);
   most = omega (arith, field_most c d field p p' b m x fits t, n.most);
 }
 
 pub stops_first : {X Y : Type 0} (c d : ℕ) (field : Value → Option X) (next : X × Values → Option Y) (p : Position) (b a : ℕ) (e : DecodeError) → nat_lt c d ≡ false → CountedRefuses d field p b a e → CountedStops c 0 (λ vs. first field vs >>= next) p b a e
 stops_first c d field next p b a e fits n = record {
   stops = reading.stops_first field next p e n.refuses;
+  least = n.least;
   most = let w = most_refused c d (left p) b a 0 fits (omega (arith, n.most)) in w;
 }
 
@@ -209,12 +211,14 @@ reads_part c d j k fields next p p' q b m a x y fits t r =
 pub stops_behind : {X Y : Type 0} (c d j k : ℕ) (fields : Values → Option (X × Values)) (next : X × Values → Option Y) (p p' : Position) (b m a : ℕ) (x : X) (e : DecodeError) → nat_lt c d ≡ false → CountedFields d j fields p p' b m x → CountedStops c k (λ vs. next (x, vs)) p' m a e → CountedStops c (j + k) (λ vs. fields vs >>= next) p b a e
 stops_behind c d j k fields next p p' b m a x e fits t n = record {
   stops = reading.stops_behind fields next p p' x e t.takes n.stops;
+  least = omega (arith, t.later, n.least);
   most = omega (arith, part_most c d j fields p p' b m x fits t, n.most);
 }
 
 pub stops_part : {X Y : Type 0} (c d j : ℕ) (fields : Values → Option (X × Values)) (next : X × Values → Option Y) (p : Position) (b a : ℕ) (e : DecodeError) → nat_lt c d ≡ false → CountedRefusesFields d j fields p b a e → CountedStops c j (λ vs. fields vs >>= next) p b a e
 stops_part c d j fields next p b a e fits n = record {
   stops = reading.stops_part fields next p e n.refuses;
+  least = n.least;
   most = most_refused c d (left p) b a j fits n.most;
 }
 
@@ -230,6 +234,7 @@ takes_optional c tag field p q b a x n t =
         mode = t.takes.mode;
       };
       least = λ vs rest h. omega (arith, t.least);
+      later = omega (arith, t.least);
       on = omega (arith, value_left p q t.takes.value t.takes.begins t.takes.levels);
       most = omega (arith, t.most);
     }
@@ -244,12 +249,13 @@ takes_optional_none c tag field p b a low high n =
         mode = refl;
       };
       least = λ vs rest h. omega (arith, low);
+      later = low;
       on = omega arith;
       most = omega (arith, high);
     }
 
 pub refuses_optional : {X : Type 0} (c : ℕ) (tag : List ℕ) (field : Value → Option X) (p : Position) (b a : ℕ) (e : DecodeError) → Next tag p true → (AtEnd p → ⊥) → CountedRefuses c field p b a e → CountedRefusesFields c 1 (optional tag field) p b a e
-refuses_optional c tag field p b a e n more none = record { refuses = reading.refuses_optional tag field p e n more none.refuses; most = omega (arith, none.most) }
+refuses_optional c tag field p b a e n more none = record { refuses = reading.refuses_optional tag field p e n more none.refuses; least = none.least; most = omega (arith, none.most) }
 
 -- ---- the end of the fields
 
@@ -276,7 +282,7 @@ reads_done c p q b a y fits l t =
     }
 
 pub stops_done : {Y : Type 0} (c : ℕ) (p : Position) (b a : ℕ) (y : Y) (e : DecodeError) → RefusesToLeave p e → a ≡ b → CountedStops c 0 (λ vs. done y vs) p b a e
-stops_done c p b a y e n t = record { stops = reading.stops_done p y e n; most = omega (arith, t) }
+stops_done c p b a y e n t = record { stops = reading.stops_done p y e n; least = omega (arith, t); most = omega (arith, t) }
 
 -- ---- a conversion
 
@@ -285,11 +291,12 @@ unfolding so ◌>>=◌
 takes_so c grammar convert p q b a x y t e = record { takes = record { value = t.takes.value; begins = t.takes.begins; reads = rw t.takes.reads e; levels = t.takes.levels; mode = t.takes.mode }; least = t.least; most = t.most }
 
 pub refuses_so : {X Y : Type 0} (c : ℕ) (grammar : Value → Option X) (convert : X → Option Y) (p : Position) (b a : ℕ) (e : DecodeError) → CountedRefuses c grammar p b a e → CountedRefuses c (so grammar convert) p b a e
-refuses_so c grammar convert p b a e n = record { refuses = reading.refuses_so grammar convert p e n.refuses; most = n.most }
+refuses_so c grammar convert p b a e n = record { refuses = reading.refuses_so grammar convert p e n.refuses; least = n.least; most = n.most }
 
 pub refuses_convert : {X Y : Type 0} (c : ℕ) (grammar : Value → Option X) (convert : X → Option Y) (p q : Position) (b a : ℕ) (x : X) → CountedOne c grammar p q b a x → convert x ≡ None → CountedRefuses c (so grammar convert) p b a Malformed
 refuses_convert c grammar convert p q b a x t e = record {
   refuses = reading.refuses_convert grammar convert p q x t.takes e;
+  least = omega (arith, t.least);
   most = let none : a + c * left q ≤ b + c * left p = t.most in omega (arith, none);
 }
 
@@ -297,11 +304,11 @@ refuses_convert c grammar convert p q b a x t e = record {
 
 pub stops_memory : {Y : Type 0} (c : ℕ) (fields : Values → Option Y) (p : Position) (b a : ℕ) → a ≡ b → CountedStops c 0 fields p b a OutOfMemory
 unfolding Stops
-stops_memory c fields p b a t = record { stops = tt; most = omega (arith, t) }
+stops_memory c fields p b a t = record { stops = tt; least = omega (arith, t); most = omega (arith, t) }
 
 pub refuses_memory : {X : Type 0} (c : ℕ) (grammar : Value → Option X) (p q : Position) (b a : ℕ) (x : X) → CountedOne c grammar p q b a x → {Y : Type 0} (grammar' : Value → Option Y) → CountedRefuses c grammar' p b a OutOfMemory
 unfolding Refuses
-refuses_memory c grammar p q b a x t grammar' = record { refuses = tt; most = let none : a + c * left q ≤ b + c * left p = t.most in omega (arith, none) }
+refuses_memory c grammar p q b a x t grammar' = record { refuses = tt; least = omega (arith, t.least); most = let none : a + c * left q ≤ b + c * left p = t.most in omega (arith, none) }
 
 -- ---- any number of values
 
@@ -331,6 +338,7 @@ reads_item c d k field next p p' q b m a x y fits t r = record {
 stops_after : {X Y : Type 0} (c d k : ℕ) (field : Value → Option X) (next : List X → Option Y) (p p' : Position) (b m a : ℕ) (x : X) (e : DecodeError) → nat_lt c d ≡ false → CountedOne d field p p' b m x → CountedStops c k (λ vs. every field vs >>= λ xs. next (x ∷ xs)) p' m a e → CountedStops c k (λ vs. every field vs >>= next) p b a e
 stops_after c d k field next p p' b m a x e fits t n = record {
   stops = reading.stops_after field next p p' x e t.takes n.stops;
+  least = omega (arith, t.least, n.least);
   most = omega (arith, field_most c d field p p' b m x fits t, n.most);
 }
 
@@ -359,6 +367,7 @@ reads_end c field next p q b a y fits l t e = record {
 pub stops_item : {X Y : Type 0} (c d : ℕ) (field : Value → Option X) (next : List X → Option Y) (p : Position) (b a : ℕ) (e : DecodeError) → nat_lt c d ≡ false → (AtEnd p → ⊥) → CountedRefuses d field p b a e → CountedStops c 0 (λ vs. every field vs >>= next) p b a e
 stops_item c d field next p b a e fits more n = record {
   stops = reading.stops_item field next p e more n.refuses;
+  least = n.least;
   most = most_refused c d (left p) b a 0 fits (omega (arith, n.most));
 }
 
@@ -381,6 +390,7 @@ reads_step c d k step next s t p p' q b m a y fits w r = record {
 stops_step_on : {S Y : Type 0} (c d k : ℕ) (step : S → Value → Option S) (next : S → Option Y) (s t : S) (p p' : Position) (b m a : ℕ) (e : DecodeError) → nat_lt c d ≡ false → CountedOne d (step s) p p' b m t → CountedStops c k (λ vs. gather step t vs >>= next) p' m a e → CountedStops c k (λ vs. gather step s vs >>= next) p b a e
 stops_step_on c d k step next s t p p' b m a e fits w n = record {
   stops = reading.stops_step_on step next s t p p' e w.takes n.stops;
+  least = omega (arith, w.least, n.least);
   most = omega (arith, field_most c d (step s) p p' b m t fits w, n.most);
 }
 
@@ -409,12 +419,14 @@ reads_gathered c step next s p q b a y fits l t e = record {
 pub stops_step : {S Y : Type 0} (c d : ℕ) (step : S → Value → Option S) (next : S → Option Y) (s : S) (p : Position) (b a : ℕ) (e : DecodeError) → nat_lt c d ≡ false → (AtEnd p → ⊥) → CountedRefuses d (step s) p b a e → CountedStops c 0 (λ vs. gather step s vs >>= next) p b a e
 stops_step c d step next s p b a e fits more n = record {
   stops = reading.stops_step step next s p e more n.refuses;
+  least = n.least;
   most = most_refused c d (left p) b a 0 fits (omega (arith, n.most));
 }
 
 pub stops_gathered : {S Y : Type 0} (c : ℕ) (step : S → Value → Option S) (next : S → Option Y) (s : S) (p q : Position) (b a : ℕ) → nat_lt 0 c ≡ true → Leaves p q → a ≡ b + marks (top p.levels) → next s ≡ None → CountedStops c 0 (λ vs. gather step s vs >>= next) p b a Malformed
 stops_gathered c step next s p q b a fits l t e = record {
   stops = reading.stops_gathered step next s p q l e;
+  least = omega (arith, t);
   most = let w = leaves_most c p q b a fits l t in omega (arith, w);
 }
 
@@ -463,12 +475,12 @@ decodes c grammar view mode octets old new b a (Ok y) e t = record {
   least = t.least;
   most = rw (left_whole mode octets old e, left_after new (t.takes.levels ∙ ap (λ (p : Position). p.levels) e)) at t.most;
 }
-decodes c grammar view mode octets old new b a (Err e') e t = record { refuses = refuses_whole grammar mode octets old e' e t.refuses; most = rw (left_whole mode octets old e) at t.most }
+decodes c grammar view mode octets old new b a (Err e') e t = record { refuses = refuses_whole grammar mode octets old e' e t.refuses; least = t.least; most = rw (left_whole mode octets old e) at t.most }
 
 -- ---- the same with more ticks allowed
 
 pub refuses_wider : {X : Type 0} (c d : ℕ) (grammar : Value → Option X) (p : Position) (b a : ℕ) (e : DecodeError) → nat_lt c d ≡ false → CountedRefuses d grammar p b a e → CountedRefuses c grammar p b a e
-refuses_wider c d grammar p b a e fits n = record { refuses = n.refuses; most = let w = most_refused c d (left p) b a 0 fits (omega (arith, n.most)) in omega (arith, w) }
+refuses_wider c d grammar p b a e fits n = record { refuses = n.refuses; least = n.least; most = let w = most_refused c d (left p) b a 0 fits (omega (arith, n.most)) in omega (arith, w) }
 
 pub takes_wider : {X : Type 0} (c d : ℕ) (grammar : Value → Option X) (p q : Position) (b a : ℕ) (x : X) → nat_lt c d ≡ false → CountedOne d grammar p q b a x → CountedOne c grammar p q b a x
 takes_wider c d grammar p q b a x fits t = record { takes = t.takes; least = t.least; most = field_most c d grammar p q b a x fits t }
@@ -491,7 +503,7 @@ takes_again c d outer grammar view mode p q b m a slice (Ok y) t l w =
     record { takes = k.takes; least = omega (arith, k.least, w.least); most = omega (arith, mono, t.most, w.most) }
 takes_again c d outer grammar view mode p q b m a slice (Err Malformed) t l w =
     let mono : d * (length slice + left q) ≤ d * left p = mul-le-mul_left d l in
-    record { refuses = reading.refuses_convert outer (decoded grammar mode) p q slice t.takes (decoded_none grammar mode slice w.refuses); most = omega (arith, mono, t.most, w.most) }
+    record { refuses = reading.refuses_convert outer (decoded grammar mode) p q slice t.takes (decoded_none grammar mode slice w.refuses); least = omega (arith, t.least, w.least); most = omega (arith, mono, t.most, w.most) }
 takes_again c d outer grammar view mode p q b m a slice (Err OutOfMemory) t l w =
     let mono : d * (length slice + left q) ≤ d * left p = mul-le-mul_left d l in
-    record { refuses = tt; most = omega (arith, mono, t.most, w.most) }
+    record { refuses = tt; least = omega (arith, t.least, w.least); most = omega (arith, mono, t.most, w.most) }

@@ -31,7 +31,7 @@ lacks_then o g Malformed n = rw n refl
 lacks_then o g OutOfMemory n = tt
 
 pub lacks_bind : {X Y : Type 0} (c : ℕ) (o : Option X) (g : X → Option Y) (octets : List ℕ) (b a : ℕ) (error : DecodeError) → CountedLacks c o octets b a error → CountedLacks c (o >>= g) octets b a error
-lacks_bind c o g octets b a error n = record { lacks = lacks_then o g error n.lacks; most = n.most }
+lacks_bind c o g octets b a error n = record { lacks = lacks_then o g error n.lacks; least = n.least; most = n.most }
 
 -- nothing was read
 pub given_at_once : {X : Type 0} (c : ℕ) (o : Option X) (octets : List ℕ) (b : ℕ) (x : X) → o ≡ Some x → CountedGiven c o octets b b x
@@ -45,7 +45,7 @@ second_lacks None now' e = cc
 second_lacks (Some y) now' e = refl
 
 pub refuses_second : {X : Type 0} (c : ℕ) (found now' : Option X) (octets : List ℕ) (b : ℕ) → is_some found ≡ true → CountedLacks c (once found now') octets b b Malformed
-refuses_second c found now' octets b e = record { lacks = second_lacks found now' e; most = omega arith }
+refuses_second c found now' octets b e = record { lacks = second_lacks found now' e; least = omega arith; most = omega arith }
 
 pub given_once : {X : Type 0} (c : ℕ) (found now' : Option X) (octets : List ℕ) (b a : ℕ) (x : X) → is_some found ≡ false → CountedGiven c now' octets b a x → CountedGiven c (once found now') octets b a (Some x)
 unfolding once

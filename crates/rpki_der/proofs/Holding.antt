@@ -48,7 +48,7 @@ none_held f p Malformed n = record { none = λ vs rest h. rw (n.none vs rest h) 
 none_held f p OutOfMemory n = tt
 
 pub stops_held : {X : Type 0} (c k : ℕ) (f : Values → Option X) (p : Position) (b a : ℕ) (e : DecodeError) → CountedStops c k f p b a e → CountedStops c k (held f) p b a e
-stops_held c k f p b a e n = record { stops = none_held f p e n.stops; most = n.most }
+stops_held c k f p b a e n = record { stops = none_held f p e n.stops; least = n.least; most = n.most }
 
 -- ---- any values
 
@@ -71,7 +71,7 @@ only_octets p Malformed n = record { none = λ vs rest h. absurd (some_none tt (
 only_octets p OutOfMemory n = tt
 
 pub stops_octets : (c k : ℕ) (p : Position) (b a : ℕ) (e : DecodeError) → CountedStops c k anything p b a e → CountedStops c k as_octets p b a e
-stops_octets c k p b a e n = record { stops = only_octets p e n.stops; most = n.most }
+stops_octets c k p b a e n = record { stops = only_octets p e n.stops; least = n.least; most = n.most }
 
 pub rest_octets : (p e q : Position) (b m a : ℕ) (octets : List ℕ) → CountedContinues 1 anything p b (λ vs. every any vs >>= passed_over) e m → Leaves e q → a ≡ m + marks (top e.levels) → octets ≡ up_to p.here e.here → CountedReads 1 0 as_octets p q b a octets
 rest_octets p e q b m a octets w l t is =
@@ -128,7 +128,7 @@ none_with_octets grammar p Malformed n = λ v rest h. rw (n v rest h) refl
 none_with_octets grammar p OutOfMemory n = tt
 
 pub refuses_octets_of : {X : Type 0} (c : ℕ) (grammar : Value → Option X) (p : Position) (b a : ℕ) (e : DecodeError) → CountedRefuses c grammar p b a e → CountedRefuses c (octets_of grammar) p b a e
-refuses_octets_of c grammar p b a e n = record { refuses = none_octets_of grammar p e n.refuses; most = n.most }
+refuses_octets_of c grammar p b a e n = record { refuses = none_octets_of grammar p e n.refuses; least = n.least; most = n.most }
 
 pub refuses_with_octets : {X : Type 0} (c : ℕ) (grammar : Value → Option X) (p : Position) (b a : ℕ) (e : DecodeError) → CountedRefuses c grammar p b a e → CountedRefuses c (with_octets grammar) p b a e
-refuses_with_octets c grammar p b a e n = record { refuses = none_with_octets grammar p e n.refuses; most = n.most }
+refuses_with_octets c grammar p b a e n = record { refuses = none_with_octets grammar p e n.refuses; least = n.least; most = n.most }

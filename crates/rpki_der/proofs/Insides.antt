@@ -67,7 +67,7 @@ gives_decoded c grammar view octets b a (Ok y) d = record {
   least = omega (arith, d.least);
   most = let none : a + c * length d.begins.rest ≤ b + c * length octets = d.most in omega (arith, none);
 }
-gives_decoded c grammar view octets b a (Err e) d = record { lacks = decoded_lacks grammar octets e d.refuses; most = d.most }
+gives_decoded c grammar view octets b a (Err e) d = record { lacks = decoded_lacks grammar octets e d.refuses; least = d.least; most = d.most }
 
 -- a new cursor in DER over the octets reads what the grammar reads in them
 pub gives_in_der : {X Y : Type 0} (c : ℕ) (grammar : Value → Option X) (view : Y → X) (octets : List ℕ) (old new : Position) (b a : ℕ) (r : Result Y DecodeError) → old ≡ record { mode = Der; here = octets; levels = [] } → TakesCounted c grammar view old new b a r → GivesCounted c (in_der grammar octets) view octets b a r
@@ -80,7 +80,7 @@ pub takes_so_gives : {X Y Z : Type 0} (c : ℕ) (grammar : Value → Option X) (
 unfolding Lacks Refuses
 takes_so_gives c grammar convert view p q b a x (Ok z) t g = takes_so c grammar convert p q b a x (view z) t g
 takes_so_gives c grammar convert view p q b a x (Err Malformed) t n = refuses_convert c grammar convert p q b a x t n
-takes_so_gives c grammar convert view p q b a x (Err OutOfMemory) t n = record { refuses = tt; most = let none : a + c * left q ≤ b + c * left p = t.most in omega (arith, none) }
+takes_so_gives c grammar convert view p q b a x (Err OutOfMemory) t n = record { refuses = tt; least = omega (arith, t.least); most = let none : a + c * left q ≤ b + c * left p = t.most in omega (arith, none) }
 
 -- one over octets among those that were passed, which ticks d times an octet at most
 pub takes_so_given : {X Y Z : Type 0} (c d : ℕ) (grammar : Value → Option X) (convert : X → Option Y) (view : Z → Y) (p q : Position) (b m a : ℕ) (x : X) (octets : List ℕ) (r : Result Z DecodeError) → CountedOne c grammar p q b m x → length octets + left q ≤ left p → GivesCounted d (convert x) view octets m a r → TakesCounted (c + d) (so grammar convert) view p q b a r
@@ -92,10 +92,10 @@ takes_so_given c d grammar convert view p q b m a x octets (Ok z) t l g =
 takes_so_given c d grammar convert view p q b m a x octets (Err Malformed) t l n =
     let mono : d * (length octets + left q) ≤ d * left p = mul-le-mul_left d l in
     let k = refuses_convert c grammar convert p q b m x t n.lacks in
-    record { refuses = k.refuses; most = omega (arith, mono, t.most, n.most) }
+    record { refuses = k.refuses; least = omega (arith, t.least, n.least); most = omega (arith, mono, t.most, n.most) }
 takes_so_given c d grammar convert view p q b m a x octets (Err OutOfMemory) t l n =
     let mono : d * (length octets + left q) ≤ d * left p = mul-le-mul_left d l in
-    record { refuses = tt; most = omega (arith, mono, t.most, n.most) }
+    record { refuses = tt; least = omega (arith, t.least, n.least); most = omega (arith, mono, t.most, n.most) }
 
 -- ---- contents are among the octets that were passed
 

@@ -110,10 +110,10 @@ whole_any p q b m a x w e t = record {
   most = rw e.0 (omega (arith, t, w.3, counts_passed p.mode p.here w.0 q.here w.1));
 }
 
-pub refuses_next : (p : Position) (b a : ℕ) (e : DecodeError) → (AtEnd p → ⊥) → (e ≡ Malformed → NoValue p.mode p.here) → a ≤ b + length p.here + 1 → CountedRefusesNext 1 p b a e
+pub refuses_next : (p : Position) (b a : ℕ) (e : DecodeError) → (AtEnd p → ⊥) → (e ≡ Malformed → NoValue p.mode p.here) → b ≤ a → a ≤ b + length p.here + 1 → CountedRefusesNext 1 p b a e
 unfolding RefusesNext
-refuses_next p b a Malformed more none t = record { refuses = (more, none refl); most = omega (arith, t) }
-refuses_next p b a OutOfMemory more none t = record { refuses = more; most = omega (arith, t) }
+refuses_next p b a Malformed more none l t = record { refuses = (more, none refl); least = l; most = omega (arith, t) }
+refuses_next p b a OutOfMemory more none l t = record { refuses = more; least = l; most = omega (arith, t) }
 
 pub next_err : (p q : Position) (b a : ℕ) (error : DecodeError) (r : Result (Option ItemFields) DecodeError) → IsErrAnd r (λ e. e ≡ error) → CountedRefusesNext 1 p b a error → TakesNextCounted 1 p q b a r
 next_err p q b a error (Ok y) h n = absurd h
@@ -151,14 +151,14 @@ pub refuses_unidentified : (tag : List ℕ) (p : Position) (b a : ℕ) → NoIde
 unfolding Refuses
 refuses_unidentified tag p b a none t = refuses_at_once 1 (item_with tag) p b a Malformed (with_none tag p (none_identified p.mode p.here none)) t
 
-pub refuses_with : (tag : List ℕ) (p : Position) (b a : ℕ) (e : DecodeError) → (e ≡ Malformed → NoValue p.mode p.here) → a ≤ b + length p.here + 1 → CountedRefuses 1 (item_with tag) p b a e
+pub refuses_with : (tag : List ℕ) (p : Position) (b a : ℕ) (e : DecodeError) → (e ≡ Malformed → NoValue p.mode p.here) → b ≤ a → a ≤ b + length p.here + 1 → CountedRefuses 1 (item_with tag) p b a e
 unfolding Refuses
-refuses_with tag p b a Malformed none t = record { refuses = with_none tag p (none refl); most = omega (arith, t) }
-refuses_with tag p b a OutOfMemory none t = record { refuses = tt; most = omega (arith, t) }
+refuses_with tag p b a Malformed none l t = record { refuses = with_none tag p (none refl); least = l; most = omega (arith, t) }
+refuses_with tag p b a OutOfMemory none l t = record { refuses = tt; least = l; most = omega (arith, t) }
 
-pub takes_with : (tag : List ℕ) (p q : Position) (i r : List ℕ) (b m a : ℕ) (result : Result ItemFields DecodeError) → IdentifierFirst p.here i r → has_tag tag i ≡ true → IfOk result (λ x. ShowsWhole p.mode p.here q.here m a x) → OnOk result ((q.levels ≡ p.levels) × (q.mode ≡ p.mode)) → (result ≡ Err Malformed → NoValue p.mode p.here) → OnErr result (a ≤ m + length p.here) → m ≡ b + 1 → TakesCounted 1 (item_with tag) (λ i. i) p q b a result
-takes_with tag p q i r b m a (Ok x) f tagged w e none l t = whole_with tag p q i r b m a x f tagged w e t
-takes_with tag p q i r b m a (Err error) f tagged w e none l t = refuses_with tag p b a error (λ is. none (ap Err is)) (omega (arith, t, l))
+pub takes_with : (tag : List ℕ) (p q : Position) (i r : List ℕ) (b m a : ℕ) (result : Result ItemFields DecodeError) → IdentifierFirst p.here i r → has_tag tag i ≡ true → IfOk result (λ x. ShowsWhole p.mode p.here q.here m a x) → OnOk result ((q.levels ≡ p.levels) × (q.mode ≡ p.mode)) → (result ≡ Err Malformed → NoValue p.mode p.here) → OnErr result (m ≤ a) → OnErr result (a ≤ m + length p.here) → m ≡ b + 1 → TakesCounted 1 (item_with tag) (λ i. i) p q b a result
+takes_with tag p q i r b m a (Ok x) f tagged w e none k l t = whole_with tag p q i r b m a x f tagged w e t
+takes_with tag p q i r b m a (Err error) f tagged w e none k l t = refuses_with tag p b a error (λ is. none (ap Err is)) (omega (arith, t, k)) (omega (arith, t, l))
 
 -- ---- `take_opt_if`
 
@@ -174,10 +174,10 @@ pub not_absent_unidentified : (tag : List ℕ) (p : Position) → (AtEnd p → �
 not_absent_unidentified tag p more none (inl e) = more e
 not_absent_unidentified tag p more none (inr o) = none o.0 o.1 o.2
 
-pub refuses_optional : (tag : List ℕ) (p : Position) (b a : ℕ) (e : DecodeError) → (Absent tag p → ⊥) → (e ≡ Malformed → NoValue p.mode p.here) → a ≤ b + length p.here + 1 → CountedRefusesOptional 1 tag p b a e
+pub refuses_optional : (tag : List ℕ) (p : Position) (b a : ℕ) (e : DecodeError) → (Absent tag p → ⊥) → (e ≡ Malformed → NoValue p.mode p.here) → b ≤ a → a ≤ b + length p.here + 1 → CountedRefusesOptional 1 tag p b a e
 unfolding RefusesOptional
-refuses_optional tag p b a Malformed present none t = record { refuses = (present, none refl); most = omega (arith, t) }
-refuses_optional tag p b a OutOfMemory present none t = record { refuses = present; most = omega (arith, t) }
+refuses_optional tag p b a Malformed present none l t = record { refuses = (present, none refl); least = l; most = omega (arith, t) }
+refuses_optional tag p b a OutOfMemory present none l t = record { refuses = present; least = l; most = omega (arith, t) }
 
 pub optional_err : (tag : List ℕ) (p q : Position) (b a : ℕ) (error : DecodeError) (r : Result (Option ItemFields) DecodeError) → IsErrAnd r (λ e. e ≡ error) → CountedRefusesOptional 1 tag p b a error → TakesOptionalCounted 1 tag p q b a r
 optional_err tag p q b a error (Ok y) h n = absurd h
@@ -249,6 +249,7 @@ refuses_converted c tag field convert p q b a y is t e =
     let reads : field t.takes.value ≡ None = is.is t.takes.value h.tagged ∙ ap convert h.is ∙ e in
     counting.refuses_optional c tag field p b a Malformed (item_next c tag p q b a y t) (item_more c tag p q b a y t) (record {
       refuses = λ v rest k. ap field (at_most_one p.mode p.here v t.takes.value rest q.here k t.takes.begins).value ∙ reads;
+      least = omega (arith, t.least);
       most = let w : a + c * left q ≤ b + c * left p = t.most in omega (arith, w);
     })
 
@@ -258,8 +259,8 @@ refused_all tag field p more none (v ▸ vs) rest h = let m = holds_more p.mode 
 
 pub refuses_optional_field : {X : Type 0} (c : ℕ) (tag : List ℕ) (field : Value → Option X) (p : Position) (b a : ℕ) (e : DecodeError) → CountedRefusesOptional c tag p b a e → CountedRefusesFields c 1 (optional tag field) p b a e
 unfolding RefusesOptional RefusesFields
-refuses_optional_field c tag field p b a Malformed n = record { refuses = refused_all tag field p (λ e. n.refuses.0 (inl e)) n.refuses.1; most = omega (arith, n.most) }
-refuses_optional_field c tag field p b a OutOfMemory n = record { refuses = tt; most = omega (arith, n.most) }
+refuses_optional_field c tag field p b a Malformed n = record { refuses = refused_all tag field p (λ e. n.refuses.0 (inl e)) n.refuses.1; least = n.least; most = omega (arith, n.most) }
+refuses_optional_field c tag field p b a OutOfMemory n = record { refuses = tt; least = n.least; most = omega (arith, n.most) }
 
 -- ---- the same of the value that stands next, whatever follows it
 

@@ -32,7 +32,7 @@ only_as f g p Malformed h n = record { none = λ vs rest x. sym (h vs) ∙ n.non
 only_as f g p OutOfMemory h n = tt
 
 pub stops_as : {Y : Type 0} (c k : ℕ) (f g : Values → Option Y) (p : Position) (b a : ℕ) (e : DecodeError) → ((vs : Values) → f vs ≡ g vs) → CountedStops c k f p b a e → CountedStops c k g p b a e
-stops_as c k f g p b a e h n = record { stops = only_as f g p e h n.stops; most = n.most }
+stops_as c k f g p b a e h n = record { stops = only_as f g p e h n.stops; least = n.least; most = n.most }
 
 pub continues_as : {Y : Type 0} (c : ℕ) (f g : Values → Option Y) (p : Position) (b : ℕ) → ((vs : Values) → f vs ≡ g vs) → CountedContinues c g p b f p b
 continues_as c f g p b h = record { reads = λ k q a y r. reads_as c k f g p q b a y h r; stops = λ k a e n. stops_as c k f g p b a e h n; levels = refl; mode = refl }
@@ -56,7 +56,7 @@ none_alike f g p Malformed h n = λ v rest k. sym (h v) ∙ n v rest k
 none_alike f g p OutOfMemory h n = tt
 
 pub refuses_alike : {X : Type 0} (c : ℕ) (f g : Value → Option X) (p : Position) (b a : ℕ) (e : DecodeError) → ((v : Value) → f v ≡ g v) → CountedRefuses c f p b a e → CountedRefuses c g p b a e
-refuses_alike c f g p b a e h n = record { refuses = none_alike f g p e h n.refuses; most = n.most }
+refuses_alike c f g p b a e h n = record { refuses = none_alike f g p e h n.refuses; least = n.least; most = n.most }
 
 pub all_alike : {X Y : Type 0} (c : ℕ) (f g : Value → Option X) (view : Y → X) (p q : Position) (b a : ℕ) (r : Result Y DecodeError) → ((v : Value) → f v ≡ g v) → TakesCounted c f view p q b a r → TakesCounted c g view p q b a r
 all_alike c f g view p q b a (Ok y) h t = takes_alike c f g p q b a (view y) h t
@@ -66,13 +66,13 @@ all_alike c f g view p q b a (Err e) h n = refuses_alike c f g p b a e h n
 
 pub rest_wider : {X Y : Type 0} (c j k : ℕ) (fields : Values → Option X) (view : Y → X) (p q : Position) (b a : ℕ) (r : Result Y DecodeError) → nat_lt k j ≡ false → TakesRestCounted c j fields view p q b a r → TakesRestCounted c k fields view p q b a r
 rest_wider c j k fields view p q b a (Ok y) fits t = record { reads = t.reads; least = t.least; most = omega (arith, ltb-false k j fits, t.most) }
-rest_wider c j k fields view p q b a (Err e) fits n = record { stops = n.stops; most = omega (arith, ltb-false k j fits, n.most) }
+rest_wider c j k fields view p q b a (Err e) fits n = record { stops = n.stops; least = n.least; most = omega (arith, ltb-false k j fits, n.most) }
 
 pub reads_slower : {Y : Type 0} (c d k : ℕ) (fields : Values → Option Y) (p q : Position) (b a : ℕ) (y : Y) → nat_lt c d ≡ false → CountedReads d k fields p q b a y → CountedReads c k fields p q b a y
 reads_slower c d k fields p q b a y fits r = record { reads = r.reads; least = r.least; most = most_wider c d (left p) (left q) b a k fits (reads_left fields p q y r.reads) r.most }
 
 pub stops_slower : {Y : Type 0} (c d k : ℕ) (fields : Values → Option Y) (p : Position) (b a : ℕ) (e : DecodeError) → nat_lt c d ≡ false → CountedStops d k fields p b a e → CountedStops c k fields p b a e
-stops_slower c d k fields p b a e fits n = record { stops = n.stops; most = most_refused c d (left p) b a k fits n.most }
+stops_slower c d k fields p b a e fits n = record { stops = n.stops; least = n.least; most = most_refused c d (left p) b a k fits n.most }
 
 -- ---- what is made of them
 
@@ -86,7 +86,7 @@ none_bound f g p Malformed n = record { none = λ vs rest h. rw (n.none vs rest 
 none_bound f g p OutOfMemory n = tt
 
 pub stops_bind : {X Y : Type 0} (c k : ℕ) (f : Values → Option X) (g : X → Option Y) (p : Position) (b a : ℕ) (e : DecodeError) → CountedStops c k f p b a e → CountedStops c k (λ vs. f vs >>= g) p b a e
-stops_bind c k f g p b a e n = record { stops = none_bound f g p e n.stops; most = n.most }
+stops_bind c k f g p b a e n = record { stops = none_bound f g p e n.stops; least = n.least; most = n.most }
 
 -- ---- any values
 
@@ -139,7 +139,7 @@ second_none None f p h = cc
 second_none (Some x) f p h = record { none = λ vs rest h. refl }
 
 pub stops_second : {X : Type 0} (c k : ℕ) (found : Option X) (f : Values → Option X) (p : Position) (b : ℕ) → is_some found ≡ true → CountedStops c k (λ vs. once found (f vs)) p b b Malformed
-stops_second c k found f p b h = record { stops = second_none found f p h; most = omega arith }
+stops_second c k found f p b h = record { stops = second_none found f p h; least = omega arith; most = omega arith }
 
 pub first_reads : {X : Type 0} (c k : ℕ) (found : Option X) (f : Values → Option X) (p q : Position) (b a : ℕ) (x : X) → is_some found ≡ false → CountedReads c k f p q b a x → CountedReads c k (λ vs. once found (f vs)) p q b a (Some x)
 unfolding once

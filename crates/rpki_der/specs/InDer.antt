@@ -21,6 +21,7 @@ pub record CountedGiven {X : Type 0} (c : ℕ) (o : Option X) (octets : List ℕ
 pub record CountedLacks {X : Type 0} (c : ℕ) (o : Option X) (octets : List ℕ) (before after : ℕ)
     (error : DecodeError) : Type 0 where
   pub lacks : Lacks o error
+  pub least : before ≤ after
   pub most : after ≤ before + c * length octets + 8
 
 -- Gives, and at most c ticks for each of the octets from which it is calculated.

@@ -57,6 +57,7 @@ TakesNext old new result =
 pub record CountedRefusesNext (c : ℕ) (old : Position) (before after : ℕ)
     (error : DecodeError) : Type 0 where
   pub refuses : RefusesNext old error
+  pub least : before ≤ after
   pub most : after ≤ before + c * left old + 8
 
 -- TakesNext, and c ticks an octet at most; None ticks nothing.
@@ -98,6 +99,7 @@ CountedAbsent tag old before after =
 pub record CountedRefusesOptional (c : ℕ) (tag : List ℕ) (old : Position) (before after : ℕ)
     (error : DecodeError) : Type 0 where
   pub refuses : RefusesOptional tag old error
+  pub least : before ≤ after
   pub most : after ≤ before + c * left old + 8
 
 -- TakesOptional, and c ticks an octet at most.

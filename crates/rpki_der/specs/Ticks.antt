@@ -52,10 +52,12 @@ pub record CountedOne {X : Type 0} (c : ℕ) (grammar : Value → Option X) (old
   pub least : before + nodes takes.value ≤ after
   pub most : after + c * left new ≤ before + c * left old
 
--- The grammar reads no value that stands here, or memory ran out, after at most c ticks for each octet that was left, and 8.
+-- The grammar reads no value that stands here, or memory ran out. The count didn't fall, and there were at most c ticks for each octet
+-- that was left, and 8.
 pub record CountedRefuses {X : Type 0} (c : ℕ) (grammar : Value → Option X) (old : Position)
     (before after : ℕ) (error : DecodeError) : Type 0 where
   pub refuses : Refuses grammar old error
+  pub least : before ≤ after
   pub most : after ≤ before + c * left old + 8
 
 -- Takes, and c ticks an octet at most.
@@ -72,12 +74,14 @@ pub record CountedFields {X : Type 0} (c k : ℕ) (fields : Values → Option (X
   pub takes : TakesFields fields old new x
   pub least : (vs : Values) (rest : List ℕ) (h : Holds new.mode (top new.levels) new.here vs rest)
       → before + all_nodes (takes.reads vs rest h).0 ≤ after + all_nodes vs
+  pub later : before ≤ after
   pub on : left new ≤ left old
   pub most : after + c * left new ≤ before + c * left old + k
 
 pub record CountedRefusesFields {X : Type 0} (c k : ℕ) (fields : Values → Option (X × Values))
     (old : Position) (before after : ℕ) (error : DecodeError) : Type 0 where
   pub refuses : RefusesFields fields old error
+  pub least : before ≤ after
   pub most : after ≤ before + c * left old + k + 8
 
 abbrev pub TakesPartCounted : {X Y : Type 0} → ℕ → ℕ → (Values → Option (X × Values)) → (Y → X)
@@ -97,6 +101,7 @@ pub record CountedBegins {X : Type 0} (c : ℕ) (grammar : Value → Option X) (
 pub record CountedRefusesOctets {X : Type 0} (c : ℕ) (grammar : Value → Option X) (mode : Mode)
     (octets : List ℕ) (before after : ℕ) (error : DecodeError) : Type 0 where
   pub refuses : RefusesOctets grammar mode octets error
+  pub least : before ≤ after
   pub most : after ≤ before + c * length octets + 8
 
 -- Decodes, and c ticks an octet at most.
@@ -118,6 +123,7 @@ pub record CountedReads {Y : Type 0} (c k : ℕ) (fields : Values → Option Y) 
 pub record CountedStops {Y : Type 0} (c k : ℕ) (fields : Values → Option Y) (p : Position)
     (before after : ℕ) (error : DecodeError) : Type 0 where
   pub stops : Stops fields p error
+  pub least : before ≤ after
   pub most : after ≤ before + c * left p + k + 8
 
 -- TakesRest, and c ticks an octet at most; k ticks more are paid by the header in front.

@@ -84,6 +84,7 @@ fn constructed_item<'a, L: Ledger>(
     requires opens { Opens mode here.now identifier.now (level_of level) inner.now }
     ensures ok { IfOk result (λ r. ShowsWhole mode here.now r.1.now steps.old steps.new r.0) }
     ensures malformed { result ≡ Err DecodeError.Malformed → NoValue mode here.now }
+    ensures later { OnErr result (steps.old ≤ steps.new) }
     ensures refused { OnErr result (steps.new ≤ steps.old + length here.now) }
     ensures stopped { OnErr result (StopsIn 0 mode here.now [] steps.old steps.new) }
 {
@@ -110,6 +111,7 @@ fn whole_item<'a, L: Ledger>(
     requires part { IsPart mode here.now part }
     ensures ok { IfOk result (λ r. ShowsWhole mode here.now r.1.now steps.old steps.new r.0) }
     ensures malformed { result ≡ Err DecodeError.Malformed → NoValue mode here.now }
+    ensures later { OnErr result (steps.old ≤ steps.new) }
     ensures refused { OnErr result (steps.new ≤ steps.old + length here.now) }
     ensures stopped { OnErr result (StopsIn 0 mode here.now [] steps.old steps.new) }
 {
@@ -151,6 +153,7 @@ impl<'a> Cursor<'a> {
         ensures malformed { result ≡ Err DecodeError.Malformed
             → NoValue self.old.mode self.old.here }
         ensures err { OnErr result (self.new ≡ self.old) }
+        ensures later { OnErr result (steps.old ≤ steps.new) }
         ensures refused { OnErr result (steps.new ≤ steps.old + length self.old.here) }
         ensures stopped { OnErr result (StopsIn 0 self.old.mode self.old.here [] steps.old
             steps.new) }

@@ -31,6 +31,7 @@ fn segment<L: Ledger>(
         cursor.old.here + left_in cursor.old.levels) }
     ensures counted { OnOk result (Onward cursor.old steps.old cursor.new steps.new) }
     ensures most { OnOk result (steps.new + left cursor.new ≤ steps.old + left cursor.old) }
+    ensures later { steps.old ≤ steps.new }
     ensures refused { OnErr result (steps.new ≤ steps.old + 2) }
 {
     match cursor.enter_counted(tag, steps) {

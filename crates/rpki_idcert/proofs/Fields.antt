@@ -84,7 +84,7 @@ none_left p Malformed more n = record { none = none }
 none_left p OutOfMemory more n = tt
 
 stops_with : (p : Position) (b a : ℕ) (e : DecodeError) → (AtEnd p → ⊥) → CountedStops 1 0 number_alone p b a e → CountedStops 1 0 path_length p b a e
-stops_with p b a e more n = record { stops = none_left p e more n.stops; most = n.most }
+stops_with p b a e more n = record { stops = none_left p e more n.stops; least = n.least; most = n.most }
 
 -- the level is at its end
 pub path_ended : (p q : Position) (b a : ℕ) (r : Result (Unit {0}) DecodeError) → AtEnd p → GoesOut p q r → OnOk r (a ≡ b + marks (top p.levels)) → TakesRestCounted 1 0 path_length (λ x. x) p q b a r

@@ -36,6 +36,7 @@ takes_another c field p q b a x t = record {
     mode = t.takes.mode;
   };
   least = λ vs rest h. omega (arith, t.least);
+  later = omega (arith, t.least);
   on = omega (arith, value_left p q t.takes.value t.takes.begins t.takes.levels);
   most = omega (arith, t.most);
 }
@@ -56,6 +57,7 @@ takes_no_other c field p b e = record {
     mode = refl;
   };
   least = λ vs rest h. omega arith;
+  later = omega arith;
   on = omega arith;
   most = omega arith;
 }
@@ -73,4 +75,4 @@ refused field p Malformed more none = refused_there field p more none
 refused field p OutOfMemory more none = tt
 
 pub refuses_another : {X : Type 0} (c : ℕ) (field : Value → Option X) (p : Position) (b a : ℕ) (e : DecodeError) → (AtEnd p → ⊥) → CountedRefuses c field p b a e → CountedRefusesFields c 0 (if_any field) p b a e
-refuses_another c field p b a e more none = record { refuses = refused field p e more none.refuses; most = omega (arith, none.most) }
+refuses_another c field p b a e more none = record { refuses = refused field p e more none.refuses; least = none.least; most = omega (arith, none.most) }

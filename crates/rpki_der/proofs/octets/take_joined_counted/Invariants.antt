@@ -9,6 +9,7 @@ abbrev pub invariant-segments : goal.invariant-segments
 invariant-segments g l = record {
   above : l.base ≤ length l.cursor.levels;
   joins : Joins l.fn.tag l.fn.cursor (length l.cursor.levels - l.base) l.cursor l.octets.items;
+  later : l.fn.steps ≤ l.steps;
   below : Below l.fn.cursor l.fn.steps l.cursor l.steps;
 }
 

@@ -7,7 +7,7 @@ use Rattle.rpki_der.proofs.Stops.{passed_none, passed_one, passed_out}
 use Rattle.rpki_der.proofs.walk.skip_levels.Goals as goal
 
 pub levels-init : goal.levels-init
-levels-init g c = record { onward = λ final p. p; counted = λ final n k. (n, k, refl); most = omega arith; passed = passed_none _ _ _ _; room = c.requires.room }
+levels-init g c = record { onward = λ final p. p; counted = λ final n k. (n, k, refl); later = omega arith; most = omega arith; passed = passed_none _ _ _ _; room = c.requires.room }
 
 pub levels-preserved-in-Some-level_end : goal.levels-preserved-in-Some-level_end
 levels-preserved-in-Some-level_end g c =
@@ -16,6 +16,7 @@ levels-preserved-in-Some-level_end g c =
     rw (c.pop.ensures) (record {
       onward = ended_last _ _ _ c.levels.opened _ _ _ last c.levels.invariant.onward c.in-Some-level_end.ensures.found;
       counted = exact_ended_last _ _ _ c.levels.opened _ _ _ _ _ _ last c.levels.invariant.counted c.in-Some-level_end.ensures.found c.tick_mark.ensures;
+      later = omega (arith, c.tick_mark.ensures, c.levels.invariant.later);
       most = omega (arith, c.tick_mark.ensures, passed, c.levels.invariant.most);
       room = room_out_last _ _ c.levels.opened _ last c.in-Some-level_end.ensures.found c.levels.invariant.room;
       passed = passed_out _ _ _ _ _ c.levels.opened _ _ _ _ last c.levels.invariant.passed c.in-Some-level_end.ensures.found c.tick_mark.ensures;
@@ -34,6 +35,7 @@ levels-preserved g c =
     record {
       onward = went_on_last _ _ _ c.levels.opened _ _ _ _ last c.levels.invariant.onward c.in-None.ensures.none c.in_ok-here-in-None.ensures.ok;
       counted = exact_on_last _ _ _ c.levels.opened _ _ _ _ _ _ _ last c.levels.invariant.counted c.in_ok-here-in-None.ensures.counted;
+      later = omega (arith, c.in_ok-here-in-None.ensures.ticks, c.levels.invariant.later);
       most = omega (arith, c.in_ok-here-in-None.ensures.passed, c.in_ok-here-in-None.ensures.ticks, c.levels.invariant.most);
       room = c.in_ok-here-in-None.ensures.room;
       passed = passed_one _ _ _ _ _ _ _ _ _ _ c.levels.invariant.passed c.in_ok-here-in-None.ensures.header c.in_ok-here-in-None.ensures.ticks;

@@ -14,6 +14,7 @@ invariant-levels g l = record {
   counted : LeadsExactly l.mode l.octets l.fn.opened l.fn.steps l.here l.opened l.steps;
   room : HasRoom l.here l.opened;
   passed : Passed l.mode l.octets l.fn.opened l.fn.steps l.here l.opened l.steps;
+  later : l.fn.steps ≤ l.steps;
   most : l.steps + length l.here + behind l.opened ≤ l.fn.steps + length l.octets + behind l.fn.opened;
 }
 

@@ -9,7 +9,7 @@ use Rattle.rpki_der.proofs.cursor.Cursor.take_if_counted.Goals as goal
 pub returns-in-Some-clause-value : goal.returns-in-Some-clause-value
 returns-in-Some-clause-value g c =
     let f = subst (λ (p : Position). IdentifierFirst p.here c.in-Some.identifier.now c.in-Some.behind.now) c.self.view_is c.in-Some.ensures.found in
-    takes_with _ _ _ _ _ _ _ _ _ f (sym c.if-tag_is.ensures) c.take_behind.ensures.ok c.take_behind.ensures.place c.take_behind.ensures.malformed c.take_behind.ensures.refused c.tick.ensures
+    takes_with _ _ _ _ _ _ _ _ _ f (sym c.if-tag_is.ensures) c.take_behind.ensures.ok c.take_behind.ensures.place c.take_behind.ensures.malformed c.take_behind.ensures.later c.take_behind.ensures.refused c.tick.ensures
 
 pub returns-in_default-clause-value : goal.returns-in_default-clause-value
 returns-in_default-clause-value g c =

@@ -14,12 +14,12 @@ returns-in_ok-item-in-Some-clause-value g c =
 pub returns-in_err-item-in-Some-clause-value : goal.returns-in_err-item-in-Some-clause-value
 returns-in_err-item-in-Some-clause-value g c =
     let f = subst (λ (p : Position). IdentifierFirst p.here c.in-Some.identifier.now c.in-Some.behind.now) c.self.view_is c.in-Some.ensures.found in
-    optional_err _ c.args.self.now _ _ _ _ _ c.from_residual.ensures.1 (refuses_optional _ c.args.self.now _ _ _ (not_absent _ c.args.self.now _ _ (not_ended c.if-end.ensures) f (sym c.if-tag_is.ensures)) (λ e. c.in_err-item-in-Some.ensures.malformed (ap Err e)) (omega (arith, c.tick.ensures, c.in_err-item-in-Some.ensures.refused)))
+    optional_err _ c.args.self.now _ _ _ _ _ c.from_residual.ensures.1 (refuses_optional _ c.args.self.now _ _ _ (not_absent _ c.args.self.now _ _ (not_ended c.if-end.ensures) f (sym c.if-tag_is.ensures)) (λ e. c.in_err-item-in-Some.ensures.malformed (ap Err e)) (omega (arith, c.tick.ensures, c.in_err-item-in-Some.ensures.later)) (omega (arith, c.tick.ensures, c.in_err-item-in-Some.ensures.refused)))
 
 pub returns-in-None-clause-value : goal.returns-in-None-clause-value
 returns-in-None-clause-value g c =
     let none = subst (λ (p : Position). NoIdentifier p.here) c.self.view_is c.in-None.ensures.none in
-    refuses_optional _ c.args.self.now _ _ _ (not_absent_unidentified _ c.args.self.now (not_ended c.if-end.ensures) none) (λ e. none_identified c.args.self.now.mode _ none) (omega (arith, c.tick.ensures))
+    refuses_optional _ c.args.self.now _ _ _ (not_absent_unidentified _ c.args.self.now (not_ended c.if-end.ensures) none) (λ e. none_identified c.args.self.now.mode _ none) (omega (arith, c.tick.ensures)) (omega (arith, c.tick.ensures))
 
 pub returns-in-None-clause-stopped : goal.returns-in-None-clause-stopped
 returns-in-None-clause-stopped g c = stops_first 1 _ _ _ _ _ (omega (arith, c.tick.ensures))
