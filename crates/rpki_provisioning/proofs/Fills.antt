@@ -71,18 +71,22 @@ fails {A} fault e read size all rest next found a before now later is to unfille
     let cost : now + 2 * (size a + sum_by size next) ≤ before + 2 * sum_by size all = subst (λ (n : ℕ). now + 2 * n ≤ before + 2 * sum_by size all) split to.cost in
     record {
       fault' = none_of fault e (read a) (read_all read all) (λ none. sym to.so_far ∙ ap (λ (l : List A). with_front found (read_all read l)) is ∙ fails_none read found a next none) unfilled.fault';
+      least = grown before now later to.least unfilled.least;
       most = within now later before (size a) (sum_by size next) (sum_by size all) unfilled.most cost;
     }
   where
     within : (now later before s n t : ℕ) → later ≤ now + 2 * s + 8 → now + 2 * (s + n) ≤ before + 2 * t → later ≤ before + 2 * t + 8
     within now later before s n t p q = omega (arith)
 
+    grown : (before now later : ℕ) → before ≤ now → now ≤ later → before ≤ later
+    grown before now later p q = omega (arith)
+
 -- memory ran out when it was to be kept
 pub not_kept : {A Y : Type 0} (fault : Error) (read : A → Option Y) (size : A → ℕ) (all rest next : List A) (found : List Y) (a : A) (y : Y) (before now later : ℕ) → rest ≡ a ∷ next
     → FilledTo read size all rest found before now → Filled (read a) (size a) now later y → Unfilled fault (read_all read all) (sum_by size all) before later errors.OutOfMemory
 not_kept {A} fault read size all rest next found a y before now later is to filled =
     let then = more read size all rest next found a y before now later is to filled in
-    record { fault' = tt; most = within later before (sum_by size next) (sum_by size all) then.cost }
+    record { fault' = tt; least = then.least; most = within later before (sum_by size next) (sum_by size all) then.cost }
   where
     within : (later before n t : ℕ) → later + 2 * n ≤ before + 2 * t → later ≤ before + 2 * t + 8
     within later before n t p = omega (arith)
@@ -115,8 +119,9 @@ begun grammar mode octets given before after x is counted = subst (λ (o : List 
     no_fewer before after n p = omega (arith)
 
 pub not_begun : {X : Type 0} (grammar : Value → Option X) (mode : Mode) (octets given : List ℕ) (before after : ℕ) → given ≡ octets → CountedRefusesOctets 2 grammar mode given before after Malformed
-    → (decoded grammar mode octets ≡ None) × (after ≤ before + 2 * length octets + 8)
-not_begun grammar mode octets given before after is counted = subst (λ (o : List ℕ). (decoded grammar mode o ≡ None) × (after ≤ before + 2 * length o + 8)) is (decoded_none grammar mode given counted.refuses, counted.most)
+    → (decoded grammar mode octets ≡ None) × (before ≤ after) × (after ≤ before + 2 * length octets + 8)
+not_begun grammar mode octets given before after is counted =
+    subst (λ (o : List ℕ). (decoded grammar mode o ≡ None) × (before ≤ after) × (after ≤ before + 2 * length o + 8)) is (decoded_none grammar mode given counted.refuses, counted.least, counted.most)
 
 -- ---- one reading after another
 
@@ -126,7 +131,7 @@ one f o n before after x filled = record { gives = rw filled.gives refl; least =
 
 pub not_one : {A B : Type 0} (fault e : Error) (f : A → B) (o : Option A) (n before after : ℕ) → Unfilled fault o n before after e → Unfilled fault (o >>= λ a. Some (f a)) n before after e
 unfolding ◌>>=◌
-not_one {A} {B} fault e f o n before after unfilled = record { fault' = none_of fault e o (o >>= λ a. Some (f a)) (λ none. rw none refl) unfilled.fault'; most = unfilled.most }
+not_one {A} {B} fault e f o n before after unfilled = record { fault' = none_of fault e o (o >>= λ a. Some (f a)) (λ none. rw none refl) unfilled.fault'; least = unfilled.least; most = unfilled.most }
 
 pub two : {A B C : Type 0} (f : A → B → C) (o : Option A) (p : Option B) (m n before between after : ℕ) (x : A) (y : B) → Filled o m before between x → Filled p n between after y
     → Filled (o >>= λ a. p >>= λ b. Some (f a b)) (m + n) before after (f x y)
@@ -144,6 +149,7 @@ pub not_first : {A B C : Type 0} (fault e : Error) (f : A → B → C) (o : Opti
 unfolding ◌>>=◌
 not_first {A} {B} {C} fault e f o p m n before after unfilled = record {
   fault' = none_of fault e o (o >>= λ a. p >>= λ b. Some (f a b)) (λ none. rw none refl) unfilled.fault';
+  least = unfilled.least;
   most = within m n before after unfilled.most;
 }
   where
@@ -155,8 +161,12 @@ pub not_second : {A B C : Type 0} (fault e : Error) (f : A → B → C) (o : Opt
 unfolding ◌>>=◌
 not_second {A} {B} {C} fault e f o p m n before between after x first unfilled = record {
   fault' = none_of fault e p (o >>= λ a. p >>= λ b. Some (f a b)) (λ none. rw first.gives (rw none refl)) unfilled.fault';
+  least = grown before between after first.least unfilled.least;
   most = within m n before between after first.most unfilled.most;
 }
   where
     within : (m n before between after : ℕ) → between ≤ before + 2 * m → after ≤ between + 2 * n + 8 → after ≤ before + 2 * (m + n) + 8
     within m n before between after p q = omega (arith)
+
+    grown : (before between after : ℕ) → before ≤ between → between ≤ after → before ≤ after
+    grown before between after p q = omega (arith)

@@ -1,9 +1,7 @@
 pub mod Again
 pub mod Alike
-pub mod Believed
 pub mod Bounds
 pub mod Collects
-pub mod Contents
 pub mod Counted
 pub mod Excludes
 pub mod Fills

@@ -16,7 +16,7 @@ use Rattle.rpki_xml.specs.Lexing.{IsDocument}
 use Rattle.rpki_xml.proofs.Documents.{one_document}
 use Rattle.rpki_provisioning.specs.declared.shape.PayloadShape.{PayloadShape}
 use Rattle.rpki_provisioning.specs.declared.shape.PayloadShape.TheVariants as shape
-use Rattle.rpki_provisioning.specs.Answers.{IsOfShape, RefusesMessage, RefusesSource, Parses}
+use Rattle.rpki_provisioning.specs.Answers.{RefusesMessage, RefusesSource, Parses}
 use Rattle.rpki_provisioning.specs.Filling.{IsFault, Fills, fault_in}
 use Rattle.rpki_provisioning.specs.Message.{shape_in, message_of, HasShape, Reads}
 use Rattle.rpki_provisioning.specs.Shape.{MessageFields, MessageShape, payload_of_shape, message_of_shape}
@@ -139,26 +139,6 @@ taken rest left faults now v r same end within kept later most read = record {
   most = most;
 }
 
-pub no_fewer : (s : MessageShape) (n before after : ℕ) (r : Result MessageFields Error) → Fills (fault_in s.payload) (message_of_shape s) (λ m. m) n before after r → IsOfShape r → before ≤ after
-no_fewer s n before after (Ok m) filled is = filled.least
-no_fewer s n before after (Err errors.InvalidVersion) unfilled' is = absurd is
-no_fewer s n before after (Err (errors.XmlError error)) unfilled' is = absurd (no_xml error s.payload unfilled'.fault'.0)
-  where
-    no_xml : (x : XmlError) (p : PayloadShape) → ◌≡◌ {A = Error} (errors.XmlError x) (fault_in p) → ⊥
-    no_xml x shape.List e = cc
-    no_xml x (shape.ListResponse classes) e = cc
-    no_xml x (shape.Issue request) e = cc
-    no_xml x (shape.IssueResponse response) e = cc
-    no_xml x (shape.Revoke request) e = cc
-    no_xml x (shape.RevokeResponse response) e = cc
-    no_xml x (shape.ErrorResponse response) e = cc
-no_fewer s n before after (Err (errors.InvalidPayloadType error)) unfilled' is = absurd is
-no_fewer s n before after (Err errors.InvalidCsrSyntax) unfilled' is = absurd is
-no_fewer s n before after (Err errors.CertSyntax) unfilled' is = absurd is
-no_fewer s n before after (Err errors.CmsDecode) unfilled' is = absurd is
-no_fewer s n before after (Err (errors.Validation error)) unfilled' is = absurd is
-no_fewer s n before after (Err (errors.Limit set limit)) unfilled' is = absurd is
-no_fewer s n before after (Err errors.Read) unfilled' is = absurd is
-no_fewer s n before after (Err errors.Write) unfilled' is = absurd is
-no_fewer s n before after (Err errors.TooLong) unfilled' is = absurd is
-no_fewer s n before after (Err errors.OutOfMemory) unfilled' is = absurd is
+pub no_fewer : (s : MessageShape) (n before after : ℕ) (r : Result MessageFields Error) → Fills (fault_in s.payload) (message_of_shape s) (λ m. m) n before after r → before ≤ after
+no_fewer s n before after (Ok m) filled = filled.least
+no_fewer s n before after (Err e) unfilled' = unfilled'.least

@@ -4,6 +4,7 @@ use Rattle.std.specs.Io.KnownBytes.{IsAtEnd}
 use Rattle.std.specs.List.{flat_map}
 use Rattle.rpki_base.specs.declared.validation.ValidationError.{ValidationError}
 use Rattle.rpki_common.specs.Causes.{Rose}
+use Rattle.rpki_sigmsg.specs.Checks.{passed_on}
 use Rattle.rpki_text.specs.Source.{TakesAtMost}
 use Rattle.rpki_xml.specs.declared.error.XmlError.TheVariants as xml
 use Rattle.rpki_updown.specs.declared.error.Error.{Error}
@@ -55,12 +56,6 @@ RefusesMessage octets errors.InvalidCsrSyntax = HoldsNoRequest octets
 RefusesMessage octets errors.OutOfMemory = ⊤
 RefusesMessage octets _ = ⊥
 
--- the answer says that the octets are a message, or that they have no shape
-abbrev pub IsOfShape : {M : Type 0} → Result M Error → Type 0
-IsOfShape (Ok m) = ⊤
-IsOfShape (Err (errors.XmlError e)) = ⊤
-IsOfShape _ = ⊥
-
 -- ---- messages from a source
 
 -- The same of what a source had still to give; and Read only where its faults rose, TooLong only where it had more than 2^31 octets to
@@ -109,5 +104,4 @@ RefusesText text _ = ⊥
 
 -- the answer of the checks, as an error of the protocol
 abbrev pub validated : {X : Type 0} → Result X ValidationError → Result X Error
-validated (Ok x) = Ok x
-validated (Err e) = Err (errors.Validation e)
+validated answer = passed_on errors.Validation answer

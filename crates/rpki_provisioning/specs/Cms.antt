@@ -1,8 +1,7 @@
 -- Signed messages of the provisioning protocol (RFC 6492, 3.1).
-use Rattle.std.specs.Prelude.{◌≡◌, ◌⊎◌, ℕ, List, ⊤}
-use Rattle.rpki_der.specs.declared.mode.Mode.TheVariants.{Ber}
-use Rattle.rpki_der.specs.Takes.{BeginsAs}
-use Rattle.rpki_sigmsg.specs.Message.{MessageFields as SignedFields, signed_message}
+use Rattle.std.specs.Prelude.{◌≡◌, ◌⊎◌, ℕ, List, Result, Ok, Err, ⊤}
+use Rattle.rpki_sigmsg.specs.Beginning.{BeginsSigned, HoldsContent}
+use Rattle.rpki_sigmsg.specs.Message.{MessageFields as SignedFields}
 use Rattle.rpki_xml.specs.declared.error.XmlError.TheVariants as xml
 use Rattle.rpki_updown.specs.declared.error.Error.{Error}
 use Rattle.rpki_updown.specs.declared.error.Error.TheVariants as errors
@@ -20,20 +19,10 @@ pub record CmsFields : Type 0 where
 abbrev pub Says : List ℕ → MessageFields → Type 0
 Says content m = Reads content m ⊎ (content ≡ text_of m)
 
--- the octets begin with this signed message, in BER
-abbrev pub BeginsSigned : List ℕ → SignedFields → Type 0
-BeginsSigned octets signed = BeginsAs (signed_message Ber) Ber octets signed
-
 -- the octets begin with this signed message, and its content reads as this message
 pub record BeginsCms (octets : List ℕ) (c : CmsFields) : Type 0 where
   pub begins : BeginsSigned octets c.signed
   pub reads : Reads c.signed.content c.message
-
--- the octets begin with a signed message whose content is this
-pub record HoldsContent (is : List ℕ → Type 0) (octets : List ℕ) : Type 0 where
-  pub signed : SignedFields
-  pub begins : BeginsSigned octets signed
-  pub content : is signed.content
 
 -- The answer is CmsDecode exactly where the octets begin with no signed message; where they begin with one, it is XmlError, of malformed
 -- XML, exactly where its content has not the form of a message, and CertSyntax and InvalidCsrSyntax exactly where it has, and a certificate
@@ -45,3 +34,11 @@ RefusesCms octets errors.CertSyntax = HoldsContent HoldsNoCertificate octets
 RefusesCms octets errors.InvalidCsrSyntax = HoldsContent HoldsNoRequest octets
 RefusesCms octets errors.OutOfMemory = ⊤
 RefusesCms octets _ = ⊥
+
+-- the answer says that a signed message was found
+abbrev pub FindsSigned : {X : Type 0} → Result X Error → Type 0
+FindsSigned (Ok x) = ⊤
+FindsSigned (Err (errors.XmlError e)) = ⊤
+FindsSigned (Err errors.CertSyntax) = ⊤
+FindsSigned (Err errors.InvalidCsrSyntax) = ⊤
+FindsSigned _ = ⊥

@@ -20,6 +20,7 @@ pub record Filled {Y : Type 0} (given : Option Y) (octets before after : ℕ) (y
 pub record Unfilled {Y : Type 0} (fault : Error) (given : Option Y) (octets before after : ℕ)
     (e : Error) : Type 0 where
   pub fault' : IsFault fault given e
+  pub least : before ≤ after
   pub most : after ≤ before + 2 * octets + 8
 
 abbrev pub Fills : {X Y : Type 0} → Error → Option Y → (X → Y) → ℕ → ℕ → ℕ → Result X Error

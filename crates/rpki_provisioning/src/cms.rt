@@ -17,8 +17,8 @@ ghost use Rattle.rpki_der.specs.Takes.{BeginsAs};
 ghost use Rattle.rpki_der.specs.Ticks.{nodes};
 ghost use Rattle.rpki_der.specs.Value.{Value, Begins};
 ghost use Rattle.rpki_updown.specs.declared.error.Error.{Error as CmsError};
-ghost use Rattle.rpki_provisioning.specs.Answers.{IsOfShape, validated};
-ghost use Rattle.rpki_provisioning.specs.Cms.{BeginsCms, RefusesCms, Says};
+ghost use Rattle.rpki_provisioning.specs.Answers.{validated};
+ghost use Rattle.rpki_provisioning.specs.Cms.{BeginsCms, RefusesCms, FindsSigned, Says};
 ghost use Rattle.rpki_provisioning.specs.Message.{text_of};
 
 use crate::message::Message;
@@ -98,8 +98,8 @@ impl ProvisioningCms {
         ensures cms { MatchResult result (BeginsCms octets.now) (RefusesCms octets.now) }
         ensures most { steps.new ≤ steps.old + 5 * length octets.now + 8 }
 
-        // Where a signed message was found, and its content is a message or has no shape, each value in it ticked.
-        ensures least { IsOfShape result → (v : Value) (rest : List ℕ)
+        // Where a signed message was found, each value in it ticked.
+        ensures least { FindsSigned result → (v : Value) (rest : List ℕ)
             → Begins Ber octets.now v rest →
             steps.old + nodes v ≤ steps.new }
     {

@@ -1,26 +1,9 @@
--- How often the decoding of a signed message ticks.
-use Rattle.std.proofs.Common.{ℕ, ◌+◌, ◌*◌, ◌≤◌, Result, Ok, Err, List, length, subst, arith}
+-- An error of the decoding of a signed message says that none was found.
+use Rattle.std.proofs.Common.{Err}
 use Rattle.rpki_der.specs.declared.error.DecodeError.{DecodeError}
 use Rattle.rpki_der.specs.declared.error.DecodeError.TheVariants as der
-use Rattle.rpki_der.specs.declared.mode.Mode.TheVariants.{Ber}
-use Rattle.rpki_der.specs.Ticks.{nodes, DecodesCounted, CountedBegins}
-use Rattle.rpki_der.specs.Value.{Value, Begins}
-use Rattle.rpki_der.proofs.Parts.{at_most_one}
-use Rattle.rpki_sigmsg.specs.Message.{MessageFields, signed_message}
 use Rattle.rpki_publication.specs.Answers.{of_der}
-use Rattle.rpki_publication.specs.Cms.{BeginsSigned, FindsSigned}
-
-pub found : (octets : List ℕ) (b a : ℕ) (m : MessageFields) → CountedBegins 3 (signed_message Ber) Ber octets b a m → BeginsSigned octets m
-found octets b a m d = d.begins
-
-pub most : (octets : List ℕ) (b a : ℕ) (r : Result MessageFields DecodeError) → DecodesCounted 3 (signed_message Ber) (λ m. m) Ber octets b a r → a ≤ b + 3 * length octets + 8
-most octets b a (Ok m) d = omega (arith, d.most)
-most octets b a (Err e) d = omega (arith, d.most)
-
-pub least : (octets : List ℕ) (b a : ℕ) (m : MessageFields) → CountedBegins 3 (signed_message Ber) Ber octets b a m → (v : Value) (rest : List ℕ) → Begins Ber octets v rest → b + nodes v ≤ a
-least octets b a m d v rest begins =
-    let same = at_most_one Ber octets d.begins.value v d.begins.rest rest d.begins.begins begins in
-    subst (λ (w : Value). b + nodes w ≤ a) same.value d.least
+use Rattle.rpki_publication.specs.Cms.{FindsSigned}
 
 pub nothing_found : (X : Type 0) (e : DecodeError) → FindsSigned {X = X} (Err (of_der e)) → ⊥
 nothing_found X der.Malformed f = f

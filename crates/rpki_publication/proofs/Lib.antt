@@ -1,5 +1,4 @@
 pub mod Again
-pub mod Believed
 pub mod Bounds
 pub mod Causes
 pub mod Counted

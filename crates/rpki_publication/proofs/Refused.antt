@@ -9,7 +9,8 @@ use Rattle.rpki_xml.specs.declared.error.XmlError.TheVariants as xml
 use Rattle.rpki_publication.specs.declared.error.Error.{Error}
 use Rattle.rpki_publication.specs.declared.error.Error.TheVariants as errors
 use Rattle.rpki_publication.specs.Answers.{of_der, RefusesMessage}
-use Rattle.rpki_publication.specs.Cms.{BeginsSigned, RefusesCms}
+use Rattle.rpki_sigmsg.specs.Beginning.{BeginsSigned}
+use Rattle.rpki_publication.specs.Cms.{RefusesCms}
 use Rattle.rpki_common.proofs.Truths.{none_some}
 
 -- ---- as a signed message
@@ -20,7 +21,7 @@ no_signed der.OutOfMemory b refused = tt
 no_signed der.Malformed b refused = λ signed s. none_some signed (sym (refused s.value s.rest s.begins) ∙ s.reads)
 
 pub no_content : (e : Error) (b : List ℕ) (signed : MessageFields) → BeginsSigned b signed → RefusesMessage signed.content e → RefusesCms b e
-no_content (errors.XmlError xml.Malformed) b signed begins refused = (refl, record { signed = signed; begins = begins; none = refused })
+no_content (errors.XmlError xml.Malformed) b signed begins refused = (refl, record { signed = signed; begins = begins; content = refused })
 no_content (errors.XmlError xml.OutOfMemory) b signed begins refused = absurd refused
 no_content errors.OutOfMemory b signed begins refused = tt
 no_content errors.CmsDecode b signed begins refused = absurd refused

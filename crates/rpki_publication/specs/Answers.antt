@@ -6,6 +6,7 @@ use Rattle.rpki_der.specs.declared.error.DecodeError.TheVariants as der
 use Rattle.rpki_message.specs.Answers as answers
 use Rattle.rpki_message.specs.declared.cause.Cause.{Cause}
 use Rattle.rpki_message.specs.declared.cause.Cause.TheVariants as causes
+use Rattle.rpki_sigmsg.specs.Checks.{passed_on}
 use Rattle.rpki_text.specs.declared.reading.ReadAllError.{ReadAllError}
 use Rattle.rpki_text.specs.declared.reading.ReadAllError.TheVariants as read
 use Rattle.rpki_xml.specs.declared.error.XmlError.{XmlError}
@@ -84,5 +85,4 @@ RefusesCode text _ = ⊥
 
 -- the answer of the checks, as this crate's error
 abbrev pub validated : {X : Type 0} → Result X ValidationError → Result X Error
-validated (Ok x) = Ok x
-validated (Err e) = Err (errors.Validation e)
+validated answer = passed_on errors.Validation answer

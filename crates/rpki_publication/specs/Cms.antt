@@ -1,8 +1,7 @@
 -- Signed messages of the publication protocol (RFC 8181, 2; RFC 6492, 3.1).
 use Rattle.std.specs.Prelude.{◌≡◌, ◌⊎◌, ℕ, List, Result, Ok, Err, ⊤}
-use Rattle.rpki_der.specs.declared.mode.Mode.TheVariants.{Ber}
-use Rattle.rpki_der.specs.Takes.{BeginsAs}
-use Rattle.rpki_sigmsg.specs.Message.{MessageFields, signed_message}
+use Rattle.rpki_sigmsg.specs.Beginning.{BeginsSigned, HoldsContent}
+use Rattle.rpki_sigmsg.specs.Message.{MessageFields}
 use Rattle.rpki_xml.specs.declared.error.XmlError.TheVariants as xml
 use Rattle.rpki_publication.specs.declared.error.Error.{Error}
 use Rattle.rpki_publication.specs.declared.error.Error.TheVariants as errors
@@ -19,26 +18,16 @@ pub record CmsFields : Type 0 where
 abbrev pub Says : List ℕ → Message → Type 0
 Says content m = Reads content m ⊎ (content ≡ text_of m)
 
--- the octets begin with this signed message, in BER
-abbrev pub BeginsSigned : List ℕ → MessageFields → Type 0
-BeginsSigned octets signed = BeginsAs (signed_message Ber) Ber octets signed
-
 -- the octets begin with this signed message, and its content reads as this message
 pub record BeginsCms (octets : List ℕ) (c : CmsFields) : Type 0 where
   pub begins : BeginsSigned octets c.signed
   pub reads : Reads c.signed.content c.message
 
--- the octets begin with a signed message whose content is no message
-pub record HoldsNoMessage (octets : List ℕ) : Type 0 where
-  pub signed : MessageFields
-  pub begins : BeginsSigned octets signed
-  pub none : IsNoMessage signed.content
-
 -- The answer is CmsDecode exactly where the octets begin with no signed message, and XmlError, of malformed XML, exactly where they
 -- begin with one whose content is no message. OutOfMemory says nothing, and no other one comes.
 abbrev pub RefusesCms : List ℕ → Error → Type 0
 RefusesCms octets errors.CmsDecode = (signed : MessageFields) → BeginsSigned octets signed → ⊥
-RefusesCms octets (errors.XmlError e) = (e ≡ xml.Malformed) × HoldsNoMessage octets
+RefusesCms octets (errors.XmlError e) = (e ≡ xml.Malformed) × HoldsContent IsNoMessage octets
 RefusesCms octets errors.OutOfMemory = ⊤
 RefusesCms octets _ = ⊥
 

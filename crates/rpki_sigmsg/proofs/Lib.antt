@@ -1,5 +1,8 @@
 pub mod Adding
 pub mod Ahead
+pub mod Contents
+pub mod PassedOn
+pub mod Ticking
 pub mod Further
 pub mod Entries
 pub mod CrlGathering

@@ -160,6 +160,11 @@ abbrev pub without_place : Result ℕ ValidationError → Result (Unit {0}) Vali
 without_place (Ok place) = Ok tt
 without_place (Err error) = Err error
 
+-- the answer, with its error in an error of another kind
+abbrev pub passed_on : {X E : Type 0} → (ValidationError → E) → Result X ValidationError → Result X E
+passed_on wrap (Ok x) = Ok x
+passed_on wrap (Err error) = Err (wrap error)
+
 -- each key of the first list is one of the second
 abbrev pub AreAmong : List KeyFields → List KeyFields → Type 0
 AreAmong keys more = AllByRecursion (IsAmong more) keys

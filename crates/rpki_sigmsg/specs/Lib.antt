@@ -1,5 +1,5 @@
 -- Said in contracts, and to be believed: ObjectIdentifiers, Algorithm, Attributes, CrlExtensions, Signer, RevokedCertificates,
--- TbsCrl, Crl, Message, Places, CrlChecks, Checks, Spelling, Making, Errors. Means for readers: Ahead, Gathered, CrlGathered.
+-- TbsCrl, Crl, Message, Beginning, Places, CrlChecks, Checks, Spelling, Making, Errors. Means for readers: Ahead, Gathered, CrlGathered.
 pub mod ObjectIdentifiers
 pub mod Algorithm
 pub mod Attributes
@@ -13,6 +13,7 @@ pub mod TbsCrl
 pub mod Crl
 pub mod CrlChecks
 pub mod Message
+pub mod Beginning
 pub mod Checks
 pub mod Places
 pub mod Spelling

@@ -15,4 +15,4 @@ returns-in-Ok g c = begun (certification_request ca_attributes (whole_of x509_al
 pub returns-in-Err-Malformed : goal.returns-in-Err-Malformed
 returns-in-Err-Malformed g c =
     let refused = not_begun (certification_request ca_attributes (whole_of x509_algorithm) Der) Der c.args.octets.now c.as_slice.result.now c.args.steps.now c.decode_counted.new.steps (c.as_slice.ensures ∙ c.in_ok-octets.ensures) (subst (λ (e : DecodeError). CountedRefusesOctets 2 (certification_request ca_attributes (whole_of x509_algorithm) Der) Der c.as_slice.result.now c.args.steps.now c.decode_counted.new.steps e) c.in-Err-Malformed.field-0-is c.in-Err-Malformed.ensures) in
-    record { fault' = (refl, refused.0); most = refused.1 }
+    record { fault' = (refl, refused.0); least = refused.1; most = refused.2 }

@@ -1,5 +1,6 @@
 use Rattle.std.proofs.lemmas.Result.{err_from_is_err_and}
-use Rattle.rpki_publication.proofs.Counted.{found, most, least, nothing_found}
+use Rattle.rpki_sigmsg.proofs.Ticking.{found, most, least}
+use Rattle.rpki_publication.proofs.Counted.{nothing_found}
 use Rattle.rpki_publication.proofs.Refused.{no_signed, no_content}
 use Rattle.rpki_publication.specs.Cms.{CmsFields}
 use Rattle.rpki_publication.proofs.cms.PublicationCms.decode_counted.Goals as goal

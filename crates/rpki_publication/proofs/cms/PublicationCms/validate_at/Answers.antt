@@ -1,8 +1,9 @@
-use Rattle.rpki_publication.proofs.Believed.{answer_of, believed}
+use Rattle.rpki_sigmsg.proofs.PassedOn.{answer_of, believed}
+use Rattle.rpki_publication.specs.declared.error.Error.TheVariants as errors
 use Rattle.rpki_publication.proofs.cms.PublicationCms.validate_at.Goals as goal
 
 pub returns-clause-believed : goal.returns-clause-believed
-returns-clause-believed g c = believed g.P.Scheme.checks c.signed_message.result.now c.args.self.now.signed c.args.issuer_key.now c.args.when c.validate_at.result c.passed_on.result c.signed_message.ensures c.passed_on.ensures c.validate_at.ensures.believed
+returns-clause-believed g c = believed errors.Validation g.P.Scheme.checks c.signed_message.result.now c.args.self.now.signed c.args.issuer_key.now c.args.when c.validate_at.result c.passed_on.result c.signed_message.ensures c.passed_on.ensures c.validate_at.ensures.believed
 
 pub returns-clause-first_failing : goal.returns-clause-first_failing
-returns-clause-first_failing g c = answer_of g.P.Scheme.checks c.signed_message.result.now c.args.self.now.signed c.args.issuer_key.now c.args.when c.validate_at.result c.passed_on.result c.signed_message.ensures c.passed_on.ensures c.validate_at.ensures.first_failing
+returns-clause-first_failing g c = answer_of errors.Validation g.P.Scheme.checks c.signed_message.result.now c.args.self.now.signed c.args.issuer_key.now c.args.when c.validate_at.result c.passed_on.result c.signed_message.ensures c.passed_on.ensures c.validate_at.ensures.first_failing
