@@ -1,7 +1,7 @@
 //! The command `content`.
 
 ghost use Rattle.std.specs.Prelude.{◌≡◌, ◌≢◌, ℕ, Ok, Err, IfOk, IfErr};
-ghost use Rattle.rpki_publication.specs.Cms.{BeginsSigned};
+ghost use Rattle.rpki_sigmsg.specs.Beginning.{BeginsSigned};
 ghost use Rattle.rpki_ca.specs.Answer.{IsContentAnswer, IsLineOf};
 
 use crate::line::line_of;

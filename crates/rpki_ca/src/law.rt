@@ -5,7 +5,7 @@ ghost use Rattle.rpki_base.specs.PublicKey.{KeyFields};
 ghost use Rattle.rpki_sigmsg.specs.Checks.{SameAnswersUnder, AreAmong, IsInSpan};
 ghost use Rattle.rpki_sigmsg.specs.Message.{MessageFields};
 ghost use Rattle.rpki_sigmsg.specs.Spelling.{rewritten, CanBeSpelled};
-ghost use Rattle.rpki_publication.specs.Cms.{BeginsSigned};
+ghost use Rattle.rpki_sigmsg.specs.Beginning.{BeginsSigned};
 ghost use Rattle.rpki_ca.specs.declared.command.Command.{Command};
 ghost use Rattle.rpki_ca.specs.declared.receiving.Kind.{Kind};
 ghost use Rattle.rpki_ca.specs.declared.receiving.Received.{Received};

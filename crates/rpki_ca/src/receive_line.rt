@@ -19,6 +19,7 @@ impl Received {
     {
         match self {
             Received::Publication(message) => message.text_bytes(alloc),
+            Received::Provisioning(message) => message.text_bytes(alloc),
         }
     }
 }
@@ -38,6 +39,8 @@ impl From<ReceiveError> for Refusal {
         match error {
             ReceiveError::CmsDecode => Refusal::CmsDecode,
             ReceiveError::XmlError => Refusal::XmlError,
+            ReceiveError::CertSyntax => Refusal::CertSyntax,
+            ReceiveError::InvalidCsrSyntax => Refusal::InvalidCsrSyntax,
             ReceiveError::Validation(error) => Refusal::Validation(error.check),
             ReceiveError::OutOfMemory => Refusal::OutOfMemory,
         }

@@ -140,6 +140,9 @@ payload_read octets m s r h =
     let q = then_some (payload_of_shape s.payload) _ m (sym (ap message_of_shape same) ∙ o.read) in
     (q.0, q.1)
 
+pub message : (octets : List ℕ) (m : MessageFields) → Reads octets m → HasNoShape octets → ⊥
+message octets m r n = let o = of_shape octets m r in n o.shape' o.has
+
 pub form : (octets : List ℕ) (s : MessageShape) → HasShape octets s → HasNoShape octets → ⊥
 form octets s h n = n s h
 

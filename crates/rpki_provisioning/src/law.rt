@@ -34,6 +34,8 @@ pub fn at_most_one()
 /// No octets have two of these answers: a message, that they have no shape, that a certificate in them is none, or that a request in
 /// them is none.
 pub fn answers_exclude_each_other()
+    ensures message { (octets : List ℕ) (m : MessageFields) → Reads octets m → HasNoShape octets
+        → ⊥ }
     ensures form { (octets : List ℕ) (s : MessageShape) → HasShape octets s → HasNoShape octets
         → ⊥ }
     ensures certificate { (octets : List ℕ) (m : MessageFields) → Reads octets m

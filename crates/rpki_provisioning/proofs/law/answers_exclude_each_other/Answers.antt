@@ -1,5 +1,8 @@
-use Rattle.rpki_provisioning.proofs.Excludes.{form, certificate, request, faults}
+use Rattle.rpki_provisioning.proofs.Excludes.{message, form, certificate, request, faults}
 use Rattle.rpki_provisioning.proofs.law.answers_exclude_each_other.Goals as goal
+
+pub returns-clause-message : goal.returns-clause-message
+returns-clause-message c = message
 
 pub returns-clause-form : goal.returns-clause-form
 returns-clause-form c = form
