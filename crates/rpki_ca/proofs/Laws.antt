@@ -344,6 +344,8 @@ anchored_alone scheme octets when refusals.InvalidTaCertEncoding p q = q p.certi
 anchored_alone scheme octets when refusals.InvalidTaCert p q =
     q.unbelieved (subst (λ (c : CertificateFields). IsTaBelieved scheme c when) (one_certificate octets p.certificate q.certificate p.believed.begins q.begins) p.believed.believed)
 anchored_alone scheme octets when refusals.XmlError p q = q
+anchored_alone scheme octets when refusals.CertSyntax p q = q
+anchored_alone scheme octets when refusals.InvalidCsrSyntax p q = q
 anchored_alone scheme octets when refusals.Usage p q = q
 anchored_alone scheme octets when refusals.Hex p q = q
 anchored_alone scheme octets when refusals.CmsDecode p q = q
