@@ -1,4 +1,5 @@
 pub mod Keyrings
+pub mod LongSigners
 pub mod Promises
 pub mod Random
 pub mod States

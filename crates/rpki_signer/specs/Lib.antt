@@ -1,6 +1,8 @@
--- Said in contracts, and to be believed: Signer, Errors, Limits, Serials, Toy, ToySigner.
+-- Said in contracts, and to be believed: Signer, Errors, Limits, Serials, Toy, ToySigner, Any, LongSigner.
+pub mod Any
 pub mod Errors
 pub mod Limits
+pub mod LongSigner
 pub mod Serials
 pub mod Signer
 pub mod Toy

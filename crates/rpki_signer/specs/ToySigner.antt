@@ -261,6 +261,18 @@ IsToySigned kind number message before after (Ok octets) = (key : ToyKey)
 IsToySigned kind number message before after (Err error) =
     RefusesToyKey number (format_of kind) before after error
 
+-- the key for one use, before it is given
+abbrev pub IsToyChosen : PublicKeyFormat → ToyState → ToyState
+    → Result (ToyKey × KeyFields) (CallError ToyFault) → Type 0
+IsToyChosen format before after (Ok (chosen, key)) = (cannot_sign_once format before ≡ false)
+    × (chosen ≡ one_off_key format before.reuse before.next)
+    × (key ≡ key_of before.seed chosen)
+    × (after ≡ after_choosing format before)
+IsToyChosen format before after (Err (call.Signer fault)) =
+    (cannot_sign_once format before ≡ true) × (after ≡ after_fault before)
+IsToyChosen format before after (Err call.OutOfMemory) =
+    (cannot_sign_once format before ≡ false) × (after ≡ after_choosing format before)
+
 -- `sign_one_off`: the toy signature under the key for this one use
 abbrev pub IsToySignedOnce : SigningAlgorithm → List ℕ → ToyState → ToyState
     → Result (List ℕ × KeyFields) (CallError ToyFault) → Type 0

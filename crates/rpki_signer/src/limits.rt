@@ -12,7 +12,7 @@ use rpki_base::{
 use std::alloc::Global;
 
 /// The most octets that the bits of a signer's key or one of its signatures may have.
-const LIMIT: usize = 1 << 16;
+pub(crate) const LIMIT: usize = 1 << 16;
 
 fn is_short(octets: &[u8]) -> bool
     ensures { IsTrue result ↔ IsShort octets.now }

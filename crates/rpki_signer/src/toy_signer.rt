@@ -224,7 +224,11 @@ impl ToySigner {
 
 // The calls, by what they answer exactly.
 impl ToySigner {
-    fn create(&mut self, alloc: Global, format: PublicKeyFormat) -> Result<u64, CallError<ToyFault>>
+    pub(crate) fn create(
+        &mut self,
+        alloc: Global,
+        format: PublicKeyFormat,
+    ) -> Result<u64, CallError<ToyFault>>
         ensures created { spec.IsToyCreated format self.old self.new result }
         ensures sound { spec.IsSound self.old.seed self.old.next self.old.keys }
         ensures counts { spec.AreCounts self.old }
@@ -240,7 +244,11 @@ impl ToySigner {
         }
     }
 
-    fn info(&mut self, alloc: Global, number: u64) -> Result<PublicKey, KeyError<ToyFault>>
+    pub(crate) fn info(
+        &mut self,
+        alloc: Global,
+        number: u64,
+    ) -> Result<PublicKey, KeyError<ToyFault>>
         ensures key { spec.IsToyKey number self.old self.new result }
         ensures sound { spec.IsSound self.old.seed self.old.next self.old.keys }
         ensures counts { spec.AreCounts self.old }
@@ -257,7 +265,7 @@ impl ToySigner {
         }
     }
 
-    fn destroy(&mut self, number: u64) -> Result<(), KeyError<ToyFault>>
+    pub(crate) fn destroy(&mut self, number: u64) -> Result<(), KeyError<ToyFault>>
         ensures destroyed { spec.IsToyDestroyed number self.old self.new result }
         ensures sound { spec.IsSound self.old.seed self.old.next self.old.keys }
         ensures counts { spec.AreCounts self.old }
@@ -274,7 +282,7 @@ impl ToySigner {
     }
 
     // The key with this number, for signatures of this format.
-    fn signing_key(
+    pub(crate) fn signing_key(
         &mut self,
         number: u64,
         format: PublicKeyFormat,
@@ -328,14 +336,35 @@ impl ToySigner {
         ensures counts { spec.AreCounts self.old }
     {
         let format = algorithm.signing_algorithm().public_key_format();
+        let (chosen, key) = self.key_for_once(alloc, format)?;
+        let octets = ToyScheme::signature(alloc, &key, message)?;
+        self.give(chosen);
+        Ok((Signature::new(algorithm, octets), key))
+    }
+
+    // The key for one signature, which is chosen and made but not yet given.
+    pub(crate) fn key_for_once(
+        &mut self,
+        alloc: Global,
+        format: PublicKeyFormat,
+    ) -> Result<(ToyKey, PublicKey), CallError<ToyFault>>
+        ensures chosen { spec.IsToyChosen format self.old self.new result }
+        ensures sound { spec.IsSound self.old.seed self.old.next self.old.keys }
+        ensures counts { spec.AreCounts self.old }
+    {
         let chosen = match self.choose(format) {
             Ok(key) => key,
             Err(fault) => return Err(CallError::Signer(fault)),
         };
         let key = key_of(alloc, self.seed, chosen)?;
-        let octets = ToyScheme::signature(alloc, &key, message)?;
-        self.drawn = Some(chosen);
-        Ok((Signature::new(algorithm, octets), key))
+        Ok((chosen, key))
+    }
+
+    // The key is the one that was given last for one use.
+    pub(crate) fn give(&mut self, key: ToyKey)
+        ensures { self.new ≡ record self.old { drawn = Some key } }
+    {
+        self.drawn = Some(key);
     }
 
     // The key for one signature, chosen.
@@ -359,7 +388,7 @@ impl ToySigner {
         Ok(ToyKey { number, format })
     }
 
-    fn fill(&mut self, target: &mut [u8]) -> Result<(), CallError<ToyFault>>
+    pub(crate) fn fill(&mut self, target: &mut [u8]) -> Result<(), CallError<ToyFault>>
         ensures random { spec.IsToyRandom self.old self.new target.old target.new result }
         ensures sound { spec.IsSound self.old.seed self.old.next self.old.keys }
         ensures counts { spec.AreCounts self.old }

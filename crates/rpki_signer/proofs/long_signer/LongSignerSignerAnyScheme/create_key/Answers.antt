@@ -1,0 +1,5 @@
+use Rattle.rpki_signer.proofs.LongSigners.{long_created}
+use Rattle.rpki_signer.proofs.long_signer.LongSignerSignerAnyScheme.create_key.Goals as goal
+
+pub returns-clause-created : goal.returns-clause-created
+returns-clause-created c = rw (← c.self.view_is) (long_created c.args.format (record { toy = c.self.inside.toy; octets = c.self.inside.octets; overlong = c.self.inside.overlong }) _ _ c.create.ensures.sound c.create.ensures.counts c.create.ensures.created)

@@ -1,0 +1,5 @@
+use Rattle.rpki_signer.proofs.LongSigners.{long_destroyed}
+use Rattle.rpki_signer.proofs.long_signer.LongSignerSignerAnyScheme.destroy_key.Goals as goal
+
+pub returns-clause-destroyed : goal.returns-clause-destroyed
+returns-clause-destroyed c = rw (← c.self.view_is) (long_destroyed c.args.key.now (record { toy = c.self.inside.toy; octets = c.self.inside.octets; overlong = c.self.inside.overlong }) _ _ c.destroy.ensures.counts c.destroy.ensures.destroyed)
