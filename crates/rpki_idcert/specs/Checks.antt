@@ -1,5 +1,5 @@
 -- The checks of identity certificates in their order (RFC 5280, 6.1.3; RFC 6492, 3.1.2; RFC 8183, 5).
-use Rattle.std.specs.Prelude.{◌≡◌, ℕ, ℤ, int_le, Bool, true, false, ◌&&◌, ◌||◌, ◌==◌, nat_le, if◌then◌else◌, not, is_some, bytes_eq, Option, None, Some, Ok, List, [], ◌∷◌}
+use Rattle.std.specs.Prelude.{◌≡◌, ℕ, ℤ, int_le, Bool, true, false, ◌&&◌, ◌||◌, ◌==◌, nat_le, if◌then◌else◌, not, is_some, bytes_eq, Decides, Option, None, Some, Ok, List, [], ◌∷◌}
 use Rattle.sha1.specs.Sha1.{sha1}
 use Rattle.rpki_base.specs.PublicKey.{KeyFields, names_issuer}
 use Rattle.rpki_base.specs.Scheme.{Relation}
@@ -44,6 +44,13 @@ ee_checks c issuer when q =
     ∷ not (is_true c.tbs.basic_ca)
     ∷ q
     ∷ []
+
+-- the list is that of the five checks, by what the scheme answers
+pub record AreEeChecks (scheme : Relation) (c : CertificateFields) (issuer : KeyFields) (when : ℤ)
+    (list : List Bool) : Type 0 where
+  pub q : Bool
+  pub signed : Decides q (IsSigned scheme c issuer)
+  pub are : list ≡ ee_checks c issuer when q
 
 -- the certificate is signed under the issuer's key, and with that all five checks hold
 pub record IsEeBelieved (scheme : Relation) (c : CertificateFields) (issuer : KeyFields)

@@ -1,6 +1,6 @@
 //! Whether an identity certificate may be believed.
 
-ghost use Rattle.std.specs.Prelude.{◌≡◌, ◌↔◌, ◌≤◌, Bool, true, false, not, ◌||◌, Decides, Ok, OnOk};
+ghost use Rattle.std.specs.Prelude.{◌≡◌, ◌↔◌, ◌≤◌, Bool, true, false, not, ◌||◌, Decides, Ok, IsOk, OnOk};
 ghost use Rattle.rpki_base.specs.Checks.{first_failure, failing, IsSigned};
 ghost use Rattle.rpki_base.specs.PublicKey.{names_issuer};
 ghost use Rattle.rpki_idcert.specs.Checks as spec;
@@ -8,7 +8,8 @@ ghost use Rattle.rpki_idcert.specs.Checks as spec;
 use crate::id_cert::IdCert;
 use crate::tbs::TbsIdCert;
 use rpki_base::{
-    PublicKey, Scheme, Time, ValidationError, ValidationKind, Verifier, names_issuer, require,
+    PublicKey, Scheme, SignatureVerificationError, Time, ValidationError, ValidationKind, Verifier,
+    names_issuer, require,
 };
 
 fn ee_kind(check: u8) -> ValidationKind
@@ -75,7 +76,37 @@ impl IdCert {
     fn is_signed<P: Scheme, V: Verifier<P>>(&self, verifier: &V, key: &PublicKey) -> bool
         ensures { Decides result (IsSigned P.checks self.now key.now) }
     {
-        self.signed_data().verify_signature(verifier, key).is_ok()
+        self.verify_signature(verifier, key).is_ok()
+    }
+
+    /// Refused exactly where the signature, of the kind sha256WithRSAEncryption, is none of the octets that are signed under the
+    /// issuer's key. The key's name and the moment aren't asked. It takes no memory.
+    pub fn verify_signature<P: Scheme, V: Verifier<P>>(
+        &self,
+        verifier: &V,
+        issuer_key: &PublicKey,
+    ) -> Result<(), SignatureVerificationError>
+        ensures { IsOk result ↔ IsSigned P.checks self.now issuer_key.now }
+    {
+        self.signed_data().verify_signature(verifier, issuer_key)
+    }
+
+    /// The five checks of `validate_ee_at` in their order, each of them whether or not one before it fails. It takes no memory.
+    pub fn ee_checks_at<P: Scheme, V: Verifier<P>>(
+        &self,
+        verifier: &V,
+        issuer_key: &PublicKey,
+        when: Time,
+    ) -> [bool; 5]
+        ensures { spec.AreEeChecks P.checks self.now issuer_key.now when result }
+    {
+        [
+            self.tbs().has_own_identifier(),
+            self.tbs().is_within(when),
+            self.tbs().names_issuer(issuer_key),
+            !self.tbs().is_ca(),
+            self.is_signed(verifier, issuer_key),
+        ]
     }
 
     /// The five checks of `validate_ee_at` as a part of a longer list, in which the first of them has the number `first`, at most

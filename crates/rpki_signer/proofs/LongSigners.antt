@@ -1,6 +1,6 @@
 -- What the signer of long signatures answers exactly is what each signer promises.
-use Rattle.std.proofs.Common.{◌≡◌, ℕ, ◌+◌, ◌-◌, ◌^◌, ◌<◌, ◌≤◌, Bool, true, false, Option, None, Some, Result, Ok, Err, List, length, refl, sym, ap, subst, ◌∙◌, arith}
-use Rattle.std.specs.Prelude.{MatchResult, OnOk, min, nat_lt, replicate, if◌then◌else◌}
+use Rattle.std.proofs.Common.{◌≡◌, ℕ, ◌<◌, ◌≤◌, Bool, true, false, Result, Ok, Err, List, length, refl, sym, ap, subst, arith}
+use Rattle.std.specs.Prelude.{MatchResult, OnOk, nat_lt, if◌then◌else◌}
 use Rattle.std.proofs.lemmas.Bool.{lt-ltb}
 use Rattle.std.proofs.lemmas.List.{length-replicate}
 use Rattle.rpki_common.specs.Causes.{Rose}
@@ -9,7 +9,6 @@ use Rattle.rpki_base.specs.declared.algorithm.SigningAlgorithm.{SigningAlgorithm
 use Rattle.rpki_base.specs.declared.errors.ToyFault.{ToyFault}
 use Rattle.rpki_base.specs.Algorithm.{format_of}
 use Rattle.rpki_base.specs.PublicKey.{KeyFields}
-use Rattle.rpki_base.specs.Scheme.{Relation}
 use Rattle.rpki_base.specs.Signature.{SignatureParts}
 use Rattle.rpki_text.specs.Counts.{count_after}
 use Rattle.rpki_signer.specs.declared.errors.CallError.{CallError}
@@ -21,8 +20,8 @@ use Rattle.rpki_signer.specs.declared.errors.SigningError.TheVariants as signing
 use Rattle.rpki_signer.specs.declared.toy_signer.ToyKey.{ToyKey}
 use Rattle.rpki_signer.specs.Any.{AnyChecks}
 use Rattle.rpki_signer.specs.Toy.{ToyChecks, toy_signature}
-use Rattle.rpki_signer.specs.Signer.{SignerState, Holds, Lacks, IsLater, Stays, TellsLength, CallFails, KeyFails, SigningFails, IsUnfit, IsCreated, IsDestroyed, IsKeyOf, IsSignature, IsOneOff, IsDrawn}
-use Rattle.rpki_signer.specs.ToySigner.{ToyState, key_of, state_of, keyring_of, IsSound, AreCounts, one_off_key, after_signing_once, after_choosing, after_fault, cannot_sign_once, IsToyCreated, IsToyKey, IsToyDestroyed, IsToyFound, RefusesToyKey, IsToySigned, IsToySignedOnce, IsToyRandom, octets_of, once_of}
+use Rattle.rpki_signer.specs.Signer.{SignerState, IsLater, Stays, TellsLength, CallFails, KeyFails, SigningFails, IsCreated, IsDestroyed, IsKeyOf, IsSignature, IsOneOff, IsDrawn}
+use Rattle.rpki_signer.specs.ToySigner.{ToyState, key_of, state_of, IsSound, AreCounts, one_off_key, after_signing_once, after_choosing, after_fault, cannot_sign_once, IsToyCreated, IsToyKey, IsToyDestroyed, IsToyFound, IsToyRandom, octets_of, once_of}
 use Rattle.rpki_signer.specs.LongSigner.{LongState, long_state, long_signature, overlong_after, after_giving, with_toy, IsLongSigned, IsLongSignedOnce}
 use Rattle.rpki_signer.proofs.Promises.{created_is, key_is, destroyed_is, signed_is, once_is, random_is}
 

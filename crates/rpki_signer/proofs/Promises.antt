@@ -1,12 +1,11 @@
 -- What the toy signer answers exactly is what each signer promises.
-use Rattle.std.proofs.Common.{◌⊎◌, inl, inr, ◌≡◌, ◌≢◌, ℕ, ◌+◌, ◌-◌, ◌^◌, ◌<◌, ◌≤◌, Bool, true, false, Option, None, Some, Result, Ok, Err, List, [], ◌∷◌, ◌++◌, length, refl, sym, ap, subst, ◌∙◌, arith}
-use Rattle.std.specs.Prelude.{MatchResult, Contains, if◌then◌else◌, map, min}
+use Rattle.std.proofs.Common.{◌⊎◌, inl, inr, ◌≡◌, ℕ, ◌<◌, ◌≤◌, Option, None, Some, Result, Ok, Err, List, [], ◌∷◌, ◌++◌, length, refl, sym, ap, subst, ◌∙◌, arith}
+use Rattle.std.specs.Prelude.{MatchResult}
 use Rattle.std.specs.Option.{option_map}
 use Rattle.std.specs.Int.{to_be_bytes, from_be_bytes, w64}
 use Rattle.std.proofs.lemmas.List.{append_cancel_left}
 use Rattle.std.proofs.lemmas.Nat.{from_be_bytes-to_be_bytes_8}
 use Rattle.std.proofs.lemmas.Option.{none-some}
-use Rattle.sha2.specs.Sha256.{sha256}
 use Rattle.sha2.proofs.Facts256.{length-sha256}
 use Rattle.rpki_common.specs.Causes.{Rose}
 use Rattle.rpki_base.specs.declared.algorithm.PublicKeyFormat.{PublicKeyFormat}
@@ -25,8 +24,8 @@ use Rattle.rpki_signer.specs.declared.errors.SigningError.{SigningError}
 use Rattle.rpki_signer.specs.declared.errors.SigningError.TheVariants as signing
 use Rattle.rpki_signer.specs.declared.toy_signer.ToyKey.{ToyKey}
 use Rattle.rpki_signer.specs.Toy.{ToyChecks, toy_signature}
-use Rattle.rpki_signer.specs.Signer.{HeldKey, Holds, Lacks, AreDistinct, IsLater, Stays, CallFails, KeyFails, SigningFails, IsUnfit, IsCreated, IsDestroyed, IsKeyOf, IsSignature, IsOneOff, IsDrawn}
-use Rattle.rpki_signer.specs.ToySigner.{ToyState, key_of, held_key, keyring_of, state_of, IsSound, AreCounts, key_numbered, after_creating, counted, after_fault, after_drawing, after_choosing, after_signing_once, one_off_key, is_set, IsTakenOut, IsToyGone, IsToyCreated, IsToyKey, IsToyDestroyed, IsToyFound, IsToyUnfit, RefusesToyKey, IsToySigned, IsToySignedOnce, IsToyRandom, octets_of, once_of}
+use Rattle.rpki_signer.specs.Signer.{HeldKey, Holds, AreDistinct, Stays, CallFails, KeyFails, SigningFails, IsUnfit, IsCreated, IsDestroyed, IsKeyOf, IsSignature, IsOneOff, IsDrawn}
+use Rattle.rpki_signer.specs.ToySigner.{ToyState, key_of, held_key, keyring_of, state_of, IsSound, AreCounts, key_numbered, after_creating, counted, after_fault, after_drawing, after_choosing, after_signing_once, one_off_key, IsToyGone, IsToyCreated, IsToyKey, IsToyDestroyed, IsToyFound, IsToyUnfit, IsToySigned, IsToySignedOnce, IsToyRandom, octets_of, once_of}
 use Rattle.rpki_signer.proofs.Keyrings.{none_in, first_or_behind}
 use Rattle.rpki_signer.proofs.ToySigners.{AreBelow, lacks_next, keyring_push, keyring_parts, found_is_held, missing_is_lacked}
 

@@ -1,6 +1,5 @@
 -- Several calls of a signer in turn.
-use Rattle.std.proofs.Common.{◌≡◌, ◌≢◌, ℕ, ◌+◌, ◌-◌, ◌^◌, ◌≤◌, List, refl, sym, subst, ◌∙◌, arith}
-use Rattle.std.specs.Prelude.{min}
+use Rattle.std.proofs.Common.{◌≡◌, ◌≢◌, ℕ, ◌≤◌, refl, subst, ◌∙◌, arith}
 use Rattle.rpki_common.specs.Causes.{Rose}
 use Rattle.rpki_base.specs.declared.algorithm.SigningAlgorithm.{SigningAlgorithm}
 use Rattle.rpki_signer.specs.declared.errors.CallError.{CallError}
@@ -11,7 +10,7 @@ use Rattle.rpki_signer.specs.declared.errors.SigningError.{SigningError}
 use Rattle.rpki_signer.specs.declared.errors.SigningError.TheVariants as signing
 use Rattle.rpki_signer.specs.Errors.{signing_error_of, make_error_of}
 use Rattle.rpki_signer.specs.Limits.{Keeps, MakeFails, OnceFails}
-use Rattle.rpki_signer.specs.Signer.{SignerState, HeldKey, Holds, Lacks, IsLater, Stays, IsUnfit, CallFails, SigningFails}
+use Rattle.rpki_signer.specs.Signer.{SignerState, Lacks, IsLater, Stays, IsUnfit, CallFails, SigningFails}
 
 -- ---- counts
 

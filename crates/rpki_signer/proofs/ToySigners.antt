@@ -1,21 +1,19 @@
 -- What the toy signer answers is what each signer promises.
-use Rattle.std.proofs.Common.{◌≡◌, ◌≢◌, ℕ, ◌+◌, ◌-◌, ◌^◌, ◌<◌, ◌≤◌, ◌⊎◌, inl, inr, Bool, true, false, Option, None, Some, List, [], ◌∷◌, ◌++◌, length, refl, sym, ap, subst, ◌∙◌, arith}
+use Rattle.std.proofs.Common.{◌≡◌, ◌≢◌, ℕ, ◌+◌, ◌<◌, ◌⊎◌, inl, inr, Bool, true, false, Option, None, Some, List, [], ◌∷◌, ◌++◌, length, refl, sym, ap, subst, ◌∙◌, arith}
 use Rattle.std.proofs.Common.{suc}
 use Rattle.sha2.specs.Sha256.{sha256}
 use Rattle.std.proofs.Math.Seq.{drop-cons}
 use Rattle.std.proofs.lemmas.List.{take-append-drop}
-use Rattle.std.specs.Prelude.{Contains, slice_index_or, take, drop, ◌==◌, if◌then◌else◌, map}
+use Rattle.std.specs.Prelude.{slice_index_or, take, drop, ◌==◌, if◌then◌else◌}
 use Rattle.std.specs.List.{AllByRecursion}
-use Rattle.std.specs.Int.{to_be_bytes, from_be_bytes, w64}
 use Rattle.std.proofs.lemmas.Bool.{eqb-true, eqb-false}
 use Rattle.std.proofs.lemmas.List.{map-append}
-use Rattle.std.proofs.lemmas.Nat.{from_be_bytes-to_be_bytes_8}
 use Rattle.std.proofs.lemmas.Option.{none-some}
 use Rattle.rpki_base.specs.declared.algorithm.PublicKeyFormat.{PublicKeyFormat}
 use Rattle.rpki_base.specs.PublicKey.{KeyFields}
 use Rattle.rpki_signer.specs.declared.toy_signer.ToyKey.{ToyKey}
-use Rattle.rpki_signer.specs.Signer.{HeldKey, Holds, Lacks, AreDistinct, IsLater, Stays, IsCreated, IsDestroyed}
-use Rattle.rpki_signer.specs.ToySigner.{ToyState, key_of, held_key, keyring_of, state_of, IsSound, key_numbered, after_creating, counted, after_fault, after_drawing, IsTakenOut}
+use Rattle.rpki_signer.specs.Signer.{HeldKey, Holds, Lacks, AreDistinct}
+use Rattle.rpki_signer.specs.ToySigner.{ToyState, key_of, held_key, keyring_of, IsSound, key_numbered, after_drawing, IsTakenOut}
 use Rattle.rpki_signer.proofs.Keyrings.{none_in, here, behind, first_or_behind, distinct_push, distinct_out}
 
 -- ---- all numbers were drawn

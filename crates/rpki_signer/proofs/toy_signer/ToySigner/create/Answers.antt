@@ -1,6 +1,5 @@
-use Rattle.std.proofs.Common.{◌≡◌, ◌+◌, ◌++◌, ◌∷◌, [], ℕ, List, refl, sym, ap, subst, ◌∙◌}
-use Rattle.rpki_signer.specs.declared.toy_signer.ToyKey.{ToyKey}
-use Rattle.rpki_signer.specs.ToySigner.{ToyState, IsSound}
+use Rattle.std.proofs.Common.{sym, subst, ◌∙◌}
+use Rattle.rpki_signer.specs.ToySigner.{IsSound}
 use Rattle.rpki_signer.proofs.ToySigners.{added_sound, drawn_sound}
 use Rattle.rpki_signer.proofs.toy_signer.ToySigner.create.Goals as goal
 use Rattle.rpki_signer.proofs.toy_signer.ToySigner.create.Goals.{in-Ok-push, in-Err-push}

@@ -1,7 +1,7 @@
-use Rattle.std.proofs.Common.{◌≡◌, ◌<◌, length, subst, sym, ap, ◌∙◌}
+use Rattle.std.proofs.Common.{◌≡◌, ◌<◌, length, subst, ap, ◌∙◌}
 use Rattle.std.specs.Prelude.{slice_index_or}
 use Rattle.rpki_signer.specs.declared.toy_signer.ToyKey.{ToyKey}
-use Rattle.rpki_signer.specs.ToySigner.{ToyState, IsTakenOut, counted}
+use Rattle.rpki_signer.specs.ToySigner.{ToyState, IsTakenOut}
 use Rattle.rpki_signer.proofs.ToySigners.{taken_out, out_sound}
 use Rattle.rpki_signer.proofs.toy_signer.ToySigner.destroy.Goals as goal
 
