@@ -256,9 +256,8 @@ impl Message {
 /// # Reading and writing
 impl Message {
     /// The message that all that a source has to give is: a document of XML of at most 2^31 octets. XmlError exactly where it has not the
-    /// form of one, CertSyntax and InvalidCsrSyntax where it has, and a certificate or the request in it is none; TooLong where it is
-    /// longer,
-    /// Read only where the source failed.
+    /// form of one, CertSyntax and InvalidCsrSyntax exactly where it has, and a certificate or the request in it is none; TooLong where
+    /// it is longer, Read only where the source failed.
     pub fn decode<I: Source>(alloc: Global, source: &mut I) -> Result<Message, Error>
         ensures { Parses (I.rest source.old) (I.rest source.new) (I.faults source.old)
             (I.faults source.new) result }
@@ -290,8 +289,7 @@ impl Message {
     }
 
     /// As [`Message::decode_slice`]. It ticks once for each header that it reads, in certificates and requests: at most twice for each
-    /// octet
-    /// that it was given, and 8 times more.
+    /// octet that it was given, and 8 times more.
     pub fn decode_slice_counted<L: Ledger>(
         alloc: Global,
         octets: &[u8],
