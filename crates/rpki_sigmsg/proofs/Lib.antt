@@ -7,6 +7,7 @@ pub mod Further
 pub mod Entries
 pub mod CrlGathering
 pub mod Meaning
+pub mod AllChecks
 pub mod AnyKey
 pub mod Loosening
 pub mod Bounds

@@ -26,7 +26,7 @@ on_ok_always (Ok x) p = p
 on_ok_always (Err e) p = tt
 
 -- the three questions, where each is answered by yes
-abbrev all_signed : (scheme : Relation) (m : MessageFields) (issuer : KeyFields) → AreSigned scheme m issuer → Asked scheme m issuer
+abbrev pub all_signed : (scheme : Relation) (m : MessageFields) (issuer : KeyFields) → AreSigned scheme m issuer → Asked scheme m issuer
 all_signed scheme m issuer s = record { q3 = true; q8 = true; q10 = true; attributes = decides_yes s.attributes; certificate = decides_yes s.certificate; crls = decides_yes s.crls }
 
 pub believed : (scheme : Relation) (m : MessageFields) (issuer : KeyFields) (when : ℤ) (r : Result (Unit {0}) ValidationError) → OnOk r (AreSigned scheme m issuer)
@@ -156,13 +156,13 @@ from_each : {X : Type 0} (f : X → Bool) (P : X → Type 0) → ((x : X) → P 
 from_each f P h [] a = refl
 from_each f P h (x ∷ xs) a = both_true (f x) (list_all f xs) (h x a.0) (from_each f P h xs a.1)
 
-abbrev IsSo : Bool → Type 0
+abbrev pub IsSo : Bool → Type 0
 IsSo b = b ≡ true
 
-abbrev AreSo : List Bool → Type 0
+abbrev pub AreSo : List Bool → Type 0
 AreSo list = AllByRecursion IsSo list
 
-all_hold : (n : ℕ) (list : List Bool) → first_failure n list ≡ Ok tt → AreSo list
+pub all_hold : (n : ℕ) (list : List Bool) → first_failure n list ≡ Ok tt → AreSo list
 all_hold n [] e = tt
 all_hold n (true ∷ more) e = (refl, all_hold (n + 1) more e)
 all_hold n (false ∷ more) e = cc

@@ -59,6 +59,12 @@ pub record Asked (scheme : Relation) (m : MessageFields) (issuer : KeyFields) : 
   pub certificate : Decides q8 (IsSigned scheme m.certificate issuer)
   pub crls : Decides q10 (AreCrlsSigned scheme m.crls issuer)
 
+-- the list is that of all fourteen, by what the scheme answers
+pub record AreChecks (scheme : Relation) (m : MessageFields) (issuer : KeyFields) (when : ℤ)
+    (list : List Bool) : Type 0 where
+  pub asked : Asked scheme m issuer
+  pub are : list ≡ checks m issuer when asked.q3 asked.q8 asked.q10
+
 -- the signatures hold: that of the attributes under the key of the certificate, and those of the certificate and of each CRL under
 -- the issuer's key
 pub record AreSigned (scheme : Relation) (m : MessageFields) (issuer : KeyFields) : Type 0 where

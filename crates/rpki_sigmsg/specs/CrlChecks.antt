@@ -1,5 +1,5 @@
 -- The checks of a signed message's CRLs in their order (RFC 5280, 6.3.3; RFC 6492, 3.1.2).
-use Rattle.std.specs.Prelude.{◌≡◌, ℕ, ℤ, int_le, Bool, true, false, ◌&&◌, Ok, List, [], ◌∷◌}
+use Rattle.std.specs.Prelude.{◌≡◌, ℕ, ℤ, int_le, Bool, true, false, ◌&&◌, Decides, Ok, List, [], ◌∷◌}
 use Rattle.std.specs.Bool.{beq}
 use Rattle.std.specs.List.{list_all, AllByRecursion}
 use Rattle.rpki_base.specs.PublicKey.{KeyFields, names_issuer}
@@ -36,6 +36,13 @@ crl_checks crls issuer when q =
     ∷ list_all (λ c. int_le when c.tbs.next_update) crls
     ∷ list_all (λ c. names_issuer c.tbs.authority_key_id issuer) crls
     ∷ []
+
+-- the list is that of the five checks of all CRLs, by what the scheme answers
+pub record AreCrlChecks (scheme : Relation) (crls : List CrlFields) (issuer : KeyFields) (when : ℤ)
+    (list : List Bool) : Type 0 where
+  pub q : Bool
+  pub signed : Decides q (AreCrlsSigned scheme crls issuer)
+  pub are : list ≡ crl_checks crls issuer when q
 
 -- the CRL is signed under the issuer's key, and with that all five checks hold of it
 pub record IsListBelieved (scheme : Relation) (c : CrlFields) (issuer : KeyFields) (when : ℤ) : Type

@@ -134,3 +134,21 @@ pub(crate) fn crls_failure<P: Scheme, V: Verifier<P>>(
     require(12, have_not_ended(crls, when))?;
     require(13, name_issuer(crls, issuer_key))
 }
+
+/// The five checks, each of all CRLs, in their order, whether or not one before it fails. It takes no memory.
+pub(crate) fn crls_checks<P: Scheme, V: Verifier<P>>(
+    crls: &[SignedMessageCrl],
+    verifier: &V,
+    issuer_key: &PublicKey,
+    when: Time,
+) -> [bool; 5]
+    ensures { spec.AreCrlChecks P.checks crls.now issuer_key.now when result }
+{
+    [
+        name_one_algorithm(crls),
+        are_signed(crls, verifier, issuer_key),
+        have_begun(crls, when),
+        have_not_ended(crls, when),
+        name_issuer(crls, issuer_key),
+    ]
+}

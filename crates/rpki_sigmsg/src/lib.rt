@@ -44,7 +44,7 @@ pub use rpki_der::{DecodeError, OutOfMemory};
 pub use tbs_crl::SignedMessageTbsCrl;
 pub use unsigned::{UnsignedContent, UnsignedCrl, UnsignedMessage};
 pub use validation::{
-    believed_moments_are_one_span, moments_are_one_span, more_keys_believe, one_key_is_validated,
-    questions_of_each_key_decide, three_questions_decide,
+    believed_moments_are_one_span, first_false_is_named, moments_are_one_span, more_keys_believe,
+    one_key_is_validated, questions_of_each_key_decide, three_questions_decide,
 };
 pub use window::Window;

@@ -1,14 +1,14 @@
 //! Whether a signed message may be believed.
 
-ghost use Rattle.std.specs.Prelude.{◌≡◌, ◌↔◌, ◌⊎◌, ◌<◌, ◌≤◌, ◌∷◌, [], ℕ, Bool, ℤ, Decides, List, Result, Ok, Err, OnOk, bytes_eq, length};
+ghost use Rattle.std.specs.Prelude.{◌≡◌, ◌↔◌, ◌⊎◌, ◌<◌, ◌≤◌, ◌∷◌, [], ℕ, Bool, ℤ, Decides, true, All, List, Result, Ok, Err, OnOk, bytes_eq, length};
 ghost use Rattle.rpki_base.specs.PublicKey.{KeyFields};
 ghost use Rattle.rpki_base.specs.declared.validation.ValidationError.{ValidationError as FailedCheck};
-ghost use Rattle.rpki_base.specs.Checks.{first_failure, failing, IsSigned};
+ghost use Rattle.rpki_base.specs.Checks.{first_failure, failing, FirstFalse, IsSigned};
 ghost use Rattle.rpki_sigmsg.specs.CrlChecks.{AreCrlsSigned};
 ghost use Rattle.rpki_sigmsg.specs.Message.{MessageFields};
 ghost use Rattle.rpki_sigmsg.specs.Checks as spec;
 
-use crate::crl_validation::crls_failure;
+use crate::crl_validation::{crls_checks, crls_failure};
 use crate::message::SignedMessage;
 use rpki_base::{PublicKey, Scheme, SigningAlgorithm, Time, Verifier};
 use rpki_idcert::{ValidationError, ValidationKind, require};
@@ -134,6 +134,55 @@ impl SignedMessage {
     }
 }
 
+/// # All checks
+impl SignedMessage {
+    /// The fourteen checks of [`SignedMessage::validate_at`] in their order, each of them whether or not one before it fails; those of
+    /// CRLs are of all CRLs. It takes no memory.
+    pub fn checks_at<P: Scheme, V: Verifier<P>>(
+        &self,
+        verifier: &V,
+        issuer_key: &PublicKey,
+        when: Time,
+    ) -> [bool; 14]
+        // All are true exactly where the message is believed.
+        ensures believed { All (λ b. b ≡ true) result ↔
+            spec.IsBelieved P.checks self.now issuer_key.now when }
+
+        // They are the checks by answers of the scheme: 3, 8 and 10 say what holds under it.
+        ensures answered { spec.AreChecks P.checks self.now issuer_key.now when result }
+
+        // Whatever the scheme answers, each of the others is what it is.
+        ensures checks { (q : spec.Asked P.checks self.now issuer_key.now) →
+            result ≡ spec.checks self.now issuer_key.now when q.q3 q.q8 q.q10 }
+    {
+        let [own, within, issued, entity, signed] = self
+            .ee_cert()
+            .ee_checks_at(verifier, issuer_key, when);
+        let [one, crls, begun, current, from] = crls_checks(
+            self.crls(),
+            verifier,
+            issuer_key,
+            when,
+        );
+        [
+            self.names_certificate(),
+            self.digest_holds(),
+            self.are_attributes_signed(verifier),
+            own,
+            within,
+            issued,
+            entity,
+            signed,
+            one,
+            crls,
+            begun,
+            current,
+            from,
+            self.is_not_revoked(),
+        ]
+    }
+}
+
 /// # Validation under a list of keys
 impl SignedMessage {
     // The place of the first key under which no check fails; else the greatest of the first checks that fail under each. What doesn't
@@ -197,6 +246,22 @@ impl SignedMessage {
         }
     }
 }
+
+/// What `validate_at` answers, `checks_at` tells: all fourteen checks are true exactly where it answers Ok, and the first false one
+/// stands at the place that it names.
+pub fn first_false_is_named<P: Scheme>()
+    ensures passes { (m : MessageFields) (issuer : KeyFields) (when : ℤ) (list : List Bool)
+        (answer : Result (Unit {0}) FailedCheck) →
+        spec.AreChecks P.checks m issuer when list →
+        spec.IsValidation P.checks m issuer when answer →
+        (answer ≡ Ok tt) ↔ All (λ b. b ≡ true) list }
+    ensures fails { (m : MessageFields) (issuer : KeyFields) (when : ℤ) (list : List Bool)
+        (answer : Result (Unit {0}) FailedCheck) (failed : FailedCheck) →
+        spec.AreChecks P.checks m issuer when list →
+        spec.IsValidation P.checks m issuer when answer →
+        answer ≡ Err failed →
+        FirstFalse 1 failed.check list × (failed.kind ≡ spec.kind_of failed.check) }
+{}
 
 /// What `validate_any_at` answers under one key is what `validate_at` answers, without the place.
 pub fn one_key_is_validated<P: Scheme>()
