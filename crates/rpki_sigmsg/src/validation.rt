@@ -148,36 +148,31 @@ impl SignedMessage {
         ensures believed { All (λ b. b ≡ true) result ↔
             spec.IsBelieved P.checks self.now issuer_key.now when }
 
-        // They are the checks by answers of the scheme: 3, 8 and 10 say what holds under it.
+        // They are the fourteen checks, where 3, 8 and 10 say which signatures hold under the scheme.
         ensures answered { spec.AreChecks P.checks self.now issuer_key.now when result }
 
-        // Whatever the scheme answers, each of the others is what it is.
+        // The same by any answers to the three questions that are right.
         ensures checks { (q : spec.Asked P.checks self.now issuer_key.now) →
             result ≡ spec.checks self.now issuer_key.now when q.q3 q.q8 q.q10 }
     {
-        let [own, within, issued, entity, signed] = self
-            .ee_cert()
-            .ee_checks_at(verifier, issuer_key, when);
-        let [one, crls, begun, current, from] = crls_checks(
-            self.crls(),
-            verifier,
-            issuer_key,
-            when,
-        );
+        let entity = self.ee_cert();
+        let [q4, q5, q6, q7, q8] = entity.ee_checks_at(verifier, issuer_key, when);
+        let crls = self.crls();
+        let [q9, q10, q11, q12, q13] = crls_checks(crls, verifier, issuer_key, when);
         [
             self.names_certificate(),
             self.digest_holds(),
             self.are_attributes_signed(verifier),
-            own,
-            within,
-            issued,
-            entity,
-            signed,
-            one,
-            crls,
-            begun,
-            current,
-            from,
+            q4,
+            q5,
+            q6,
+            q7,
+            q8,
+            q9,
+            q10,
+            q11,
+            q12,
+            q13,
             self.is_not_revoked(),
         ]
     }
