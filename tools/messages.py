@@ -20,6 +20,12 @@ the key with this number, `moment`, `key_not_found` or `signer` where it refuses
 Or a line is `NAME unsigned MOMENT SERIAL CONTENT MESSAGE`: the message with this number of its certificate whose attributes key 1 of seed 1
 signs and whose certificate and CRL key 0 does, where the signatures come from elsewhere; or `moment`.
 
+Or a line is `NAME long MOMENT OCTETS COUNT CONTENT MESSAGE`: what `create` makes with a signer of the same keys whose signatures are as many
+zeros as OCTETS says, or `too_long`; COUNT is how many too long signatures it gave. The MESSAGE is in terms (tools/stored.py).
+
+Or a line is `NAME checks FORMAT SEED NUMBER MOMENT DIGITS MESSAGE`: the fourteen checks of the message under the issuer's key of this format,
+whose bits are SEED and NUMBER, each as the digit 1 where it holds and else 0.
+
 The toy scheme: a key's bits are its seed and its number, eight octets each, the most significant first. A signature is the SHA-256
 of the key's bits and what is signed behind them. A key identifier is the SHA-1 of the bits.
 """
@@ -31,7 +37,7 @@ import pathlib
 import sys
 from types import SimpleNamespace
 
-from stored import SIZES
+from stored import SIZES, terms
 
 ROOT = pathlib.Path(__file__).resolve().parent.parent
 CRATE = ROOT / "crates" / "message_cases"
@@ -153,6 +159,8 @@ GOOD = dict(
     crl_seed=None, crl_inner=ALGORITHM, crl_outer=ALGORITHM, spoilt_crl=False, updates=(FIRST, LAST), crl_authority="issuer",
     entries=(), revoked_at=FIRST, crl_number=NOW * 1000, crl_extensions=lambda xs: xs, crl_entries_length=length,
     entry_extensions=b"",
+    # all three
+    sign=sign,
     # the envelope
     outer=value, content_string=octet_string, digest=SHA256, digest_parameters=(), behind=None, envelope_type=SIGNED_DATA,
     data_version=3, data_content_type=XML, certificates=lambda x: value(0xA0, x), crls=lambda x: value(0xA1, x),
@@ -190,7 +198,7 @@ def certificate(o):
         o, "tbs", value(0xA0, integer(2)), integer(o.serial), ALGORITHM, name(o.seed, 0, o.issuer_text),
         seq(*map(time, o.validity)), name(o.seed, o.ee, o.subject_text), key,
         value(0xA3, seq(*o.certificate_extensions(extensions)))), o.tbs_length)
-    signature = sign(o.seed, 0, tbs, o.spoilt_certificate)
+    signature = o.sign(o.seed, 0, tbs, o.spoilt_certificate)
     return value(0x30, held(o, "certificate", tbs, ALGORITHM, bits(signature)))
 
 
@@ -202,7 +210,7 @@ def crl(o):
     tbs = value(0x30, held(
         o, "crl-tbs", integer(1), o.crl_inner, name(seed, 0, o.issuer_text), *map(time, o.updates), entries,
         value(0xA0, seq(*o.crl_extensions(extensions)))))
-    signature = sign(seed, 0, tbs, o.spoilt_crl)
+    signature = o.sign(seed, 0, tbs, o.spoilt_crl)
     return value(0x30, held(o, "crl", tbs, o.crl_outer, bits(signature)))
 
 
@@ -215,7 +223,7 @@ def signer(o):
     attributes = b"".join(o.attributes([
         attribute(CONTENT_TYPE, XML), attribute(SIGNING_TIME, time(o.signed_at)),
         attribute(MESSAGE_DIGEST, octet_string(digest))]))
-    signature = sign(o.seed, o.ee, value(0x31, attributes), o.spoilt_attributes)
+    signature = o.sign(o.seed, o.ee, value(0x31, attributes), o.spoilt_attributes)
     return value(0x30, held(
         o, "signer", integer(o.signer_version), value(0x80, o.signer_id or subject_key(o)), seq(SHA256, *o.digest_parameters),
         o.attributes_tag(0xA0, attributes), o.signer_algorithm, octet_string(o.signature(signature))))
@@ -636,13 +644,14 @@ def drawn_serial(seed, number):
     return int.from_bytes(octets, "big") & ~(1 << 159)
 
 
-def numbered(content, moment, serial):
+def numbered(content, moment, serial, **options):
     window = moment - 300, moment + 300
-    return message(content=content, serial=serial, signed_at=moment, validity=window, updates=window, crl_number=moment * 1000)
+    return message(
+        content=content, serial=serial, signed_at=moment, validity=window, updates=window, crl_number=moment * 1000, **options)
 
 
-def created(content, moment):
-    return numbered(content, moment, drawn_serial(1, 2))
+def created(content, moment, **options):
+    return numbered(content, moment, drawn_serial(1, 2), **options)
 
 
 def created_line(label, content, moment, expected, key="0", failing="-"):
@@ -667,6 +676,48 @@ def created_cases():
     for last in (NOW - 301, NOW - 300, NOW + 300, NOW + 301):
         answer = "ok" if abs(last - NOW) <= 300 else "verification-5"
         yield from case(f"created-at-{last}", created(QUERY, NOW), answer, moment=last)
+
+
+def zeros(count):
+    return lambda seed, number, octets, spoilt=False: bytes(count)
+
+
+# The most octets that a signature may have.
+MOST = 1 << 16
+
+
+def long_cases():
+    for count in (0, 1, MOST - 1, MOST, MOST + 1, 2 * MOST):
+        # The first signature that is too long is the last that is asked for.
+        expected = "too_long" if count > MOST else terms(created(QUERY, NOW, sign=zeros(count)))
+        yield " ".join((f"long-{count}", "long", str(NOW), str(count), str(int(count > MOST)), QUERY.hex(), expected))
+
+
+# ---- all checks of a message
+
+
+def checks_line(label, octets, broken=(), form="rsa", seed=1, number=0, moment=NOW):
+    digits = "".join("0" if check in broken else "1" for check in BREAKS)
+    return " ".join((f"all-checks-{label}", "checks", form, str(seed), str(number), str(moment), digits, octets.hex()))
+
+
+def checks_cases():
+    yield checks_line("good", message())
+    for moment, broken_then in ((FIRST - 1, (5, 11)), (FIRST, ()), (LAST, ()), (LAST + 1, (5, 12))):
+        yield checks_line(f"at-{moment}", message(), broken_then, moment=moment)
+    for seed, number in ((1, 9), (9, 0)):
+        yield checks_line(f"under-{seed}-{number}", message(), (6, 8, 10, 13), seed=seed, number=number)
+    yield checks_line("under-another-that-none-names", message(authority_key=None, crl_authority=None), (8, 10), number=9)
+    yield checks_line("under-another-format", message(), (8, 10), form="ec")
+    yield checks_line("under-another-later", message(), (5, 6, 8, 10, 12, 13), number=9, moment=LAST + 1)
+    for check in BREAKS:
+        yield checks_line(f"{check}", broken(check), (check,))
+        yield checks_line(f"all-but-{check}", broken(*(BREAKS.keys() - {check})), BREAKS.keys() - {check})
+    yield checks_line("none", broken(*BREAKS), BREAKS)
+    for check in OF_CRLS:
+        yield checks_line(f"{check}-of-the-first-crl", two_crls(BREAKS[check], {}), (check,))
+        yield checks_line(f"{check}-of-the-second-crl", two_crls({}, BREAKS[check]), (check,))
+    yield checks_line("9-and-10-of-two-crls", two_crls(BREAKS[10], BREAKS[9]), (9, 10))
 
 
 def unsigned_line(label, content, moment, serial):
@@ -697,7 +748,7 @@ def main():
         compare(bytes.fromhex(pathlib.Path(sys.argv[1]).read_text()))
         return
     agree_elsewhere()
-    written = [*lines(), *built_cases(), *created_cases(), *unsigned_cases()]
+    written = [*lines(), *built_cases(), *created_cases(), *unsigned_cases(), *long_cases(), *checks_cases()]
     names = [line.split(" ")[0] for line in written]
     assert len(names) == len(set(names))
     (CRATE / "data" / "cases.txt").write_text("".join(line + "\n" for line in written))

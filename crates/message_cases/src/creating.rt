@@ -39,7 +39,8 @@ fn refusal(error: &CreateError<ToyFault>) -> Option<&'static str> {
     }
 }
 
-fn is_written(alloc: Global, message: &SignedMessage, expected: &str) -> io::Result<bool> {
+/// Whether the message is written as these terms say.
+pub fn is_written(alloc: Global, message: &SignedMessage, expected: &str) -> io::Result<bool> {
     let Ok(written) = message.to_captured(alloc) else {
         return Err(out_of_memory());
     };

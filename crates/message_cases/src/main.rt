@@ -1,12 +1,16 @@
 //! Decodes and validates stored signed messages, and says how many answers differ from the expected.
 //!
 //! A line of data/cases.txt is `NAME MODE FORMAT SEED MOMENT EXPECTED HEX`, `NAME built MOMENT SEED REVOKED CONTENT MESSAGE`,
-//! `NAME created MOMENT KEY FAILING CONTENT MESSAGE`, or `NAME unsigned MOMENT SERIAL CONTENT MESSAGE`; tools/messages.py, which writes
-//! the file by the formats and by the toy rules alone, says what the words are. Of a message that is read, the view is compared too.
+//! `NAME created MOMENT KEY FAILING CONTENT MESSAGE`, `NAME unsigned MOMENT SERIAL CONTENT MESSAGE`,
+//! `NAME long MOMENT OCTETS COUNT CONTENT MESSAGE`, or `NAME checks FORMAT SEED NUMBER MOMENT DIGITS MESSAGE`; tools/messages.py, which
+//! writes the file by the formats and by the toy rules alone, says what the words are. Of a message that is read, the view is compared
+//! too.
 #![tactic(auto)]
 
 mod building;
+mod checking;
 mod creating;
+mod long;
 mod unsigned;
 
 use rpki_base::{PublicKey, PublicKeyFormat, Time};
@@ -185,7 +189,9 @@ impl Cases for Messages {
     fn holds(&self, alloc: Global, line: &str) -> io::Result<bool> {
         match line.split_whitespace().nth(1) {
             Some("built") => building::holds(alloc, line),
+            Some("checks") => checking::holds(alloc, line),
             Some("created") => creating::holds(alloc, line),
+            Some("long") => long::holds(alloc, line),
             Some("unsigned") => unsigned::holds(alloc, line),
             _ => is_validated(alloc, line),
         }
