@@ -14,6 +14,8 @@ A line is `NAME MODE OCTETS STEP..`, with the steps of tools/stored.py; MODE is 
         the subject's and the authority's key identifier; what is written
     end_entity,'SEED/NUMBER/MOMENT anchor,.. within,..
         ok, or kind, number and text of the failing check; within: its number where the first of an end entity's checks has number 4
+    each,.. signed,..
+        whether each of an end entity's checks holds; whether the signature does
     validity,.. named,..
         whether the moment is in the validity; ok where the key is named as the issuer's, else 7
     crl whole_crl
@@ -347,6 +349,30 @@ def first_failing(breaks, kinds, call, good):
             yield checked("-".join(map(str, numbers)), call, answer, **options)
 
 
+def each_line(label, broken, moment=NOW, number=0, **options):
+    holds = [check not in broken for check in END_ENTITY]
+    argument = asked(moment, number)
+    return line(f"each-{label}", "both", certificate(options_of(**options)), step("each", *holds, argument=argument),
+        step("signed", holds[4], argument=argument))
+
+
+def each_cases():
+    good = dict(authority=key_identifier(1, 0))
+    for count in range(6):
+        for numbers in itertools.combinations(END_ENTITY, count):
+            options = dict(good)
+            for number in numbers:
+                options.update(END_ENTITY[number])
+            yield each_line("-".join(map(str, numbers)) or "good", numbers, **options)
+    for moment, broken in ((FIRST - 1, (2,)), (FIRST, ()), (LAST, ()), (LAST + 1, (2,))):
+        yield each_line(f"at-{moment}", broken, moment, **good)
+    yield each_line("under-another-key", (3, 5), number=9, **good)
+    yield each_line("under-another-key-unnamed", (5,), number=9)
+    yield each_line("under-its-own-key", (3, 5), number=1, **good)
+    cut = certificate(options_of())[:-1]
+    yield line("each-of-none", "both", cut, *[step(call, MALFORMED, argument=asked()) for call in ("each", "signed")])
+
+
 def check_cases():
     yield from first_failing(END_ENTITY, 1, "end_entity", dict(authority=key_identifier(1, 0)))
     yield from first_failing(BELOW, 3, "anchor", ANCHOR)
@@ -564,7 +590,7 @@ def made_lines():
 
 
 def lines():
-    for cases in (good_cases, extension_cases, malformed_cases, ber_cases, size_cases, check_cases, elsewhere_cases, crl_cases,
+    for cases in (good_cases, extension_cases, malformed_cases, ber_cases, size_cases, check_cases, each_cases, elsewhere_cases, crl_cases,
             toy_cases, made_lines):
         yield from cases()
 

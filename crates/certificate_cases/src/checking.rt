@@ -82,6 +82,23 @@ fn within(alloc: Global, cert: &IdCert, asked: &Asked<'_>) -> Result<Fields, Dec
     }
 }
 
+// Whether each of the five checks holds.
+fn each(alloc: Global, cert: &IdCert, asked: &Asked<'_>) -> Result<Fields, DecodeError> {
+    let key = key_of(alloc, asked)?;
+    let when = moment_of(asked.moment)?;
+    let mut fields = Fields::new(alloc);
+    for holds in cert.ee_checks_at(&ToyVerifier::new(), &key, when) {
+        fields.octets(&[u8::from(holds)])?;
+    }
+    Ok(fields)
+}
+
+fn signed(alloc: Global, cert: &IdCert, asked: &Asked<'_>) -> Result<Fields, DecodeError> {
+    let key = key_of(alloc, asked)?;
+    let holds = cert.verify_signature(&ToyVerifier::new(), &key).is_ok();
+    Ok(Fields::truth(alloc, holds)?)
+}
+
 // Whether the key is named as the issuer's, by `names_issuer` and by `require` with it.
 fn named(alloc: Global, cert: &IdCert, asked: &Asked<'_>) -> Result<Fields, DecodeError> {
     let key = key_of(alloc, asked)?;
@@ -104,6 +121,8 @@ fn checked(
         "validity" => Some(validity(alloc, cert, asked)),
         "within" => Some(within(alloc, cert, asked)),
         "named" => Some(named(alloc, cert, asked)),
+        "each" => Some(each(alloc, cert, asked)),
+        "signed" => Some(signed(alloc, cert, asked)),
         _ => None,
     }
 }

@@ -1,37 +1,11 @@
 //! Calls of the toy scheme, and of a scheme under which every signature holds.
 
-use rpki_base::{PublicKey, PublicKeyFormat, Scheme, SigningAlgorithm, Time, Verifier};
+use rpki_base::{PublicKey, PublicKeyFormat, SigningAlgorithm, Time, Verifier};
 use rpki_der::{DecodeError, Mode};
 use rpki_sigmsg::SignedMessageCrl;
-use rpki_signer::{ToyScheme, ToyVerifier};
+use rpki_signer::{AnyVerifier, ToyScheme, ToyVerifier};
 use std::alloc::Global;
 use stored_cases::{Fields, Step};
-
-// A scheme under which every signature holds under a key of its kind's format.
-struct Everything;
-
-impl Scheme for Everything {
-    ghost use Rattle.std.specs.Prelude.{◌≡◌};
-    ghost use Rattle.rpki_base.specs.Algorithm.{format_of};
-
-    ghost checks = { λ kind key message signature. key.format ≡ format_of kind };
-
-    ghost fits = { λ kind key message signature h. h };
-}
-
-struct EverythingVerifier;
-
-impl Verifier<Everything> for EverythingVerifier {
-    fn verify(
-        &self,
-        kind: SigningAlgorithm,
-        key: &PublicKey,
-        _message: &[u8],
-        _signature: &[u8],
-    ) -> bool {
-        key.format() == kind.public_key_format()
-    }
-}
 
 fn format_of(octet: u8) -> PublicKeyFormat {
     if octet == 0 {
@@ -66,7 +40,7 @@ fn crl_check(
     };
     let key = key_of(alloc, *format, 0)?;
     let crl = SignedMessageCrl::take(alloc, mode, octets)?;
-    match crl.validate::<Everything, EverythingVerifier>(&EverythingVerifier, &key, when) {
+    match crl.validate(&AnyVerifier::new(), &key, when) {
         Ok(()) => Ok(Fields::done(alloc)?),
         Err(error) => Ok(Fields::number(alloc, u64::from(error.check))?),
     }
