@@ -97,6 +97,7 @@ pub fn holds(alloc: Global, line: &str) -> io::Result<bool> {
             is_written(alloc, &message, asked.expected)?
                 && is_believed(alloc, &message, asked.moment, &mut signer)?,
         ),
+        Err(CreateError::OutOfMemory) => Err(out_of_memory()),
         Err(CreateError::TooLong) => Ok(asked.expected == "too_long"),
         Err(_) => Ok(false),
     }
