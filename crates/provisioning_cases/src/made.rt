@@ -2,7 +2,7 @@
 
 use crate::answers::{number_of, refused, text_of};
 use crate::creating::created;
-use crate::texts::written;
+use crate::texts::is_written;
 use rpki_base::{KeyIdentifier, Time};
 use rpki_cert::{Cert, RpkiCaCsr};
 use rpki_der::DecodeError;
@@ -98,63 +98,103 @@ fn signing(alloc: Global, octets: &[u8]) -> Result<SigningCert, DecodeError> {
     Ok(SigningCert::new(url, cert))
 }
 
-fn key_of(octets: &[u8]) -> Result<KeyIdentifier, DecodeError> {
-    match KeyIdentifier::from_octets(octets) {
-        Some(key) => Ok(key),
-        None => Err(DecodeError::Malformed),
-    }
-}
-
 // ---- what messages say
 
-fn response(alloc: Global, octets: &[u8], issuer: &[u8]) -> Result<IssuanceResponse, DecodeError> {
-    let class_name = class_name(alloc)?;
-    let set = set(alloc)?;
-    let issued = issued(alloc, octets)?;
-    let signing = signing(alloc, issuer)?;
-    Ok(IssuanceResponse::new(class_name, set, moment()?, issued, signing))
+// What a class says of itself.
+#[derive(Drop)]
+struct Start {
+    class_name: ResourceClassName,
+    resource_set: ResourceSet,
+    not_after: Time,
 }
 
-// The class with the certificates at the beginning of the octets: of one that was issued, and of the issuer.
+fn start(alloc: Global) -> Result<Start, DecodeError> {
+    let class_name = class_name(alloc)?;
+    let resource_set = set(alloc)?;
+    let not_after = moment()?;
+    Ok(Start {
+        class_name,
+        resource_set,
+        not_after,
+    })
+}
+
+// A certificate that was issued, and the issuer's.
+#[derive(Drop)]
+struct Certificates {
+    issued: IssuedCert,
+    signing: SigningCert,
+}
+
+// Those at the beginning of the octets.
+fn certificates(alloc: Global, octets: &[u8], issuer: &[u8]) -> Result<Certificates, DecodeError> {
+    let issued = issued(alloc, octets)?;
+    let signing = signing(alloc, issuer)?;
+    Ok(Certificates { issued, signing })
+}
+
+fn response(alloc: Global, octets: &[u8], issuer: &[u8]) -> Result<IssuanceResponse, DecodeError> {
+    let start = start(alloc)?;
+    let certificates = certificates(alloc, octets, issuer)?;
+    Ok(IssuanceResponse::new(
+        start.class_name,
+        start.resource_set,
+        start.not_after,
+        certificates.issued,
+        certificates.signing,
+    ))
+}
+
+fn class_with(
+    alloc: Global,
+    start: Start,
+    certificates: Certificates,
+) -> Result<ResourceClassEntitlements, DecodeError> {
+    let mut all = Vec::new(alloc);
+    all.push(certificates.issued)?;
+    Ok(ResourceClassEntitlements::new(
+        start.class_name,
+        start.resource_set,
+        start.not_after,
+        all,
+        certificates.signing,
+    ))
+}
+
 fn class(
     alloc: Global,
     octets: &[u8],
     issuer: &[u8],
 ) -> Result<ResourceClassEntitlements, DecodeError> {
-    let class_name = class_name(alloc)?;
-    let set = set(alloc)?;
-    let mut all = Vec::new(alloc);
-    all.push(issued(alloc, octets)?)?;
-    let signing = signing(alloc, issuer)?;
-    Ok(ResourceClassEntitlements::new(class_name, set, moment()?, all, signing))
+    let start = start(alloc)?;
+    class_with(alloc, start, certificates(alloc, octets, issuer)?)
 }
 
-fn list(
+fn list_of(
     alloc: Global,
-    octets: &[u8],
-    issuer: &[u8],
+    class: ResourceClassEntitlements,
 ) -> Result<ResourceClassListResponse, DecodeError> {
     let mut classes = Vec::new(alloc);
-    classes.push(class(alloc, octets, issuer)?)?;
+    classes.push(class)?;
     Ok(ResourceClassListResponse::new(classes))
 }
 
 fn request(alloc: Global, octets: &[u8]) -> Result<IssuanceRequest, DecodeError> {
-    let csr = RpkiCaCsr::decode(alloc, octets)?;
+    let class_name = class_name(alloc)?;
     let limit = limit(alloc)?;
-    Ok(IssuanceRequest::new(class_name(alloc)?, limit, csr))
+    let csr = RpkiCaCsr::decode(alloc, octets)?;
+    Ok(IssuanceRequest::new(class_name, limit, csr))
 }
 
-fn revocation(alloc: Global, octets: &[u8]) -> Result<RevocationRequest, DecodeError> {
-    Ok(RevocationRequest::new(class_name(alloc)?, key_of(octets)?))
+// A class and the key that the octets are.
+fn key(alloc: Global, octets: &[u8]) -> Result<KeyElement, DecodeError> {
+    match KeyIdentifier::from_octets(octets) {
+        Some(key) => Ok(KeyElement::new(class_name(alloc)?, key)),
+        None => Err(DecodeError::Malformed),
+    }
 }
 
-fn revoked(alloc: Global, octets: &[u8]) -> Result<RevocationResponse, DecodeError> {
-    let key = KeyElement::new(class_name(alloc)?, key_of(octets)?);
-    Ok(RevocationResponse::new(key))
-}
-
-// Where the octets are not UTF-8, that nothing was done without saying why.
+// That nothing was done, and why; where the octets are no text, without saying why.
 fn not_performed(alloc: Global, octets: &[u8]) -> Result<NotPerformedResponse, DecodeError> {
     match std::str::from_utf8(octets) {
         Ok(text) => {
@@ -165,43 +205,70 @@ fn not_performed(alloc: Global, octets: &[u8]) -> Result<NotPerformedResponse, D
     }
 }
 
-// The question for the classes, from a sender whose handle is no lawful one.
-fn spaced(alloc: Global) -> Result<Message, DecodeError> {
-    let sender = SenderHandle::new(Text::from_str(alloc, "a b")?.into_rc_str());
-    Ok(Message::list(sender, recipient(alloc)?))
-}
-
 // ---- messages
 
-// The message of a kind, of these octets, and of these of the issuer's certificate.
-fn message(
-    alloc: Global,
-    kind: &str,
-    octets: &[u8],
-    issuer: &[u8],
-) -> Result<Option<Message>, DecodeError> {
-    let (from, to) = (sender(alloc)?, recipient(alloc)?);
-    match kind {
-        "made_list" => Ok(Some(Message::list(from, to))),
-        "made_list_response" => {
-            let list = list(alloc, octets, issuer)?;
-            Ok(Some(Message::list_response(from, to, list)))
-        }
-        "made_issue" => Ok(Some(Message::issue(from, to, request(alloc, octets)?))),
-        "made_issue_response" => {
-            let response = response(alloc, octets, issuer)?;
-            Ok(Some(Message::issue_response(from, to, response)))
-        }
-        "made_revoke" => Ok(Some(Message::revoke(from, to, revocation(alloc, octets)?))),
-        "made_revoke_response" => {
-            Ok(Some(Message::revoke_response(from, to, revoked(alloc, octets)?)))
-        }
-        "made_error" => {
-            let response = not_performed(alloc, octets)?;
-            Ok(Some(Message::not_performed_response(from, to, response)))
-        }
-        _ => Ok(None),
-    }
+// Who sends a message to whom.
+#[derive(Drop)]
+struct Parties {
+    sender: SenderHandle,
+    recipient: RecipientHandle,
+}
+
+fn parties(alloc: Global) -> Result<Parties, DecodeError> {
+    let sender = sender(alloc)?;
+    let recipient = recipient(alloc)?;
+    Ok(Parties { sender, recipient })
+}
+
+// A sender whose handle is no lawful one.
+fn spaced_parties(alloc: Global) -> Result<Parties, DecodeError> {
+    let recipient = recipient(alloc)?;
+    let name = Text::from_str(alloc, "a b")?.into_rc_str();
+    Ok(Parties {
+        sender: Handle::new(name),
+        recipient,
+    })
+}
+
+fn list_message(parties: Parties) -> Message {
+    Message::list(parties.sender, parties.recipient)
+}
+
+fn list_response(alloc: Global, octets: &[u8], issuer: &[u8]) -> Result<Message, DecodeError> {
+    let parties = parties(alloc)?;
+    let list = list_of(alloc, class(alloc, octets, issuer)?)?;
+    Ok(Message::list_response(parties.sender, parties.recipient, list))
+}
+
+fn issue(alloc: Global, octets: &[u8]) -> Result<Message, DecodeError> {
+    let parties = parties(alloc)?;
+    let request = request(alloc, octets)?;
+    Ok(Message::issue(parties.sender, parties.recipient, request))
+}
+
+fn issue_response(alloc: Global, octets: &[u8], issuer: &[u8]) -> Result<Message, DecodeError> {
+    let parties = parties(alloc)?;
+    let response = response(alloc, octets, issuer)?;
+    Ok(Message::issue_response(parties.sender, parties.recipient, response))
+}
+
+fn revoke(alloc: Global, octets: &[u8]) -> Result<Message, DecodeError> {
+    let parties = parties(alloc)?;
+    let key = key(alloc, octets)?;
+    let request = RevocationRequest::new(key.class_name().clone(alloc)?, *key.key());
+    Ok(Message::revoke(parties.sender, parties.recipient, request))
+}
+
+fn revoke_response(alloc: Global, octets: &[u8]) -> Result<Message, DecodeError> {
+    let parties = parties(alloc)?;
+    let response = RevocationResponse::new(key(alloc, octets)?);
+    Ok(Message::revoke_response(parties.sender, parties.recipient, response))
+}
+
+fn error(alloc: Global, octets: &[u8]) -> Result<Message, DecodeError> {
+    let parties = parties(alloc)?;
+    let response = not_performed(alloc, octets)?;
+    Ok(Message::not_performed_response(parties.sender, parties.recipient, response))
 }
 
 // ---- answers
@@ -218,14 +285,14 @@ fn again_shown(
     }
 }
 
-// The fields of an answer with the message behind them, as each call writes it.
+// The fields with the octets behind them, if these are what each call writes.
 fn with_text(
     alloc: Global,
     fields: Fields,
     octets: &[u8],
     message: &Message,
 ) -> Result<Fields, DecodeError> {
-    if written(alloc, message)? != Fields::one(alloc, octets)? {
+    if !is_written(alloc, message, octets)? {
         return Err(DecodeError::Malformed);
     }
     let mut fields = fields;
@@ -233,43 +300,58 @@ fn with_text(
     Ok(fields)
 }
 
-/// Whether the text of a message is read as it, or why not, and this text, as each call writes it.
-pub fn shown(alloc: Global, message: &Message) -> Result<Fields, DecodeError> {
+// Whether the text of a message is read as it, or why not, and this text, as each call writes it.
+fn shown(alloc: Global, message: &Message) -> Result<Fields, DecodeError> {
     let octets = message.text_bytes(alloc)?;
     let again = Message::decode_slice(alloc, octets.as_slice());
     let fields = again_shown(alloc, &again, message)?;
     with_text(alloc, fields, octets.as_slice(), message)
 }
 
+fn made_shown(alloc: Global, made: &Result<Message, DecodeError>) -> Result<Fields, DecodeError> {
+    match made {
+        Ok(message) => shown(alloc, message),
+        Err(DecodeError::Malformed) => Err(DecodeError::Malformed),
+        Err(DecodeError::OutOfMemory) => Err(DecodeError::OutOfMemory),
+    }
+}
+
+fn list_shown(alloc: Global) -> Result<Fields, DecodeError> {
+    shown(alloc, &list_message(parties(alloc)?))
+}
+
+fn spaced_shown(alloc: Global) -> Result<Fields, DecodeError> {
+    shown(alloc, &list_message(spaced_parties(alloc)?))
+}
+
+fn spaced_created(alloc: Global, argument: &[u8]) -> Result<Fields, DecodeError> {
+    created(alloc, list_message(spaced_parties(alloc)?), argument)
+}
+
 // ---- many classes
 
-fn many(
+fn copies(
     alloc: Global,
-    octets: &[u8],
+    class: &ResourceClassEntitlements,
     number: u64,
 ) -> Result<ResourceClassListResponse, DecodeError> {
-    let one = class(alloc, octets, octets)?;
     let mut classes = Vec::new(alloc);
     for _ in 0..number {
-        classes.push(one.clone(alloc)?)?;
+        classes.push(class.clone(alloc)?)?;
     }
     Ok(ResourceClassListResponse::new(classes))
 }
 
+// So many classes, each with the certificate at the beginning of the octets, which is the issuer's too.
+fn many(alloc: Global, octets: &[u8], number: u64) -> Result<Message, DecodeError> {
+    let parties = parties(alloc)?;
+    let list = copies(alloc, &class(alloc, octets, octets)?, number)?;
+    Ok(Message::list_response(parties.sender, parties.recipient, list))
+}
+
 fn many_shown(alloc: Global, octets: &[u8], argument: &[u8]) -> Result<Fields, DecodeError> {
-    let list = many(alloc, octets, number_of(text_of(argument)?)?)?;
-    shown(
-        alloc,
-        &Message::list_response(sender(alloc)?, recipient(alloc)?, list),
-    )
-}
-
-fn spaced_shown(alloc: Global) -> Result<Fields, DecodeError> {
-    shown(alloc, &spaced(alloc)?)
-}
-
-fn spaced_created(alloc: Global, argument: &[u8]) -> Result<Fields, DecodeError> {
-    created(alloc, spaced(alloc)?, argument)
+    let number = number_of(text_of(argument)?)?;
+    shown(alloc, &many(alloc, octets, number)?)
 }
 
 /// What a call of this module answers; None where the step is none.
@@ -278,14 +360,18 @@ pub fn answer(
     octets: &[u8],
     step: &Step<'_>,
 ) -> Option<Result<Fields, DecodeError>> {
+    let issuer = &step.argument;
     match step.call {
+        "made_list" => Some(list_shown(alloc)),
+        "made_list_response" => { Some(made_shown(alloc, &list_response(alloc, octets, issuer))) }
+        "made_issue" => Some(made_shown(alloc, &issue(alloc, octets))),
+        "made_issue_response" => { Some(made_shown(alloc, &issue_response(alloc, octets, issuer))) }
+        "made_revoke" => Some(made_shown(alloc, &revoke(alloc, octets))),
+        "made_revoke_response" => Some(made_shown(alloc, &revoke_response(alloc, octets))),
+        "made_error" => Some(made_shown(alloc, &error(alloc, octets))),
         "made_spaced" => Some(spaced_shown(alloc)),
         "created_spaced" => Some(spaced_created(alloc, &step.argument)),
         "made_classes" => Some(many_shown(alloc, octets, &step.argument)),
-        _ => match message(alloc, step.call, octets, &step.argument) {
-            Ok(Some(message)) => Some(shown(alloc, &message)),
-            Ok(None) => None,
-            Err(error) => Some(Err(error)),
-        },
+        _ => None,
     }
 }

@@ -42,8 +42,8 @@ fn is_copied(alloc: Global, message: &Message, octets: &[u8]) -> Result<bool, De
     Ok(copy.equals(alloc, message)? && text.as_slice() == octets)
 }
 
-// Whether each call writes these octets.
-fn is_written(alloc: Global, message: &Message, octets: &[u8]) -> Result<bool, DecodeError> {
+/// Whether each call writes these octets of the message, and so of a copy, which is equal.
+pub fn is_written(alloc: Global, message: &Message, octets: &[u8]) -> Result<bool, DecodeError> {
     Ok(
         are_octets(&message.to_xml_bytes(alloc), octets)
             && is_text(&message.to_xml_string(alloc), octets)
@@ -95,6 +95,14 @@ pub fn text(
         return Err(DecodeError::Malformed);
     }
     read_shown(alloc, read)
+}
+
+/// The message as which octets were read, as one call writes it, or why they are none.
+pub fn brief(alloc: Global, read: &Result<Message, Error>) -> Result<Fields, DecodeError> {
+    match read {
+        Ok(message) => Ok(Fields::one(alloc, message.text_bytes(alloc)?.as_slice())?),
+        Err(error) => refused(alloc, error),
+    }
 }
 
 /// The message that a source of the octets gives, whose call with the number of the argument fails.
