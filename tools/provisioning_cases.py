@@ -44,6 +44,7 @@ name where no standard says what it prints:
     limit,TEXT                        of a limit what is stated of each kind or `-`, its print, whether it is none, and whether a copy and
                                       another are equal
     applied,TEXT                      what a limit leaves of a set
+    content_type                      the media type
     errors                            InvalidVersion, XmlError, InvalidCsrSyntax, CertSyntax and CmsDecode as they are printed
 """
 
@@ -445,7 +446,6 @@ def equality_lines():
         yield line(f"equal-{label}", first, step("equal", *same(True, True), argument=first), *others,
             *[step("equal", *same(False, True), argument=text) for text in parties], *kinds)
         yield from back
-    yield line("equal-without-limits", root(b"issue", asked(b"", class_name=b"0")), step("text", *NO_REQUEST))
 
 
 PRINTED = {"asn": "asn: ", "ipv4": "ipv4: ", "ipv6": "ipv6: "}
@@ -547,6 +547,7 @@ def word_lines():
     yield line("statuses", b"", *[step("status", number, text, f"{number} - {text}", True, argument=str(number)) for number, text in STATUSES.items()])
     yield line("kinds", b"", *[step("kind", kind, kind, argument=kind) for kind in KINDS],
         *[step("kind", "refused", f"Invalid payload type: {text}", argument=text) for text in ("foo", "", "List", "list ", "issue-response")])
+    yield line("content-type", b"", step("content_type", "application/rpki-updown"))
     yield line("errors", b"", step("errors", "Invalid protocol version, MUST be 1", *(why[1] for why in (NO_XML, NO_REQUEST, NO_CERTIFICATE, NO_CMS))))
     order = lambda a, b: "less" if a < b else "greater" if b < a else "equal"
     for a, b in itertools.product(("", "0", "00", "a b", "é", "z" * 300), repeat=2):

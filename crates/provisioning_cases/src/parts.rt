@@ -1,8 +1,9 @@
-//! Parts of messages by themselves: names of classes, kinds, why nothing was done, limits, errors.
+//! Parts of messages by themselves: names of classes, kinds, why nothing was done, limits, errors, and the media type.
 
 use crate::answers::{append_print, append_str, append_truth, refused, text_of};
 use crate::lent::{append_set, append_status};
 use rpki_der::DecodeError;
+use rpki_provisioning::CONTENT_TYPE;
 use rpki_sets::{Blocks, BlocksError, Numbers, ResourceSet};
 use rpki_updown::{
     Error, NotPerformedResponse, OutOfMemory, PayloadType, RequestResourceLimit, ResourceClassName,
@@ -210,6 +211,10 @@ fn errors(alloc: Global) -> Result<Fields, DecodeError> {
     Ok(fields)
 }
 
+fn content_type(alloc: Global) -> Result<Fields, DecodeError> {
+    Ok(Fields::one(alloc, CONTENT_TYPE.as_bytes())?)
+}
+
 /// What a call of this module answers; None where the step is none.
 pub fn answer(
     alloc: Global,
@@ -227,6 +232,7 @@ pub fn answer(
         "limit" => Some(limits(alloc, text, argument)),
         "applied" => Some(applied(alloc, text, argument)),
         "errors" => Some(errors(alloc)),
+        "content_type" => Some(content_type(alloc)),
         _ => None,
     }
 }
