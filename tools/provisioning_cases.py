@@ -76,7 +76,7 @@ KEY = key_identifier(1, 1)
 
 
 def element(tag, *inside, **attributes):
-    """An element with these attributes, of which one that is None isn't there; `asn` is behind its name, since `as` is a word of Python."""
+    """An element with these attributes, of which one that is None isn't there."""
     start = b"<" + tag + b"".join(b' %s="%s"' % (key.encode(), text) for key, text in attributes.items() if text is not None)
     inside = b"".join(inside)
     return start + (b">" + inside + b"</" + tag + b">" if inside else b"/>")
@@ -170,9 +170,11 @@ def root_lines():
     yield from numbered("no-root", unread, [
         b"", b" ", b"a", b"\xff", front, front + b">", front + b"></messages>", LIST + b".", LIST + LIST, front + b">a</message>",
         front + b"><a/></message>", front + b"><message/></message>", changed(b'version="1"', b'version="2"'),
-        changed(b'version="1"', b'version=""'), changed(b'version="1"', b'version="1" p:version="1"'), changed(b'version="1"', b'version="1" x="1"'),
+        changed(b'version="1"', b'version=""'), changed(b'version="1"', b'version="1" p:version="1"'),
+        changed(b'version="1"', b'version="1" x="1"'),
         changed(b'version="1"', b'version="1" version="1"'), changed(b' sender="Carol"', b""), changed(b' recipient="Bob"', b""),
-        changed(b' type="list"', b""), changed(b"list", b"List"), changed(b"list", b"foo"), changed(b"list", b""), changed(b"list", b" list"),
+        changed(b' type="list"', b""), changed(b"list", b"List"), changed(b"list", b"foo"), changed(b"list", b""),
+        changed(b"list", b" list"),
         changed(b"Carol", b""), changed(b"Carol", b"a b"), changed(b"Bob", b"a.b"), changed(b"Bob", b" Bob"),
         changed(b'sender="Carol"', b'sender="Carol" p:sender="Carol"'), changed(b'type="list"', b'type="list" p:type="list"'),
         b"<!DOCTYPE message>" + LIST, changed(b"<message", b"<messages"), changed(b"<message", b"<msg"), changed(b"Bob", b"&bob;")])
@@ -234,8 +236,10 @@ def class_lines():
     yield from numbered("no-class", unread, [listed(text) for text in (
         class_of(issuer(), issuer()), class_of(first), class_of(first, issuer(), issuer(), second), class_of(b"a", issuer()),
         class_of(issuer(), b"a"), class_of(issuer(), b"<a/>"), class_of(b"<class/>", issuer()), class_of().replace(b"class", b"klass"),
-        class_of() + b"a", class_of() + b"<a/>", class_of(url=b"https://localhost/a"), class_of(url=b""), class_of(url=b"rsync://localhost/"),
-        class_of(asn=b"3-1"), class_of(asn=b"4294967296"), class_of(ipv4=b"10.0.0.0/33"), class_of(ipv4=b"::/0"), class_of(ipv6=b"10.0.0.0/8"),
+        class_of() + b"a", class_of() + b"<a/>", class_of(url=b"https://localhost/a"), class_of(url=b""),
+        class_of(url=b"rsync://localhost/"),
+        class_of(asn=b"3-1"), class_of(asn=b"4294967296"), class_of(ipv4=b"10.0.0.0/33"), class_of(ipv4=b"::/0"),
+        class_of(ipv6=b"10.0.0.0/8"),
         class_of(ipv6=b"1,"))])
 
 
@@ -258,8 +262,10 @@ def set_lines():
 def time_lines():
     listed = lambda until: root(b"list_response", class_of(until=until))
     for number, (text, written) in enumerate((
-            (UNTIL, UNTIL), (b"2023-11-14T22:18:20.9Z", UNTIL), (b"2023-11-14T22:18:20.000000001Z", UNTIL), (b"2023-11-14T22:18:20+00:00", UNTIL),
-            (b"2023-11-15T00:18:20+02:00", UNTIL), (b"2023-11-14T16:48:20-05:30", UNTIL), (b"2024-02-29T00:00:00Z", b"2024-02-29T00:00:00Z"),
+            (UNTIL, UNTIL), (b"2023-11-14T22:18:20.9Z", UNTIL), (b"2023-11-14T22:18:20.000000001Z", UNTIL),
+            (b"2023-11-14T22:18:20+00:00", UNTIL),
+            (b"2023-11-15T00:18:20+02:00", UNTIL), (b"2023-11-14T16:48:20-05:30", UNTIL),
+            (b"2024-02-29T00:00:00Z", b"2024-02-29T00:00:00Z"),
             (b"9999-12-31T23:59:59Z", b"9999-12-31T23:59:59Z"), (b"0001-01-01T00:00:00Z", b"0001-01-01T00:00:00Z"),
             (b"1969-12-31T23:59:59Z", b"1969-12-31T23:59:59Z"))):
         yield read(f"until-{number}", listed(text), listed(written))
@@ -276,7 +282,8 @@ def certificate_lines():
     yield from attribute_lines("certificate", b"issue_response", b"certificate", class_of(CERTIFICATES[0], issuer()), (),
         ("cert_url", *LIMITS))
     for number, limit in enumerate((
-            dict(), dict(asn=b""), dict(ipv4=b""), dict(ipv6=b""), dict(asn=b"", ipv4=b"", ipv6=b""), dict(asn=b"1", ipv4=b"10.0.0.0/8", ipv6=b"::/0"))):
+            dict(), dict(asn=b""), dict(ipv4=b""), dict(ipv6=b""), dict(asn=b"", ipv4=b"", ipv6=b""),
+            dict(asn=b"1", ipv4=b"10.0.0.0/8", ipv6=b"::/0"))):
         yield read(f"certificate-for-{number}", listed(certificate(FIRST_CERT, **limit), issuer()))
     yield unread("certificate-without-cert-url", listed(certificate(FIRST_CERT, None), issuer()))
     yield unread("certificate-at-no-place", listed(certificate(FIRST_CERT, b"http://h/m/"), issuer()))
@@ -302,7 +309,8 @@ def certificate_lines():
 def base64_lines():
     """Texts of base64, of certificates, of the issuer and of a request."""
     for label, tag, kind, octets, whole in (
-            ("certificate", b"certificate", b"list_response", FIRST_CERT, root(b"list_response", class_of(certificate(FIRST_CERT), issuer()))),
+            ("certificate", b"certificate", b"list_response", FIRST_CERT,
+            root(b"list_response", class_of(certificate(FIRST_CERT), issuer()))),
             ("issuer", b"issuer", b"list_response", ISSUER, root(b"list_response", class_of())),
             ("request", b"request", b"issue", REQUEST, root(b"issue", asked()))):
         text = base64.b64encode(octets)
@@ -311,7 +319,8 @@ def base64_lines():
         yield read(f"{label}-commented", instead(text[:9] + b"<!-- a -->" + text[9:]), whole)
         yield read(f"{label}-beside-an-instruction", instead(b"<?a b?>" + text), whole)
         for number, new in enumerate((
-                b"A", b"A===", b"AA", b"AA=", b"AB==", b"AA==A", b"AAB=", b"=", b"AA==AA==", b"&lt;", b"AA-_", b"*", text[:-1] + b"!", text + b"<a/>",
+                b"A", b"A===", b"AA", b"AA=", b"AB==", b"AA==A", b"AAB=", b"=", b"AA==AA==", b"&lt;", b"AA-_", b"*", text[:-1] + b"!",
+                text + b"<a/>",
                 b"<a/>", b"<a>" + text + b"</a>")):
             yield unread(f"{label}-in-no-base64-{number}", instead(new))
     yield read("issuer-with-attributes", root(b"list_response", class_of(issuer().replace(b">", b' a="b" c:a="d">', 1))),
@@ -337,7 +346,8 @@ def request_lines():
     yield unread("request-of-0", asking(element(b"request", b"AA==", class_name=b"0")), NO_REQUEST)
     yield unread("request-of-0-with-x", asking(element(b"request", b"AA==", class_name=b"0", x=b"1")))
     for number, limit in enumerate((
-            dict(), dict(asn=b""), dict(ipv4=b""), dict(ipv6=b""), dict(asn=b"", ipv4=b"", ipv6=b""), dict(asn=b"1", ipv4=b"10.0.0.0/8", ipv6=b"::/0"))):
+            dict(), dict(asn=b""), dict(ipv4=b""), dict(ipv6=b""), dict(asn=b"", ipv4=b"", ipv6=b""),
+            dict(asn=b"1", ipv4=b"10.0.0.0/8", ipv6=b"::/0"))):
         yield read(f"request-for-{number}", asking(asked(**limit)))
     for number, text in enumerate((b"", b"a b", b"&lt;&gt;&amp;&quot;&apos;")):
         yield read(f"request-named-{number}", asking(asked(class_name=text)))
@@ -365,35 +375,42 @@ def key_lines():
         yield from attribute_lines(label, kind, b"key", key(), ("class_name", "ski"), ("class_name", "ski"))
         for number, octets in enumerate((b"\xff" * 20, b"\xfb\xef\xbe" * 6 + b"\xfb\xef", bytes(range(20)))):
             yield read(f"{label}-{number}", root(kind, key(octets)))
-            yield read(f"{label}-padded-{number}", root(kind, key(octets).replace(ski(octets), ski(octets) + b"=")), root(kind, key(octets)))
+            yield read(f"{label}-padded-{number}", root(kind, key(octets).replace(ski(octets), ski(octets) + b"=")),
+                root(kind, key(octets)))
         for number, text in enumerate((b"", b"a b", b"&lt;&gt;&amp;&quot;&apos;")):
             yield read(f"{label}-named-{number}", root(kind, key(class_name=text)))
         for number, text in enumerate((
-                b"", b"A" * 26, b"A" * 28, b"A" * 27 + b"==", b"A" * 26 + b"B", b"A" * 26 + b"B=", b" " + b"A" * 27, b"A" * 27 + b" ", b"/" * 26 + b"8",
+                b"", b"A" * 26, b"A" * 28, b"A" * 27 + b"==", b"A" * 26 + b"B", b"A" * 26 + b"B=", b" " + b"A" * 27, b"A" * 27 + b" ",
+                b"/" * 26 + b"8",
                 b"+" * 26 + b"8", b"A" * 13 + b"=" + b"A" * 13, b"A" * 29, KEY.hex().encode())):
             yield unread(f"{label}-no-key-{number}", root(kind, element(b"key", class_name=b"0", ski=text)))
         yield from numbered(f"no-{label}", unread, [root(kind, *inside) for inside in (
-            [], [key(), key()], [key(), b"<a/>"], [b"a", key()], [key().replace(b"/>", b">a</key>")], [key().replace(b"/>", b"><a/></key>")],
+            [], [key(), key()], [key(), b"<a/>"], [b"a", key()], [key().replace(b"/>", b">a</key>")],
+            [key().replace(b"/>", b"><a/></key>")],
             [key().replace(b"key", b"keys", 1)])])
 
 
 def status_lines():
     refusing = lambda *inside: root(b"error_response", *inside)
     for number, (text, written) in enumerate((
-            (b"1201", b"1201"), (b"+1201", b"1201"), (b"001201", b"1201"), (b"+0", b"0"), (b"0", b"0"), (b" \n1201\t", b"1201"), (b"7", b"7"),
+            (b"1201", b"1201"), (b"+1201", b"1201"), (b"001201", b"1201"), (b"+0", b"0"), (b"0", b"0"), (b" \n1201\t", b"1201"),
+            (b"7", b"7"),
             (b"18446744073709551615", b"18446744073709551615"), (b"12<!-- a -->01", b"1201"))):
         yield read(f"status-{number}", refusing(status(text)), refusing(status(written)))
     yield from numbered("no-status", unread, [refusing(status(text)) for text in (
-        b"", b" ", b"+", b"-0", b"-1", b"++1", b"1 2", b"1.0", b"0x1", b"a", b"1a", b"18446744073709551616", b"99999999999999999999", b"<a/>", b"1<a/>")])
+        b"", b" ", b"+", b"-0", b"-1", b"++1", b"1 2", b"1.0", b"0x1", b"a", b"1a", b"18446744073709551616", b"99999999999999999999",
+        b"<a/>", b"1<a/>")])
     for number, (text, written) in enumerate((
-            (b"", b""), (b" \n", b""), (b"a", b"a"), (b" a b ", b"a b"), (b"&lt;&gt;&amp;", b"&lt;&gt;&amp;"), (b"&quot;&apos;", b"\"'"), (b"\"'", b"\"'"),
+            (b"", b""), (b" \n", b""), (b"a", b"a"), (b" a b ", b"a b"), (b"&lt;&gt;&amp;", b"&lt;&gt;&amp;"), (b"&quot;&apos;", b"\"'"),
+            (b"\"'", b"\"'"),
             (b"a\nb", b"a\nb"), (b"a<!-- b -->c", b"ac"))):
         yield read(f"description-{number}", refusing(status(b"1", text)), refusing(status(b"1", written)))
     attributes = refusing(b'<status a="b">1</status><description xml:lang="en-US" a="b">c</description>')
     yield read("status-with-attributes", attributes, refusing(status(b"1", b"c")))
     words = element(b"description", b"a")
     yield from numbered("no-refusal", unread, [refusing(*inside) for inside in (
-        [], [words], [words, status(b"1")], [status(b"1"), status(b"2")], [status(b"1", b"a"), words], [status(b"1"), b"a"], [b"a", status(b"1")],
+        [], [words], [words, status(b"1")], [status(b"1"), status(b"2")], [status(b"1", b"a"), words], [status(b"1"), b"a"],
+        [b"a", status(b"1")],
         [status(b"1"), b"<a/>"], [status(b"1", b"a"), b"<a/>"], [status(b"1", b"<a/>")], [status(b"1").replace(b"status", b"state")],
         [status(b"1", b"a").replace(b"description", b"descriptions")])])
 
@@ -403,13 +420,16 @@ def status_lines():
 
 def class_variants(kind, first):
     """A message with a class, and others that differ from it in one part each."""
-    made = lambda certificates=CERTIFICATES[:1], signing=None, **parts: root(kind, class_of(*certificates, issuer(*(signing or [])), **parts))
+    made = lambda certificates=CERTIFICATES[:1], signing=None, **parts: root(kind,
+        class_of(*certificates, issuer(*(signing or [])), **parts))
     yield made()
     for part in dict(class_name=b"1"), dict(url=THERE + b"2"), dict(asn=b"1"), dict(ipv4=b"11.0.0.0/8"), dict(ipv6=b"::/0"), dict(
             until=b"2023-11-14T22:18:21Z"), dict(signing=[FIRST_CERT]):
         yield made(**part)
-    for other in (certificate(FIRST_CERT, HERE + b"2", ipv4=b"10.0.0.0/9"), certificate(SECOND_CERT, ipv4=b"10.0.0.0/9"), certificate(FIRST_CERT),
-            certificate(FIRST_CERT, ipv4=b""), certificate(FIRST_CERT, ipv4=b"10.0.0.0/10"), certificate(FIRST_CERT, asn=b"", ipv4=b"10.0.0.0/9"),
+    for other in (certificate(FIRST_CERT, HERE + b"2", ipv4=b"10.0.0.0/9"), certificate(SECOND_CERT, ipv4=b"10.0.0.0/9"),
+        certificate(FIRST_CERT),
+            certificate(FIRST_CERT, ipv4=b""), certificate(FIRST_CERT, ipv4=b"10.0.0.0/10"),
+            certificate(FIRST_CERT, asn=b"", ipv4=b"10.0.0.0/9"),
             certificate(FIRST_CERT, ipv4=b"10.0.0.0/9", ipv6=b"")):
         yield made([other])
     if first:
@@ -439,7 +459,8 @@ def equality_lines():
         same = lambda messages, said: (messages, said, *([said] if is_asked else []))
         first = texts[0]
         others = [step("equal", *same(False, False), argument=text) for text in texts[1:]]
-        back = [line(f"equal-{label}-{number}", text, step("equal", *same(False, False), argument=first), step("equal", *same(True, True), argument=text))
+        back = [line(f"equal-{label}-{number}", text, step("equal", *same(False, False), argument=first),
+            step("equal", *same(True, True), argument=text))
             for number, text in enumerate(texts[1:])]
         parties = [first.replace(b"Carol", b"Dave"), first.replace(b"Bob", b"Dave"), first.replace(b"Carol", b"Carol2")]
         kinds = [step("equal", False, False, argument=other[0]) for name_, other in whole.items() if name_ != kind]
@@ -474,7 +495,8 @@ def part_lines():
     for kind, (lent, handed, copies) in parts.items():
         yield line(f"parts-of-{kind.decode()}", MESSAGES[kind], step("lent", "Carol", "Bob", kind, kind == b"list_response", *lent),
             step("handed", "Carol", "Bob", *handed), step("copies", True, *copies))
-    yield line("parts-of-a-bare-error", root(b"error_response", status(b"7")), step("lent", "Carol", "Bob", "error_response", False, 7, "-", "7"),
+    yield line("parts-of-a-bare-error", root(b"error_response", status(b"7")),
+        step("lent", "Carol", "Bob", "error_response", False, 7, "-", "7"),
         step("copies", True, True))
     yield line("parts-of-an-empty-description", root(b"error_response", status(b"7", b"")),
         step("lent", "Carol", "Bob", "error_response", False, 7, "", "7 - "))
@@ -507,7 +529,8 @@ def fault_lines():
         calls = -(-len(text) // 100)
         yield line(f"source-of-{label}", text, *[step("source", "refused", "Read", argument=str(call)) for call in range(calls + 1)],
             step("source", text, argument=str(calls + 1)))
-        yield line(f"sink-of-{label}", text, *[step("sink", "refused", "Write", text[:100 * call], argument=str(call)) for call in range(calls)],
+        yield line(f"sink-of-{label}", text, *[step("sink", "refused", "Write", text[:100 * call],
+            argument=str(call)) for call in range(calls)],
             step("sink", text, argument=str(calls)))
     yield line("source-of-none", b"", step("source", "refused", "Read", argument="0"), step("source", *NO_XML, argument="1"))
 
@@ -520,7 +543,8 @@ def made_lines():
     whole = class_of(first, issuer())
     for label, octets, text, argument in (
             ("list", b"", LIST, None), ("list_response", FIRST_CERT, root(b"list_response", whole), ISSUER),
-            ("issue", REQUEST, root(b"issue", asked(ipv4=b"10.0.0.0/9")), None), ("issue_response", FIRST_CERT, root(b"issue_response", whole), ISSUER),
+            ("issue", REQUEST, root(b"issue", asked(ipv4=b"10.0.0.0/9")), None),
+            ("issue_response", FIRST_CERT, root(b"issue_response", whole), ISSUER),
             ("revoke", KEY, root(b"revoke", key()), None), ("revoke_response", KEY, root(b"revoke_response", key()), None),
             ("error", b"a < b", root(b"error_response", status(b"1204", b"a &lt; b")), None)):
         yield line(f"made-{label}", octets, step(f"made_{label}", True, text, argument=argument))
@@ -536,19 +560,24 @@ def made_lines():
 
 
 STATUSES = {
-    1101: "already processing request", 1102: "version number error", 1103: "unrecognized request type", 1104: "request scheduled for processing",
+    1101: "already processing request", 1102: "version number error", 1103: "unrecognized request type",
+    1104: "request scheduled for processing",
     1201: "request - no such resource class", 1202: "request - no resources allocated in resource class",
-    1203: "request - badly formed certificate request", 1204: "request - already used key in request", 1301: "revoke - no such resource class",
+    1203: "request - badly formed certificate request", 1204: "request - already used key in request",
+    1301: "revoke - no such resource class",
     1302: "revoke - no such key", 2001: "Internal Server Error - Request not performed"}
 
 
 def word_lines():
     """Names, kinds, statuses and errors by themselves."""
-    yield line("statuses", b"", *[step("status", number, text, f"{number} - {text}", True, argument=str(number)) for number, text in STATUSES.items()])
+    yield line("statuses", b"", *[step("status", number, text, f"{number} - {text}", True, argument=str(number)) for number,
+        text in STATUSES.items()])
     yield line("kinds", b"", *[step("kind", kind, kind, argument=kind) for kind in KINDS],
-        *[step("kind", "refused", f"Invalid payload type: {text}", argument=text) for text in ("foo", "", "List", "list ", "issue-response")])
+        *[step("kind", "refused", f"Invalid payload type: {text}", argument=text) for text in ("foo", "", "List", "list ",
+        "issue-response")])
     yield line("content-type", b"", step("content_type", "application/rpki-updown"))
-    yield line("errors", b"", step("errors", "Invalid protocol version, MUST be 1", *(why[1] for why in (NO_XML, NO_REQUEST, NO_CERTIFICATE, NO_CMS))))
+    yield line("errors", b"", step("errors", "Invalid protocol version, MUST be 1",
+        *(why[1] for why in (NO_XML, NO_REQUEST, NO_CERTIFICATE, NO_CMS))))
     order = lambda a, b: "less" if a < b else "greater" if b < a else "equal"
     for a, b in itertools.product(("", "0", "00", "a b", "é", "z" * 300), repeat=2):
         a, b = a.encode(), b.encode()
@@ -563,7 +592,8 @@ def limit_lines():
         (None, None, "2001:db8::/33"), ("", "", ""), ("64496-64500", "10.0.0.0/8", ""), ("64496", "10.0.0.0/9", "2001:db8::/33")]
     for number, limit in enumerate(limits_):
         stated = dict(zip(PRINTED, limit))
-        shown = [*("-" if text is None else text for text in limit), printed_limit(**{part: text for part, text in stated.items() if text is not None}),
+        shown = [*("-" if text is None else text for text in limit),
+            printed_limit(**{part: text for part, text in stated.items() if text is not None}),
             limit == (None,) * 3, True]
         yield line(f"limit-by-itself-{number}", three(*limit).encode(), *[
             step("limit", *shown, limit == other, argument=three(*other)) for other in limits_])
@@ -611,14 +641,16 @@ def signed_lines():
             ("nothing", b"", NO_XML), ("a-letter", b"a", NO_XML), ("a-query", b"<msg version='4' type='query'><list/></msg>", NO_XML),
             ("two", LIST + LIST, NO_XML), ("no-certificate", root(b"list_response", class_of(issuer(b""))), NO_CERTIFICATE),
             ("no-request", root(b"issue", asked(b"")), NO_REQUEST)):
-        yield line(f"signed-{label}", message(content=content), *[step(call, *why) for call in calls], under("checked", *why), under("believed", *why),
+        yield line(f"signed-{label}", message(content=content), *[step(call, *why) for call in calls], under("checked", *why),
+            under("believed", *why),
             under("created", *NO_XML))
     yield line("signed-elsewhere", bytes.fromhex(CONTENT_A), step("decoded", *NO_XML))
     good = message(content=LIST)
     for label, octets in (
             ("text", LIST), ("empty", b""), ("cut", good[:-1]), ("two-signers", message(content=LIST, signers=lambda x: x + x)),
             ("broken", b"\x31" + good[1:])):
-        yield line(f"no-envelope-{label}", octets, *[step(call, *NO_CMS) for call in calls], under("checked", *NO_CMS), under("believed", *NO_CMS))
+        yield line(f"no-envelope-{label}", octets, *[step(call, *NO_CMS) for call in calls], under("checked", *NO_CMS),
+            under("believed", *NO_CMS))
     yield from checked_lines(good)
     yield from rewritten_lines()
 
@@ -630,8 +662,10 @@ def checked_lines(good):
     for check, options in BREAKS.items():
         octets = message(**{"content": LIST, **options})
         yield line(f"check-{check}", octets, under("checked", *failing(check)), under("believed", *failing(check)))
-    yield line("under-keys", good, under("checked", *failing(6), keys=(9,)), under("believed", 0, keys=(0, 9)), under("believed", *failing(6), keys=(9, 8)),
-        under("believed", 7, keys=[9] * 7 + [0]), under("believed", 1, keys=(9, 0, 0)), under("believed", *failing(5), moment=LAST + 1, keys=(9, 0)))
+    yield line("under-keys", good, under("checked", *failing(6), keys=(9,)), under("believed", 0, keys=(0, 9)),
+        under("believed", *failing(6), keys=(9, 8)),
+        under("believed", 7, keys=[9] * 7 + [0]), under("believed", 1, keys=(9, 0, 0)),
+        under("believed", *failing(5), moment=LAST + 1, keys=(9, 0)))
 
 
 def rewritten_lines():
@@ -645,7 +679,8 @@ def rewritten_lines():
         for kind in b"list", b"issue":
             text = MESSAGES[kind]
             again = message(content=text, **held)
-            yield line(f"rewritten-{kind.decode()}-{label}", message(content=text, **held, **spelled), step("rewritten", again), step("decoded", text, text))
+            yield line(f"rewritten-{kind.decode()}-{label}", message(content=text, **held, **spelled), step("rewritten", again),
+                step("decoded", text, text))
             yield line(f"rewritten-again-{kind.decode()}-{label}", again + b"\0", step("rewritten", again), under("checked", DONE))
 
 
@@ -666,7 +701,8 @@ def of_length(n):
     """A message whose text has n octets."""
     if n < 300:
         return root(b"list", sender=b"s" * (n - len(root(b"list", sender=b""))))
-    return root(b"error_response", status(b"1", b"d" * (n - len(root(b"error_response", status(b"1", b""))) - len("<description></description>") + len(
+    return root(b"error_response", status(b"1", b"d" * (n - len(root(b"error_response",
+        status(b"1", b""))) - len("<description></description>") + len(
         "<description/>"))))
 
 
@@ -697,7 +733,8 @@ def size_lines():
         yield read(f"description-of-{n}", root(b"error_response", status(b"1", words)))
         yield read(f"spaced-description-of-{n}", root(b"error_response", status(b"1", b" " * n + b"a" + b"\n" * n)), root(b"error_response",
             status(b"1", b"a")))
-        for kind, inside in (b"list_response", class_of(class_name=words)), (b"issue", asked(class_name=words)), (b"revoke", key(class_name=words)):
+        for kind, inside in (b"list_response", class_of(class_name=words)), (b"issue", asked(class_name=words)), (b"revoke",
+            key(class_name=words)):
             yield read(f"{kind.decode()}-named-by-{n}", root(kind, inside))
         octets = certificate_of(key=("rsa", b"k" * n))
         yield read(f"certificate-with-a-key-of-{n}", root(b"list_response", class_of(certificate(octets), issuer(octets))))
@@ -735,7 +772,8 @@ def count_lines(n):
 
 
 def lines():
-    for part in (root_lines, class_lines, set_lines, time_lines, certificate_lines, request_lines, key_lines, status_lines, equality_lines, part_lines,
+    for part in (root_lines, class_lines, set_lines, time_lines, certificate_lines, request_lines, key_lines, status_lines,
+        equality_lines, part_lines,
             answer_lines, fault_lines, made_lines, word_lines, limit_lines, signed_lines, created_lines, size_lines):
         yield from part()
 

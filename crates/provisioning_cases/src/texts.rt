@@ -9,8 +9,15 @@ use rpki_updown::Error;
 use std::alloc::Global;
 use stored_cases::Fields;
 
-// How many octets a source gives, and a sink takes, in a call.
-const PIECE: usize = 100;
+// A source that gives a hundred octets a call, and fails at these.
+fn source_of(alloc: Global, octets: &[u8], failing: &[u64]) -> Result<MemorySource, DecodeError> {
+    Ok(MemorySource::new(alloc, octets, 100, failing)?)
+}
+
+// A sink with this room that takes a hundred octets a call, and fails at these.
+fn sink_of(alloc: Global, room: usize, failing: &[u64]) -> Result<MemorySink, DecodeError> {
+    Ok(MemorySink::new(alloc, room, 100, failing)?)
+}
 
 // ---- writing
 
@@ -30,7 +37,7 @@ fn is_text(answer: &Result<String, Error>, octets: &[u8]) -> bool {
 
 // Whether a sink with room for these octets gets them.
 fn is_sunk(alloc: Global, message: &Message, octets: &[u8]) -> Result<bool, DecodeError> {
-    let mut sink = MemorySink::new(alloc, octets.len(), PIECE, &[])?;
+    let mut sink = sink_of(alloc, octets.len(), &[])?;
     let answer = message.write_xml(alloc, &mut sink);
     Ok(answer.is_ok() && sink.written() == octets)
 }
@@ -90,7 +97,7 @@ pub fn text(
     octets: &[u8],
     read: &Result<Message, Error>,
 ) -> Result<Fields, DecodeError> {
-    let mut source = MemorySource::new(alloc, octets, PIECE, &[])?;
+    let mut source = source_of(alloc, octets, &[])?;
     if !are_alike(alloc, &Message::decode(alloc, &mut source), read)? {
         return Err(DecodeError::Malformed);
     }
@@ -108,7 +115,7 @@ pub fn brief(alloc: Global, read: &Result<Message, Error>) -> Result<Fields, Dec
 /// The message that a source of the octets gives, whose call with the number of the argument fails.
 pub fn read_of(alloc: Global, octets: &[u8], argument: &[u8]) -> Result<Fields, DecodeError> {
     let failing = [number_of(text_of(argument)?)?];
-    let mut source = MemorySource::new(alloc, octets, PIECE, &failing)?;
+    let mut source = source_of(alloc, octets, &failing)?;
     read_shown(alloc, &Message::decode(alloc, &mut source))
 }
 
@@ -133,7 +140,7 @@ fn sunk_of(
     argument: &[u8],
 ) -> Result<Fields, DecodeError> {
     let failing = [number_of(text_of(argument)?)?];
-    let mut sink = MemorySink::new(alloc, room, PIECE, &failing)?;
+    let mut sink = sink_of(alloc, room, &failing)?;
     let answer = message.write_xml(alloc, &mut sink);
     sunk_shown(alloc, &answer, &sink)
 }
