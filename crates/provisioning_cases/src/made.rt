@@ -108,7 +108,7 @@ struct Start {
     not_after: Time,
 }
 
-fn start(alloc: Global) -> Result<Start, DecodeError> {
+fn start_of_class(alloc: Global) -> Result<Start, DecodeError> {
     let class_name = class_name(alloc)?;
     let resource_set = set(alloc)?;
     let not_after = moment()?;
@@ -127,15 +127,19 @@ struct Certificates {
 }
 
 // Those at the beginning of the octets.
-fn certificates(alloc: Global, octets: &[u8], issuer: &[u8]) -> Result<Certificates, DecodeError> {
+fn certificates_of(
+    alloc: Global,
+    octets: &[u8],
+    issuer: &[u8],
+) -> Result<Certificates, DecodeError> {
     let issued = issued(alloc, octets)?;
     let signing = signing(alloc, issuer)?;
     Ok(Certificates { issued, signing })
 }
 
 fn response(alloc: Global, octets: &[u8], issuer: &[u8]) -> Result<IssuanceResponse, DecodeError> {
-    let start = start(alloc)?;
-    let certificates = certificates(alloc, octets, issuer)?;
+    let start = start_of_class(alloc)?;
+    let certificates = certificates_of(alloc, octets, issuer)?;
     Ok(IssuanceResponse::new(
         start.class_name,
         start.resource_set,
@@ -166,8 +170,8 @@ fn class(
     octets: &[u8],
     issuer: &[u8],
 ) -> Result<ResourceClassEntitlements, DecodeError> {
-    let start = start(alloc)?;
-    class_with(alloc, start, certificates(alloc, octets, issuer)?)
+    let start = start_of_class(alloc)?;
+    class_with(alloc, start, certificates_of(alloc, octets, issuer)?)
 }
 
 fn list_of(
@@ -214,7 +218,7 @@ struct Parties {
     recipient: RecipientHandle,
 }
 
-fn parties(alloc: Global) -> Result<Parties, DecodeError> {
+fn both_parties(alloc: Global) -> Result<Parties, DecodeError> {
     let sender = sender(alloc)?;
     let recipient = recipient(alloc)?;
     Ok(Parties { sender, recipient })
@@ -235,38 +239,38 @@ fn list_message(parties: Parties) -> Message {
 }
 
 fn list_response(alloc: Global, octets: &[u8], issuer: &[u8]) -> Result<Message, DecodeError> {
-    let parties = parties(alloc)?;
+    let parties = both_parties(alloc)?;
     let list = list_of(alloc, class(alloc, octets, issuer)?)?;
     Ok(Message::list_response(parties.sender, parties.recipient, list))
 }
 
 fn issue(alloc: Global, octets: &[u8]) -> Result<Message, DecodeError> {
-    let parties = parties(alloc)?;
+    let parties = both_parties(alloc)?;
     let request = request(alloc, octets)?;
     Ok(Message::issue(parties.sender, parties.recipient, request))
 }
 
 fn issue_response(alloc: Global, octets: &[u8], issuer: &[u8]) -> Result<Message, DecodeError> {
-    let parties = parties(alloc)?;
+    let parties = both_parties(alloc)?;
     let response = response(alloc, octets, issuer)?;
     Ok(Message::issue_response(parties.sender, parties.recipient, response))
 }
 
 fn revoke(alloc: Global, octets: &[u8]) -> Result<Message, DecodeError> {
-    let parties = parties(alloc)?;
+    let parties = both_parties(alloc)?;
     let key = key(alloc, octets)?;
     let request = RevocationRequest::new(key.class_name().clone(alloc)?, *key.key());
     Ok(Message::revoke(parties.sender, parties.recipient, request))
 }
 
 fn revoke_response(alloc: Global, octets: &[u8]) -> Result<Message, DecodeError> {
-    let parties = parties(alloc)?;
+    let parties = both_parties(alloc)?;
     let response = RevocationResponse::new(key(alloc, octets)?);
     Ok(Message::revoke_response(parties.sender, parties.recipient, response))
 }
 
 fn error(alloc: Global, octets: &[u8]) -> Result<Message, DecodeError> {
-    let parties = parties(alloc)?;
+    let parties = both_parties(alloc)?;
     let response = not_performed(alloc, octets)?;
     Ok(Message::not_performed_response(parties.sender, parties.recipient, response))
 }
@@ -317,7 +321,7 @@ fn made_shown(alloc: Global, made: &Result<Message, DecodeError>) -> Result<Fiel
 }
 
 fn list_shown(alloc: Global) -> Result<Fields, DecodeError> {
-    shown(alloc, &list_message(parties(alloc)?))
+    shown(alloc, &list_message(both_parties(alloc)?))
 }
 
 fn spaced_shown(alloc: Global) -> Result<Fields, DecodeError> {
@@ -344,7 +348,7 @@ fn copies(
 
 // So many classes, each with the certificate at the beginning of the octets, which is the issuer's too.
 fn many(alloc: Global, octets: &[u8], number: u64) -> Result<Message, DecodeError> {
-    let parties = parties(alloc)?;
+    let parties = both_parties(alloc)?;
     let list = copies(alloc, &class(alloc, octets, octets)?, number)?;
     Ok(Message::list_response(parties.sender, parties.recipient, list))
 }
