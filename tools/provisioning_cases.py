@@ -10,7 +10,6 @@ name where no standard says what it prints:
 
     text                              the message as which the octets read, as it is written; a source of the octets is read alike, each call
                                       writes the same, and so of a copy, which is equal
-    brief                             the message as which the octets read, as one call writes it
     source,'CALL                      the same of a source of 100 octets a call, whose call with this number fails
     sink,'CALL                        what a sink that takes 100 octets a call has got, whose call with this number fails; behind the refusal
                                       where it failed
@@ -748,15 +747,14 @@ def size_lines():
 
 def count_lines(n):
     """So many classes, certificates and runs in sets; items that make one run."""
-    bare_class = element(b"class", issuer(BARE_CERT), class_name=b"", cert_url=b"rsync://h/m/", resource_set_as=b"", resource_set_ipv4=b"",
-        resource_set_ipv6=b"", resource_set_notafter=UNTIL)
-    before, behind = around(root(b"list_response", bare_class), bare_class)
-    # The longest texts, of up to 20 MB, are read and written once.
-    call = "text" if n < 1000 else "brief"
-    yield spelled_line(f"{n}-classes", [before, many_of(bare_class, n), behind], call)
-    bare = certificate(BARE_CERT, b"rsync://h/m/")
-    before, behind = around(root(b"list_response", class_of(bare, issuer(BARE_CERT))), bare)
-    yield spelled_line(f"{n}-certificates", [before, many_of(bare, n), behind], call)
+    if n < 1000:
+        bare_class = element(b"class", issuer(BARE_CERT), class_name=b"", cert_url=b"rsync://h/m/", resource_set_as=b"",
+            resource_set_ipv4=b"", resource_set_ipv6=b"", resource_set_notafter=UNTIL)
+        before, behind = around(root(b"list_response", bare_class), bare_class)
+        yield spelled_line(f"{n}-classes", [before, many_of(bare_class, n), behind])
+        bare = certificate(BARE_CERT, b"rsync://h/m/")
+        before, behind = around(root(b"list_response", class_of(bare, issuer(BARE_CERT))), bare)
+        yield spelled_line(f"{n}-certificates", [before, many_of(bare, n), behind])
     numbers = ",".join(printed_numbers(*run) for run in runs((2 * i, 2 * i) for i in range(n)))
     for label, whole_ in (("set", root(b"list_response", class_of(asn=b"#"))), ("limit", root(b"issue", asked(asn=b"#")))):
         before, behind = around(whole_, b"#")

@@ -32,7 +32,6 @@ fn of_text(alloc: Global, octets: &[u8], step: &Step<'_>) -> Option<Result<Field
     let argument = &step.argument;
     match step.call {
         "text" => Some(texts::text(alloc, octets, &read(alloc, octets))),
-        "brief" => Some(texts::brief(alloc, &read(alloc, octets))),
         "source" => Some(texts::read_of(alloc, octets, argument)),
         "sink" => Some(texts::written_to(alloc, octets, argument)),
         "equal" => Some(texts::equal(alloc, &read(alloc, octets), &read(alloc, argument))),
@@ -80,10 +79,6 @@ impl Calls for Provisionings {
             "text" => {
                 let read = Message::decode_slice_counted(alloc, octets, steps);
                 Some(texts::text(alloc, octets, &read))
-            }
-            "brief" => {
-                let read = Message::decode_slice_counted(alloc, octets, steps);
-                Some(texts::brief(alloc, &read))
             }
             "decoded" => {
                 let decoded = ProvisioningCms::decode_counted(alloc, octets, steps);

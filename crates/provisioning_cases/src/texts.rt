@@ -104,14 +104,6 @@ pub fn text(
     read_shown(alloc, read)
 }
 
-/// The message as which octets were read, as one call writes it, or why they are none.
-pub fn brief(alloc: Global, read: &Result<Message, Error>) -> Result<Fields, DecodeError> {
-    match read {
-        Ok(message) => Ok(Fields::one(alloc, message.text_bytes(alloc)?.as_slice())?),
-        Err(error) => refused(alloc, error),
-    }
-}
-
 /// The message that a source of the octets gives, whose call with the number of the argument fails.
 pub fn read_of(alloc: Global, octets: &[u8], argument: &[u8]) -> Result<Fields, DecodeError> {
     let failing = [number_of(text_of(argument)?)?];
