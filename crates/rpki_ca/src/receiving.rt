@@ -230,6 +230,22 @@ fn without_place(answer: Result<(Received, usize), ReceiveError>) -> Result<Rece
     }
 }
 
+/// As [`receive_any`], without the place.
+pub(crate) fn receive_under<P: Scheme, V: Verifier<P>>(
+    alloc: Global,
+    kind: Kind,
+    octets: &[u8],
+    keys: &[PublicKey],
+    when: Time,
+    verifier: &V,
+) -> Result<Received, ReceiveError>
+    requires some { 1 ≤ length keys.now }
+    requires few { length keys.now ≤ 8 }
+    ensures { IsReceived P.checks kind octets.now keys.now when result }
+{
+    without_place(receive_any(alloc, kind, octets, keys, when, verifier))
+}
+
 /// As [`receive_any`] for one key, without the place.
 pub fn receive<P: Scheme, V: Verifier<P>>(
     alloc: Global,
