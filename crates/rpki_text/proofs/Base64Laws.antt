@@ -14,7 +14,7 @@ use Rattle.base64.proofs.EngineFacts.{decode_of-encode_of}
 use Rattle.base64.proofs.RoundTrip.{length-encode_symbols}
 use Rattle.base64.proofs.Streams.{decoded_of-ok}
 use Rattle.rpki_text.specs.Json.{string_of_json}
-use Rattle.rpki_text.specs.Base64.{is_not_space, IsBase64Text, base64_content, base64_content_of_json, held_content, IsHeld}
+use Rattle.rpki_text.specs.Base64.{is_not_space, IsBase64Text, base64_content, base64_content_of_json, octets_of_json, held_content, IsHeld}
 use Rattle.rpki_common.proofs.Truths.{both}
 
 -- the text of octets is read as these octets
@@ -138,3 +138,7 @@ size_high n len e = omega (arith, e)
 -- the string of a JSON text
 pub base64_content_of_json-is : (text spelling : List ℕ) → string_of_json text ≡ Some spelling → base64_content_of_json text ≡ base64_content spelling
 base64_content_of_json-is text spelling e = ap (λ (o : Option (List ℕ)). option_and_then base64_content o) e
+
+-- the same of octets whose base64 text has no white space
+pub octets_of_json-is : (text spelling given : List ℕ) (o : Option (List ℕ)) → string_of_json text ≡ Some spelling → given ≡ spelling → decoded_of standard given ≡ o → octets_of_json text ≡ o
+octets_of_json-is text spelling given o e p f = rw (e, ← p) f

@@ -24,6 +24,10 @@ base64_content text = decoded_of standard (filter is_not_space text)
 abbrev pub base64_content_of_json : List ℕ → Option (List ℕ)
 base64_content_of_json text = option_and_then base64_content (string_of_json text)
 
+-- The octets whose base64 text, with no white space, is the one string of a JSON text.
+abbrev pub octets_of_json : List ℕ → Option (List ℕ)
+octets_of_json text = option_and_then (decoded_of standard) (string_of_json text)
+
 -- The octets that a base64 text with no white space spells.
 abbrev pub held_content : List ℕ → List ℕ
 held_content text = unwrap_or (decoded_of standard text) []

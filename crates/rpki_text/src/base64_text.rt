@@ -4,11 +4,11 @@ ghost use Rattle.std.specs.Prelude.{ℕ, List, ◌≡◌, ◌↔◌, ◌≤◌, 
 ghost use Rattle.std.specs.Cmp.Lexicographic.{pointwise, nat_list_eq_equiv};
 ghost use Rattle.std.specs.Cmp.{partial_equiv_from_equiv};
 ghost use Rattle.base64.specs.Engines.{standard};
-ghost use Rattle.base64.specs.GeneralPurpose.{encode_of, decode_of};
+ghost use Rattle.base64.specs.GeneralPurpose.{encode_of, decode_of, decoded_of};
 ghost use Rattle.serde_json.specs.Data.{string};
 ghost use Rattle.serde_json.specs.Written.{compact_text};
 ghost use Rattle.sha2.specs.Sha256.{sha256};
-ghost use Rattle.rpki_text.specs.Base64.{is_not_space, IsBase64Text, base64_content, base64_content_of_json};
+ghost use Rattle.rpki_text.specs.Base64.{is_not_space, IsBase64Text, base64_content, base64_content_of_json, octets_of_json};
 ghost use Rattle.rpki_text.specs.declared.base64_text.Base64Error.TheVariants as variant;
 
 use crate::digests::Hash;
@@ -164,6 +164,38 @@ impl Base64 {
             text: self.text.clone(alloc)?,
         })
     }
+}
+
+/// The octets whose base64 text (RFC 4648, section 4) is the one string of a JSON text: in the
+/// standard alphabet, padded, with no white space. Malformed exactly where it is that of none.
+pub fn read_octets(alloc: Global, text: &str) -> Result<Bytes, JsonError>
+    ensures octets { IfOk result (λ b. octets_of_json text.now ≡ Some b) }
+    ensures malformed { IsErrOf result JsonError.Malformed → octets_of_json text.now ≡ None }
+{
+    let spelled = read_string(alloc, text)?;
+    octets_of(alloc, spelled.as_str())
+}
+
+/// The octets whose base64 text, with no white space, is `text`.
+fn octets_of(alloc: Global, text: &str) -> Result<Bytes, JsonError>
+    ensures octets { IfOk result (λ b. decoded_of standard text.now ≡ Some b) }
+    ensures malformed { IsErrOf result JsonError.Malformed → decoded_of standard text.now ≡ None }
+{
+    match STANDARD.decode(alloc, text.as_bytes()) {
+        Ok(octets) => Ok(Bytes::from_vec(octets)?),
+        Err(DecodeAllocError::OutOfMemory) => Err(JsonError::OutOfMemory),
+        Err(DecodeAllocError::DecodeError(_)) => Err(JsonError::Malformed),
+    }
+}
+
+/// The base64 text of octets as a JSON text, which is one string, and is read as these octets.
+pub fn write_octets(alloc: Global, octets: &[u8]) -> Result<String, OutOfMemory>
+    ensures text { IfOk result (λ s.
+        string_bytes s ≡ compact_text (string (encode_of standard octets.now))) }
+    ensures again { IfOk result (λ s. octets_of_json (string_bytes s) ≡ Some octets.now) }
+{
+    let spelled = STANDARD.encode(alloc, octets)?;
+    write_string(alloc, spelled.as_str())
 }
 
 /// `text` without the octets that are white space.

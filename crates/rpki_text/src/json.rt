@@ -1,4 +1,4 @@
-//! JSON texts that are one string.
+//! JSON texts, and those that are one string.
 
 ghost use Rattle.std.specs.Prelude.{◌≡◌, Some, None, IfOk, IsErrOf, string_bytes};
 ghost use Rattle.serde_json.specs.Data.{string};
@@ -10,7 +10,7 @@ ghost use Rattle.rpki_text.specs.declared.json.JsonError.TheVariants as variant;
 
 use rpki_common::OutOfMemory;
 use serde_json::Value;
-use std::alloc::{AllocError, Global};
+use std::alloc::{AllocError, AllocFailed, Global};
 use thiserror::Error;
 
 /// Why a JSON text was not read.
@@ -40,8 +40,17 @@ impl From<OutOfMemory> for JsonError {
     }
 }
 
-/// The value of a JSON text, which is nested up to 127 deep.
-fn value_of(alloc: Global, text: &str) -> Result<Value, JsonError>
+impl<T: Drop> From<AllocFailed<T>> for JsonError {
+    ghost from_gives = { λ _ e. e ≡ variant.OutOfMemory };
+
+    fn from(_: AllocFailed<T>) -> JsonError {
+        JsonError::OutOfMemory
+    }
+}
+
+/// The value of a JSON text (RFC 8259), in which arrays and objects nest up to 127 deep. Of members
+/// of one name the last counts. Malformed exactly where the text is none.
+pub fn read_value(alloc: Global, text: &str) -> Result<Value, JsonError>
     ensures ok { IfOk result (λ v. read text.now ≡ Some (view v)) }
     ensures malformed { IsErrOf result JsonError.Malformed → read text.now ≡ None }
 {
@@ -52,20 +61,20 @@ fn value_of(alloc: Global, text: &str) -> Result<Value, JsonError>
     }
 }
 
-/// The string that a JSON text is.
-pub(crate) fn read_string(alloc: Global, text: &str) -> Result<String, JsonError>
+/// The string that a JSON text is. Malformed exactly where it is none.
+pub fn read_string(alloc: Global, text: &str) -> Result<String, JsonError>
     ensures ok { IfOk result (λ s. string_of_json text.now ≡ Some (string_bytes s)) }
     ensures malformed { IsErrOf result JsonError.Malformed → string_of_json text.now ≡ None }
 {
-    let value = value_of(alloc, text)?;
+    let value = read_value(alloc, text)?;
     match value.as_str() {
         Some(found) => Ok(String::from_str(alloc, found)?),
         None => Err(JsonError::Malformed),
     }
 }
 
-/// The JSON text of a string.
-pub(crate) fn write_string(alloc: Global, text: &str) -> Result<String, OutOfMemory>
+/// The JSON text of a string, which is read as that string.
+pub fn write_string(alloc: Global, text: &str) -> Result<String, OutOfMemory>
     ensures exact { IfOk result (λ s. string_bytes s ≡ compact_text (string text.now)) }
     ensures again { IfOk result (λ s. string_of_json (string_bytes s) ≡ Some text.now) }
 {

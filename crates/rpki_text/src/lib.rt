@@ -9,6 +9,8 @@
 //!   their own.
 //! - [`Handle`]: the name of a party. A marker says which one, so that the handle of a child is
 //!   never taken for that of a parent.
+//! - [`read_value`], [`read_string`] and [`write_string`], [`read_octets`] and [`write_octets`]:
+//!   JSON texts, those that are one string, and those whose string is base64 text.
 //!
 //! Where octets come from and go to, in pieces, and each failure of the outside is counted:
 //!
@@ -37,14 +39,14 @@ mod traits;
 pub mod uri;
 mod writing;
 
-pub use base64_text::{Base64, Base64Error};
+pub use base64_text::{Base64, Base64Error, read_octets, write_octets};
 pub use digests::Hash;
 pub use handles::{
     CaHandle, Child, ChildHandle, Handle, InvalidHandle, MyHandle, Myself, Parent, ParentHandle,
     Publisher, PublisherHandle, Recipient, RecipientHandle, Repository, RepositoryHandle, Sender,
     SenderHandle,
 };
-pub use json::JsonError;
+pub use json::{JsonError, read_string, read_value, write_string};
 pub use key_identifiers::{key_identifier_text, read_key_identifier};
 pub use memory_sink::MemorySink;
 pub use memory_source::MemorySource;
