@@ -4,6 +4,5 @@ pub mod Lawfulness
 pub mod Lists
 pub mod Asking
 pub mod Constructing
-pub mod Rewriting
 pub mod Slices
 pub mod Shorter

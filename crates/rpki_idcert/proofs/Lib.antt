@@ -6,3 +6,5 @@ pub mod Alike
 pub mod Issuing
 pub mod Pieces
 pub mod ReadAgain
+pub mod Rewriting
+pub mod JsonLaws

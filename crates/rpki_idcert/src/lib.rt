@@ -3,11 +3,13 @@
 //!
 //! - [`IdCert`] is a certificate: it is decoded in DER or BER, and keeps the exact octets that are signed.
 //! - [`TbsIdCert`] is what they say.
+//! - [`IdCert::from_json`] and [`IdCert::to_json`]: a certificate as base64 text in a JSON text.
 //! - [`require`], [`names_issuer`] and [`IdCert::ee_failure`] are what lists of checks are made of.
 #![tactic(auto)]
 
 mod extensions;
 mod id_cert;
+mod json;
 mod law;
 mod making;
 mod spelling;
@@ -15,6 +17,7 @@ mod tbs;
 mod validation;
 
 pub use id_cert::{IdCert, signed_octets_determine_the_fields};
+pub use json::read_certificates_are_read_again;
 pub use law::written_fields_are_read;
 pub use making::UnsignedIdCert;
 pub use rpki_base::{ValidationError, ValidationKind, first_false_decides, names_issuer, require};

@@ -33,7 +33,7 @@ use Rattle.rpki_base.specs.SignedData.{SignedParts, Signed, algorithm_in, signat
 use Rattle.rpki_cert.specs.Cert.{CertFields, certificate}
 use Rattle.rpki_cert.specs.Csr.{request_info, certification_request}
 use Rattle.rpki_cert.specs.CsrAttributes.{ca_attributes}
-use Rattle.rpki_cert.proofs.Rewriting.{written_again}
+use Rattle.rpki_idcert.proofs.Rewriting.{written_again}
 use Rattle.rpki_cert.proofs.Shorter.{back_bytes, request_spelled}
 use Rattle.rpki_cert.proofs.Slices.{slice_is, certificate_again}
 use Rattle.rpki_updown.specs.Entitlements.{CaRequest}

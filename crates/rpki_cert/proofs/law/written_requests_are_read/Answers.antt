@@ -1,6 +1,6 @@
 use Rattle.std.proofs.Common.{[]}
 use Rattle.rpki_cert.specs.Csr.{request_info, certification_request}
-use Rattle.rpki_cert.proofs.Rewriting.{written_again}
+use Rattle.rpki_idcert.proofs.Rewriting.{written_again}
 use Rattle.rpki_cert.proofs.law.written_requests_are_read.Goals as goal
 
 pub returns : goal.returns
