@@ -2,7 +2,7 @@
 //!
 //! - [`Cert`] is a resource certificate: its exact octets and the key of its subject.
 //! - [`Csr`] is a request: [`RpkiCaCsr`] that of an authority, [`BgpsecCsr`] that of a router. It is decoded in DER, and keeps the
-//!   exact octets that are signed.
+//!   exact octets that are signed. [`Csr::from_json`] and [`Csr::to_json`]: a request as base64 text in a JSON text.
 //! - [`CsrAttributes`] says what the attributes of a kind of requests hold.
 #![tactic(auto)]
 
@@ -15,6 +15,7 @@ mod csr_attributes;
 mod extended_key_usage;
 mod extensions;
 mod invalid_attribute;
+mod json;
 mod key_usage;
 mod law;
 mod object_identifiers;
