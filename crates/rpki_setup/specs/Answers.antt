@@ -7,6 +7,8 @@ use Rattle.rpki_der.specs.declared.mode.Mode.TheVariants.{Der}
 use Rattle.rpki_der.specs.Takes.{BeginsAs}
 use Rattle.rpki_idcert.specs.Checks.{IsTaBelieved}
 use Rattle.rpki_idcert.specs.IdCert.{CertificateFields, identity_certificate}
+use Rattle.rpki_text.specs.declared.json.JsonError.{JsonError}
+use Rattle.rpki_text.specs.declared.json.JsonError.TheVariants as json
 use Rattle.rpki_text.specs.Uri.{https, fault_of}
 use Rattle.rpki_text.specs.declared.reading.ReadAllError.{ReadAllError}
 use Rattle.rpki_text.specs.declared.reading.ReadAllError.TheVariants as read
@@ -60,6 +62,11 @@ cause_of errors.OutOfMemory = Some causes.OutOfMemory
 cause_of _ = None
 
 -- ---- service URIs
+
+-- what a JSON text is answered that holds a text with this error
+abbrev pub json_of : Error → JsonError
+json_of errors.OutOfMemory = json.OutOfMemory
+json_of _ = json.Malformed
 
 -- The answer is InvalidUri exactly where the text begins with `http://` in no case and is no https URI, with the first rule that it
 -- breaks. OutOfMemory says nothing, and no other one comes.

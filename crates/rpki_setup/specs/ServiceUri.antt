@@ -1,6 +1,7 @@
 -- Where a service is reached (RFC 8183, 5.2.2 and 5.2.4).
 use Rattle.std.specs.Prelude.{◌≡◌, ℕ, List, Bool, true, Option, None, Some, if◌then◌else◌, codes}
 use Rattle.rpki_common.specs.Chaining.{◌>>=◌}
+use Rattle.rpki_text.specs.Json.{string_of_json}
 use Rattle.rpki_text.specs.Uri.{https, has_scheme, fault_of}
 use Rattle.rpki_xml.specs.Element.{Head}
 use Rattle.rpki_xml.specs.Lettered.{AreOctets}
@@ -21,6 +22,10 @@ service_uri_of_text text =
     else (do
       u ← uri_of_text https text
       Some (Https u))
+
+-- the service URI that the one string of a JSON text is
+unfoldable pub service_uri_of_json : List ℕ → Option ServiceUri
+service_uri_of_json text = string_of_json text >>= service_uri_of_text
 
 -- the service URI in an element's attribute `service_uri`, which has to be there
 unfoldable pub service_uri_in : Head → Option ServiceUri

@@ -1,12 +1,15 @@
 //! Where a service is reached.
 
-ghost use Rattle.std.specs.Prelude.{◌≡◌, Some, IfOk, IfErr};
-ghost use Rattle.rpki_setup.specs.Answers.{RefusesServiceUri};
-ghost use Rattle.rpki_setup.specs.ServiceUri.{service_uri_of_text, service_text, is_http};
+ghost use Rattle.std.specs.Prelude.{◌≡◌, List, ℕ, Some, None, IfOk, IfErr, IsErrOf, string_bytes};
+ghost use Rattle.serde_json.specs.Data.{string};
+ghost use Rattle.serde_json.specs.Written.{compact_text};
+ghost use Rattle.rpki_setup.specs.Answers.{RefusesServiceUri, json_of};
+ghost use Rattle.rpki_setup.specs.ServiceUri.{service_uri_of_text, service_uri_of_json, service_text, is_http};
 
 use crate::error::Error;
+use crate::law::printed_service_uri_is_read;
 use rpki_common::{OutOfMemory, Text};
-use rpki_text::uri;
+use rpki_text::{JsonError, read_string, uri, write_string};
 use std::alloc::Global;
 use std::fmt;
 
@@ -32,6 +35,33 @@ impl ServiceUri {
         Ok(ServiceUri::Https(uri::Https::from_str(alloc, text)?))
     }
 
+    /// The service URI that the one string of a JSON text is, read as [`ServiceUri::from_str`] does. Malformed exactly where the text
+    /// is no JSON or no string, or where the string is no service URI.
+    pub fn from_json(alloc: Global, text: &str) -> Result<ServiceUri, JsonError>
+        ensures value { IfOk result (λ s. service_uri_of_json text.now ≡ Some s) }
+        ensures malformed { IsErrOf result JsonError.Malformed
+            → service_uri_of_json text.now ≡ None }
+    {
+        let found = read_string(alloc, text)?;
+        match ServiceUri::from_str(alloc, found.as_str()) {
+            Ok(uri) => Ok(uri),
+            Err(error) => Err(json_error(error)),
+        }
+    }
+
+    /// The text as a JSON text, which is one string.
+    pub fn to_json(&self, alloc: Global) -> Result<String, OutOfMemory>
+        ensures text { IfOk result (λ s.
+            string_bytes s ≡ compact_text (string (service_text self.now))) }
+
+        // It is read as this service URI, where that was read of a text.
+        ensures again { IfOk result (λ s. (text : List ℕ) → service_uri_of_text text ≡ Some self.now
+            → service_uri_of_json (string_bytes s) ≡ Some self.now) }
+    {
+        printed_service_uri_is_read();
+        write_string(alloc, self.as_str())
+    }
+
     /// The text, as it was read.
     pub fn as_str(&self) -> &str
         ensures { result.now ≡ service_text self.now }
@@ -50,6 +80,16 @@ impl ServiceUri {
             ServiceUri::Https(uri) => Ok(ServiceUri::Https(uri.clone(alloc)?)),
             ServiceUri::Http(text) => Ok(ServiceUri::Http(text.clone(alloc)?)),
         }
+    }
+}
+
+/// What a JSON text is answered that holds a text with this error.
+fn json_error(error: Error) -> JsonError
+    ensures { result ≡ json_of error }
+{
+    match error {
+        Error::OutOfMemory => JsonError::OutOfMemory,
+        _ => JsonError::Malformed,
     }
 }
 
