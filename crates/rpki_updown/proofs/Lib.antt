@@ -1,3 +1,4 @@
 pub mod Again
 pub mod Limits
 pub mod Equal
+pub mod LimitLaws

@@ -1,14 +1,18 @@
 //! A request for a certificate.
 
-ghost use Rattle.std.specs.Prelude.{◌≡◌, ◌↔◌, IsTrue, IfOk};
+ghost use Rattle.std.specs.Prelude.{◌≡◌, ◌↔◌, Some, IsTrue, IfOk};
+ghost use Rattle.std.specs.Option.{option_copied};
 ghost use Rattle.rpki_base.specs.RpkiSignatureAlgorithm.{spelled_x509};
 ghost use Rattle.rpki_base.specs.SignedData.{spelled_data};
+ghost use Rattle.rpki_updown.specs.IssuanceRequest.{or_none, issuance_request_text};
 
 use crate::request_resource_limit::RequestResourceLimit;
 use crate::resource_class_name::ResourceClassName;
 use rpki_cert::RpkiCaCsr;
 use rpki_common::OutOfMemory;
+use rpki_text::uri::{Uri, UriKind};
 use std::alloc::Global;
+use std::fmt;
 use std::marker::Model;
 
 /// Asks for a certificate in a resource class, for no more than a limit (RFC 6492, 3.4.1). In a clause it is the record of its fields.
@@ -118,4 +122,35 @@ fn is_same(a: &[u8], b: &[u8]) -> bool
     ensures { IsTrue result ↔ (a.now ≡ b.now) }
 {
     a == b
+}
+
+// The text of a URI, or `<none>`.
+fn text_or_none<K: UriKind>(uri: Option<&Uri<K>>) -> &str
+    ensures { result.now ≡ or_none (option_copied uri.entry) }
+{
+    match uri {
+        Some(uri) => uri.as_str(),
+        None => "<none>",
+    }
+}
+
+impl fmt::Display for IssuanceRequest {
+    ghost output = { λ r. Some (issuance_request_text r) };
+
+    fn fmt<W: fmt::Write>(&self, f: &mut fmt::Formatter<W>) -> fmt::Result {
+        let class_name = &self.class_name;
+        let limit = &self.limit;
+        let key = self.csr.public_key().key_identifier();
+        write!(
+            f,
+            "class name '{class_name}' limit '{limit}' csr for key '{key}"
+        )?;
+        let notify = text_or_none(self.csr.rpki_notify());
+        let repository = text_or_none(self.csr.ca_repository());
+        let manifest = text_or_none(self.csr.rpki_manifest());
+        write!(
+            f,
+            "' rrdp notify '{notify}' ca repo '{repository}' mft '{manifest}'"
+        )
+    }
 }

@@ -2,7 +2,8 @@
 //!
 //! - [`ResourceClassName`] names a resource class; [`PayloadType`] is what kind of message one is.
 //! - [`RevocationRequest`] and [`RevocationResponse`] hold a [`KeyElement`]; [`NotPerformedResponse`] says why nothing was done.
-//! - [`RequestResourceLimit`] is the most that a certificate is asked for: applied to what a client holds, it gives what is certified.
+//! - [`RequestResourceLimit`] is the most that a certificate is asked for: applied to what a client holds, it gives what is certified. It
+//!   is read of a JSON object.
 //! - [`ResourceClassListResponse`] lists classes. [`ResourceClassEntitlements`] says of one what a client has in it: resources, each
 //!   [`IssuedCert`], and the [`SigningCert`] of the issuing key.
 //! - [`IssuanceRequest`] asks for a certificate in a class, and [`IssuanceResponse`] holds it.
@@ -19,6 +20,7 @@ mod issuance_response;
 mod issued_cert;
 mod key_element;
 mod law;
+mod limit_json;
 mod not_performed_response;
 mod payload_type;
 mod request_resource_limit;
@@ -51,5 +53,6 @@ pub use rpki_base::{KeyIdentifier, PublicKey, Time, ValidationError};
 pub use rpki_cert::{Cert, RpkiCaCsr};
 pub use rpki_common::{OutOfMemory, Text};
 pub use rpki_sets::{AsBlocks, Ipv4Blocks, Ipv6Blocks, ResourceSet};
+pub use rpki_text::JsonError;
 pub use rpki_xml::XmlError;
 pub use signing_cert::SigningCert;

@@ -46,6 +46,17 @@ impl RequestResourceLimit {
         }
     }
 
+    // What is stated of the three kinds.
+    pub(crate) fn from_parts(
+        asn: Option<AsBlocks>,
+        ipv4: Option<Ipv4Blocks>,
+        ipv6: Option<Ipv6Blocks>,
+    ) -> RequestResourceLimit
+        ensures { result ≡ record { asn = asn; ipv4 = ipv4; ipv6 = ipv6 } }
+    {
+        RequestResourceLimit { asn, ipv4, ipv6 }
+    }
+
     /// Whether nothing is limited.
     pub fn is_empty(&self) -> bool
         ensures { IsTrue result ↔ (self.now ≡ no_limit) }

@@ -1,6 +1,6 @@
 //! Names of resource classes.
 
-ghost use Rattle.std.specs.Prelude.{◌≡◌, ◌↔◌, Some, IfOk, IsTrue, nat_eq, refl, codes};
+ghost use Rattle.std.specs.Prelude.{◌≡◌, ◌↔◌, Some, None, IfOk, IsErrOf, IsTrue, nat_eq, refl, codes, string_bytes};
 ghost use Rattle.std.specs.Fmt.{decimal};
 ghost use Rattle.std.specs.Hash as fed;
 ghost use Rattle.std.specs.Ordering.{nat_cmp};
@@ -8,8 +8,12 @@ ghost use Rattle.std.specs.Cmp.{partial_equiv_from_equiv};
 ghost use Rattle.std.specs.Cmp.Lexicographic.{pointwise, slice_cmp, nat_list_eq_equiv, nat_list_cmp_total, texts_ties, texts_po};
 ghost use Rattle.std.specs.Cmp.Rules.{hashing};
 ghost use Rattle.std.proofs.Common.{rules};
+ghost use Rattle.serde_json.specs.Data.{string};
+ghost use Rattle.serde_json.specs.Written.{compact_text};
+ghost use Rattle.rpki_text.specs.Json.{string_of_json};
 
 use rpki_common::{OutOfMemory, Text};
+use rpki_text::{JsonError, read_string, write_string};
 use std::alloc::Global;
 use std::cmp::Ordering;
 use std::fmt;
@@ -58,6 +62,23 @@ impl ResourceClassName {
         Ok(ResourceClassName {
             name: Text::from_str(alloc, text)?,
         })
+    }
+
+    /// The name that the one string of a JSON text is. Malformed exactly where the text is no JSON or no string.
+    pub fn from_json(alloc: Global, text: &str) -> Result<ResourceClassName, JsonError>
+        ensures name { IfOk result (λ c. string_of_json text.now ≡ Some c) }
+        ensures malformed { IsErrOf result JsonError.Malformed → string_of_json text.now ≡ None }
+    {
+        let name = read_string(alloc, text)?;
+        Ok(ResourceClassName::from_str(alloc, name.as_str())?)
+    }
+
+    /// The name as a JSON text, which is one string, and is read as this name.
+    pub fn to_json(&self, alloc: Global) -> Result<String, OutOfMemory>
+        ensures text { IfOk result (λ s. string_bytes s ≡ compact_text (string self.now)) }
+        ensures again { IfOk result (λ s. string_of_json (string_bytes s) ≡ Some self.now) }
+    {
+        write_string(alloc, self.as_str())
     }
 
     /// The text, lent.
