@@ -90,11 +90,11 @@ def is_written(path, words, text):
     return line == text + b"\n" or messages.octet_string(text).hex().encode() in line
 
 
-def python_time(path):
-    """What Python takes, as seconds, or None where it has no xml.etree"""
+def python_time(path, program=PYTHON):
+    """What Python takes for its program, as seconds, or None where it has no xml.etree"""
     times = []
     for _ in range(3):
-        done = subprocess.run([sys.executable, "-c", PYTHON, path], capture_output=True, text=True, check=False)
+        done = subprocess.run([sys.executable, "-c", program, path], capture_output=True, text=True, check=False)
         if done.returncode != 0:
             return None
         times.append(float(done.stdout))

@@ -4,11 +4,11 @@
     tools/run_cases.py               writes the rows of this script, and keeps the sets of cases that the file has
     tools/run_cases.py SET FOLDER    takes a set anew from a folder of cases
 
-The cases of a set are named SET-N. There are five: `ber`, messages with one CRL under one key in all spellings, and commands; `two`,
-messages with one or two CRLs under one to eight keys; `made`, messages that `create` makes; `set`, setup messages; and `pub`, all messages
-of the publication protocol, created and received. A case of a folder is case-N.words (one word a line), case-N.in (the
+The cases of a set are named SET-N. There are six: `ber`, messages with one CRL under one key in all spellings, and commands; `two`,
+messages with one or two CRLs under one to eight keys; `made`, messages that `create` makes; `set`, setup messages; `pub`, all messages
+of the publication protocol, created and received; and `prov`, messages of both protocols. A case of a folder is case-N.words (one word a line), case-N.in (the
 input) and case-N.expected (the status in decimal, a line feed, then what is written); they come from a model that was written
-apart. The rows of this script are made of examples/query-list.hex, of examples/content.hex and of what stands here. No expected
+apart. The model of the other five had no command with the word `provisioning`: its cases of that word, two of `ber`, are left out. The rows of this script are made of examples/query-list.hex, of examples/content.hex and of what stands here. No expected
 answer comes from the program under test.
 
 A line is `NAME STATUS LINE INPUT WORD..`: the status in decimal, what is written and the input in terms of hexadecimal, and the
@@ -39,13 +39,15 @@ import sys
 from certificates import certificate, own_anchor
 from messages import CONTENT_A, NOW, QUERY, built, created, indefinite, key_bits, message, own_crl, overlong, segmented, value
 from publication import mixed, root, shaped
+from requests import options_of, request
+from resource_certificates import certificate_of
 from stored import terms
 
 ROOT = pathlib.Path(__file__).resolve().parent.parent
 CRATE = ROOT / "crates" / "run_cases"
 INPUT = (ROOT / "examples" / "query-list.hex").read_bytes()
 CONTENT_INPUT = (ROOT / "examples" / "content.hex").read_bytes()
-SETS = "ber", "two", "made", "set", "pub"
+SETS = "ber", "two", "made", "set", "pub", "prov"
 
 SETUP_MESSAGES = "child_request", "parent_response", "publisher_request", "repository_response"
 MOMENT = "1700000000"
@@ -54,18 +56,19 @@ OTHER_KEY = KEY[:-2] + "09"
 REPLY = b'<msg xmlns="http://www.hactrn.net/uris/rpki/publication-spec/" version="4" type="reply"><success/></msg>'
 RECEIVED = 0, QUERY
 USAGE, HEX, CMS_DECODE, XML_ERROR = (2, b"Usage"), (3, b"Hex"), (4, b"CmsDecode"), (5, b"XmlError")
+CERT_SYNTAX, REQUEST_SYNTAX = (5, b"CertSyntax"), (5, b"InvalidCsrSyntax")
 
 
 def validation(check):
     return 6, b"Validation %d" % check
 
 
-def receive(*keys, moment=MOMENT):
-    return "receive", "publication", moment, *(keys or (KEY,))
+def receive(*keys, moment=MOMENT, kind="publication"):
+    return "receive", kind, moment, *(keys or (KEY,))
 
 
-def create(moment=MOMENT):
-    return "create", "publication", moment
+def create(moment=MOMENT, kind="publication"):
+    return "create", kind, moment
 
 
 # ---- DER: values with identifiers of one octet
@@ -180,7 +183,10 @@ def word_rows():
     yield "receive-alone", receive()[:1], INPUT, USAGE
     yield "receive-without-moment", receive()[:2], INPUT, USAGE
     yield "receive-without-key", receive()[:3], INPUT, USAGE
-    yield "receive-provisioning", ("receive", "provisioning", MOMENT, KEY), INPUT, USAGE
+    yield "receive-of-another-kind", receive(kind="provision"), INPUT, USAGE
+    yield "receive-of-a-kind-with-a-capital", receive(kind="Provisioning"), INPUT, USAGE
+    yield "receive-provisioning-without-key", receive(kind="provisioning")[:3], INPUT, USAGE
+    yield "receive-publication-as-provisioning", receive(kind="provisioning"), INPUT, XML_ERROR
     yield "content-of-two-words", ("content", "content"), INPUT, USAGE
 
 
@@ -225,8 +231,122 @@ def create_rows():
         yield f"create-at-{moment}", create(moment), QUERY, (8, b"Moment")
     yield "create-of-no-message-at-299", create("299"), b"<msg/>", XML_ERROR
     for label, words in (("alone", create()[:1]), ("without-moment", create()[:2]), ("with-a-key", (*create(), KEY)),
-                         ("provisioning", ("create", "provisioning", MOMENT)), ("at-no-moment", create("01"))):
+                         ("another-kind", create(kind="updown")), ("at-no-moment", create("01"))):
         yield f"create-{label}", words, QUERY, USAGE
+
+
+# ---- messages of the provisioning protocol
+
+
+def updown(kind, *elements, sender=b"Carol", recipient=b"Bob"):
+    """A message as it is written (RFC 6492, 3.2)."""
+    head = b'<message xmlns="http://www.apnic.net/specs/rescerts/up-down/" version="1" sender="%s" recipient="%s" type="%s"' % (
+        sender, recipient, kind)
+    return head + (b">" + b"".join(elements) + b"</message>" if elements else b"/>")
+
+
+CERTIFICATE = base64.b64encode(certificate_of())
+REQUEST = base64.b64encode(request(options_of()))
+NO_VALUE = b"AA=="
+
+
+def issued(text=CERTIFICATE, attributes=b""):
+    return b'<certificate cert_url="rsync://localhost/repo/c.cer"%s>%s</certificate>' % (attributes, text)
+
+
+def issuer(text=CERTIFICATE):
+    return b"<issuer>" + text + b"</issuer>"
+
+
+def resource_class(*elements):
+    return (b'<class class_name="0" cert_url="rsync://localhost/repo/i.cer" resource_set_as="1-10" resource_set_ipv4="10.0.0.0/8" '
+            b'resource_set_ipv6="" resource_set_notafter="2023-11-14T22:13:20Z">' + b"".join(elements) + b"</class>")
+
+
+def asked(text=REQUEST, attributes=b""):
+    return b'<request class_name="0"%s>%s</request>' % (attributes, text)
+
+
+def key(tail=b"/>", ski=b"A" * 27):
+    return b'<key class_name="0" ski="%s"%s' % (ski, tail)
+
+
+def status(number, *behind):
+    return b"<status>%s</status>" % number + b"".join(behind)
+
+
+def updown_texts():
+    """Texts of messages, and what is written of each."""
+    plain = updown(b"list")
+    declared = b"<?xml version='1.0' encoding='us-ascii'?>\n<message version=\"1\"\n" + b" " * 9 + b'sender="Carol" recipient="Bob" type="list"/>'
+    yield "list", plain, plain
+    yield "list-with-a-declaration", declared, plain
+    yield "list-of-another-version", plain.replace(b'version="1"', b'version="2"'), None
+    for form in b"revoke", b"revoke_response":
+        label = form.decode()
+        yield label, updown(form, key()), updown(form, key())
+        yield f"{label}-with-an-end-tag", updown(form, key(b"></key>", b"A" * 27 + b"=")), updown(form, key())
+        yield f"{label}-of-19-octets", updown(form, key(ski=b"A" * 26)), None
+        yield f"{label}-of-two-keys", updown(form, key(), key()), None
+        yield f"{label}-of-nothing", updown(form), None
+    refused = lambda *elements: updown(b"error_response", *elements)
+    yield "refused", refused(status(b"1204")), refused(status(b"1204"))
+    yield "refused-with-a-sign", refused(status(b"+1201")), refused(status(b"1201"))
+    yield "refused-with-two-signs", refused(status(b"++1201")), None
+    yield "refused-below-zero", refused(status(b"-1")), None
+    yield "refused-at-most", refused(status(b"18446744073709551615")), refused(status(b"18446744073709551615"))
+    yield "refused-beyond", refused(status(b"18446744073709551616")), None
+    described = refused(status(b"1101", b"<description>a &lt;b&gt;</description>"))
+    yield "refused-and-described", described, described
+    yield "refused-and-described-twice", refused(status(b"1101", b"<description/>" * 2)), None
+    yield "refused-and-described-by-an-element", refused(status(b"1101", b"<description><a/></description>")), None
+    yield "described-alone", refused(b"<description>a</description>"), None
+
+
+def certified_texts():
+    """The same with certificates and requests, and where there is none of these, the answer."""
+    answer = lambda *classes: updown(b"list_response", *classes)
+    full = resource_class(issued(attributes=b' req_resource_set_as=""'), issued(), issuer())
+    yield "classes-none", answer(), answer()
+    yield "classes", answer(full, full), answer(full, full)
+    yield "classes-issuer-in-front", answer(resource_class(issuer(), issued())), answer(resource_class(issued(), issuer()))
+    yield "classes-of-two-issuers", answer(resource_class(issuer(), issuer())), XML_ERROR
+    yield "classes-without-issuer", answer(resource_class(issued())), XML_ERROR
+    for label, parts in (
+            ("the-issuer-none", (issued(), issuer(NO_VALUE))), ("a-certificate-none", (issued(), issued(NO_VALUE), issuer())),
+            ("a-request-for-one", (issued(REQUEST), issuer())), ("nothing-for-one", (issued(b""), issuer()))):
+        yield f"classes-with-{label}", answer(full, resource_class(*parts)), CERT_SYNTAX
+        yield f"classes-with-{label}-and-no-form", answer(resource_class(*parts), resource_class()), XML_ERROR
+    whole = updown(b"issue_response", resource_class(issued(), issuer()))
+    yield "issued", whole, whole
+    yield "issued-octets-behind", updown(b"issue_response", resource_class(issued(base64.b64encode(certificate_of() + b"\0")), issuer())), whole
+    yield "issued-twice", updown(b"issue_response", resource_class(issued(), issued(), issuer())), XML_ERROR
+    yield "issued-none", updown(b"issue_response", resource_class(issuer())), XML_ERROR
+    yield "issued-no-certificate", updown(b"issue_response", resource_class(issued(NO_VALUE), issuer())), CERT_SYNTAX
+    issue = lambda *elements: updown(b"issue", *elements)
+    limited = issue(asked(attributes=b' req_resource_set_as="1-4,7" req_resource_set_ipv4="" req_resource_set_ipv6="2001:db8::/32"'))
+    yield "asked", issue(asked()), issue(asked())
+    yield "asked-with-limits", limited, limited
+    yield "asked-for-nothing", issue(asked(NO_VALUE)), REQUEST_SYNTAX
+    yield "asked-with-a-certificate", issue(asked(CERTIFICATE)), REQUEST_SYNTAX
+    yield "asked-for-nothing-with-x", issue(asked(NO_VALUE, b' x="1"')), XML_ERROR
+
+
+def updown_rows():
+    """Messages of the provisioning protocol, created and received; and the order of what is refused."""
+    for label, text, written in (*updown_texts(), *certified_texts()):
+        answer = written if isinstance(written, tuple) else (0, written) if written else XML_ERROR
+        made = (0, created(written, NOW).hex().encode()) if answer[0] == 0 else answer
+        yield f"create-updown-{label}", create(kind="provisioning"), text, made
+        yield f"receive-updown-{label}", receive(kind="provisioning"), message(content=text).hex().encode(), answer
+        yield f"receive-updown-{label}-under-another-key", receive(OTHER_KEY, kind="provisioning"), message(content=text).hex().encode(), (
+            validation(6) if answer[0] == 0 else answer)
+    yield "create-updown-of-publication", create(kind="provisioning"), QUERY, XML_ERROR
+    yield "create-publication-of-updown", create(), updown(b"list"), XML_ERROR
+    for moment, text, answer in (
+            ("299", updown(b"list"), (8, b"Moment")), ("299", updown(b"issue", asked(NO_VALUE)), REQUEST_SYNTAX),
+            ("253402300500", updown(b"list_response", resource_class(issuer(NO_VALUE))), CERT_SYNTAX)):
+        yield f"create-updown-at-{moment}-{answer[1].decode()}", create(moment, "provisioning"), text, answer
 
 
 def shape_rows():
@@ -350,6 +470,8 @@ def commands():
     yield "command-of-two-keys", "command", receive(KEY, KEY, moment="1"), f"publication/1/{bits_of(0)}/{bits_of(0)}"
     yield "command-content", "command", ("content",), "content"
     yield "command-create", "command", create("7"), "create/publication/7"
+    yield "command-create-provisioning", "command", create("7", "provisioning"), "create/provisioning/7"
+    yield "command-of-provisioning", "command", receive(moment="1", kind="provisioning"), f"provisioning/1/{bits_of(0)}"
     for kind in SETUP_MESSAGES:
         yield f"command-setup-{kind}", "command", ("setup", kind, "7"), f"setup/{kind}/7"
     yield "no-command", "command", ("contents",), "none"
@@ -425,7 +547,7 @@ def case(name, words, given, status, written):
 
 def rows():
     for row in (*moment_rows(), *key_rows(), *list_rows(), *word_rows(), *input_rows(), *crl_rows(), *create_rows(), *shape_rows(),
-                *setup_rows(), *anchor_rows(), *content_rows(), *built_rows()):
+                *updown_rows(), *setup_rows(), *anchor_rows(), *content_rows(), *built_rows()):
         name, words, given, (status, text) = row
         yield case(name, words, given, status, text + b"\n")
     for name, call, words, answer in (*moments(), *keys(), *commands(), *orders()):
@@ -439,6 +561,8 @@ def rows():
 def cases_of(name, folder):
     for path in sorted(folder.glob("case-*.words")):
         words = path.read_text().removesuffix("\n").split("\n") if path.stat().st_size else []
+        if name != "prov" and words[1:2] == ["provisioning"] and path.with_suffix(".expected").read_bytes() == b"2\nUsage\n":
+            continue
         status, written = path.with_suffix(".expected").read_bytes().split(b"\n", 1)
         number = int(path.stem.removeprefix("case-"))
         yield case(f"{name}-{number}", words, path.with_suffix(".in").read_bytes(), int(status), written)

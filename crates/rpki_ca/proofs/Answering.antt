@@ -149,6 +149,20 @@ sort_of refusals.XmlError = other_than refusals.XmlError (λ k. a k) (λ k. b k)
 
     b : status_of refusals.XmlError ≡ 12 → ⊥
     b k = cc
+sort_of refusals.CertSyntax = other_than refusals.CertSyntax (λ k. a k) (λ k. b k)
+  where
+    a : status_of refusals.CertSyntax ≡ 10 → ⊥
+    a k = cc
+
+    b : status_of refusals.CertSyntax ≡ 12 → ⊥
+    b k = cc
+sort_of refusals.InvalidCsrSyntax = other_than refusals.InvalidCsrSyntax (λ k. a k) (λ k. b k)
+  where
+    a : status_of refusals.InvalidCsrSyntax ≡ 10 → ⊥
+    a k = cc
+
+    b : status_of refusals.InvalidCsrSyntax ≡ 12 → ⊥
+    b k = cc
 sort_of (refusals.Validation n) = other_than (refusals.Validation n) (λ k. a k) (λ k. b k)
   where
     a : status_of (refusals.Validation n) ≡ 10 → ⊥
@@ -221,6 +235,8 @@ by_shown scheme words source signer refusals.Usage f m s = s
 by_shown scheme words source signer refusals.Hex f m s = s
 by_shown scheme words source signer refusals.CmsDecode f m s = s
 by_shown scheme words source signer refusals.XmlError f m s = s
+by_shown scheme words source signer refusals.CertSyntax f m s = s
+by_shown scheme words source signer refusals.InvalidCsrSyntax f m s = s
 by_shown scheme words source signer refusals.InvalidTaCertEncoding f m s = s
 by_shown scheme words source signer refusals.InvalidTaCert f m s = s
 by_shown scheme words source signer (refusals.Validation n) f m s = s
@@ -239,6 +255,8 @@ to_shown scheme words source signer refusals.Usage f m s = s
 to_shown scheme words source signer refusals.Hex f m s = s
 to_shown scheme words source signer refusals.CmsDecode f m s = s
 to_shown scheme words source signer refusals.XmlError f m s = s
+to_shown scheme words source signer refusals.CertSyntax f m s = s
+to_shown scheme words source signer refusals.InvalidCsrSyntax f m s = s
 to_shown scheme words source signer refusals.InvalidTaCertEncoding f m s = s
 to_shown scheme words source signer refusals.InvalidTaCert f m s = s
 to_shown scheme words source signer (refusals.Validation n) f m s = s

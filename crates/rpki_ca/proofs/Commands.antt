@@ -9,7 +9,7 @@ use Rattle.std.proofs.lemmas.Slice.Eq.{bytes_eq-Decides}
 use Rattle.rpki_common.specs.Chaining.{◌>>=◌}
 use Rattle.rpki_base.specs.PublicKey.{KeyFields}
 use Rattle.rpki_ca.specs.declared.receiving.Kind.{Kind}
-use Rattle.rpki_ca.specs.declared.receiving.Kind.TheVariants.{Publication}
+use Rattle.rpki_ca.specs.declared.receiving.Kind.TheVariants.{Publication, Provisioning}
 use Rattle.rpki_ca.specs.declared.command.Verb.{Verb}
 use Rattle.rpki_ca.specs.declared.command.Verb.TheVariants as verbs
 use Rattle.rpki_ca.specs.declared.command.Command.{Command}
@@ -50,13 +50,30 @@ none_within words i f l = let e : false ≡ true = f l in cc
 
 same_kind : (kind : Kind) → kind_of (kind_word kind) ≡ Some kind
 same_kind Publication = refl
+same_kind Provisioning = refl
 
-named_kind : (word : List ℕ) (kind : Kind) → Some kind ≡ kind_of word → word ≡ kind_word kind
-named_kind word Publication e = cases (bytes_eq word (codes "publication")) refl e
+abbrev some_kind : Kind → Option Kind
+some_kind k = Some k
+
+named_kind : (word : List ℕ) (kind : Kind) → some_kind kind ≡ kind_of word → word ≡ kind_word kind
+named_kind word kind e = first (bytes_eq word (kind_word Publication)) refl e
   where
-    cases : (b : Bool) → bytes_eq word (codes "publication") ≡ b → Some Publication ≡ (if b then Some Publication else None) → word ≡ codes "publication"
-    cases true t e = (bytes_eq-Decides word (codes "publication")).0 t
-    cases false t e = cc
+    second_on : Option Kind
+    second_on = if bytes_eq word (kind_word Provisioning) then Some Provisioning else None
+
+    second : (b : Bool) → bytes_eq word (kind_word Provisioning) ≡ b → some_kind kind ≡ (if b then Some Provisioning else None) → word ≡ kind_word kind
+    second true t e = let same : Provisioning ≡ kind = cc in (bytes_eq-Decides word (kind_word Provisioning)).0 t ∙ ap kind_word same
+    second false t e = cc
+
+    first : (b : Bool) → bytes_eq word (kind_word Publication) ≡ b → some_kind kind ≡ (if b then Some Publication else second_on) → word ≡ kind_word kind
+    first true t e = let same : Publication ≡ kind = cc in (bytes_eq-Decides word (kind_word Publication)).0 t ∙ ap kind_word same
+    first false t e = second (bytes_eq word (kind_word Provisioning)) refl e
+
+one_kind : (a b : Kind) → kind_word a ≡ kind_word b → a ≡ b
+one_kind a b word = same (sym (same_kind a) ∙ ap kind_of word ∙ same_kind b)
+  where
+    same : some_kind a ≡ some_kind b → a ≡ b
+    same e = cc
 
 -- ---- the first word
 
@@ -413,9 +430,6 @@ one_moment word (pos m) (pos n) p q =
 one_moment word (pos m) (negsuc n) p q = absurd q
 one_moment word (negsuc m) b p q = absurd p
 
-one_kind : (a b : Kind) → a ≡ b
-one_kind Publication Publication = refl
-
 same_at : (i : ℕ) (a b : List ℕ) (xs ys : List (List ℕ)) → xs ≡ ys → slice_get xs i ≡ Some a → slice_get ys i ≡ Some b → a ≡ b
 same_at i a b xs ys e p q = same (sym p ∙ ap (λ (ws : List (List ℕ)). slice_get ws i) e ∙ q)
   where
@@ -429,14 +443,16 @@ one_receive words a b s t k l p q =
     let behind : p.key_words ≡ q.key_words = ap (drop 3) e in
     let st : s ≡ t = one_moment q.moment_word s t (subst (λ (w : List ℕ). IsMoment w s) moment p.moment) q.moment in
     let kl : k ≡ l = one_list q.key_words k l (subst (λ (ws : List (List ℕ)). AreKeys ws k) behind p.spell) q.spell in
-    let ab : a ≡ b = one_kind a b in
+    let word : kind_word a ≡ kind_word b = same_at 1 (kind_word a) (kind_word b) _ _ e refl refl in
+    let ab : a ≡ b = one_kind a b word in
     rw (ab, st, kl) refl
 
 one_create : (words : List (List ℕ)) (a b : Kind) (s t : ℤ) → IsCreate words a s → IsCreate words b t → Create a s ≡ Create b t
 one_create words a b s t p q =
     let moment : p.moment_word ≡ q.moment_word = same_at 2 p.moment_word q.moment_word _ _ (sym p.are ∙ q.are) refl refl in
     let st : s ≡ t = one_moment q.moment_word s t (subst (λ (w : List ℕ). IsMoment w s) moment p.moment) q.moment in
-    let ab : a ≡ b = one_kind a b in
+    let word : kind_word a ≡ kind_word b = same_at 1 (kind_word a) (kind_word b) _ _ (sym p.are ∙ q.are) refl refl in
+    let ab : a ≡ b = one_kind a b word in
     rw (ab, st) refl
 
 one_setup : (words : List (List ℕ)) (a b : SetupKind) (s t : ℤ) → IsSetup words a s → IsSetup words b t → Setup a s ≡ Setup b t

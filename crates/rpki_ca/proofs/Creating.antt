@@ -26,6 +26,10 @@ use Rattle.rpki_sigmsg.specs.Spelling.{rewritten, CanBeSpelled}
 use Rattle.rpki_publication.specs.declared.message.Message.{Message}
 use Rattle.rpki_publication.specs.Message as publication
 use Rattle.rpki_publication.proofs.Plain.{text_again}
+use Rattle.rpki_provisioning.specs.Message as provisioning
+use Rattle.rpki_provisioning.specs.Shape as shape
+use Rattle.rpki_provisioning.specs.Writable as writable
+use Rattle.rpki_provisioning.proofs.Plain as plain
 use Rattle.rpki_ca.specs.declared.command.Command.{Command}
 use Rattle.rpki_ca.specs.declared.command.Command.TheVariants.{Create}
 use Rattle.rpki_ca.specs.declared.receiving.Kind.{Kind}
@@ -35,12 +39,13 @@ use Rattle.rpki_ca.specs.declared.receiving.Received.TheVariants as received
 use Rattle.rpki_ca.specs.declared.refusals.Refusal.{Refusal}
 use Rattle.rpki_ca.specs.declared.refusals.Refusal.TheVariants as refusals
 use Rattle.rpki_ca.specs.Acceptance.{ReadsAs, protocol_of, text_of, normal_form}
-use Rattle.rpki_ca.specs.Creation.{IsReceivable, AreCreated, IsSigned, IsSignersAnswer, IsCreateAnswer, Creates, CanCreate, refusal_of_create}
+use Rattle.rpki_ca.specs.Creation.{RefusesInput, IsCreateRefusal, IsReceivable, AreCreated, IsSigned, IsSignersAnswer, IsCreateAnswer, Creates, CanCreate, refusal_of_create}
 use Rattle.rpki_ca.specs.Answer.{AnswersSigned, IsFromSigner, IsGiven}
 use Rattle.rpki_ca.specs.Command.{IsCreate}
 use Rattle.rpki_ca.specs.Seen.{Seen, SignerSeen}
 use Rattle.rpki_ca.proofs.Commands.{is_create, one_command}
 use Rattle.rpki_ca.proofs.Laws.{CreateView, create_view, one_reading}
+use Rattle.rpki_ca.proofs.Reasons.{Reason, reason, no_reason}
 
 -- ---- what is made of a message
 
@@ -71,11 +76,38 @@ publication_created scheme m when signer signed octets created are spelled again
       receivable = receivable scheme (received.Publication m) when signer signed octets are spelled again believed (subst (λ o. publication.Reads o (publication.normal_form m)) (sym content) (text_again m writable));
     }
 
+-- one of the provisioning protocol, which is read again as it is
+pub provisioning_created : {I : Type 0} (scheme : Relation) (m : shape.MessageFields) (when : ℤ) (signer : SignerSeen I) (signed : MessageFields) (octets : List ℕ)
+    → IsCreated scheme (provisioning.text_of m) when signer.id signer.before signer.after signed → octets ≡ rewritten signed → CanBeSpelled signed
+    → ((mode : Mode) (rest : List ℕ) → CanBeSpelled signed → BeginsAs (signed_message mode) mode (rewritten signed ++ rest) signed)
+    → ((key : KeyFields) → Holds signer.before.keyring signer.id key → (moment : ℤ) → (window when).not_before ≤ℤ moment → moment ≤ℤ (window when).not_after → IsBelieved scheme signed key moment)
+    → writable.IsWritable m → AreCreated scheme kinds.Provisioning (received.Provisioning m) when signer octets
+provisioning_created scheme m when signer signed octets created are spelled again believed is_writable =
+    let content : signed.content ≡ provisioning.text_of m = ap (λ (s : MessageFields). s.content) created.made.is in
+    record {
+      signed = signed;
+      created = created;
+      are = are;
+      receivable = receivable scheme (received.Provisioning m) when signer signed octets are spelled again believed (subst (λ o. provisioning.Reads o m) (sym content) (plain.text_again m is_writable));
+    }
+
 -- ---- each refusal by its cause
+
+-- input that is no message
+pub input_refused : {I : Type 0} (scheme : Relation) (kind : Kind) (input : List ℕ) (when : ℤ) (signer : SignerSeen I) (e : Refusal) → RefusesInput kind input e → IsCreateAnswer scheme kind input when signer (Err e)
+input_refused scheme kind input when signer e r = inl (by_reason (reason kind input e r))
+  where
+    by_reason : Reason kind input e → IsCreateRefusal kind input when (Err e)
+    by_reason (inl p) = subst (λ (x : Refusal). IsCreateRefusal kind input when (Err x)) (sym p.0) p.1
+    by_reason (inr (inl p)) = subst (λ (x : Refusal). IsCreateRefusal kind input when (Err x)) (sym p.0) p.1
+    by_reason (inr (inr p)) = subst (λ (x : Refusal). IsCreateRefusal kind input when (Err x)) (sym p.0) p.1
 
 -- a message is of its own protocol
 pub of_protocol : (kind : Kind) (input : List ℕ) (m : Received) → ReadsAs kind input m → kind ≡ protocol_of m
 of_protocol kinds.Publication input (received.Publication m) r = refl
+of_protocol kinds.Publication input (received.Provisioning m) r = absurd r
+of_protocol kinds.Provisioning input (received.Provisioning m) r = refl
+of_protocol kinds.Provisioning input (received.Publication m) r = absurd r
 
 -- what is there is no error
 pub not_error : {T E : Type 0} (r : Result T E) (x : T) (e : E) → r ≡ Ok x → IsErrOf r e → ⊥
@@ -186,7 +218,7 @@ creates scheme fit kind when input text signer sink s w =
 -- ---- nothing else, where it can be created
 
 no_pure : {I : Type 0} (kind : Kind) (when : ℤ) (input : List ℕ) (signer : SignerSeen I) (a : Result (List ℕ) Refusal) → CanCreate kind when input signer → CreateView kind input when a → ⊥
-no_pure kind when input signer a can (inl p) = p.1 can.message can.reads
+no_pure kind when input signer a can (inl p) = no_reason kind input can.message p.0 can.reads (reason kind input p.0 p.2)
 no_pure kind when input signer a can (inr (inl p)) = p.1.none can.window_is
 no_pure kind when input signer a can (inr (inr p)) =
     never (length (text_of can.message)) (subst (λ (m : Received). 2 ^ 31 < length (text_of m)) (one_reading kind input p.1.message can.message p.1.reads can.reads) p.1.long) can.fits
@@ -206,6 +238,8 @@ no_signed scheme kind when input signer message refusals.Usage can s = s
 no_signed scheme kind when input signer message refusals.Hex can s = s
 no_signed scheme kind when input signer message refusals.CmsDecode can s = s
 no_signed scheme kind when input signer message refusals.XmlError can s = s
+no_signed scheme kind when input signer message refusals.CertSyntax can s = s
+no_signed scheme kind when input signer message refusals.InvalidCsrSyntax can s = s
 no_signed scheme kind when input signer message refusals.InvalidTaCertEncoding can s = s
 no_signed scheme kind when input signer message refusals.InvalidTaCert can s = s
 no_signed scheme kind when input signer message (refusals.Validation n) can s = s

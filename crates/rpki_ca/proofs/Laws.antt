@@ -15,8 +15,9 @@ use Rattle.rpki_sigmsg.specs.Message.{MessageFields, signed_message}
 use Rattle.rpki_sigmsg.specs.Spelling.{rewritten, CanBeSpelled}
 use Rattle.rpki_sigmsg.proofs.Again.{begins_loosely}
 use Rattle.rpki_sigmsg.proofs.HeldMessages.{message_held}
-use Rattle.rpki_sigmsg.specs.Beginning.{BeginsSigned}
-use Rattle.rpki_publication.specs.Message.{message_of}
+use Rattle.rpki_sigmsg.specs.Beginning.{BeginsSigned, HoldsContent}
+use Rattle.rpki_publication.specs.Message as publication
+use Rattle.rpki_provisioning.specs.Message as provisioning
 use Rattle.rpki_ca.specs.declared.command.Command.{Command}
 use Rattle.rpki_ca.specs.declared.command.Command.TheVariants.{Content, Receive, Create, Setup}
 use Rattle.rpki_ca.specs.declared.receiving.Kind.{Kind}
@@ -30,7 +31,7 @@ use Rattle.rpki_ca.specs.declared.refusals.Refusal.TheVariants as refusals
 use Rattle.rpki_ca.specs.Refusal.{status_of}
 use Rattle.rpki_ca.specs.Answer.{IsContent, FailsDigest, IsContentAnswer, FailsAt, IsTextAccepted, IsReceiveAnswer, octets_in, AnswersSpelled, AnswersSigned, IsAnswer, IsFromSigner}
 use Rattle.rpki_ca.specs.Command.{IsCommand, IsNoCommand}
-use Rattle.rpki_ca.specs.Creation.{IsNoMessage, HasNoWindow, HasLongText, IsCreateRefusal, IsSignersAnswer}
+use Rattle.rpki_ca.specs.Creation.{RefusesInput, HasNoWindow, HasLongText, IsCreateRefusal, IsSignersAnswer}
 use Rattle.rpki_ca.specs.Seen.{SignerSeen}
 use Rattle.rpki_ca.specs.Setup.{ReadsSetup, certificate_octets, setup_text, IsAnchored, RefusesAnchor, IsSetUp, IsNoSetup, HoldsNoAnchor, IsSetupAnswer}
 use Rattle.rpki_ca.specs.declared.setup_message.SetupKind.{SetupKind}
@@ -47,7 +48,8 @@ use Rattle.rpki_setup.specs.PublisherRequest.{publisher_request_in}
 use Rattle.rpki_setup.specs.RepositoryResponse.{repository_response_in}
 use Rattle.rpki_message.proofs.Read.{one_message}
 use Rattle.rpki_base.specs.Scheme.{Relation}
-use Rattle.rpki_ca.specs.Acceptance.{ReadsAs, Accepted, HoldsNoSigned, HoldsNoMessage, IsReceivedUnder, text_of}
+use Rattle.rpki_ca.specs.Acceptance.{ReadsAs, Accepted, HoldsNoSigned, IsReceivedUnder, text_of}
+use Rattle.rpki_ca.proofs.Reasons.{reason, no_reason, one_reason}
 
 -- ---- what octets begin with, and what content reads as, is one
 
@@ -61,7 +63,12 @@ one_signed octets m n p q = same (sym (decoded_ok (signed_message Ber) Ber octet
     same e = cc
 
 pub one_reading : (kind : Kind) (content : List ℕ) (m n : Received) → ReadsAs kind content m → ReadsAs kind content n → m ≡ n
-one_reading kinds.Publication content (received.Publication m) (received.Publication n) p q = ap received.Publication (one_message message_of content m n p q)
+one_reading kinds.Publication content (received.Publication m) (received.Publication n) p q = ap received.Publication (one_message publication.message_of content m n p q)
+one_reading kinds.Publication content (received.Publication m) (received.Provisioning n) p q = absurd q
+one_reading kinds.Publication content (received.Provisioning m) n p q = absurd p
+one_reading kinds.Provisioning content (received.Provisioning m) (received.Provisioning n) p q = ap received.Provisioning (one_message provisioning.message_of content m n p q)
+one_reading kinds.Provisioning content (received.Provisioning m) (received.Publication n) p q = absurd q
+one_reading kinds.Provisioning content (received.Publication m) n p q = absurd p
 
 -- ---- what is believed under a key is not unbelieved
 
@@ -109,13 +116,15 @@ abbrev View : (scheme : Relation) (kind : Kind) (octets : List ℕ) (keys : List
 View scheme kind octets keys when a =
     ((text : List ℕ) × (a ≡ Ok text) × IsTextAccepted scheme kind octets keys when text)
     ⊎ (((a ≡ Err refusals.CmsDecode) × HoldsNoSigned octets)
-    ⊎ (((a ≡ Err refusals.XmlError) × HoldsNoMessage kind octets)
+    ⊎ (((e : Refusal) × (a ≡ Err e) × HoldsContent (λ o. RefusesInput kind o e) octets)
     ⊎ ((n : ℕ) × (a ≡ Err (refusals.Validation n)) × FailsAt scheme kind octets keys when n)))
 
 view : (scheme : Relation) (kind : Kind) (octets : List ℕ) (keys : List KeyFields) (when : ℤ) (a : Result (List ℕ) Refusal) → IsReceiveAnswer scheme kind octets keys when a → View scheme kind octets keys when a
 view scheme kind octets keys when (Ok text) r = inl (text, refl, r)
 view scheme kind octets keys when (Err refusals.CmsDecode) r = inr (inl (refl, r))
-view scheme kind octets keys when (Err refusals.XmlError) r = inr (inr (inl (refl, r)))
+view scheme kind octets keys when (Err refusals.XmlError) r = inr (inr (inl (refusals.XmlError, refl, r)))
+view scheme kind octets keys when (Err refusals.CertSyntax) r = inr (inr (inl (refusals.CertSyntax, refl, r)))
+view scheme kind octets keys when (Err refusals.InvalidCsrSyntax) r = inr (inr (inl (refusals.InvalidCsrSyntax, refl, r)))
 view scheme kind octets keys when (Err (refusals.Validation n)) r = inr (inr (inr (n, refl, r)))
 view scheme kind octets keys when (Err refusals.Usage) r = absurd r
 view scheme kind octets keys when (Err refusals.Hex) r = absurd r
@@ -136,8 +145,14 @@ one_text scheme kind octets keys when s t p q =
     let message = one_reading kind q.accepted.signed.content p.message q.message (subst (λ (m : MessageFields). ReadsAs kind m.content p.message) signed p.accepted.reads) q.accepted.reads in
     p.written ∙ ap text_of message ∙ sym q.written
 
-no_reading : (kind : Kind) (octets : List ℕ) (signed : MessageFields) (m : Received) → BeginsSigned octets signed → ReadsAs kind signed.content m → HoldsNoMessage kind octets → ⊥
-no_reading kind octets signed m b r h = h.none m (subst (λ (s : MessageFields). ReadsAs kind s.content m) (one_signed octets signed h.signed b h.begins) r)
+no_reading : (kind : Kind) (octets : List ℕ) (signed : MessageFields) (m : Received) (e : Refusal) → BeginsSigned octets signed → ReadsAs kind signed.content m → HoldsContent (λ o. RefusesInput kind o e) octets → ⊥
+no_reading kind octets signed m e b r h =
+    no_reason kind h.signed.content m e (subst (λ (s : MessageFields). ReadsAs kind s.content m) (one_signed octets signed h.signed b h.begins) r) (reason kind h.signed.content e h.content)
+
+one_content_reason : (kind : Kind) (octets : List ℕ) (d e : Refusal) → HoldsContent (λ o. RefusesInput kind o d) octets → HoldsContent (λ o. RefusesInput kind o e) octets → d ≡ e
+one_content_reason kind octets d e p q =
+    let same = one_signed octets p.signed q.signed p.begins q.begins in
+    one_reason kind q.signed.content d e (reason kind q.signed.content d (subst (λ (s : MessageFields). RefusesInput kind s.content d) same p.content)) (reason kind q.signed.content e q.content)
 
 accepted_fails : (scheme : Relation) (kind : Kind) (octets : List ℕ) (keys : List KeyFields) (when : ℤ) (text : List ℕ) (n : ℕ) → IsTextAccepted scheme kind octets keys when text → FailsAt scheme kind octets keys when n → ⊥
 accepted_fails scheme kind octets keys when text n a f =
@@ -152,19 +167,19 @@ one_number scheme kind octets keys when n m f g =
 one_view : (scheme : Relation) (kind : Kind) (octets : List ℕ) (keys : List KeyFields) (when : ℤ) (a b : Result (List ℕ) Refusal) → View scheme kind octets keys when a → View scheme kind octets keys when b → a ≡ b
 one_view scheme kind octets keys when a b (inl p) (inl q) = p.1 ∙ ap Ok (one_text scheme kind octets keys when p.0 q.0 p.2 q.2) ∙ sym q.1
 one_view scheme kind octets keys when a b (inl p) (inr (inl q)) = absurd (q.1 p.2.accepted.signed p.2.accepted.begins)
-one_view scheme kind octets keys when a b (inl p) (inr (inr (inl q))) = absurd (no_reading kind octets p.2.accepted.signed p.2.message p.2.accepted.begins p.2.accepted.reads q.1)
+one_view scheme kind octets keys when a b (inl p) (inr (inr (inl q))) = absurd (no_reading kind octets p.2.accepted.signed p.2.message q.0 p.2.accepted.begins p.2.accepted.reads q.2)
 one_view scheme kind octets keys when a b (inl p) (inr (inr (inr q))) = absurd (accepted_fails scheme kind octets keys when p.0 q.0 p.2 q.2)
 one_view scheme kind octets keys when a b (inr (inl p)) (inl q) = absurd (p.1 q.2.accepted.signed q.2.accepted.begins)
 one_view scheme kind octets keys when a b (inr (inl p)) (inr (inl q)) = p.0 ∙ sym q.0
-one_view scheme kind octets keys when a b (inr (inl p)) (inr (inr (inl q))) = absurd (p.1 q.1.signed q.1.begins)
+one_view scheme kind octets keys when a b (inr (inl p)) (inr (inr (inl q))) = absurd (p.1 q.2.signed q.2.begins)
 one_view scheme kind octets keys when a b (inr (inl p)) (inr (inr (inr q))) = absurd (p.1 q.2.fails.signed q.2.fails.begins)
-one_view scheme kind octets keys when a b (inr (inr (inl p))) (inl q) = absurd (no_reading kind octets q.2.accepted.signed q.2.message q.2.accepted.begins q.2.accepted.reads p.1)
-one_view scheme kind octets keys when a b (inr (inr (inl p))) (inr (inl q)) = absurd (q.1 p.1.signed p.1.begins)
-one_view scheme kind octets keys when a b (inr (inr (inl p))) (inr (inr (inl q))) = p.0 ∙ sym q.0
-one_view scheme kind octets keys when a b (inr (inr (inl p))) (inr (inr (inr q))) = absurd (no_reading kind octets q.2.fails.signed q.2.fails.message q.2.fails.begins q.2.fails.reads p.1)
+one_view scheme kind octets keys when a b (inr (inr (inl p))) (inl q) = absurd (no_reading kind octets q.2.accepted.signed q.2.message p.0 q.2.accepted.begins q.2.accepted.reads p.2)
+one_view scheme kind octets keys when a b (inr (inr (inl p))) (inr (inl q)) = absurd (q.1 p.2.signed p.2.begins)
+one_view scheme kind octets keys when a b (inr (inr (inl p))) (inr (inr (inl q))) = p.1 ∙ ap (λ (e : Refusal). Err e) (one_content_reason kind octets p.0 q.0 p.2 q.2) ∙ sym q.1
+one_view scheme kind octets keys when a b (inr (inr (inl p))) (inr (inr (inr q))) = absurd (no_reading kind octets q.2.fails.signed q.2.fails.message p.0 q.2.fails.begins q.2.fails.reads p.2)
 one_view scheme kind octets keys when a b (inr (inr (inr p))) (inl q) = absurd (accepted_fails scheme kind octets keys when q.0 p.0 q.2 p.2)
 one_view scheme kind octets keys when a b (inr (inr (inr p))) (inr (inl q)) = absurd (q.1 p.2.fails.signed p.2.fails.begins)
-one_view scheme kind octets keys when a b (inr (inr (inr p))) (inr (inr (inl q))) = absurd (no_reading kind octets p.2.fails.signed p.2.fails.message p.2.fails.begins p.2.fails.reads q.1)
+one_view scheme kind octets keys when a b (inr (inr (inr p))) (inr (inr (inl q))) = absurd (no_reading kind octets p.2.fails.signed p.2.fails.message q.0 p.2.fails.begins p.2.fails.reads q.2)
 one_view scheme kind octets keys when a b (inr (inr (inr p))) (inr (inr (inr q))) = p.1 ∙ ap (λ (n : ℕ). Err (refusals.Validation n)) (one_number scheme kind octets keys when p.0 q.0 p.2 q.2) ∙ sym q.1
 
 -- what an answer of `content` is
@@ -179,6 +194,8 @@ content_view octets (Ok text) r = inl (text, refl, r)
 content_view octets (Err refusals.CmsDecode) r = inr (inl (refl, r))
 content_view octets (Err (refusals.Validation n)) r = inr (inr (ap (λ (m : ℕ). Err (refusals.Validation m)) r.0, r.1))
 content_view octets (Err refusals.XmlError) r = absurd r
+content_view octets (Err refusals.CertSyntax) r = absurd r
+content_view octets (Err refusals.InvalidCsrSyntax) r = absurd r
 content_view octets (Err refusals.Usage) r = absurd r
 content_view octets (Err refusals.Hex) r = absurd r
 content_view octets (Err refusals.InvalidTaCertEncoding) r = absurd r
@@ -210,13 +227,15 @@ one_content octets a b (inr (inr p)) (inr (inr q)) = p.0 ∙ sym q.0
 -- what a refusal of `create` is, where no signer is asked
 abbrev pub CreateView : Kind → List ℕ → ℤ → Result (List ℕ) Refusal → Type 0
 CreateView kind input when a =
-    ((a ≡ Err refusals.XmlError) × IsNoMessage kind input)
+    ((e : Refusal) × (a ≡ Err e) × RefusesInput kind input e)
     ⊎ (((a ≡ Err refusals.Moment) × HasNoWindow kind input when)
     ⊎ ((a ≡ Err refusals.TooLong) × HasLongText kind input when))
 
 pub create_view : (kind : Kind) (input : List ℕ) (when : ℤ) (a : Result (List ℕ) Refusal) → IsCreateRefusal kind input when a → CreateView kind input when a
 create_view kind input when (Ok text) r = absurd r
-create_view kind input when (Err refusals.XmlError) r = inl (refl, r)
+create_view kind input when (Err refusals.XmlError) r = inl (refusals.XmlError, refl, r)
+create_view kind input when (Err refusals.CertSyntax) r = inl (refusals.CertSyntax, refl, r)
+create_view kind input when (Err refusals.InvalidCsrSyntax) r = inl (refusals.InvalidCsrSyntax, refl, r)
 create_view kind input when (Err refusals.Moment) r = inr (inl (refl, r))
 create_view kind input when (Err refusals.TooLong) r = inr (inr (refl, r))
 create_view kind input when (Err refusals.Usage) r = absurd r
@@ -233,19 +252,19 @@ create_view kind input when (Err refusals.ReadFault) r = absurd r
 create_view kind input when (Err refusals.OutOfMemory) r = absurd r
 
 one_refusal : (kind : Kind) (input : List ℕ) (when : ℤ) (a b : Result (List ℕ) Refusal) → CreateView kind input when a → CreateView kind input when b → a ≡ b
-one_refusal kind input when a b (inl p) (inl q) = p.0 ∙ sym q.0
-one_refusal kind input when a b (inl p) (inr (inl q)) = absurd (p.1 q.1.message q.1.reads)
-one_refusal kind input when a b (inl p) (inr (inr q)) = absurd (p.1 q.1.message q.1.reads)
-one_refusal kind input when a b (inr (inl p)) (inl q) = absurd (q.1 p.1.message p.1.reads)
+one_refusal kind input when a b (inl p) (inl q) = p.1 ∙ ap (λ (e : Refusal). Err e) (one_reason kind input p.0 q.0 (reason kind input p.0 p.2) (reason kind input q.0 q.2)) ∙ sym q.1
+one_refusal kind input when a b (inl p) (inr (inl q)) = absurd (no_reason kind input q.1.message p.0 q.1.reads (reason kind input p.0 p.2))
+one_refusal kind input when a b (inl p) (inr (inr q)) = absurd (no_reason kind input q.1.message p.0 q.1.reads (reason kind input p.0 p.2))
+one_refusal kind input when a b (inr (inl p)) (inl q) = absurd (no_reason kind input p.1.message q.0 p.1.reads (reason kind input q.0 q.2))
 one_refusal kind input when a b (inr (inl p)) (inr (inl q)) = p.0 ∙ sym q.0
 one_refusal kind input when a b (inr (inl p)) (inr (inr q)) = absurd (p.1.none q.1.window_is)
-one_refusal kind input when a b (inr (inr p)) (inl q) = absurd (q.1 p.1.message p.1.reads)
+one_refusal kind input when a b (inr (inr p)) (inl q) = absurd (no_reason kind input p.1.message q.0 p.1.reads (reason kind input q.0 q.2))
 one_refusal kind input when a b (inr (inr p)) (inr (inl q)) = absurd (q.1.none p.1.window_is)
 one_refusal kind input when a b (inr (inr p)) (inr (inr q)) = p.0 ∙ sym q.0
 
 -- and where one is asked, there is none of these
 no_refusal : {I : Type 0} (scheme : Relation) (kind : Kind) (input : List ℕ) (when : ℤ) (signer : SignerSeen I) (a b : Result (List ℕ) Refusal) → CreateView kind input when a → IsSignersAnswer scheme kind input when signer b → ⊥
-no_refusal scheme kind input when signer a b (inl p) s = p.1 s.message s.reads
+no_refusal scheme kind input when signer a b (inl p) s = no_reason kind input s.message p.0 s.reads (reason kind input p.0 p.2)
 no_refusal scheme kind input when signer a b (inr (inl p)) s = p.1.none s.window_is
 no_refusal scheme kind input when signer a b (inr (inr p)) s =
     never (length (text_of s.message)) (subst (λ (m : Received). 2 ^ 31 < length (text_of m)) (one_reading kind input p.1.message s.message p.1.reads s.reads) p.1.long) s.fits
@@ -267,6 +286,8 @@ setup_view scheme kind input when (Err refusals.InvalidTaCertEncoding) r = inr (
 setup_view scheme kind input when (Err refusals.InvalidTaCert) r = inr (inr (refusals.InvalidTaCert, refl, r))
 setup_view scheme kind input when (Err refusals.Usage) r = inr (inr (refusals.Usage, refl, r))
 setup_view scheme kind input when (Err refusals.Hex) r = inr (inr (refusals.Hex, refl, r))
+setup_view scheme kind input when (Err refusals.CertSyntax) r = inr (inr (refusals.CertSyntax, refl, r))
+setup_view scheme kind input when (Err refusals.InvalidCsrSyntax) r = inr (inr (refusals.InvalidCsrSyntax, refl, r))
 setup_view scheme kind input when (Err refusals.CmsDecode) r = inr (inr (refusals.CmsDecode, refl, r))
 setup_view scheme kind input when (Err (refusals.Validation n)) r = inr (inr ((refusals.Validation n), refl, r))
 setup_view scheme kind input when (Err refusals.KeyNotFound) r = inr (inr (refusals.KeyNotFound, refl, r))
@@ -323,6 +344,8 @@ anchored_alone scheme octets when refusals.InvalidTaCertEncoding p q = q p.certi
 anchored_alone scheme octets when refusals.InvalidTaCert p q =
     q.unbelieved (subst (λ (c : CertificateFields). IsTaBelieved scheme c when) (one_certificate octets p.certificate q.certificate p.believed.begins q.begins) p.believed.believed)
 anchored_alone scheme octets when refusals.XmlError p q = q
+anchored_alone scheme octets when refusals.CertSyntax p q = q
+anchored_alone scheme octets when refusals.InvalidCsrSyntax p q = q
 anchored_alone scheme octets when refusals.Usage p q = q
 anchored_alone scheme octets when refusals.Hex p q = q
 anchored_alone scheme octets when refusals.CmsDecode p q = q
@@ -348,6 +371,8 @@ anchor_view scheme octets when refusals.InvalidTaCert q = inr (refl, q)
 anchor_view scheme octets when refusals.XmlError q = absurd q
 anchor_view scheme octets when refusals.Usage q = absurd q
 anchor_view scheme octets when refusals.Hex q = absurd q
+anchor_view scheme octets when refusals.CertSyntax q = absurd q
+anchor_view scheme octets when refusals.InvalidCsrSyntax q = absurd q
 anchor_view scheme octets when refusals.CmsDecode q = absurd q
 anchor_view scheme octets when (refusals.Validation n) q = absurd q
 anchor_view scheme octets when refusals.KeyNotFound q = absurd q
@@ -408,6 +433,8 @@ number_of : Refusal → ℕ
 number_of (refusals.Validation n) = n
 number_of refusals.InvalidTaCertEncoding = 1
 number_of refusals.InvalidTaCert = 2
+number_of refusals.CertSyntax = 3
+number_of refusals.InvalidCsrSyntax = 4
 number_of refusals.IncompatibleKey = 1
 number_of refusals.KeyReused = 2
 number_of refusals.Signer = 3
@@ -417,7 +444,9 @@ with_five : ℕ → Refusal
 with_five number =
     if number == 0 then refusals.XmlError
     else if number == 1 then refusals.InvalidTaCertEncoding
-    else refusals.InvalidTaCert
+    else if number == 2 then refusals.InvalidTaCert
+    else if number == 3 then refusals.CertSyntax
+    else refusals.InvalidCsrSyntax
 
 with_seven : ℕ → Refusal
 with_seven number =
@@ -445,6 +474,8 @@ again refusals.Usage = refl
 again refusals.Hex = refl
 again refusals.CmsDecode = refl
 again refusals.XmlError = refl
+again refusals.CertSyntax = refl
+again refusals.InvalidCsrSyntax = refl
 again refusals.InvalidTaCertEncoding = refl
 again refusals.InvalidTaCert = refl
 again (refusals.Validation n) = refl
@@ -533,6 +564,8 @@ same_receipt s t kind octets keys when (Ok (m, place)) w r =
     record { signed = r.signed; begins = r.begins; believed = first_too s t r.signed keys when place (w r.signed r.begins) r.believed; reads = r.reads }
 same_receipt s t kind octets keys when (Err errors.CmsDecode) w r = r
 same_receipt s t kind octets keys when (Err errors.XmlError) w r = r
+same_receipt s t kind octets keys when (Err errors.CertSyntax) w r = r
+same_receipt s t kind octets keys when (Err errors.InvalidCsrSyntax) w r = r
 same_receipt s t kind octets keys when (Err (errors.Validation e)) w r =
     let same = w r.signed r.begins in
     record {
@@ -565,13 +598,18 @@ accepted_span scheme kind octets keys one message r =
 
 -- ---- other octets with the same message
 
+same_content : {is : List ℕ → Type 0} (octets others : List ℕ) (signed : MessageFields) → BeginsSigned octets signed → BeginsSigned others signed → HoldsContent is octets → HoldsContent is others
+same_content octets others signed b c r =
+    record { signed = r.signed; begins = subst (λ (s : MessageFields). BeginsSigned others s) (one_signed octets signed r.signed b r.begins) c; content = r.content }
+
 pub same_message : (scheme : Relation) (kind : Kind) (octets others : List ℕ) (signed : MessageFields) (keys : List KeyFields) (when : ℤ) (a : Result (Received × ℕ) ReceiveError)
     → BeginsSigned octets signed → BeginsSigned others signed → IsReceivedUnder scheme kind octets keys when a → IsReceivedUnder scheme kind others keys when a
 same_message scheme kind octets others signed keys when (Ok (m, place)) b c r =
     record { signed = r.signed; begins = subst (λ (s : MessageFields). BeginsSigned others s) (one_signed octets signed r.signed b r.begins) c; believed = r.believed; reads = r.reads }
 same_message scheme kind octets others signed keys when (Err errors.CmsDecode) b c r = absurd (r signed b)
-same_message scheme kind octets others signed keys when (Err errors.XmlError) b c r =
-    record { signed = r.signed; begins = subst (λ (s : MessageFields). BeginsSigned others s) (one_signed octets signed r.signed b r.begins) c; none = r.none }
+same_message scheme kind octets others signed keys when (Err errors.XmlError) b c r = same_content octets others signed b c r
+same_message scheme kind octets others signed keys when (Err errors.CertSyntax) b c r = same_content octets others signed b c r
+same_message scheme kind octets others signed keys when (Err errors.InvalidCsrSyntax) b c r = same_content octets others signed b c r
 same_message scheme kind octets others signed keys when (Err (errors.Validation e)) b c r =
     record {
       signed = r.signed;

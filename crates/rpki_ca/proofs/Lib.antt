@@ -1,6 +1,7 @@
 pub mod Ending
 pub mod Spelled
 pub mod Commands
+pub mod Reasons
 pub mod Accepting
 pub mod Answering
 pub mod Laws

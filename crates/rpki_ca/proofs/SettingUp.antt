@@ -92,6 +92,8 @@ pub text_or_refusal : (scheme : Relation) (kind : SetupKind) (input : List ℕ) 
 text_or_refusal scheme kind input when m refusals.InvalidTaCertEncoding r q = record { message = m; reads = r; refused = q }
 text_or_refusal scheme kind input when m refusals.InvalidTaCert r q = record { message = m; reads = r; refused = q }
 text_or_refusal scheme kind input when m refusals.XmlError r q = absurd q
+text_or_refusal scheme kind input when m refusals.CertSyntax r q = absurd q
+text_or_refusal scheme kind input when m refusals.InvalidCsrSyntax r q = absurd q
 text_or_refusal scheme kind input when m refusals.Usage r q = absurd q
 text_or_refusal scheme kind input when m refusals.Hex r q = absurd q
 text_or_refusal scheme kind input when m refusals.CmsDecode r q = absurd q

@@ -6,7 +6,7 @@ use Rattle.sha2.specs.Sha256.{sha256}
 use Rattle.rpki_base.specs.PublicKey.{KeyFields}
 use Rattle.rpki_base.specs.declared.validation.ValidationError.{ValidationError}
 use Rattle.rpki_sigmsg.specs.Message.{MessageFields}
-use Rattle.rpki_sigmsg.specs.Beginning.{BeginsSigned}
+use Rattle.rpki_sigmsg.specs.Beginning.{BeginsSigned, HoldsContent}
 use Rattle.rpki_text.specs.Sink.{AppendsPart}
 use Rattle.rpki_ca.specs.declared.command.Command.{Command}
 use Rattle.rpki_ca.specs.declared.command.Command.TheVariants.{Content, Receive, Create, Setup}
@@ -19,7 +19,8 @@ use Rattle.rpki_ca.specs.Creation.{IsCreateRefusal, IsSignersAnswer}
 use Rattle.rpki_ca.specs.Setup.{IsSetupAnswer}
 use Rattle.rpki_ca.specs.Hexadecimal.{hexadecimal}
 use Rattle.rpki_base.specs.Scheme.{Relation}
-use Rattle.rpki_ca.specs.Acceptance.{Accepted, HoldsNoSigned, HoldsNoMessage, FailsCheck, text_of}
+use Rattle.rpki_ca.specs.Acceptance.{Accepted, HoldsNoSigned, HasNoForm, HoldsNoCertificate}
+use Rattle.rpki_ca.specs.Acceptance.{HoldsNoRequest, FailsCheck, text_of}
 use Rattle.rpki_ca.specs.Refusal.{status_of, name_of}
 use Rattle.rpki_ca.specs.Seen.{Seen, SignerSeen, HasFailed, IsSteady}
 
@@ -66,7 +67,12 @@ abbrev pub IsReceiveAnswer : Relation → Kind → List ℕ → List KeyFields �
 IsReceiveAnswer scheme kind octets keys when (Ok text) =
     IsTextAccepted scheme kind octets keys when text
 IsReceiveAnswer scheme kind octets keys when (Err refusals.CmsDecode) = HoldsNoSigned octets
-IsReceiveAnswer scheme kind octets keys when (Err refusals.XmlError) = HoldsNoMessage kind octets
+IsReceiveAnswer scheme kind octets keys when (Err refusals.XmlError) =
+    HoldsContent (HasNoForm kind) octets
+IsReceiveAnswer scheme kind octets keys when (Err refusals.CertSyntax) =
+    HoldsContent (HoldsNoCertificate kind) octets
+IsReceiveAnswer scheme kind octets keys when (Err refusals.InvalidCsrSyntax) =
+    HoldsContent (HoldsNoRequest kind) octets
 IsReceiveAnswer scheme kind octets keys when (Err (refusals.Validation n)) =
     FailsAt scheme kind octets keys when n
 IsReceiveAnswer scheme kind octets keys when (Err other) = ⊥

@@ -3,7 +3,7 @@ use Rattle.std.specs.Prelude.{◌≡◌, ◌≤◌, ℕ, ℤ, bytes_eq, if◌the
 use Rattle.rpki_common.specs.Chaining.{◌>>=◌}
 use Rattle.rpki_base.specs.PublicKey.{KeyFields}
 use Rattle.rpki_ca.specs.declared.receiving.Kind.{Kind}
-use Rattle.rpki_ca.specs.declared.receiving.Kind.TheVariants.{Publication}
+use Rattle.rpki_ca.specs.declared.receiving.Kind.TheVariants.{Publication, Provisioning}
 use Rattle.rpki_ca.specs.declared.command.Verb.{Verb}
 use Rattle.rpki_ca.specs.declared.command.Verb.TheVariants as verbs
 use Rattle.rpki_ca.specs.declared.command.Command.{Command}
@@ -15,9 +15,13 @@ use Rattle.rpki_ca.specs.Words.{IsMoment, key_of}
 -- the word for a kind, and the kind that a word is for
 abbrev pub kind_word : Kind → List ℕ
 kind_word Publication = codes "publication"
+kind_word Provisioning = codes "provisioning"
 
 abbrev pub kind_of : List ℕ → Option Kind
-kind_of word = if bytes_eq word (kind_word Publication) then Some Publication else None
+kind_of word =
+    if bytes_eq word (kind_word Publication) then Some Publication
+    else if bytes_eq word (kind_word Provisioning) then Some Provisioning
+    else None
 
 -- the kind for which the word at the index is
 abbrev pub kind_at : List (List ℕ) → ℕ → Option Kind

@@ -19,14 +19,18 @@ use Rattle.rpki_ca.specs.declared.receiving.Kind.{Kind}
 use Rattle.rpki_ca.specs.declared.receiving.Received.{Received}
 use Rattle.rpki_ca.specs.declared.refusals.Refusal.{Refusal}
 use Rattle.rpki_ca.specs.declared.refusals.Refusal.TheVariants as refusals
-use Rattle.rpki_ca.specs.Acceptance.{ReadsAs, text_of, normal_form, Accepted}
+use Rattle.rpki_ca.specs.Acceptance.{ReadsAs, HasNoForm, HoldsNoCertificate, HoldsNoRequest}
+use Rattle.rpki_ca.specs.Acceptance.{text_of, normal_form, Accepted}
 use Rattle.rpki_ca.specs.Seen.{Seen, SignerSeen}
 
 -- ---- before the signer is asked
 
--- the input reads as no message of the kind
-abbrev pub IsNoMessage : Kind → List ℕ → Type 0
-IsNoMessage kind input = (m : Received) → ReadsAs kind input m → ⊥
+-- why the input reads as no message of the kind
+abbrev pub RefusesInput : Kind → List ℕ → Refusal → Type 0
+RefusesInput kind input refusals.XmlError = HasNoForm kind input
+RefusesInput kind input refusals.CertSyntax = HoldsNoCertificate kind input
+RefusesInput kind input refusals.InvalidCsrSyntax = HoldsNoRequest kind input
+RefusesInput kind input other = ⊥
 
 -- it reads as one, and the moment has no window
 pub record HasNoWindow (kind : Kind) (input : List ℕ) (when : ℤ) : Type 0 where
@@ -43,10 +47,10 @@ pub record HasLongText (kind : Kind) (input : List ℕ) (when : ℤ) : Type 0 wh
 
 -- why nothing is created, whoever signs
 abbrev pub IsCreateRefusal : Kind → List ℕ → ℤ → Result (List ℕ) Refusal → Type 0
-IsCreateRefusal kind input when (Err refusals.XmlError) = IsNoMessage kind input
 IsCreateRefusal kind input when (Err refusals.Moment) = HasNoWindow kind input when
 IsCreateRefusal kind input when (Err refusals.TooLong) = HasLongText kind input when
-IsCreateRefusal kind input when other = ⊥
+IsCreateRefusal kind input when (Err refusal) = RefusesInput kind input refusal
+IsCreateRefusal kind input when (Ok text) = ⊥
 
 -- ---- after it was asked
 

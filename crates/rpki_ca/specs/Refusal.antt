@@ -2,7 +2,7 @@
 use Rattle.std.specs.Prelude.{ℕ, List, ◌++◌, codes}
 use Rattle.std.specs.Fmt.{decimal}
 use Rattle.rpki_ca.specs.declared.refusals.Refusal.{Refusal}
-use Rattle.rpki_ca.specs.declared.refusals.Refusal.TheVariants.{Usage, Hex, CmsDecode, XmlError, Validation, TooLong}
+use Rattle.rpki_ca.specs.declared.refusals.Refusal.TheVariants.{Usage, Hex, CmsDecode, XmlError, CertSyntax, InvalidCsrSyntax, Validation, TooLong}
 use Rattle.rpki_ca.specs.declared.refusals.Refusal.TheVariants.{InvalidTaCertEncoding, InvalidTaCert, KeyNotFound, IncompatibleKey}
 use Rattle.rpki_ca.specs.declared.refusals.Refusal.TheVariants.{KeyReused, Signer, Moment}
 use Rattle.rpki_ca.specs.declared.refusals.Refusal.TheVariants.{ReadFault, OutOfMemory}
@@ -12,6 +12,8 @@ status_of Usage = 2
 status_of Hex = 3
 status_of CmsDecode = 4
 status_of XmlError = 5
+status_of CertSyntax = 5
+status_of InvalidCsrSyntax = 5
 status_of InvalidTaCertEncoding = 5
 status_of InvalidTaCert = 5
 status_of (Validation n) = 6
@@ -30,6 +32,8 @@ word_of Usage = codes "Usage"
 word_of Hex = codes "Hex"
 word_of CmsDecode = codes "CmsDecode"
 word_of XmlError = codes "XmlError"
+word_of CertSyntax = codes "CertSyntax"
+word_of InvalidCsrSyntax = codes "InvalidCsrSyntax"
 word_of InvalidTaCertEncoding = codes "InvalidTaCertEncoding"
 word_of InvalidTaCert = codes "InvalidTaCert"
 word_of (Validation n) = codes "Validation"

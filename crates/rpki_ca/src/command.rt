@@ -71,6 +71,7 @@ fn kind_of(word: &str) -> Option<Kind>
 {
     match word {
         "publication" => Some(Kind::Publication),
+        "provisioning" => Some(Kind::Provisioning),
         _ => None,
     }
 }

@@ -7,18 +7,23 @@ ghost use Rattle.rpki_signer.specs.Limits.{Keeps};
 ghost use Rattle.rpki_sigmsg.specs.Making.{HasWindow, CreateFails};
 ghost use Rattle.rpki_sigmsg.specs.declared.create_error.CreateError.TheVariants as create;
 ghost use Rattle.rpki_publication.specs.Message as publication;
-ghost use Rattle.rpki_ca.specs.Acceptance.{ReadsAs, IsWritable, protocol_of, text_of};
+ghost use Rattle.rpki_provisioning.specs.Message as provisioning;
+ghost use Rattle.rpki_provisioning.specs.Writable as writable;
+ghost use Rattle.rpki_ca.specs.Acceptance.{ReadsAs, IsWritable, protocol_of, text_of, refusal_of};
 ghost use Rattle.rpki_ca.specs.Answer.{IsLineOf};
-ghost use Rattle.rpki_ca.specs.Creation.{AreCreated, IsCreateAnswer, IsNoMessage};
+ghost use Rattle.rpki_ca.specs.Creation.{AreCreated, IsCreateAnswer, RefusesInput};
 ghost use Rattle.rpki_ca.specs.Creation.{refusal_of_create};
 ghost use Rattle.rpki_ca.specs.Seen.{seen_signer};
 
-use crate::receiving::{Kind, Received};
+use crate::receiving::{Kind, ReceiveError, Received};
 use crate::refusals::Refusal;
 use bytes::Bytes;
 use rpki_base::{Scheme, Time};
 use rpki_common::OutOfMemory;
-use rpki_publication::{Error, Message, PublicationCms};
+use rpki_provisioning as provisioning;
+use rpki_provisioning::ProvisioningCms;
+use rpki_publication as publication;
+use rpki_publication::PublicationCms;
 use rpki_sigmsg::CreateError;
 use rpki_signer::{Signer, SigningError};
 use std::alloc::Global;
@@ -41,25 +46,26 @@ impl<E: Drop> From<CreateError<E>> for Refusal {
 }
 
 // The message of this kind that the input reads as.
-fn message_in(alloc: Global, kind: Kind, input: &[u8]) -> Result<Received, Refusal>
+fn message_in(alloc: Global, kind: Kind, input: &[u8]) -> Result<Received, ReceiveError>
     ensures ok { IfOk result (λ m. ReadsAs kind input.now m) }
     ensures writable { IfOk result IsWritable }
-    ensures err { IfErr result (λ e. e ≢ Refusal.OutOfMemory
-        → (e ≡ Refusal.XmlError) × IsNoMessage kind input.now) }
+    ensures err { IfErr result (λ e. refusal_of e ≢ Refusal.OutOfMemory
+        → RefusesInput kind input.now (refusal_of e)) }
 {
     match kind {
-        Kind::Publication => match Message::decode_slice(alloc, input) {
-            Ok(message) => Ok(Received::Publication(message)),
-            Err(Error::OutOfMemory) => Err(Refusal::OutOfMemory),
-            Err(_) => Err(Refusal::XmlError),
-        },
+        Kind::Publication => Ok(Received::Publication(publication::Message::decode_slice(
+            alloc, input,
+        )?)),
+        Kind::Provisioning => Ok(Received::Provisioning(provisioning::Message::decode_slice(
+            alloc, input,
+        )?)),
     }
 }
 
 // The octets of a signed message with this message of the publication protocol.
 fn publication_octets<P: Scheme, S: Signer<P>>(
     alloc: Global,
-    message: Message,
+    message: publication::Message,
     when: Time,
     key: &S::KeyId,
     signer: &mut S,
@@ -75,6 +81,28 @@ fn publication_octets<P: Scheme, S: Signer<P>>(
     ensures keeps { Keeps (S.state signer.old) (S.state signer.new) }
 {
     let cms = PublicationCms::create(alloc, message, when, key, signer)?;
+    Ok(cms.to_bytes(alloc)?)
+}
+
+// The octets of a signed message with this message of the provisioning protocol.
+fn provisioning_octets<P: Scheme, S: Signer<P>>(
+    alloc: Global,
+    message: provisioning::Message,
+    when: Time,
+    key: &S::KeyId,
+    signer: &mut S,
+) -> Result<Bytes, CreateError<S::Error>>
+    requires { writable.IsWritable message }
+    ensures created { MatchResult result
+        (AreCreated P.checks Kind.Provisioning (Received.Provisioning message) when
+        (seen_signer key.now (S.state signer.old) (S.state signer.new)))
+        (CreateFails (provisioning.text_of message) when key.now
+        (S.state signer.old) (S.state signer.new)) }
+    ensures too_long { HasWindow when → 2 ^ 31 < length (provisioning.text_of message)
+        → IsErrOf result create.TooLong ⊎ IsErrOf result create.OutOfMemory }
+    ensures keeps { Keeps (S.state signer.old) (S.state signer.new) }
+{
+    let cms = ProvisioningCms::create(alloc, message, when, key, signer)?;
     Ok(cms.to_bytes(alloc)?)
 }
 
@@ -98,6 +126,7 @@ fn signed_octets<P: Scheme, S: Signer<P>>(
 {
     match message {
         Received::Publication(message) => publication_octets(alloc, message, when, key, signer),
+        Received::Provisioning(message) => provisioning_octets(alloc, message, when, key, signer),
     }
 }
 

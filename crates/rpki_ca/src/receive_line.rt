@@ -1,15 +1,17 @@
 //! The command `receive`.
 
 ghost use Rattle.std.specs.Prelude.{◌≡◌, ◌≢◌, ◌++◌, ◌∷◌, ◌≤◌, [], List, ℕ, Ok, Err, IfOk, IfErr, length};
-ghost use Rattle.rpki_ca.specs.Answer.{IsReceiveAnswer, IsLineOf};
-ghost use Rattle.rpki_ca.specs.Acceptance.{text_of, refusal_of};
+ghost use Rattle.rpki_ca.specs.Answer.{IsReceiveAnswer, IsTextAccepted, IsLineOf};
+ghost use Rattle.rpki_ca.specs.Acceptance.{RefusesReceipt, text_of, refusal_of};
 
 use crate::line::line_of;
-use crate::receiving::{Kind, ReceiveError, Received, receive_any};
+use crate::receiving::{Kind, ReceiveError, Received};
 use crate::refusals::Refusal;
 use bytes::Bytes;
 use rpki_base::{PublicKey, Scheme, Time, Verifier};
 use rpki_common::OutOfMemory;
+use rpki_provisioning::ProvisioningCms;
+use rpki_publication::PublicationCms;
 use std::alloc::Global;
 
 impl Received {
@@ -19,16 +21,69 @@ impl Received {
     {
         match self {
             Received::Publication(message) => message.text_bytes(alloc),
+            Received::Provisioning(message) => message.text_bytes(alloc),
         }
     }
 }
 
-// The line with the message's text.
-fn text_line(alloc: Global, message: &Received) -> Result<Vec<u8>, OutOfMemory>
-    ensures { IfOk result (λ line. line.items ≡ text_of message.now ++ 10 ∷ []) }
+// The text of the message of the publication protocol that is received of the octets.
+fn publication_text<P: Scheme, V: Verifier<P>>(
+    alloc: Global,
+    octets: &[u8],
+    keys: &[PublicKey],
+    when: Time,
+    verifier: &V,
+) -> Result<Bytes, ReceiveError>
+    requires some { 1 ≤ length keys.now }
+    requires few { length keys.now ≤ 8 }
+    ensures ok { IfOk result
+        (IsTextAccepted P.checks Kind.Publication octets.now keys.now when) }
+    ensures err { IfErr result
+        (RefusesReceipt P.checks Kind.Publication octets.now keys.now when) }
 {
-    let text = message.to_xml_bytes(alloc)?;
-    line_of(alloc, text.as_slice())
+    let cms = PublicationCms::decode(alloc, octets)?;
+    cms.signed_message().validate_any_at(verifier, keys, when)?;
+    Ok(cms.message().text_bytes(alloc)?)
+}
+
+// The text of the message of the provisioning protocol that is received of the octets.
+fn provisioning_text<P: Scheme, V: Verifier<P>>(
+    alloc: Global,
+    octets: &[u8],
+    keys: &[PublicKey],
+    when: Time,
+    verifier: &V,
+) -> Result<Bytes, ReceiveError>
+    requires some { 1 ≤ length keys.now }
+    requires few { length keys.now ≤ 8 }
+    ensures ok { IfOk result
+        (IsTextAccepted P.checks Kind.Provisioning octets.now keys.now when) }
+    ensures err { IfErr result
+        (RefusesReceipt P.checks Kind.Provisioning octets.now keys.now when) }
+{
+    let cms = ProvisioningCms::decode(alloc, octets)?;
+    cms.signed_message().validate_any_at(verifier, keys, when)?;
+    Ok(cms.message().text_bytes(alloc)?)
+}
+
+// The text of the message of the kind that is received of the octets.
+fn received_text<P: Scheme, V: Verifier<P>>(
+    alloc: Global,
+    kind: Kind,
+    octets: &[u8],
+    keys: &[PublicKey],
+    when: Time,
+    verifier: &V,
+) -> Result<Bytes, ReceiveError>
+    requires some { 1 ≤ length keys.now }
+    requires few { length keys.now ≤ 8 }
+    ensures ok { IfOk result (IsTextAccepted P.checks kind octets.now keys.now when) }
+    ensures err { IfErr result (RefusesReceipt P.checks kind octets.now keys.now when) }
+{
+    match kind {
+        Kind::Publication => publication_text(alloc, octets, keys, when, verifier),
+        Kind::Provisioning => provisioning_text(alloc, octets, keys, when, verifier),
+    }
 }
 
 impl From<ReceiveError> for Refusal {
@@ -38,6 +93,8 @@ impl From<ReceiveError> for Refusal {
         match error {
             ReceiveError::CmsDecode => Refusal::CmsDecode,
             ReceiveError::XmlError => Refusal::XmlError,
+            ReceiveError::CertSyntax => Refusal::CertSyntax,
+            ReceiveError::InvalidCsrSyntax => Refusal::InvalidCsrSyntax,
             ReceiveError::Validation(error) => Refusal::Validation(error.check),
             ReceiveError::OutOfMemory => Refusal::OutOfMemory,
         }
@@ -60,6 +117,6 @@ pub(crate) fn receive_line<P: Scheme, V: Verifier<P>>(
     ensures err { IfErr result (λ e. e ≢ Refusal.OutOfMemory
         → IsReceiveAnswer P.checks kind octets.now keys.now when (Err e)) }
 {
-    let (message, _) = receive_any(alloc, kind, octets, keys, when, verifier)?;
-    Ok(text_line(alloc, &message)?)
+    let text = received_text(alloc, kind, octets, keys, when, verifier)?;
+    Ok(line_of(alloc, text.as_slice())?)
 }

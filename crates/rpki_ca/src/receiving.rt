@@ -4,14 +4,19 @@ ghost use Rattle.std.specs.Prelude.{◌≡◌, ◌+◌, ◌*◌, ◌≤◌, ◌<
 ghost use Rattle.rpki_der.specs.declared.mode.Mode.TheVariants.{Ber};
 ghost use Rattle.rpki_der.specs.Ticks.{nodes};
 ghost use Rattle.rpki_der.specs.Value.{Value, Begins};
-ghost use Rattle.rpki_ca.specs.Acceptance.{IsReceived, IsReceivedUnder, FindsSigned, without_place, of_publication};
+ghost use Rattle.rpki_ca.specs.Acceptance.{IsReceived, IsReceivedUnder, FindsSigned, without_place};
+ghost use Rattle.rpki_ca.specs.Acceptance.{of_publication, of_provisioning};
 ghost use Rattle.rpki_ca.specs.declared.receiving.ReceiveError.TheVariants as variant;
 
 use rpki_base::{PublicKey, Scheme, Time, Verifier};
+use rpki_common::OutOfMemory;
 use rpki_der::Steps;
 use rpki_idcert::ValidationError;
+use rpki_provisioning as provisioning;
+use rpki_provisioning::ProvisioningCms;
 use rpki_publication as publication;
 use rpki_publication::PublicationCms;
+use rpki_updown as updown;
 use std::alloc::Global;
 use std::array;
 use std::marker::Brand;
@@ -23,13 +28,17 @@ use thiserror::Error;
 pub enum Kind {
     /// The publication protocol (RFC 8181).
     Publication,
+    /// The provisioning protocol (RFC 6492).
+    Provisioning,
 }
 
 /// A message that was received.
-#[derive(Debug, Drop, PartialEq, Eq)]
+#[derive(Drop)]
 pub enum Received {
     /// A message of the publication protocol.
     Publication(publication::Message),
+    /// A message of the provisioning protocol.
+    Provisioning(provisioning::Message),
 }
 
 /// Why nothing was received.
@@ -38,9 +47,15 @@ pub enum ReceiveError {
     /// The octets begin with no signed message.
     #[error("Could not decode CMS")]
     CmsDecode,
-    /// The content is no message of the kind.
-    #[error("the content is no message of this kind")]
+    /// The content has not the form of a message of the kind.
+    #[error("malformed XML")]
     XmlError,
+    /// It has, and the octets of the certificate request in it begin with none.
+    #[error("Could not decode CSR")]
+    InvalidCsrSyntax,
+    /// It has, and the octets of a certificate in it begin with none.
+    #[error("Could not decode certificate")]
+    CertSyntax,
     /// A check of the signed message failed.
     #[error("CMS is not valid: {0}")]
     Validation(ValidationError),
@@ -62,6 +77,28 @@ impl From<publication::Error> for ReceiveError {
     }
 }
 
+// As an error of the provisioning protocol is passed on.
+fn of_provisioning(error: &updown::Error) -> ReceiveError
+    ensures { result ≡ of_provisioning error.now }
+{
+    match error {
+        updown::Error::CmsDecode => ReceiveError::CmsDecode,
+        updown::Error::CertSyntax => ReceiveError::CertSyntax,
+        updown::Error::InvalidCsrSyntax => ReceiveError::InvalidCsrSyntax,
+        updown::Error::Validation(error) => ReceiveError::Validation(*error),
+        updown::Error::OutOfMemory => ReceiveError::OutOfMemory,
+        _ => ReceiveError::XmlError,
+    }
+}
+
+impl From<updown::Error> for ReceiveError {
+    ghost from_gives = { λ error e. e ≡ of_provisioning error };
+
+    fn from(error: updown::Error) -> ReceiveError {
+        of_provisioning(&error)
+    }
+}
+
 impl From<ValidationError> for ReceiveError {
     ghost from_gives = { λ error e. e ≡ variant.Validation error };
 
@@ -70,13 +107,22 @@ impl From<ValidationError> for ReceiveError {
     }
 }
 
+impl From<OutOfMemory> for ReceiveError {
+    ghost from_gives = { λ error e. e ≡ variant.OutOfMemory };
+
+    fn from(error: OutOfMemory) -> ReceiveError {
+        ReceiveError::OutOfMemory
+    }
+}
+
 /// The message of this kind that is signed at the beginning of the octets, in BER, where one of the
 /// one to eight keys issued its certificate for the moment, and the place of the first such key,
 /// from 0; what stands behind isn't read.
 ///
 /// The first of these decides: CmsDecode where no beginning of the octets is a signed message,
-/// XmlError where its content is no message of the kind, Validation where one of the fourteen
-/// checks fails under each key: the greatest of the first that fail, as
+/// XmlError where its content has not the form of a message of the kind, CertSyntax and
+/// InvalidCsrSyntax where a certificate or the request in it is none, Validation where one of the
+/// fourteen checks fails under each key: the greatest of the first that fail, as
 /// [`rpki_sigmsg::SignedMessage::validate_any_at`] answers.
 pub fn receive_any<P: Scheme, V: Verifier<P>>(
     alloc: Global,
@@ -114,7 +160,7 @@ fn receive_any_within<P: Scheme, V: Verifier<P>, L: Ledger>(
 }
 
 /// As [`receive_any`]. It ticks once for each header and each end mark that it reads, in the signed
-/// message alone, however many keys there are.
+/// message, and in the certificates and the request in its content, however many keys there are.
 pub fn receive_any_counted<P: Scheme, V: Verifier<P>, L: Ledger>(
     alloc: Global,
     kind: Kind,
@@ -127,7 +173,11 @@ pub fn receive_any_counted<P: Scheme, V: Verifier<P>, L: Ledger>(
     requires some { 1 ≤ length keys.now }
     requires few { length keys.now ≤ 8 }
     ensures answer { IsReceivedUnder P.checks kind octets.now keys.now when result }
-    ensures most { steps.new ≤ steps.old + 3 * length octets.now + 8 }
+    ensures most { steps.new ≤ steps.old + 5 * length octets.now + 8 }
+
+    // In a content of the publication protocol there are no headers.
+    ensures publication { kind ≡ Kind.Publication
+        → steps.new ≤ steps.old + 3 * length octets.now + 8 }
 
     // Where a signed message was found, each value in it ticked.
     ensures least { FindsSigned result → (v : Value) (rest : List ℕ)
@@ -135,6 +185,7 @@ pub fn receive_any_counted<P: Scheme, V: Verifier<P>, L: Ledger>(
 {
     match kind {
         Kind::Publication => receive_publication(alloc, octets, keys, when, verifier, steps),
+        Kind::Provisioning => receive_provisioning(alloc, octets, keys, when, verifier, steps),
     }
 }
 
@@ -156,6 +207,26 @@ fn receive_publication<P: Scheme, V: Verifier<P>, L: Ledger>(
     let cms = PublicationCms::decode_counted(alloc, octets, steps)?;
     let place = cms.signed_message().validate_any_at(verifier, keys, when)?;
     Ok((Received::Publication(cms.into_message()), place))
+}
+
+fn receive_provisioning<P: Scheme, V: Verifier<P>, L: Ledger>(
+    alloc: Global,
+    octets: &[u8],
+    keys: &[PublicKey],
+    when: Time,
+    verifier: &V,
+    steps: &mut Steps<L>,
+) -> Result<(Received, usize), ReceiveError>
+    requires some { 1 ≤ length keys.now }
+    requires few { length keys.now ≤ 8 }
+    ensures answer { IsReceivedUnder P.checks Kind.Provisioning octets.now keys.now when result }
+    ensures most { steps.new ≤ steps.old + 5 * length octets.now + 8 }
+    ensures least { FindsSigned result → (v : Value) (rest : List ℕ)
+        → Begins Ber octets.now v rest → steps.old + nodes v ≤ steps.new }
+{
+    let cms = ProvisioningCms::decode_counted(alloc, octets, steps)?;
+    let place = cms.signed_message().validate_any_at(verifier, keys, when)?;
+    Ok((Received::Provisioning(cms.into_message()), place))
 }
 
 // The answer without the place of the key.
@@ -184,7 +255,7 @@ pub fn receive<P: Scheme, V: Verifier<P>>(
 }
 
 /// As [`receive`]. It ticks once for each header and each end mark that it reads, in the signed
-/// message alone.
+/// message, and in the certificates and the request in its content.
 pub fn receive_counted<P: Scheme, V: Verifier<P>, L: Ledger>(
     alloc: Global,
     kind: Kind,
@@ -195,7 +266,11 @@ pub fn receive_counted<P: Scheme, V: Verifier<P>, L: Ledger>(
     steps: &mut Steps<L>,
 ) -> Result<Received, ReceiveError>
     ensures answer { IsReceived P.checks kind octets.now (key.now ∷ []) when result }
-    ensures most { steps.new ≤ steps.old + 3 * length octets.now + 8 }
+    ensures most { steps.new ≤ steps.old + 5 * length octets.now + 8 }
+
+    // In a content of the publication protocol there are no headers.
+    ensures publication { kind ≡ Kind.Publication
+        → steps.new ≤ steps.old + 3 * length octets.now + 8 }
 
     // Where a signed message was found, each value in it ticked.
     ensures least { FindsSigned result → (v : Value) (rest : List ℕ)

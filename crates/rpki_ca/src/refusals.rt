@@ -21,6 +21,10 @@ pub enum Refusal {
     CmsDecode,
     /// The content, or the input, is no message of the kind that was asked for.
     XmlError,
+    /// It has the form of one, and the octets of a certificate in it begin with none.
+    CertSyntax,
+    /// It has the form of one, and the octets of the certificate request in it begin with none.
+    InvalidCsrSyntax,
     /// The octets in the place of a setup message's certificate begin with none.
     InvalidTaCertEncoding,
     /// The certificate of a setup message is not believed as a trust anchor's at the moment.
@@ -56,6 +60,8 @@ impl Refusal {
             Refusal::Hex => 3,
             Refusal::CmsDecode => 4,
             Refusal::XmlError => 5,
+            Refusal::CertSyntax => 5,
+            Refusal::InvalidCsrSyntax => 5,
             Refusal::InvalidTaCertEncoding => 5,
             Refusal::InvalidTaCert => 5,
             Refusal::Validation(_) => 6,
@@ -94,6 +100,8 @@ impl Refusal {
             Refusal::Hex => "Hex",
             Refusal::CmsDecode => "CmsDecode",
             Refusal::XmlError => "XmlError",
+            Refusal::CertSyntax => "CertSyntax",
+            Refusal::InvalidCsrSyntax => "InvalidCsrSyntax",
             Refusal::InvalidTaCertEncoding => "InvalidTaCertEncoding",
             Refusal::InvalidTaCert => "InvalidTaCert",
             Refusal::Validation(_) => "Validation",

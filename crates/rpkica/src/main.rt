@@ -18,10 +18,10 @@ rpkica reads, checks and makes the messages of RPKI certification authorities.
         that was signed; who signed is not looked at.
         Example: rpkica content < examples/content.hex
 
-    rpkica receive publication MOMENT KEY.. < MESSAGE
-        Writes the message of the publication protocol that a signed message
-        is, if all fourteen checks hold under one KEY, which has issued its
-        certificate for the moment.
+    rpkica receive KIND MOMENT KEY.. < MESSAGE
+        Writes the message that a signed message is, if all fourteen checks
+        hold under one KEY, which has issued its certificate for the moment.
+        KIND is publication (RFC 8181) or provisioning (RFC 6492).
         MOMENT is in seconds since 1970, in decimal digits without leading
         zeros, up to 253402300799. There are one to eight KEYs; each is a
         public key in DER, in hexadecimal.
@@ -32,8 +32,8 @@ rpkica reads, checks and makes the messages of RPKI certification authorities.
         3022300d06092a864886f70d010101050003110000000000000000010000000000000000
         < examples/query-list.hex
 
-    rpkica create publication MOMENT < TEXT
-        Reads a message of the publication protocol and writes it signed, in
+    rpkica create KIND MOMENT < TEXT
+        Reads a message of that protocol and writes it signed, in
         hexadecimal of lower case. Its certificate and its CRL are valid from
         300 seconds before MOMENT to 300 seconds after it, both ends in, and
         are issued by the key of the example above, a toy key that everyone
@@ -60,6 +60,8 @@ One line is written to standard output. The exit status is
      3  Hex           the input is not hexadecimal
      4  CmsDecode     the input begins with no signed message
      5  XmlError      the content, or TEXT, is no message that was asked for
+        CertSyntax, InvalidCsrSyntax: it has the form of a provisioning message,
+                      but a certificate or the request in it cannot be read
         InvalidTaCertEncoding, InvalidTaCert: the certificate of a setup
                       message cannot be read, or a check of it fails
      6  Validation N  check N fails, as below

@@ -75,6 +75,7 @@ fn key(alloc: Global, words: &Words) -> io::Result<String> {
 fn kind_text(kind: Kind) -> &'static str {
     match kind {
         Kind::Publication => "publication",
+        Kind::Provisioning => "provisioning",
     }
 }
 

@@ -39,7 +39,9 @@ fn a_message_is_received(rt: HostRuntime) -> Result<(), Fail> {
     let Some(when) = Time::new(1_700_000_000) else {
         return Err(Fail::new("the moment"));
     };
-    let list = Received::Publication(Message::list_query());
-    assert!(rt; message_from(alloc, &octets, &key, when) == Ok(list));
+    let Ok(Received::Publication(message)) = message_from(alloc, &octets, &key, when) else {
+        return Err(Fail::new("the message"));
+    };
+    assert!(rt; message == Message::list_query());
     Ok(())
 }

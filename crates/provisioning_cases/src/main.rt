@@ -1,0 +1,99 @@
+//! Reads, writes, compares, makes, decodes, checks and creates the messages of the provisioning protocol of stored cases, and says how many
+//! answers differ from the expected.
+//!
+//! A line of data/cases.txt is `NAME ber OCTETS STEP..`, run twice, the second time by the counted calls. tools/provisioning_cases.py writes
+//! the file, by the formats and the rules of the toy scheme alone, and says what the calls are.
+#![tactic(auto)]
+
+mod answers;
+mod copies;
+mod creating;
+mod handed;
+mod lent;
+mod made;
+mod parts;
+mod signed;
+mod texts;
+
+use rpki_der::{Cursor, DecodeError, Steps};
+use rpki_provisioning::{Message, ProvisioningCms};
+use rpki_updown::Error;
+use std::alloc::Global;
+use std::io;
+use std::sync::ledger::Ledger;
+use stored_cases::{Calls, Fields, Step, Walks, run};
+
+fn read(alloc: Global, octets: &[u8]) -> Result<Message, Error> {
+    Message::decode_slice(alloc, octets)
+}
+
+// What is asked of a text; None where the step is none of these.
+fn of_text(alloc: Global, octets: &[u8], step: &Step<'_>) -> Option<Result<Fields, DecodeError>> {
+    let argument = &step.argument;
+    match step.call {
+        "text" => Some(texts::text(alloc, octets, &read(alloc, octets))),
+        "source" => Some(texts::read_of(alloc, octets, argument)),
+        "sink" => Some(texts::written_to(alloc, octets, argument)),
+        "equal" => Some(texts::equal(alloc, &read(alloc, octets), &read(alloc, argument))),
+        "lent" => Some(lent::lent(alloc, &read(alloc, octets))),
+        "handed" => Some(handed::handed(alloc, &read(alloc, octets))),
+        "copies" => Some(copies::copies(alloc, &read(alloc, octets))),
+        "issued" => Some(handed::issued(alloc, &read(alloc, octets), argument)),
+        "granted" => Some(handed::granted(alloc, &read(alloc, octets))),
+        "created" => Some(creating::created_of(alloc, &read(alloc, octets), argument)),
+        _ => None,
+    }
+}
+
+struct Provisionings;
+
+impl Calls for Provisionings {
+    fn answer(
+        &self,
+        alloc: Global,
+        cursor: &mut Cursor<'_>,
+        step: &Step<'_>,
+    ) -> Option<Result<Fields, DecodeError>> {
+        let octets = cursor.here();
+        if let Some(answer) = of_text(alloc, octets, step) {
+            return Some(answer);
+        }
+        if let Some(answer) = signed::answer(alloc, octets, step) {
+            return Some(answer);
+        }
+        if let Some(answer) = made::answer(alloc, octets, step) {
+            return Some(answer);
+        }
+        parts::answer(alloc, octets, step)
+    }
+
+    fn counted_answer<L: Ledger>(
+        &self,
+        alloc: Global,
+        cursor: &mut Cursor<'_>,
+        step: &Step<'_>,
+        steps: &mut Steps<L>,
+    ) -> Option<Result<Fields, DecodeError>> {
+        let octets = cursor.here();
+        match step.call {
+            "text" => {
+                let read = Message::decode_slice_counted(alloc, octets, steps);
+                Some(texts::text(alloc, octets, &read))
+            }
+            "decoded" => {
+                let decoded = ProvisioningCms::decode_counted(alloc, octets, steps);
+                Some(signed::decoded(alloc, &decoded))
+            }
+            _ => None,
+        }
+    }
+}
+
+fn main(rt: HostRuntime) -> io::Result<()> {
+    run(
+        &rt,
+        &Walks {
+            calls: Provisionings,
+        },
+    )
+}
