@@ -25,7 +25,6 @@ use std::sync::ledger::{Blank, Ledger};
 /// RFC 6492, 3.1.1; RFC 8181, 2).
 ///
 /// In a clause it is the record of its fields.
-#[derive(Drop)]
 pub struct SignedMessage {
     pub(crate) content: Bytes,
     pub(crate) signer: KeyIdentifier,
@@ -35,6 +34,22 @@ pub struct SignedMessage {
     pub(crate) signature: Signature<RpkiSignatureAlgorithm>,
     pub(crate) certificate: IdCert,
     pub(crate) crls: Vec<SignedMessageCrl>,
+}
+
+// By hand, so that whoever lets a message go calls this, and its parts are not spelled out there.
+impl Drop for SignedMessage {
+    fn drop(self) {
+        let SignedMessage {
+            content,
+            signer,
+            digest,
+            signing_time,
+            covered,
+            signature,
+            certificate,
+            crls,
+        } = self;
+    }
 }
 
 impl Model for SignedMessage {

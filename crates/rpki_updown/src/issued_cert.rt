@@ -11,11 +11,22 @@ use std::marker::Model;
 
 /// A certificate that was issued to a client: where it is published, what was asked for it, and itself (RFC 6492, 3.3.2). In a clause it is
 /// the record of its fields.
-#[derive(Drop, PartialEq, Eq)]
+#[derive(PartialEq, Eq)]
 pub struct IssuedCert {
     uri: Rsync,
     req_limit: RequestResourceLimit,
     cert: Cert,
+}
+
+// By hand, so that whoever lets one go calls this, and its parts are not spelled out there.
+impl Drop for IssuedCert {
+    fn drop(self) {
+        let IssuedCert {
+            uri,
+            req_limit,
+            cert,
+        } = self;
+    }
 }
 
 impl Model for IssuedCert {

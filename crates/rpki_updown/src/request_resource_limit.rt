@@ -19,11 +19,18 @@ use std::marker::Model;
 
 /// The AS numbers and addresses that a certificate is asked for, of each kind for which they are stated (RFC 6492, 3.4.1). A kind for which
 /// none are stated is not limited; the empty set may be stated. In a clause it is the record of the three.
-#[derive(Debug, Drop)]
+#[derive(Debug)]
 pub struct RequestResourceLimit {
     asn: Option<AsBlocks>,
     ipv4: Option<Ipv4Blocks>,
     ipv6: Option<Ipv6Blocks>,
+}
+
+// By hand, so that whoever lets one go calls this, and its parts are not spelled out there.
+impl Drop for RequestResourceLimit {
+    fn drop(self) {
+        let RequestResourceLimit { asn, ipv4, ipv6 } = self;
+    }
 }
 
 impl Model for RequestResourceLimit {

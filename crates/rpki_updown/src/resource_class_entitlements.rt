@@ -15,13 +15,26 @@ use std::marker::Model;
 
 /// What a client is entitled to in a resource class (RFC 6492, 3.3.2): its resources until when, the certificates that were issued to it,
 /// and that of the issuing key. In a clause it is the record of its fields.
-#[derive(Drop, PartialEq, Eq)]
+#[derive(PartialEq, Eq)]
 pub struct ResourceClassEntitlements {
     class_name: ResourceClassName,
     resource_set: ResourceSet,
     not_after: Time,
     issued_certs: Sequence<IssuedCert>,
     signing_cert: SigningCert,
+}
+
+// By hand, so that whoever lets one go calls this, and its parts are not spelled out there.
+impl Drop for ResourceClassEntitlements {
+    fn drop(self) {
+        let ResourceClassEntitlements {
+            class_name,
+            resource_set,
+            not_after,
+            issued_certs,
+            signing_cert,
+        } = self;
+    }
 }
 
 impl Model for ResourceClassEntitlements {
