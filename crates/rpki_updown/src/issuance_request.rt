@@ -4,10 +4,12 @@ ghost use Rattle.std.specs.Prelude.{◌≡◌, ◌↔◌, Some, IsTrue, IfOk};
 ghost use Rattle.std.specs.Option.{option_copied};
 ghost use Rattle.rpki_base.specs.RpkiSignatureAlgorithm.{spelled_x509};
 ghost use Rattle.rpki_base.specs.SignedData.{spelled_data};
-ghost use Rattle.rpki_updown.specs.IssuanceRequest.{or_none, issuance_request_text};
+ghost use Rattle.rpki_updown.specs.IssuanceRequest.{or_none, asked_text, places_text, issuance_request_text};
+ghost use Rattle.std.specs.Fmt.{WritesOnOk};
 
 use crate::request_resource_limit::RequestResourceLimit;
 use crate::resource_class_name::ResourceClassName;
+use rpki_base::KeyIdentifier;
 use rpki_cert::RpkiCaCsr;
 use rpki_common::OutOfMemory;
 use rpki_text::uri::{Uri, UriKind};
@@ -144,23 +146,41 @@ fn text_or_none<K: UriKind>(uri: Option<&Uri<K>>) -> &str
     }
 }
 
+// Where things are to be, as the request says it.
+fn show_places<W: fmt::Write>(f: &mut fmt::Formatter<W>, csr: &RpkiCaCsr) -> fmt::Result
+    ensures { WritesOnOk W.write_str_gives f.old result (places_text csr.now) f.new }
+{
+    let notify = text_or_none(csr.rpki_notify());
+    let repository = text_or_none(csr.ca_repository());
+    let manifest = text_or_none(csr.rpki_manifest());
+    write!(
+        f,
+        "' rrdp notify '{notify}' ca repo '{repository}' mft '{manifest}'"
+    )
+}
+
+// What is asked for.
+fn show_asked<W: fmt::Write>(
+    f: &mut fmt::Formatter<W>,
+    class_name: &ResourceClassName,
+    limit: &RequestResourceLimit,
+    key: KeyIdentifier,
+) -> fmt::Result
+    ensures { WritesOnOk W.write_str_gives f.old result
+        (asked_text class_name.now limit.now key) f.new }
+{
+    write!(
+        f,
+        "class name '{class_name}' limit '{limit}' csr for key '{key}"
+    )
+}
+
 impl fmt::Display for IssuanceRequest {
     ghost output = { λ r. Some (issuance_request_text r) };
 
     fn fmt<W: fmt::Write>(&self, f: &mut fmt::Formatter<W>) -> fmt::Result {
-        let class_name = &self.class_name;
-        let limit = &self.limit;
         let key = self.csr.public_key().key_identifier();
-        write!(
-            f,
-            "class name '{class_name}' limit '{limit}' csr for key '{key}"
-        )?;
-        let notify = text_or_none(self.csr.rpki_notify());
-        let repository = text_or_none(self.csr.ca_repository());
-        let manifest = text_or_none(self.csr.rpki_manifest());
-        write!(
-            f,
-            "' rrdp notify '{notify}' ca repo '{repository}' mft '{manifest}'"
-        )
+        show_asked(f, &self.class_name, &self.limit, key)?;
+        show_places(f, &self.csr)
     }
 }
