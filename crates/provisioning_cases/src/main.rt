@@ -23,25 +23,36 @@ use std::io;
 use std::sync::ledger::Ledger;
 use stored_cases::{Calls, Fields, Step, Walks, run};
 
-fn read(alloc: Global, octets: &[u8]) -> Result<Message, Error> {
-    Message::decode_slice(alloc, octets)
+// What is asked of what a text was read as; None where the step is none of these.
+fn of_read(
+    alloc: Global,
+    octets: &[u8],
+    read: &Result<Message, Error>,
+    step: &Step<'_>,
+) -> Option<Result<Fields, DecodeError>> {
+    let argument = &step.argument;
+    match step.call {
+        "text" => Some(texts::text(alloc, octets, read)),
+        "equal" => Some(texts::equal(alloc, read, argument)),
+        "lent" => Some(lent::lent(alloc, read)),
+        "handed" => Some(handed::handed(alloc, read)),
+        "copies" => Some(copies::copies(alloc, read)),
+        "issued" => Some(handed::issued(alloc, read, argument)),
+        "granted" => Some(handed::granted(alloc, read)),
+        "created" => Some(creating::created_of(alloc, read, argument)),
+        _ => None,
+    }
 }
 
 // What is asked of a text; None where the step is none of these.
 fn of_text(alloc: Global, octets: &[u8], step: &Step<'_>) -> Option<Result<Fields, DecodeError>> {
-    let argument = &step.argument;
     match step.call {
-        "text" => Some(texts::text(alloc, octets, &read(alloc, octets))),
-        "source" => Some(texts::read_of(alloc, octets, argument)),
-        "sink" => Some(texts::written_to(alloc, octets, argument)),
-        "equal" => Some(texts::equal(alloc, &read(alloc, octets), &read(alloc, argument))),
-        "lent" => Some(lent::lent(alloc, &read(alloc, octets))),
-        "handed" => Some(handed::handed(alloc, &read(alloc, octets))),
-        "copies" => Some(copies::copies(alloc, &read(alloc, octets))),
-        "issued" => Some(handed::issued(alloc, &read(alloc, octets), argument)),
-        "granted" => Some(handed::granted(alloc, &read(alloc, octets))),
-        "created" => Some(creating::created_of(alloc, &read(alloc, octets), argument)),
-        _ => None,
+        "source" => Some(texts::read_of(alloc, octets, &step.argument)),
+        "sink" => Some(texts::written_to(alloc, octets, &step.argument)),
+        _ => {
+            let read = Message::decode_slice(alloc, octets);
+            of_read(alloc, octets, &read, step)
+        }
     }
 }
 

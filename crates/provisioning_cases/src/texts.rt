@@ -168,8 +168,7 @@ fn equality(alloc: Global, a: &Message, b: &Message) -> Result<Fields, DecodeErr
     Ok(fields)
 }
 
-/// Whether the messages are equal, whether what they say is, and of two requests for a certificate whether these are.
-pub fn equal(
+fn equality_shown(
     alloc: Global,
     read: &Result<Message, Error>,
     other: &Result<Message, Error>,
@@ -178,4 +177,13 @@ pub fn equal(
         (Ok(a), Ok(b)) => equality(alloc, a, b),
         _ => Err(DecodeError::Malformed),
     }
+}
+
+/// Whether the message equals that of other octets, whether what they say does, and of two requests for a certificate whether these do.
+pub fn equal(
+    alloc: Global,
+    read: &Result<Message, Error>,
+    octets: &[u8],
+) -> Result<Fields, DecodeError> {
+    equality_shown(alloc, read, &Message::decode_slice(alloc, octets))
 }
