@@ -1,10 +1,11 @@
 -- Service URIs, and the two schemes of their texts.
-use Rattle.std.proofs.Common.{◌≡◌, ◌≢◌, ℕ, List, Option, true, false, Some, None, refl}
+use Rattle.std.proofs.Common.{◌≡◌, ◌≢◌, ℕ, List, Option, Err, IsErrOf, true, false, Some, None, refl}
 use Rattle.rpki_common.specs.Chaining.{◌>>=◌}
 use Rattle.rpki_text.specs.Uri.{https, fault_of}
 use Rattle.rpki_text.specs.declared.uri.Error.{Error as UriError}
 use Rattle.rpki_text.specs.declared.uri.Error.TheVariants as uri
 use Rattle.rpki_text.specs.Json.{string_of_json}
+use Rattle.rpki_text.specs.declared.json.JsonError.{JsonError}
 use Rattle.rpki_text.specs.declared.json.JsonError.TheVariants as json
 use Rattle.rpki_setup.specs.declared.error.Error.{Error}
 use Rattle.rpki_setup.specs.declared.error.Error.TheVariants as errors
@@ -47,6 +48,10 @@ no_string text e = rw e refl
 pub string_is : (text found given : List ℕ) (o : Option ServiceUri) → string_of_json text ≡ Some found → given ≡ found → service_uri_of_text given ≡ o → service_uri_of_json text ≡ o
 unfolding service_uri_of_json ◌>>=◌
 string_is text found given o e p f = rw (e, ← p) f
+
+-- what is told as malformed is no want of memory
+pub told : (r : JsonError) (e : Error) → r ≡ json_of e → IsErrOf {T = ServiceUri} (Err r) json.Malformed → json_of e ≡ json.Malformed
+told r e p q = cc
 
 -- an error that is no want of memory says that the text is no service URI
 pub no_service : (text : List ℕ) (e : Error) → RefusesServiceUri text e → json_of e ≡ json.Malformed → service_uri_of_text text ≡ None
