@@ -321,7 +321,7 @@ def received_lines():
     yield received("received-under-another", query, *failing(6), key=9)
     yield received("received-reply", message(content=REPLY), REPLY)
     yield received("received-cut", query[:-1], *NO_CMS)
-    yield received("received-content-a", bytes.fromhex(CONTENT_A), "refused", "the content is no message of this kind")
+    yield received("received-content-a", bytes.fromhex(CONTENT_A), "refused", "malformed XML")
     yield received("received-listed", message(entries=(1,)), *failing(14))
     for call in "believed", "signed_believed":
         yield line(f"{call}-under-two", query, under(call, 1, keys=[9, 0]), under(call, 0, keys=[0, 9]),

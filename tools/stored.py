@@ -19,6 +19,14 @@ def terms(octets):
     return "|".join(parts + ([octets[at:].hex()] if at < len(octets) else []))
 
 
+def octets_of(spelled_terms):
+    """The octets that such terms spell; `-` spells none."""
+    if spelled_terms == "-":
+        return b""
+    pairs = (term.partition("*") for term in spelled_terms.split("|"))
+    return b"".join(bytes.fromhex(digits) * int(times or 1) for digits, _, times in pairs)
+
+
 def text(characters):
     """A text, legible where it can be."""
     octets = characters.encode()
