@@ -255,15 +255,15 @@ pub from_signer : {I : Type 0} (scheme : Relation) (words : List (List ℕ)) (ki
 from_signer scheme words kind when input signer a is f = signed_by scheme f.command kind when input signer a (one_command words f.command (Create kind when) f.is (is_create words kind when is)) f.answers
 
 pub not_refused : {I : Type 0} (scheme : Relation) (words : List (List ℕ)) (kind : Kind) (when : ℤ) (input : List ℕ) (signer : SignerSeen I) (r : Refusal) → IsCreate words kind when → CanCreate kind when input signer → IsGiven scheme words signer input (Err r) → ⊥
-not_refused scheme words kind when input signer r is can (inl a) = no_pure kind when input signer (Err r) can (create_view kind input when (Err r) (a.answers (Create kind when) (is_create words kind when is) can.short))
+not_refused scheme words kind when input signer r is can (inl a) = no_pure kind when input signer (Err r) can (create_view kind input when (Err r) (a.answers (Create kind when) (is_create words kind when is) (λ reads. can.short)))
 not_refused scheme words kind when input signer r is can (inr a) = let s = from_signer scheme words kind when input signer (Err r) is a in no_signed scheme kind when input signer s.message r can s.signed
 
 -- a text that is given comes from the signer
 pub text_from_signer : {I : Type 0} (scheme : Relation) (words : List (List ℕ)) (kind : Kind) (when : ℤ) (input text : List ℕ) (signer : SignerSeen I) → IsCreate words kind when → IsGiven scheme words signer input (Ok text) → IsSignersAnswer scheme kind input when signer (Ok text)
 text_from_signer scheme words kind when input text signer is (inl a) =
     elim (leb_tells (length input) (2 ^ 26)) [
-      | inl within ↦ absurd (a.answers (Create kind when) (is_create words kind when is) within.1)
-      | inr longer ↦ absurd (unlike (a.long (Create kind when) (is_create words kind when is) longer.1))
+      | inl within ↦ absurd (a.answers (Create kind when) (is_create words kind when is) (λ reads. within.1))
+      | inr longer ↦ absurd (unlike (a.long (Create kind when) (is_create words kind when is) tt longer.1))
     ]
   where
     ok : Result (List ℕ) Refusal

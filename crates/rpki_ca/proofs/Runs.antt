@@ -101,8 +101,8 @@ delivers : (scheme : Relation) (words : List (List ℕ)) (kind : Kind) (keys : L
     → Appends sink.before sink.after (text ++ 10 ∷ []) → IsAnswer scheme words input (Ok text) → Delivers scheme kind keys when input sink
 delivers scheme words kind keys when input text sink is w a =
     elim (leb_tells (length input) (2 ^ 26)) [
-      | inl within ↦ spelled scheme kind keys when input text (hexadecimal input) sink refl (a.answers (Receive kind when keys) (is_command words kind when keys is) within.1) w
-      | inr longer ↦ absurd (unlike text refusals.TooLong (a.long (Receive kind when keys) (is_command words kind when keys is) longer.1))
+      | inl within ↦ spelled scheme kind keys when input text (hexadecimal input) sink refl (a.answers (Receive kind when keys) (is_command words kind when keys is) (λ reads. within.1)) w
+      | inr longer ↦ absurd (unlike text refusals.TooLong (a.long (Receive kind when keys) (is_command words kind when keys is) tt longer.1))
     ]
 
 -- words of `receive` ask for no signer
@@ -161,7 +161,7 @@ holds_text : (scheme : Relation) (words : List (List ℕ)) (kind : Kind) (keys :
     → IsAnswer scheme words input (Ok (text_of h.message))
 holds_text scheme words kind keys when input h is =
     let said : AnswersSpelled scheme (Receive kind when keys) (Some h.octets) (Ok (text_of h.message)) = record { message = h.message; accepted = h.accepted; written = refl } in
-    answers scheme words input (Receive kind when keys) (Ok (text_of h.message)) (is_command words kind when keys is) h.short
+    answers scheme words input (Receive kind when keys) (Ok (text_of h.message)) (is_command words kind when keys is) (λ reads. h.short)
     (subst (λ (o : Option (List ℕ)). AnswersSpelled scheme (Receive kind when keys) o (Ok (text_of h.message))) (sym h.spells) said)
 
 pub succeeds : {I : Type 0} (scheme : Relation) (words : List (List ℕ)) (source sink : Seen) (signer : SignerSeen I) (status : ℕ) → Answered scheme words source sink signer status → (kind : Kind) (when : ℤ) (keys : List KeyFields)
@@ -214,8 +214,8 @@ can_create scheme words source sink signer status a kind when is = can_succeed s
 set_up_text : {I : Type 0} (scheme : Relation) (words : List (List ℕ)) (signer : SignerSeen I) (kind : SetupKind) (when : ℤ) (input text : List ℕ) → IsSetup words kind when → IsGiven scheme words signer input (Ok text) → IsSetUp scheme kind input when text
 set_up_text scheme words signer kind when input text is (inl a) =
     elim (leb_tells (length input) (2 ^ 26)) [
-      | inl within ↦ a.answers (Setup kind when) (is_setup words kind when is) within.1
-      | inr longer ↦ absurd (unlike text refusals.TooLong (a.long (Setup kind when) (is_setup words kind when is) longer.1))
+      | inl within ↦ a.answers (Setup kind when) (is_setup words kind when is) (λ reads. within.1)
+      | inr longer ↦ absurd (unlike text refusals.TooLong (a.long (Setup kind when) (is_setup words kind when is) tt longer.1))
     ]
 set_up_text scheme words signer kind when input text is (inr a) =
     absurd (no_signer scheme a.command kind when input signer (Ok text) (one_command words a.command (Setup kind when) a.is (is_setup words kind when is)) a.answers)
@@ -317,10 +317,10 @@ neither : ReadsAll 11 → ⊥
 neither (inl k) = cc
 neither (inr k) = let most : 11 ≤ 8 = k.1 in omega (arith, most)
 
-pub read_to_end : {L : Type 0} (r : Result L Refusal) (s : ℕ) (rest : Option (List ℕ)) → MatchResult r (λ _. IsAtEnd rest) (λ e. ReadsAll (status_of e) → IsAtEnd rest) → Status r s → ReadsAll s → IsAtEnd rest
-read_to_end (Ok line) s rest f st all = f
-read_to_end (Err r) s rest f (inl e) all = f (subst ReadsAll e all)
-read_to_end (Err r) s rest f (inr e) all = absurd (neither (subst ReadsAll e all))
+pub read_to_end : {L M : Type 0} (r : Result L Refusal) (s : ℕ) (rest : Option (List ℕ)) → (M → MatchResult r (λ _. IsAtEnd rest) (λ e. ReadsAll (status_of e) → IsAtEnd rest)) → Status r s → M → ReadsAll s → IsAtEnd rest
+read_to_end (Ok line) s rest f st m all = f m
+read_to_end (Err r) s rest f (inl e) m all = f m (subst ReadsAll e all)
+read_to_end (Err r) s rest f (inr e) m all = absurd (neither (subst ReadsAll e all))
 
 long_alone : (r : Refusal) → status_of r ≡ 9 → r ≡ refusals.TooLong
 long_alone refusals.TooLong k = refl

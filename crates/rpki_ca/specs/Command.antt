@@ -151,13 +151,13 @@ pub record IsCommand (words : List (List ℕ)) (command : Command) : Type 0 wher
 abbrev pub IsNoCommand : List (List ℕ) → Type 0
 IsNoCommand words = (c : Command) → IsCommand words c → ⊥
 
--- it has one to eight keys, if it has any
-abbrev pub HasFewKeys : Command → Type 0
-HasFewKeys Content = ⊤
-HasFewKeys (Receive kind when keys) = (1 ≤ length keys) × (length keys ≤ 8)
-HasFewKeys (Create kind when) = ⊤
-HasFewKeys (Setup kind when) = ⊤
-HasFewKeys (Make count seed) = ⊤
+-- it has one to eight keys, if it has any, and makes at most 10000 elements
+abbrev pub IsLimited : Command → Type 0
+IsLimited Content = ⊤
+IsLimited (Receive kind when keys) = (1 ≤ length keys) × (length keys ≤ 8)
+IsLimited (Create kind when) = ⊤
+IsLimited (Setup kind when) = ⊤
+IsLimited (Make count seed) = count ≤ 10000
 
 -- the words don't ask to create
 abbrev pub AreNoCreate : List (List ℕ) → Type 0

@@ -9,6 +9,8 @@ use Rattle.rpki_base.specs.PublicKey.{KeyFields}
 use Rattle.rpki_base.specs.Scheme.{Relation}
 use Rattle.rpki_signer.specs.Signer.{Holds, Lacks, AreDistinct, IsUnfit}
 use Rattle.rpki_sigmsg.specs.Checks.{IsAmong}
+use Rattle.rpki_signer.specs.declared.errors.KeyError.{KeyError}
+use Rattle.rpki_signer.specs.declared.errors.KeyError.TheVariants as keys
 use Rattle.rpki_signer.specs.declared.errors.SigningError.TheVariants as signing
 use Rattle.rpki_sigmsg.specs.declared.create_error.CreateError.{CreateError}
 use Rattle.rpki_sigmsg.specs.declared.create_error.CreateError.TheVariants as create
@@ -124,6 +126,12 @@ refusal_of_create (create.Signing signing.IncompatibleKey) = refusals.Incompatib
 refusal_of_create (create.Signing (signing.Signer error)) = refusals.Signer
 refusal_of_create (create.Signing signing.OutOfMemory) = refusals.OutOfMemory
 refusal_of_create create.OutOfMemory = refusals.OutOfMemory
+
+-- how a refusal to give a key is answered
+abbrev pub refusal_of_key : {E : Type 0} → KeyError E → Refusal
+refusal_of_key keys.KeyNotFound = refusals.KeyNotFound
+refusal_of_key (keys.Signer error) = refusals.Signer
+refusal_of_key keys.OutOfMemory = refusals.OutOfMemory
 
 -- ---- at the end of a call
 

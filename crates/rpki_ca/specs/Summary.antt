@@ -15,6 +15,7 @@ use Rattle.rpki_base.specs.Scheme.{Relation}
 use Rattle.rpki_signer.specs.Signer.{Holds, AreDistinct}
 use Rattle.rpki_publication.specs.declared.message.Message.TheVariants as messages
 use Rattle.rpki_publication.specs.declared.query.Query.TheVariants as queries
+use Rattle.rpki_publication.specs.Publish.{PublishFields, UpdateFields, WithdrawFields}
 use Rattle.rpki_publication.specs.declared.publish_delta_element.PublishDeltaElement.{PublishDeltaElement}
 use Rattle.rpki_publication.specs.declared.publish_delta_element.PublishDeltaElement.TheVariants as change
 use Rattle.rpki_ca.specs.declared.receiving.Kind.TheVariants as kinds
@@ -43,28 +44,37 @@ uri_at place = codes "rsync://localhost/ca/f" ++ decimal place ++ codes ".txt"
 abbrev pub tag_at : ℕ → ℕ → List ℕ
 tag_at seed place = encode_lower (sha256 (object_at seed place))
 
--- The change at a place, tagged by the object's digest: of every three one publishes, the next
--- replaces an object whose octets were these and a 0, and the last withdraws.
+-- the object is published
+abbrev pub publish_at : ℕ → ℕ → PublishFields
+publish_at seed place = record {
+  tag = Some (tag_at seed place);
+  uri = uri_at place;
+  content = object_at seed place;
+}
+
+-- it is published in the place of one whose octets were these and a 0
+abbrev pub update_at : ℕ → ℕ → UpdateFields
+update_at seed place = record {
+  tag = Some (tag_at seed place);
+  uri = uri_at place;
+  content = object_at seed place;
+  hash = sha256 (object_at seed place ++ 0 ∷ []);
+}
+
+-- it is withdrawn
+abbrev pub withdraw_at : ℕ → ℕ → WithdrawFields
+withdraw_at seed place = record {
+  tag = Some (tag_at seed place);
+  uri = uri_at place;
+  hash = sha256 (object_at seed place);
+}
+
+-- the change at a place: these three in turn
 abbrev pub change_at : ℕ → ℕ → PublishDeltaElement
 change_at seed place =
-    if place % 3 == 0
-    then change.Publish (record {
-      tag = Some (tag_at seed place);
-      uri = uri_at place;
-      content = object_at seed place;
-    })
-    else if place % 3 == 1
-    then change.Update (record {
-      tag = Some (tag_at seed place);
-      uri = uri_at place;
-      content = object_at seed place;
-      hash = sha256 (object_at seed place ++ 0 ∷ []);
-    })
-    else change.Withdraw (record {
-      tag = Some (tag_at seed place);
-      uri = uri_at place;
-      hash = sha256 (object_at seed place);
-    })
+    if place % 3 == 0 then change.Publish (publish_at seed place)
+    else if place % 3 == 1 then change.Update (update_at seed place)
+    else change.Withdraw (withdraw_at seed place)
 
 -- those at the places 0 and up, so many
 abbrev pub changes : ℕ → ℕ → List PublishDeltaElement
@@ -74,6 +84,13 @@ changes seed count = map (change_at seed) (range_with_len 0 count)
 abbrev pub made_message : ℕ → ℕ → Received
 made_message seed count =
     received.Publication (messages.Query (queries.Delta (changes seed count)))
+
+-- the changes of a query; none of another message
+abbrev pub changes_in : Received → List PublishDeltaElement
+changes_in (received.Publication (messages.Query (queries.Delta elements))) = elements
+changes_in (received.Publication (messages.Query queries.List)) = []
+changes_in (received.Publication (messages.Reply reply)) = []
+changes_in (received.Provisioning m) = []
 
 -- ---- the summary
 
