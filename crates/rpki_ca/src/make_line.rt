@@ -1,23 +1,21 @@
 //! The command `make`.
 
-ghost use Rattle.std.specs.Prelude.{◌≡◌, ◌≢◌, ◌<◌, ◌≤◌, ◌++◌, ◌∷◌, [], List, ℕ, Ok, Err, IfOk, IfErr, MatchResult, length};
-ghost use Rattle.std.specs.List.{AllByRecursion};
-ghost use Rattle.rpki_base.specs.declared.algorithm.SigningAlgorithm.TheVariants.{RsaSha256};
-ghost use Rattle.rpki_publication.specs.Change.{IsWritableChange};
-ghost use Rattle.rpki_publication.specs.declared.publish_delta_element.PublishDeltaElement.{PublishDeltaElement as Change};
+ghost use Rattle.std.specs.Prelude.{◌≡◌, ◌≢◌, ◌≤◌, ◌++◌, ◌∷◌, [], None, Ok, Err, OnOk, IfOk, IfErr};
+ghost use Rattle.sha2.specs.Sha256.{sha256};
 ghost use Rattle.rpki_signer.specs.Limits.{Keeps};
+ghost use Rattle.rpki_text.specs.Uri.{rsync, fault_of};
 ghost use Rattle.rpki_ca.specs.Acceptance.{IsWritable};
 ghost use Rattle.rpki_ca.specs.Answer.{IsLineOf};
-ghost use Rattle.rpki_ca.specs.Creation.{AreCreated, refusal_of_key};
+ghost use Rattle.rpki_ca.specs.Creation.{refusal_of_key};
 ghost use Rattle.rpki_ca.specs.Seen.{seen_signer};
-ghost use Rattle.rpki_ca.specs.Summary.{object_at, uri_at, change_at, changes, made_message, made_at};
-ghost use Rattle.rpki_ca.specs.Summary.{changes_in, summary, IsMakeAnswer};
+ghost use Rattle.rpki_ca.specs.Summary.{object_at, uri_at, publish_at, update_at, withdraw_at, change_at};
+ghost use Rattle.rpki_ca.specs.Summary.{made_message, made_at, changes_in, summary, is_publish, is_update};
+ghost use Rattle.rpki_ca.specs.Summary.{is_withdraw, IsMakeAnswer};
 
 use crate::create_line::publication_octets;
-use crate::receiving::{Kind, ReceiveError, Received, receive};
+use crate::receiving::{Kind, Received, receive};
 use crate::refusals::Refusal;
-use bytes::Bytes;
-use rpki_base::{PublicKey, Scheme, Time, Verifier};
+use rpki_base::{Scheme, Time, Verifier};
 use rpki_common::OutOfMemory;
 use rpki_publication::{
     Message, Publish, PublishDelta, PublishDeltaElement, Query, Update, Withdraw,
@@ -112,8 +110,8 @@ fn add_change(
 // The query with so many changes.
 fn made_message(alloc: Global, count: u32, seed: u32) -> Result<Message, OutOfMemory>
     requires { count ≤ 10000 }
-    ensures message { IfOk result (λ m. received.Publication m ≡ made_message seed count) }
-    ensures writable { IfOk result (λ m. IsWritable (received.Publication m)) }
+    ensures message { IfOk result (λ m. Received.Publication m ≡ made_message seed count) }
+    ensures writable { IfOk result (λ m. IsWritable (Received.Publication m)) }
 {
     let mut delta = PublishDelta::empty(alloc);
     for place in 0..count {
@@ -181,14 +179,6 @@ impl<E: Drop> From<KeyError<E>> for Refusal {
         }
     }
 }
-
-// The octets of the signed message, and the key that issued its certificate.
-fn made_octets<P: Scheme, S: Signer<P>>(
-    alloc: Global,
-    message: Message,
-    key: &S::KeyId,
-    signer: &mut S,
-) -> Result<(Bytes, PublicKey), Refusal>
 
 /// The summary of a signed message that is made of so many changes and received under the issuing
 /// key, and a line feed.
