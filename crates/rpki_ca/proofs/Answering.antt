@@ -2,10 +2,10 @@
 use Rattle.std.proofs.Common.{◌≡◌, ◌≢◌, ◌<◌, ◌≤◌, ◌^◌, ◌⊎◌, ℕ, inl, inr, Option, Some, None, Result, Ok, Err, List, length, refl, sym, ap, subst, ◌∙◌, arith}
 use Rattle.std.specs.Prelude.{IfSome, IfOk, IfErr, IsErrOf}
 use Rattle.rpki_ca.specs.declared.command.Command.{Command}
-use Rattle.rpki_ca.specs.declared.command.Command.TheVariants.{Content, Receive, Create, Setup}
+use Rattle.rpki_ca.specs.declared.command.Command.TheVariants.{Content, Receive, Create, Setup, Make}
 use Rattle.rpki_ca.specs.declared.refusals.Refusal.{Refusal}
 use Rattle.rpki_ca.specs.declared.refusals.Refusal.TheVariants as refusals
-use Rattle.rpki_ca.specs.Command.{IsCommand, IsNoCommand}
+use Rattle.rpki_ca.specs.Command.{IsCommand, IsNoCommand, ReadsInput}
 use Rattle.rpki_base.specs.Scheme.{Relation}
 use Rattle.rpki_ca.specs.Refusal.{status_of}
 use Rattle.rpki_ca.specs.Seen.{Seen, SignerSeen, IsSteady}
@@ -14,18 +14,18 @@ use Rattle.rpki_ca.proofs.Commands.{one_command}
 
 -- ---- the answer
 
-pub answers : (scheme : Relation) (words : List (List ℕ)) (input : List ℕ) (c : Command) (a : Result (List ℕ) Refusal) → IsCommand words c → length input ≤ 2 ^ 26 → AnswersSpelled scheme c (octets_in c input) a → IsAnswer scheme words input a
+pub answers : (scheme : Relation) (words : List (List ℕ)) (input : List ℕ) (c : Command) (a : Result (List ℕ) Refusal) → IsCommand words c → (ReadsInput c → length input ≤ 2 ^ 26) → AnswersSpelled scheme c (octets_in c input) a → IsAnswer scheme words input a
 answers scheme words input c a is l said =
     record {
       usage = λ n. absurd (n c is);
-      long = λ d also m. absurd (never (length input) m l);
+      long = λ d also reads m. absurd (never (length input) m (l (subst ReadsInput (one_command words d c also is) reads)));
       answers = λ d also m. subst (λ (x : Command). AnswersSpelled scheme x (octets_in x input) a) (one_command words c d is also) said;
     }
   where
     never : (n : ℕ) → 2 ^ 26 < n → n ≤ 2 ^ 26 → ⊥
     never n a b = omega (arith, a, b)
 
-given : {I : Type 0} (scheme : Relation) (words : List (List ℕ)) (signer : SignerSeen I) (input : List ℕ) (c : Command) (a : Result (List ℕ) Refusal) → IsCommand words c → length input ≤ 2 ^ 26 → Performs scheme c input signer a → IsGiven scheme words signer input a
+given : {I : Type 0} (scheme : Relation) (words : List (List ℕ)) (signer : SignerSeen I) (input : List ℕ) (c : Command) (a : Result (List ℕ) Refusal) → IsCommand words c → (ReadsInput c → length input ≤ 2 ^ 26) → Performs scheme c input signer a → IsGiven scheme words signer input a
 given scheme words signer input c a is l (inl said) = inl (answers scheme words input c a is l said)
 given scheme words signer input c a is l (inr said) = inr (record { command = c; is = is; within = l; answers = said })
 
@@ -46,17 +46,25 @@ pub if_err : {X Y : Type 0} (r : Result X Y) (P Q : Y → Type 0) → ((e : Y) �
 if_err (Ok x) P Q f p = tt
 if_err (Err e) P Q f p = f e p
 
+-- what is performed with the input is performed with what was read of it
+of_input : {I : Type 0} (scheme : Relation) (c : Command) (octets input : List ℕ) (signer : SignerSeen I) (a : Result (List ℕ) Refusal) → (ReadsInput c → octets ≡ input) → Performs scheme c octets signer a → Performs scheme c input signer a
+of_input scheme Content octets input signer a same said = subst (λ (o : List ℕ). Performs scheme Content o signer a) (same tt) said
+of_input scheme (Receive kind when keys) octets input signer a same said = subst (λ (o : List ℕ). Performs scheme (Receive kind when keys) o signer a) (same tt) said
+of_input scheme (Create kind when) octets input signer a same said = subst (λ (o : List ℕ). Performs scheme (Create kind when) o signer a) (same tt) said
+of_input scheme (Setup kind when) octets input signer a same said = subst (λ (o : List ℕ). Performs scheme (Setup kind when) o signer a) (same tt) said
+of_input scheme (Make count seed) octets input signer a same said = said
+
 pub shown : {I : Type 0} (scheme : Relation) (words : List (List ℕ)) (source : Seen) (signer : SignerSeen I) (octets : List ℕ) (c : Command) (a : Result (List ℕ) Refusal) → IsCommand words c
-    → IfSome source.before (λ input. (octets ≡ input) × (length input ≤ 2 ^ 26)) → IsSteady source → Performs scheme c octets signer a → IsShown scheme words source signer a
+    → IfSome source.before (λ input. ReadsInput c → (octets ≡ input) × (length input ≤ 2 ^ 26)) → IsSteady source → Performs scheme c octets signer a → IsShown scheme words source signer a
 shown scheme words source signer octets c a is within steady said =
     record {
-      shown = if_some source.before _ _ (λ input p. given scheme words signer input c a is p.1 (subst (λ (o : List ℕ). Performs scheme c o signer a) p.0 said)) within;
+      shown = if_some source.before _ _ (λ input p. given scheme words signer input c a is (λ reads. (p reads).1) (of_input scheme c octets input signer a (λ reads. (p reads).0) said)) within;
       steady = steady;
     }
 
 -- words of no command
 usage_answer : (scheme : Relation) (words : List (List ℕ)) (input : List ℕ) → IsNoCommand words → IsAnswer scheme words input (Err refusals.Usage)
-usage_answer scheme words input none = record { usage = λ n. refl; long = λ c is l. absurd (none c is); answers = λ c is l. absurd (none c is) }
+usage_answer scheme words input none = record { usage = λ n. refl; long = λ c is reads l. absurd (none c is); answers = λ c is l. absurd (none c is) }
 
 pub usage_shown : {I : Type 0} (scheme : Relation) (words : List (List ℕ)) (source : Seen) (signer : SignerSeen I) → IsNoCommand words → IsSteady source → IsShown scheme words source signer (Err refusals.Usage)
 usage_shown scheme words source signer none steady = record { shown = always_some source.before _ (λ input. inl (usage_answer scheme words input none)); steady = steady }
@@ -75,12 +83,14 @@ no_usage scheme Content (Some octets) said = said
 no_usage scheme (Receive kind when keys) (Some octets) said = said
 no_usage scheme (Create kind when) (Some octets) said = said
 no_usage scheme (Setup kind when) (Some octets) said = said.refused
+no_usage scheme (Make count seed) (Some octets) said = said
 
 no_usage_signed : {I : Type 0} (scheme : Relation) (c : Command) (input : List ℕ) (signer : SignerSeen I) → AnswersSigned scheme c input signer (Err refusals.Usage) → ⊥
 no_usage_signed scheme Content input signer said = said
 no_usage_signed scheme (Receive kind when keys) input signer said = said
 no_usage_signed scheme (Create kind when) input signer said = said.signed
 no_usage_signed scheme (Setup kind when) input signer said = said
+no_usage_signed scheme (Make count seed) input signer said = said
 
 no_fault : (scheme : Relation) (c : Command) (o : Option (List ℕ)) → AnswersSpelled scheme c o (Err refusals.ReadFault) → ⊥
 no_fault scheme c None said = never said
@@ -91,12 +101,14 @@ no_fault scheme Content (Some octets) said = said
 no_fault scheme (Receive kind when keys) (Some octets) said = said
 no_fault scheme (Create kind when) (Some octets) said = said
 no_fault scheme (Setup kind when) (Some octets) said = said.refused
+no_fault scheme (Make count seed) (Some octets) said = said
 
 no_fault_signed : {I : Type 0} (scheme : Relation) (c : Command) (input : List ℕ) (signer : SignerSeen I) → AnswersSigned scheme c input signer (Err refusals.ReadFault) → ⊥
 no_fault_signed scheme Content input signer said = said
 no_fault_signed scheme (Receive kind when keys) input signer said = said
 no_fault_signed scheme (Create kind when) input signer said = said.signed
 no_fault_signed scheme (Setup kind when) input signer said = said
+no_fault_signed scheme (Make count seed) input signer said = said
 
 performs_no_usage : {I : Type 0} (scheme : Relation) (c : Command) (input : List ℕ) (signer : SignerSeen I) → Performs scheme c input signer (Err refusals.Usage) → ⊥
 performs_no_usage scheme c input signer (inl said) = no_usage scheme c (octets_in c input) said
@@ -268,7 +280,7 @@ to_shown scheme words source signer refusals.Signer f m s = s
 to_shown scheme words source signer refusals.Moment f m s = s
 
 pub admitted : {I : Type 0} (scheme : Relation) (words : List (List ℕ)) (source : Seen) (signer : SignerSeen I) (octets : List ℕ) (c : Command) (e : Refusal) → IsCommand words c
-    → IfSome source.before (λ input. (octets ≡ input) × (length input ≤ 2 ^ 26)) → IsSteady source → (e ≢ refusals.OutOfMemory → Performs scheme c octets signer (Err e))
+    → IfSome source.before (λ input. ReadsInput c → (octets ≡ input) × (length input ≤ 2 ^ 26)) → IsSteady source → (e ≢ refusals.OutOfMemory → Performs scheme c octets signer (Err e))
     → IsAdmitted scheme words source signer (Err e)
 admitted scheme words source signer octets c e is within steady said =
     elim (sort_of e) [

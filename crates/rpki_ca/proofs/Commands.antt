@@ -1,7 +1,7 @@
 -- Lists of words, and the commands that they are.
-use Rattle.std.proofs.Common.{◌≡◌, ◌≤◌, ◌<◌, ◌+◌, ℕ, zero, suc, ℤ, Bool, true, false, Option, Some, None, List, [], ◌∷◌, ◌++◌, length, map, drop, pos, negsuc, refl, sym, ap, subst, ◌∙◌, append_assoc, arith, inl, inr}
+use Rattle.std.proofs.Common.{◌≡◌, ◌≤◌, ◌<◌, ◌+◌, ◌^◌, ℕ, zero, suc, ℤ, Bool, true, false, Option, Some, None, List, [], ◌∷◌, ◌++◌, length, map, drop, pos, negsuc, refl, sym, ap, subst, ◌∙◌, append_assoc, arith, inl, inr, lit<}
 use Rattle.std.specs.Prelude.{codes, bytes_eq, if◌then◌else◌, slice_get, IsSome}
-use Rattle.std.proofs.lemmas.Fmt.{signed_decimal_injective}
+use Rattle.std.proofs.lemmas.Fmt.{signed_decimal_injective, decimal_injective}
 use Rattle.std.proofs.Math.ListN.{drop_of_length-le}
 use Rattle.std.proofs.lemmas.List.{append-nil}
 use Rattle.std.proofs.lemmas.Option.{slice_get_cases}
@@ -13,12 +13,12 @@ use Rattle.rpki_ca.specs.declared.receiving.Kind.TheVariants.{Publication, Provi
 use Rattle.rpki_ca.specs.declared.command.Verb.{Verb}
 use Rattle.rpki_ca.specs.declared.command.Verb.TheVariants as verbs
 use Rattle.rpki_ca.specs.declared.command.Command.{Command}
-use Rattle.rpki_ca.specs.declared.command.Command.TheVariants.{Content, Receive, Create, Setup}
+use Rattle.rpki_ca.specs.declared.command.Command.TheVariants.{Content, Receive, Create, Setup, Make}
 use Rattle.rpki_ca.specs.declared.setup_message.SetupKind.{SetupKind}
 use Rattle.rpki_ca.specs.declared.setup_message.SetupKind.TheVariants as setup
-use Rattle.rpki_ca.specs.Words.{IsMoment, IsMomentAt, key_of, key_at}
-use Rattle.rpki_ca.specs.Command.{setup_kind_word, setup_kind_of, setup_kind_at, IsSetup}
-use Rattle.rpki_ca.specs.Command.{kind_word, kind_of, kind_at, verb_word, verb_of, verb_in, AreKeys, IsReceive, IsCreate, AreNoCreate, AsksSigner, AskToReceive, Ask, IsCommand, IsNoCommand, AskInVain, HasFewKeys}
+use Rattle.rpki_ca.specs.Words.{IsMoment, IsMomentAt, IsNumber, IsNumberAt, key_of, key_at}
+use Rattle.rpki_ca.specs.Command.{setup_kind_word, setup_kind_of, setup_kind_at, IsSetup, IsMake, AreNoMake, ReadsInput}
+use Rattle.rpki_ca.specs.Command.{kind_word, kind_of, kind_at, verb_word, verb_of, verb_in, AreKeys, IsReceive, IsCreate, AreNoCreate, AsksSigner, AskToReceive, Ask, IsCommand, IsNoCommand, AskInVain, IsLimited}
 
 abbrev some_word : List ℕ → Option (List ℕ)
 some_word w = Some w
@@ -80,9 +80,12 @@ one_kind a b word = same (sym (same_kind a) ∙ ap kind_of word ∙ same_kind b)
 named_verb : (word : List ℕ) (verb : Verb) → verb_of word ≡ Some verb → word ≡ verb_word verb
 named_verb word verb e = first (bytes_eq word (verb_word verbs.Content)) refl e
   where
-    -- from the fourth verb on, from the third, and from the second
+    -- from the fifth verb on, from the fourth, from the third, and from the second
+    fifth_on : Option Verb
+    fifth_on = if bytes_eq word (verb_word verbs.Make) then Some verbs.Make else None
+
     fourth_on : Option Verb
-    fourth_on = if bytes_eq word (verb_word verbs.Setup) then Some verbs.Setup else None
+    fourth_on = if bytes_eq word (verb_word verbs.Setup) then Some verbs.Setup else fifth_on
 
     third_on : Option Verb
     third_on = if bytes_eq word (verb_word verbs.Create) then Some verbs.Create else fourth_on
@@ -90,9 +93,13 @@ named_verb word verb e = first (bytes_eq word (verb_word verbs.Content)) refl e
     second_on : Option Verb
     second_on = if bytes_eq word (verb_word verbs.Receive) then Some verbs.Receive else third_on
 
-    fourth : (b : Bool) → bytes_eq word (verb_word verbs.Setup) ≡ b → (if b then Some verbs.Setup else None) ≡ some_verb verb → word ≡ verb_word verb
+    fifth : (b : Bool) → bytes_eq word (verb_word verbs.Make) ≡ b → (if b then Some verbs.Make else None) ≡ some_verb verb → word ≡ verb_word verb
+    fifth true t e = let same : verbs.Make ≡ verb = cc in (bytes_eq-Decides word (verb_word verbs.Make)).0 t ∙ ap verb_word same
+    fifth false t e = cc
+
+    fourth : (b : Bool) → bytes_eq word (verb_word verbs.Setup) ≡ b → (if b then Some verbs.Setup else fifth_on) ≡ some_verb verb → word ≡ verb_word verb
     fourth true t e = let same : verbs.Setup ≡ verb = cc in (bytes_eq-Decides word (verb_word verbs.Setup)).0 t ∙ ap verb_word same
-    fourth false t e = cc
+    fourth false t e = fifth (bytes_eq word (verb_word verbs.Make)) refl e
 
     third : (b : Bool) → bytes_eq word (verb_word verbs.Create) ≡ b → (if b then Some verbs.Create else fourth_on) ≡ some_verb verb → word ≡ verb_word verb
     third true t e = let same : verbs.Create ≡ verb = cc in (bytes_eq-Decides word (verb_word verbs.Create)).0 t ∙ ap verb_word same
@@ -123,6 +130,7 @@ ask_with verbs.Content words c a = ap verb_in a.0
 ask_with verbs.Receive words c a = ap verb_in a.receive.are
 ask_with verbs.Create words c a = ap verb_in a.create.are
 ask_with verbs.Setup words c a = ap verb_in a.setup_words.are
+ask_with verbs.Make words c a = ap verb_in a.make.are
 
 one_verb : (words : List (List ℕ)) (v w : Verb) → verb_in words ≡ Some v → verb_in words ≡ Some w → v ≡ w
 one_verb words v w a b = same (sym a ∙ b)
@@ -420,6 +428,44 @@ set_up words kind when e l k m =
       is = refl;
     }
 
+same_at : (i : ℕ) (a b : List ℕ) (xs ys : List (List ℕ)) → xs ≡ ys → slice_get xs i ≡ Some a → slice_get ys i ≡ Some b → a ≡ b
+same_at i a b xs ys e p q = same (sym p ∙ ap (λ (ws : List (List ℕ)). slice_get ws i) e ∙ q)
+  where
+    same : some_word a ≡ some_word b → a ≡ b
+    same e = cc
+
+-- ---- `make`
+
+pub not_three_to_make : (words : List (List ℕ)) → (length words ≡ 3 → ⊥) → AskInVain verbs.Make words
+not_three_to_make words other c a = other (ap length a.make.are)
+
+pub no_count_to_make : (words : List (List ℕ)) → ((n : ℕ) → IsNumberAt words 1 10000 n → ⊥) → AskInVain verbs.Make words
+no_count_to_make words none c a =
+    none a.count (record { word = a.make.count_word; stands = ap (λ (ws : List (List ℕ)). slice_get ws 1) a.make.are; number_is = a.make.counts })
+
+pub no_seed_to_make : (words : List (List ℕ)) → ((n : ℕ) → IsNumberAt words 2 4294967295 n → ⊥) → AskInVain verbs.Make words
+no_seed_to_make words none c a =
+    none a.seed (record { word = a.make.seed_word; stands = ap (λ (ws : List (List ℕ)). slice_get ws 2) a.make.are; number_is = a.make.seeds })
+
+pub made : (words : List (List ℕ)) (count seed : ℕ) → verb_in words ≡ Some verbs.Make → length words ≡ 3 → IsNumberAt words 1 10000 count → IsNumberAt words 2 4294967295 seed → Ask verbs.Make words (Make count seed)
+made words count seed e l n m =
+    let f = begin_with words verbs.Make e in
+    let w = just_three words (codes "make") f.rest f.are l in
+    let second : n.word ≡ w.0 = same_at 1 n.word w.0 words _ w.2 n.stands refl in
+    let third : m.word ≡ w.1 = same_at 2 m.word w.1 words _ w.2 m.stands refl in
+    record {
+      count = count;
+      seed = seed;
+      make = record {
+        count_word = w.0;
+        seed_word = w.1;
+        are = w.2;
+        counts = subst (λ (w : List ℕ). IsNumber w 10000 count) second n.number_is;
+        seeds = subst (λ (w : List ℕ). IsNumber w 4294967295 seed) third m.number_is;
+      };
+      is = refl;
+    }
+
 -- ---- one command
 
 one_moment : (word : List ℕ) (a b : ℤ) → IsMoment word a → IsMoment word b → a ≡ b
@@ -429,12 +475,6 @@ one_moment word (pos m) (pos n) p q =
     signed_decimal_injective (pos m) (pos n) (omega (arith, low)) (omega (arith, high)) (sym p.0 ∙ q.0)
 one_moment word (pos m) (negsuc n) p q = absurd q
 one_moment word (negsuc m) b p q = absurd p
-
-same_at : (i : ℕ) (a b : List ℕ) (xs ys : List (List ℕ)) → xs ≡ ys → slice_get xs i ≡ Some a → slice_get ys i ≡ Some b → a ≡ b
-same_at i a b xs ys e p q = same (sym p ∙ ap (λ (ws : List (List ℕ)). slice_get ws i) e ∙ q)
-  where
-    same : some_word a ≡ some_word b → a ≡ b
-    same e = cc
 
 one_receive : (words : List (List ℕ)) (a b : Kind) (s t : ℤ) (k l : List KeyFields) → IsReceive words a s k → IsReceive words b t l → Receive a s k ≡ Receive b t l
 one_receive words a b s t k l p q =
@@ -464,11 +504,27 @@ one_setup words a b s t p q =
     let ab : a ≡ b = cc in
     rw (ab, st) refl
 
+one_number : (word : List ℕ) (most a b : ℕ) → most < 2 ^ 32 → IsNumber word most a → IsNumber word most b → a ≡ b
+one_number word most a b small p q =
+    let low : a ≤ most = p.1 in
+    let high : b ≤ most = q.1 in
+    decimal_injective a b (omega (arith, low, small)) (omega (arith, high, small)) (sym p.0 ∙ q.0)
+
+one_make : (words : List (List ℕ)) (m n s t : ℕ) → IsMake words m s → IsMake words n t → Make m s ≡ Make n t
+one_make words m n s t p q =
+    let e = sym p.are ∙ q.are in
+    let counts : p.count_word ≡ q.count_word = same_at 1 p.count_word q.count_word _ _ e refl refl in
+    let seeds : p.seed_word ≡ q.seed_word = same_at 2 p.seed_word q.seed_word _ _ e refl refl in
+    let mn : m ≡ n = one_number q.count_word 10000 m n (lit< tt) (subst (λ (w : List ℕ). IsNumber w 10000 m) counts p.counts) q.counts in
+    let st : s ≡ t = one_number q.seed_word 4294967295 s t (lit< tt) (subst (λ (w : List ℕ). IsNumber w 4294967295 s) seeds p.seeds) q.seeds in
+    rw (mn, st) refl
+
 asked_once : (verb : Verb) (words : List (List ℕ)) (c d : Command) → Ask verb words c → Ask verb words d → c ≡ d
 asked_once verbs.Content words c d p q = p.1 ∙ sym q.1
 asked_once verbs.Receive words c d p q = p.is ∙ one_receive words p.kind q.kind p.when q.when p.keys q.keys p.receive q.receive ∙ sym q.is
 asked_once verbs.Create words c d p q = p.is ∙ one_create words p.kind q.kind p.when q.when p.create q.create ∙ sym q.is
 asked_once verbs.Setup words c d p q = p.is ∙ one_setup words p.kind q.kind p.when q.when p.setup_words q.setup_words ∙ sym q.is
+asked_once verbs.Make words c d p q = p.is ∙ one_make words p.count q.count p.seed q.seed p.make q.make ∙ sym q.is
 
 pub one_command : (words : List (List ℕ)) (c d : Command) → IsCommand words c → IsCommand words d → c ≡ d
 one_command words c d p q =
@@ -486,23 +542,42 @@ is_create words kind when r = record { verb = verbs.Create; ask = record { kind 
 pub is_setup : (words : List (List ℕ)) (kind : SetupKind) (when : ℤ) → IsSetup words kind when → IsCommand words (Setup kind when)
 is_setup words kind when r = record { verb = verbs.Setup; ask = record { kind = kind; when = when; setup_words = r; is = refl } }
 
--- what asks for a signer is `create`
-pub asks_signer : (words : List (List ℕ)) (c : Command) → IsCommand words c → AsksSigner c → AreNoCreate words → ⊥
-asks_signer words c a asks none = by_verb a.verb a.ask
+pub is_make : (words : List (List ℕ)) (count seed : ℕ) → IsMake words count seed → IsCommand words (Make count seed)
+is_make words count seed m = record { verb = verbs.Make; ask = record { count = count; seed = seed; make = m; is = refl } }
+
+-- what reads no input is `make`
+pub reads_input : (words : List (List ℕ)) (c : Command) → IsCommand words c → AreNoMake words → ReadsInput c
+reads_input words c a none = by_verb a.verb a.ask
+  where
+    by_verb : (verb : Verb) → Ask verb words c → ReadsInput c
+    by_verb verbs.Content p = subst ReadsInput (sym p.1) tt
+    by_verb verbs.Receive p = subst ReadsInput (sym p.is) tt
+    by_verb verbs.Create p = subst ReadsInput (sym p.is) tt
+    by_verb verbs.Setup p = subst ReadsInput (sym p.is) tt
+    by_verb verbs.Make p = absurd (none p.count p.seed p.make)
+
+pub make_reads_none : (words : List (List ℕ)) (c : Command) (count seed : ℕ) → IsCommand words c → IsMake words count seed → ReadsInput c → ⊥
+make_reads_none words c count seed a m reads = subst ReadsInput (one_command words c (Make count seed) a (is_make words count seed m)) reads
+
+-- what asks for a signer is `create` or `make`
+pub asks_signer : (words : List (List ℕ)) (c : Command) → IsCommand words c → AsksSigner c → AreNoCreate words → AreNoMake words → ⊥
+asks_signer words c a asks none no_make = by_verb a.verb a.ask
   where
     by_verb : (verb : Verb) → Ask verb words c → ⊥
     by_verb verbs.Content p = subst AsksSigner p.1 asks
     by_verb verbs.Receive p = subst AsksSigner p.is asks
     by_verb verbs.Create p = none p.kind p.when p.create
     by_verb verbs.Setup p = subst AsksSigner p.is asks
+    by_verb verbs.Make p = no_make p.count p.seed p.make
 
-pub has_few : (words : List (List ℕ)) (c : Command) → IsCommand words c → HasFewKeys c
+pub has_few : (words : List (List ℕ)) (c : Command) → IsCommand words c → IsLimited c
 has_few words c a = by_verb a.verb a.ask
   where
-    by_verb : (verb : Verb) → Ask verb words c → HasFewKeys c
-    by_verb verbs.Content p = subst HasFewKeys (sym p.1) tt
+    by_verb : (verb : Verb) → Ask verb words c → IsLimited c
+    by_verb verbs.Content p = subst IsLimited (sym p.1) tt
     by_verb verbs.Receive p =
         let n : length p.receive.key_words ≡ length p.keys = same_count key_of some_key p.receive.key_words p.keys p.receive.spell in
-        subst HasFewKeys (sym p.is) (omega (arith, n, p.receive.some), omega (arith, n, p.receive.few))
-    by_verb verbs.Create p = subst HasFewKeys (sym p.is) tt
-    by_verb verbs.Setup p = subst HasFewKeys (sym p.is) tt
+        subst IsLimited (sym p.is) (omega (arith, n, p.receive.some), omega (arith, n, p.receive.few))
+    by_verb verbs.Create p = subst IsLimited (sym p.is) tt
+    by_verb verbs.Setup p = subst IsLimited (sym p.is) tt
+    by_verb verbs.Make p = subst IsLimited (sym p.is) p.make.counts.1

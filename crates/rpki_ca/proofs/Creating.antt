@@ -39,7 +39,7 @@ use Rattle.rpki_ca.specs.declared.receiving.Received.TheVariants as received
 use Rattle.rpki_ca.specs.declared.refusals.Refusal.{Refusal}
 use Rattle.rpki_ca.specs.declared.refusals.Refusal.TheVariants as refusals
 use Rattle.rpki_ca.specs.Acceptance.{ReadsAs, protocol_of, text_of, normal_form}
-use Rattle.rpki_ca.specs.Creation.{RefusesInput, IsCreateRefusal, IsReceivable, AreCreated, IsSigned, IsSignersAnswer, IsCreateAnswer, Creates, CanCreate, refusal_of_create}
+use Rattle.rpki_ca.specs.Creation.{RefusesInput, IsCreateRefusal, IsReceivable, AreCreated, IsSigned, IsSignersAnswer, IsCreateAnswer, Creates, CanCreate, CanSign, refusal_of_create}
 use Rattle.rpki_ca.specs.Answer.{AnswersSigned, IsFromSigner, IsGiven}
 use Rattle.rpki_ca.specs.Command.{IsCreate}
 use Rattle.rpki_ca.specs.Seen.{Seen, SignerSeen}
@@ -146,6 +146,14 @@ fits message when r tells w long memory =
 pub fits_ok : {T E : Type 0} (message : Received) (when : ℤ) (r : Result T (CreateError E)) (x : T) → r ≡ Ok x → TellsText message when r → HasWindow when → length (text_of message) ≤ 2 ^ 31
 fits_ok message when r x is tells w = fits message when r tells w (not_error r x create.TooLong is) (not_error r x create.OutOfMemory is)
 
+-- a refusal of the signer, each by its cause
+pub signer_refused : {I E : Type 0} (scheme : Relation) (kind : Kind) (message : Received) (when : ℤ) (signer : SignerSeen I) (s : SigningError E) → SigningFails RsaSha256 signer.id signer.before signer.after s
+    → refusal_of_create (create.Signing s) ≢ refusals.OutOfMemory → IsSigned scheme kind message when signer (Err (refusal_of_create (create.Signing s)))
+signer_refused scheme kind message when signer signing.KeyNotFound f other = f
+signer_refused scheme kind message when signer signing.IncompatibleKey f other = f
+signer_refused scheme kind message when signer (signing.Signer x) f other = f
+signer_refused scheme kind message when signer signing.OutOfMemory f other = absurd (other refl)
+
 abbrev err_as : {T E : Type 0} → CreateError E → Result T (CreateError E)
 err_as e = Err e
 
@@ -163,20 +171,19 @@ refused {T = T} {I = I} {E = E} scheme kind input message when signer create.Key
     memory : err_as {T = T} {E = E} create.KeyReused ≡ Err create.OutOfMemory → ⊥
     memory k = cc
 refused {T = T} {I = I} {E = E} scheme kind input message when signer (create.Signing error) r t f other =
-    by_signer error f.2 other (fits message when (err_as {T = T} (create.Signing error)) t f.0 (λ k. long k) (λ k. memory k))
+    inr (record {
+      message = message;
+      reads = r;
+      window_is = f.0;
+      fits = fits message when (err_as {T = T} (create.Signing error)) t f.0 (λ k. long k) (λ k. memory k);
+      signed = signer_refused scheme kind message when signer error f.2 other;
+    })
   where
     long : err_as {T = T} {E = E} (create.Signing error) ≡ Err create.TooLong → ⊥
     long k = cc
 
     memory : err_as {T = T} {E = E} (create.Signing error) ≡ Err create.OutOfMemory → ⊥
     memory k = cc
-
-    by_signer : (s : SigningError E) → SigningFails RsaSha256 signer.id signer.before signer.after s → refusal_of_create (create.Signing s) ≢ refusals.OutOfMemory → length (text_of message) ≤ 2 ^ 31
-        → IsCreateAnswer scheme kind input when signer (Err (refusal_of_create (create.Signing s)))
-    by_signer signing.KeyNotFound g n l = inr (record { message = message; reads = r; window_is = f.0; fits = l; signed = g })
-    by_signer signing.IncompatibleKey g n l = inr (record { message = message; reads = r; window_is = f.0; fits = l; signed = g })
-    by_signer (signing.Signer x) g n l = inr (record { message = message; reads = r; window_is = f.0; fits = l; signed = g })
-    by_signer signing.OutOfMemory g n l = absurd (n refl)
 refused scheme kind input message when signer create.OutOfMemory r t f other = absurd (other refl)
 
 -- ---- the line
@@ -190,7 +197,7 @@ line_created scheme kind input message when signer octets r l c =
 -- ---- status 0
 
 -- a key for one use that isn't the issuing key
-drawn_other : {X : Type 0} (drawn : Option X) (key issuing : X) → drawn ≡ Some key → key ≢ issuing → drawn ≢ Some issuing
+pub drawn_other : {X : Type 0} (drawn : Option X) (key issuing : X) → drawn ≡ Some key → key ≢ issuing → drawn ≢ Some issuing
 drawn_other {X = X} drawn key issuing is other same = other (one (sym is ∙ same))
   where
     some : X → Option X
@@ -226,26 +233,26 @@ no_pure kind when input signer a can (inr (inr p)) =
     never : (n : ℕ) → 2 ^ 31 < n → n ≤ 2 ^ 31 → ⊥
     never n l m = omega (arith, l, m)
 
-no_signed : {I : Type 0} (scheme : Relation) (kind : Kind) (when : ℤ) (input : List ℕ) (signer : SignerSeen I) (message : Received) (r : Refusal) → CanCreate kind when input signer → IsSigned scheme kind message when signer (Err r) → ⊥
-no_signed scheme kind when input signer message refusals.TooLong can s = can.short_answers s
-no_signed scheme kind when input signer message refusals.KeyReused can s =
+pub no_signed : {I : Type 0} (scheme : Relation) (kind : Kind) (when : ℤ) (signer : SignerSeen I) (message : Received) (r : Refusal) → CanSign signer → IsSigned scheme kind message when signer (Err r) → ⊥
+no_signed scheme kind when signer message refusals.TooLong can s = can.short_answers s
+no_signed scheme kind when signer message refusals.KeyReused can s =
     can.other s.told (s.drawn ∙ ap Some (one_key signer.before.keyring signer.id s.issuing can.issuing can.distinct s.holds can.holds))
-no_signed scheme kind when input signer message refusals.KeyNotFound can s = s can.issuing can.holds
-no_signed scheme kind when input signer message refusals.IncompatibleKey can s =
+no_signed scheme kind when signer message refusals.KeyNotFound can s = s can.issuing can.holds
+no_signed scheme kind when signer message refusals.IncompatibleKey can s =
     s.format (ap (λ (k : KeyFields). k.format) (one_key signer.before.keyring signer.id s.key can.issuing can.distinct s.holds can.holds) ∙ can.format)
-no_signed scheme kind when input signer message refusals.Signer can s = can.no_fault s
-no_signed scheme kind when input signer message refusals.Usage can s = s
-no_signed scheme kind when input signer message refusals.Hex can s = s
-no_signed scheme kind when input signer message refusals.CmsDecode can s = s
-no_signed scheme kind when input signer message refusals.XmlError can s = s
-no_signed scheme kind when input signer message refusals.CertSyntax can s = s
-no_signed scheme kind when input signer message refusals.InvalidCsrSyntax can s = s
-no_signed scheme kind when input signer message refusals.InvalidTaCertEncoding can s = s
-no_signed scheme kind when input signer message refusals.InvalidTaCert can s = s
-no_signed scheme kind when input signer message (refusals.Validation n) can s = s
-no_signed scheme kind when input signer message refusals.Moment can s = s
-no_signed scheme kind when input signer message refusals.ReadFault can s = s
-no_signed scheme kind when input signer message refusals.OutOfMemory can s = s
+no_signed scheme kind when signer message refusals.Signer can s = can.no_fault s
+no_signed scheme kind when signer message refusals.Usage can s = s
+no_signed scheme kind when signer message refusals.Hex can s = s
+no_signed scheme kind when signer message refusals.CmsDecode can s = s
+no_signed scheme kind when signer message refusals.XmlError can s = s
+no_signed scheme kind when signer message refusals.CertSyntax can s = s
+no_signed scheme kind when signer message refusals.InvalidCsrSyntax can s = s
+no_signed scheme kind when signer message refusals.InvalidTaCertEncoding can s = s
+no_signed scheme kind when signer message refusals.InvalidTaCert can s = s
+no_signed scheme kind when signer message (refusals.Validation n) can s = s
+no_signed scheme kind when signer message refusals.Moment can s = s
+no_signed scheme kind when signer message refusals.ReadFault can s = s
+no_signed scheme kind when signer message refusals.OutOfMemory can s = s
 
 -- what the signer's answer to the command is
 signed_by : {I : Type 0} (scheme : Relation) (c : Command) (kind : Kind) (when : ℤ) (input : List ℕ) (signer : SignerSeen I) (a : Result (List ℕ) Refusal) → c ≡ Create kind when → AnswersSigned scheme c input signer a → IsSignersAnswer scheme kind input when signer a
@@ -255,15 +262,15 @@ pub from_signer : {I : Type 0} (scheme : Relation) (words : List (List ℕ)) (ki
 from_signer scheme words kind when input signer a is f = signed_by scheme f.command kind when input signer a (one_command words f.command (Create kind when) f.is (is_create words kind when is)) f.answers
 
 pub not_refused : {I : Type 0} (scheme : Relation) (words : List (List ℕ)) (kind : Kind) (when : ℤ) (input : List ℕ) (signer : SignerSeen I) (r : Refusal) → IsCreate words kind when → CanCreate kind when input signer → IsGiven scheme words signer input (Err r) → ⊥
-not_refused scheme words kind when input signer r is can (inl a) = no_pure kind when input signer (Err r) can (create_view kind input when (Err r) (a.answers (Create kind when) (is_create words kind when is) can.short))
-not_refused scheme words kind when input signer r is can (inr a) = let s = from_signer scheme words kind when input signer (Err r) is a in no_signed scheme kind when input signer s.message r can s.signed
+not_refused scheme words kind when input signer r is can (inl a) = no_pure kind when input signer (Err r) can (create_view kind input when (Err r) (a.answers (Create kind when) (is_create words kind when is) (λ reads. can.short)))
+not_refused scheme words kind when input signer r is can (inr a) = let s = from_signer scheme words kind when input signer (Err r) is a in no_signed scheme kind when signer s.message r can.signs s.signed
 
 -- a text that is given comes from the signer
 pub text_from_signer : {I : Type 0} (scheme : Relation) (words : List (List ℕ)) (kind : Kind) (when : ℤ) (input text : List ℕ) (signer : SignerSeen I) → IsCreate words kind when → IsGiven scheme words signer input (Ok text) → IsSignersAnswer scheme kind input when signer (Ok text)
 text_from_signer scheme words kind when input text signer is (inl a) =
     elim (leb_tells (length input) (2 ^ 26)) [
-      | inl within ↦ absurd (a.answers (Create kind when) (is_create words kind when is) within.1)
-      | inr longer ↦ absurd (unlike (a.long (Create kind when) (is_create words kind when is) longer.1))
+      | inl within ↦ absurd (a.answers (Create kind when) (is_create words kind when is) (λ reads. within.1))
+      | inr longer ↦ absurd (unlike (a.long (Create kind when) (is_create words kind when is) tt longer.1))
     ]
   where
     ok : Result (List ℕ) Refusal

@@ -19,7 +19,7 @@ use Rattle.rpki_sigmsg.specs.Beginning.{BeginsSigned, HoldsContent}
 use Rattle.rpki_publication.specs.Message as publication
 use Rattle.rpki_provisioning.specs.Message as provisioning
 use Rattle.rpki_ca.specs.declared.command.Command.{Command}
-use Rattle.rpki_ca.specs.declared.command.Command.TheVariants.{Content, Receive, Create, Setup}
+use Rattle.rpki_ca.specs.declared.command.Command.TheVariants.{Content, Receive, Create, Setup, Make}
 use Rattle.rpki_ca.specs.declared.receiving.Kind.{Kind}
 use Rattle.rpki_ca.specs.declared.receiving.Kind.TheVariants as kinds
 use Rattle.rpki_ca.specs.declared.receiving.Received.{Received}
@@ -30,7 +30,7 @@ use Rattle.rpki_ca.specs.declared.refusals.Refusal.{Refusal}
 use Rattle.rpki_ca.specs.declared.refusals.Refusal.TheVariants as refusals
 use Rattle.rpki_ca.specs.Refusal.{status_of}
 use Rattle.rpki_ca.specs.Answer.{IsContent, FailsDigest, IsContentAnswer, FailsAt, IsTextAccepted, IsReceiveAnswer, octets_in, AnswersSpelled, AnswersSigned, IsAnswer, IsFromSigner}
-use Rattle.rpki_ca.specs.Command.{IsCommand, IsNoCommand}
+use Rattle.rpki_ca.specs.Command.{IsCommand, IsNoCommand, ReadsInput}
 use Rattle.rpki_ca.specs.Creation.{RefusesInput, HasNoWindow, HasLongText, IsCreateRefusal, IsSignersAnswer}
 use Rattle.rpki_ca.specs.Seen.{SignerSeen}
 use Rattle.rpki_ca.specs.Setup.{ReadsSetup, certificate_octets, setup_text, IsAnchored, RefusesAnchor, IsSetUp, IsNoSetup, HoldsNoAnchor, IsSetupAnswer}
@@ -48,7 +48,7 @@ use Rattle.rpki_setup.specs.PublisherRequest.{publisher_request_in}
 use Rattle.rpki_setup.specs.RepositoryResponse.{repository_response_in}
 use Rattle.rpki_message.proofs.Read.{one_message}
 use Rattle.rpki_base.specs.Scheme.{Relation}
-use Rattle.rpki_ca.specs.Acceptance.{ReadsAs, Accepted, HoldsNoSigned, IsReceivedUnder, text_of}
+use Rattle.rpki_ca.specs.Acceptance.{ReadsAs, Accepted, HoldsNoSigned, RefusesReceipt, IsReceivedUnder, text_of, refusal_of}
 use Rattle.rpki_ca.proofs.Reasons.{reason, no_reason, one_reason}
 
 -- ---- what octets begin with, and what content reads as, is one
@@ -139,10 +139,15 @@ view scheme kind octets keys when (Err refusals.Moment) r = absurd r
 view scheme kind octets keys when (Err refusals.ReadFault) r = absurd r
 view scheme kind octets keys when (Err refusals.OutOfMemory) r = absurd r
 
+-- one message is accepted, and nothing else is answered
+pub one_accepted : (scheme : Relation) (kind : Kind) (octets : List ℕ) (keys : List KeyFields) (when : ℤ) (m n : Received) → Accepted scheme kind octets keys when m → Accepted scheme kind octets keys when n → m ≡ n
+one_accepted scheme kind octets keys when m n p q =
+    let signed = one_signed octets p.signed q.signed p.begins q.begins in
+    one_reading kind q.signed.content m n (subst (λ (s : MessageFields). ReadsAs kind s.content m) signed p.reads) q.reads
+
 one_text : (scheme : Relation) (kind : Kind) (octets : List ℕ) (keys : List KeyFields) (when : ℤ) (s t : List ℕ) → IsTextAccepted scheme kind octets keys when s → IsTextAccepted scheme kind octets keys when t → s ≡ t
 one_text scheme kind octets keys when s t p q =
-    let signed = one_signed octets p.accepted.signed q.accepted.signed p.accepted.begins q.accepted.begins in
-    let message = one_reading kind q.accepted.signed.content p.message q.message (subst (λ (m : MessageFields). ReadsAs kind m.content p.message) signed p.accepted.reads) q.accepted.reads in
+    let message = one_accepted scheme kind octets keys when p.message q.message p.accepted q.accepted in
     p.written ∙ ap text_of message ∙ sym q.written
 
 no_reading : (kind : Kind) (octets : List ℕ) (signed : MessageFields) (m : Received) (e : Refusal) → BeginsSigned octets signed → ReadsAs kind signed.content m → HoldsContent (λ o. RefusesInput kind o e) octets → ⊥
@@ -157,6 +162,15 @@ one_content_reason kind octets d e p q =
 accepted_fails : (scheme : Relation) (kind : Kind) (octets : List ℕ) (keys : List KeyFields) (when : ℤ) (text : List ℕ) (n : ℕ) → IsTextAccepted scheme kind octets keys when text → FailsAt scheme kind octets keys when n → ⊥
 accepted_fails scheme kind octets keys when text n a f =
     not_failing scheme f.fails.signed keys when (subst (λ (m : MessageFields). IsBelievedUnder scheme m keys when) (one_signed octets a.accepted.signed f.fails.signed a.accepted.begins f.fails.begins) a.accepted.believed) f.fails.none
+
+pub accepted_alone : (scheme : Relation) (kind : Kind) (octets : List ℕ) (keys : List KeyFields) (when : ℤ) (m : Received) (e : ReceiveError) → Accepted scheme kind octets keys when m → RefusesReceipt scheme kind octets keys when e → refusal_of e ≢ refusals.OutOfMemory → ⊥
+accepted_alone scheme kind octets keys when m errors.CmsDecode a r other = r a.signed a.begins
+accepted_alone scheme kind octets keys when m errors.XmlError a r other = no_reading kind octets a.signed m refusals.XmlError a.begins a.reads r
+accepted_alone scheme kind octets keys when m errors.CertSyntax a r other = no_reading kind octets a.signed m refusals.CertSyntax a.begins a.reads r
+accepted_alone scheme kind octets keys when m errors.InvalidCsrSyntax a r other = no_reading kind octets a.signed m refusals.InvalidCsrSyntax a.begins a.reads r
+accepted_alone scheme kind octets keys when m (errors.Validation e) a r other =
+    not_failing scheme r.signed keys when (subst (λ (s : MessageFields). IsBelievedUnder scheme s keys when) (one_signed octets a.signed r.signed a.begins r.begins) a.believed) r.none
+accepted_alone scheme kind octets keys when m errors.OutOfMemory a r other = other refl
 
 one_number : (scheme : Relation) (kind : Kind) (octets : List ℕ) (keys : List KeyFields) (when : ℤ) (n m : ℕ) → FailsAt scheme kind octets keys when n → FailsAt scheme kind octets keys when m → n ≡ m
 one_number scheme kind octets keys when n m f g =
@@ -415,6 +429,7 @@ one_answer scheme command None a b p q = p ∙ sym q
 one_answer scheme Content (Some octets) a b p q = one_content octets a b (content_view octets a p) (content_view octets b q)
 one_answer scheme (Receive kind when keys) (Some octets) a b p q = one_view scheme kind octets keys when a b (view scheme kind octets keys when a p) (view scheme kind octets keys when b q)
 one_answer scheme (Setup kind when) (Some octets) a b p q = one_set_up scheme kind octets when a b (setup_view scheme kind octets when a p) (setup_view scheme kind octets when b q)
+one_answer scheme (Make count seed) (Some octets) a b p q = absurd p
 one_answer scheme (Create kind when) (Some octets) a b p q = one_refusal kind octets when a b (create_view kind octets when a p) (create_view kind octets when b q)
 
 -- where the signer is asked, words and input show no answer
@@ -422,6 +437,7 @@ signed_alone : {I : Type 0} (scheme : Relation) (c : Command) (input : List ℕ)
 signed_alone scheme Content input signer a b p q = q
 signed_alone scheme (Receive kind when keys) input signer a b p q = q
 signed_alone scheme (Setup kind when) input signer a b p q = q
+signed_alone scheme (Make count seed) input signer a b p q = p
 signed_alone scheme (Create kind when) input signer a b p q = no_refusal scheme kind input when signer a b (create_view kind input when a p) q
 
 pub from_signer_alone : {I : Type 0} (scheme : Relation) (words : List (List ℕ)) (signer : SignerSeen I) (input : List ℕ) (a b : Result (List ℕ) Refusal) → IsAnswer scheme words input a → IsFromSigner scheme words signer input b → ⊥
@@ -544,9 +560,16 @@ one_where_command : (scheme : Relation) (words : List (List ℕ)) (input : List 
     → (c : Command) → IsCommand words c → a ≡ b
 one_where_command scheme words input a b p q c is =
     elim (leb_tells (length input) (2 ^ 26)) [
-      | inl within ↦ one_answer scheme c (octets_in c input) a b (p.answers c is within.1) (q.answers c is within.1)
-      | inr longer ↦ p.long c is longer.1 ∙ sym (q.long c is longer.1)
+      | inl within ↦ one_answer scheme c (octets_in c input) a b (p.answers c is (λ reads. within.1)) (q.answers c is (λ reads. within.1))
+      | inr longer ↦ of_long c is longer.1
     ]
+  where
+    of_long : (c : Command) → IsCommand words c → 2 ^ 26 < length input → a ≡ b
+    of_long Content is l = p.long Content is tt l ∙ sym (q.long Content is tt l)
+    of_long (Receive kind when keys) is l = p.long (Receive kind when keys) is tt l ∙ sym (q.long (Receive kind when keys) is tt l)
+    of_long (Create kind when) is l = p.long (Create kind when) is tt l ∙ sym (q.long (Create kind when) is tt l)
+    of_long (Setup kind when) is l = p.long (Setup kind when) is tt l ∙ sym (q.long (Setup kind when) is tt l)
+    of_long (Make count seed) is l = absurd (p.answers (Make count seed) is (λ reads. absurd reads))
 
 pub one_answer_to_words : (scheme : Relation) (words : List (List ℕ)) (input : List ℕ) (a b : Result (List ℕ) Refusal) → IsAnswer scheme words input a → IsAnswer scheme words input b → a ≡ b
 one_answer_to_words scheme words input a b p q =

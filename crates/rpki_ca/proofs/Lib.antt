@@ -5,6 +5,7 @@ pub mod Reasons
 pub mod Accepting
 pub mod Answering
 pub mod Laws
+pub mod Making
 pub mod Runs
 pub mod Creating
 pub mod SettingUp

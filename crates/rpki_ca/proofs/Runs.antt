@@ -10,21 +10,23 @@ use Rattle.rpki_ca.specs.declared.command.Command.{Command}
 use Rattle.rpki_ca.specs.declared.command.Command.TheVariants.{Receive, Setup}
 use Rattle.rpki_ca.specs.declared.setup_message.SetupKind.{SetupKind}
 use Rattle.rpki_ca.specs.declared.receiving.Kind.{Kind}
+use Rattle.rpki_ca.specs.declared.receiving.Kind.TheVariants as kinds
 use Rattle.rpki_ca.specs.declared.refusals.Refusal.{Refusal}
 use Rattle.rpki_ca.specs.declared.refusals.Refusal.TheVariants as refusals
 use Rattle.rpki_ca.specs.Command.{IsReceive, IsCreate, IsSetup, IsNoCommand}
 use Rattle.rpki_ca.specs.Setup.{IsSetUp}
-use Rattle.rpki_ca.specs.Creation.{Creates, CanCreate}
+use Rattle.rpki_ca.specs.Creation.{Creates, CanCreate, CanSign}
+use Rattle.rpki_ca.specs.Summary.{made_at, made_message, IsMakeAnswer, Makes}
 use Rattle.rpki_ca.specs.Hexadecimal.{hexadecimal}
 use Rattle.rpki_ca.specs.Refusal.{status_of}
 use Rattle.rpki_base.specs.Scheme.{Relation}
 use Rattle.rpki_ca.specs.Acceptance.{text_of}
 use Rattle.rpki_ca.specs.Seen.{Seen, SignerSeen, HasFailed, IsSteady}
-use Rattle.rpki_ca.specs.Answer.{AnswersSpelled, AnswersSigned, IsAnswer, IsGiven, IsShown, IsAdmitted, Ends, EndsAs, ReadsAll, Delivers, Holds, Succeeds}
+use Rattle.rpki_ca.specs.Answer.{AnswersSpelled, AnswersSigned, IsAnswer, IsGiven, IsShown, IsAdmitted, IsLineOf, Ends, EndsAs, ReadsAll, Delivers, Holds, Succeeds}
 use Rattle.rpki_ca.proofs.Commands.{is_command, is_setup, one_command}
 use Rattle.rpki_ca.proofs.Answering.{if_some, always_some, answers, sort_of, to_shown}
 use Rattle.rpki_ca.proofs.Laws.{one_answer_to_words, from_signer_alone}
-use Rattle.rpki_ca.proofs.Creating.{creates, text_from_signer, not_refused}
+use Rattle.rpki_ca.proofs.Creating.{creates, text_from_signer, not_refused, no_signed}
 
 -- an admitted answer with which the call ended
 pub record Answered {I : Type 0} (scheme : Relation) (words : List (List ℕ)) (source sink : Seen) (signer : SignerSeen I) (status : ℕ) : Type 0 where
@@ -42,6 +44,10 @@ answered E scheme words source sink signer status (Err e) a told b ends = record
 not_both : (s m n : ℕ) → s ≡ m → s ≡ n → m < n ⊎ n < m → ⊥
 not_both s m n a b (inl l) = omega (arith, a, b, l)
 not_both s m n a b (inr l) = omega (arith, a, b, l)
+
+-- how a status comes from what was answered
+abbrev Status : {L : Type 0} → Result L Refusal → ℕ → Type 0
+Status r s = MatchResult r (λ _. (s ≡ 0) ⊎ (s ≡ 11)) (λ e. (s ≡ status_of e) ⊎ (s ≡ 11))
 
 -- ---- status 0
 
@@ -101,8 +107,8 @@ delivers : (scheme : Relation) (words : List (List ℕ)) (kind : Kind) (keys : L
     → Appends sink.before sink.after (text ++ 10 ∷ []) → IsAnswer scheme words input (Ok text) → Delivers scheme kind keys when input sink
 delivers scheme words kind keys when input text sink is w a =
     elim (leb_tells (length input) (2 ^ 26)) [
-      | inl within ↦ spelled scheme kind keys when input text (hexadecimal input) sink refl (a.answers (Receive kind when keys) (is_command words kind when keys is) within.1) w
-      | inr longer ↦ absurd (unlike text refusals.TooLong (a.long (Receive kind when keys) (is_command words kind when keys is) longer.1))
+      | inl within ↦ spelled scheme kind keys when input text (hexadecimal input) sink refl (a.answers (Receive kind when keys) (is_command words kind when keys is) (λ reads. within.1)) w
+      | inr longer ↦ absurd (unlike text refusals.TooLong (a.long (Receive kind when keys) (is_command words kind when keys is) tt longer.1))
     ]
 
 -- words of `receive` ask for no signer
@@ -161,7 +167,7 @@ holds_text : (scheme : Relation) (words : List (List ℕ)) (kind : Kind) (keys :
     → IsAnswer scheme words input (Ok (text_of h.message))
 holds_text scheme words kind keys when input h is =
     let said : AnswersSpelled scheme (Receive kind when keys) (Some h.octets) (Ok (text_of h.message)) = record { message = h.message; accepted = h.accepted; written = refl } in
-    answers scheme words input (Receive kind when keys) (Ok (text_of h.message)) (is_command words kind when keys is) h.short
+    answers scheme words input (Receive kind when keys) (Ok (text_of h.message)) (is_command words kind when keys is) (λ reads. h.short)
     (subst (λ (o : Option (List ℕ)). AnswersSpelled scheme (Receive kind when keys) o (Ok (text_of h.message))) (sym h.spells) said)
 
 pub succeeds : {I : Type 0} (scheme : Relation) (words : List (List ℕ)) (source sink : Seen) (signer : SignerSeen I) (status : ℕ) → Answered scheme words source sink signer status → (kind : Kind) (when : ℤ) (keys : List KeyFields)
@@ -214,8 +220,8 @@ can_create scheme words source sink signer status a kind when is = can_succeed s
 set_up_text : {I : Type 0} (scheme : Relation) (words : List (List ℕ)) (signer : SignerSeen I) (kind : SetupKind) (when : ℤ) (input text : List ℕ) → IsSetup words kind when → IsGiven scheme words signer input (Ok text) → IsSetUp scheme kind input when text
 set_up_text scheme words signer kind when input text is (inl a) =
     elim (leb_tells (length input) (2 ^ 26)) [
-      | inl within ↦ a.answers (Setup kind when) (is_setup words kind when is) within.1
-      | inr longer ↦ absurd (unlike text refusals.TooLong (a.long (Setup kind when) (is_setup words kind when is) longer.1))
+      | inl within ↦ a.answers (Setup kind when) (is_setup words kind when is) (λ reads. within.1)
+      | inr longer ↦ absurd (unlike text refusals.TooLong (a.long (Setup kind when) (is_setup words kind when is) tt longer.1))
     ]
 set_up_text scheme words signer kind when input text is (inr a) =
     absurd (no_signer scheme a.command kind when input signer (Ok text) (one_command words a.command (Setup kind when) a.is (is_setup words kind when is)) a.answers)
@@ -228,6 +234,39 @@ pub set_up : {I : Type 0} (scheme : Relation) (words : List (List ℕ)) (source 
 set_up scheme words source sink signer status a kind when is zero =
     let w = written scheme words source sink signer status a zero in
     if_some source.before _ _ (λ rest said. (w.text, set_up_text scheme words signer kind when rest w.text is said, w.written)) w.shown
+
+-- ---- what `make` makes
+
+-- what a line or a refusal was answered with the status comes of
+abbrev Finished : {L : Type 0} → (L → List ℕ) → Result L Refusal → ℕ → Seen → Type 0
+Finished items r status sink = IfOk r (λ line. (text : List ℕ) → items line ≡ text ++ 10 ∷ [] → Ends (Ok text) status sink)
+
+pub made : {L I : Type 0} (items : L → List ℕ) (scheme : Relation) (count seed : ℕ) (signer : SignerSeen I) (sink : Seen) (r : Result L Refusal) (status : ℕ)
+    → MatchResult r (λ line. IsLineOf (IsMakeAnswer scheme count seed signer) (items line)) (λ e. e ≢ refusals.OutOfMemory → IsMakeAnswer scheme count seed signer (Err e))
+    → Finished items r status sink → Status r status → status ≡ 0 → Makes scheme count seed signer sink
+made items scheme count seed signer sink (Ok line) status told ends st zero = whole (subst (λ s. Ends (Ok told.0) s sink) zero (ends told.0 told.2))
+  where
+    whole : Ends (Ok told.0) 0 sink → Makes scheme count seed signer sink
+    whole (inl w) = record { text = told.0; summed = told.1; written = w.1 }
+    whole (inr w) = absurd (not_both 0 0 11 refl w.0 (inl (lit< tt)))
+made items scheme count seed signer sink (Err e) status told ends (inl is) zero = absurd (no_zero e (sym zero ∙ is))
+made items scheme count seed signer sink (Err e) status told ends (inr is) zero = absurd (not_both status 0 11 zero is (inl (lit< tt)))
+
+pub makes : {L I : Type 0} (items : L → List ℕ) (scheme : Relation) (count seed : ℕ) (signer : SignerSeen I) (r : Result L Refusal) (status : ℕ)
+    → MatchResult r (λ line. IsLineOf (IsMakeAnswer scheme count seed signer) (items line)) (λ e. e ≢ refusals.OutOfMemory → IsMakeAnswer scheme count seed signer (Err e))
+    → Status r status → CanSign signer → (status ≡ 0) ⊎ ((status ≡ 12) ⊎ (status ≡ 11))
+makes items scheme count seed signer (Ok line) status told (inl is) can = inl is
+makes items scheme count seed signer (Ok line) status told (inr is) can = inr (inr is)
+makes items scheme count seed signer (Err e) status told (inr is) can = inr (inr is)
+makes items scheme count seed signer (Err e) status told (inl is) can =
+    elim (sort_of e) [
+      | inl fault ↦ absurd (subst (λ (x : Refusal). IsMakeAnswer scheme count seed signer (Err x)) fault (told (λ k. unlike_memory (sym fault ∙ k))))
+      | inr (inl memory) ↦ inr (inl (is ∙ ap status_of memory))
+      | inr (inr other) ↦ absurd (no_signed scheme kinds.Publication made_at signer (made_message seed count) e can (told other.1))
+    ]
+  where
+    unlike_memory : refusals.ReadFault ≡ refusals.OutOfMemory → ⊥
+    unlike_memory k = cc
 
 -- ---- faults of the source
 
@@ -293,10 +332,6 @@ usage_alone refusals.Moment k = cc
 usage_alone refusals.ReadFault k = cc
 usage_alone refusals.OutOfMemory k = cc
 
--- how a status comes from what was answered
-abbrev Status : {L : Type 0} → Result L Refusal → ℕ → Type 0
-Status r s = MatchResult r (λ _. (s ≡ 0) ⊎ (s ≡ 11)) (λ e. (s ≡ status_of e) ⊎ (s ≡ 11))
-
 pub usage : {L : Type 0} (words : List (List ℕ)) (r : Result L Refusal) (s : ℕ) → (IsErrOf r refusals.Usage → IsNoCommand words) → Status r s → s ≡ 2 → IsNoCommand words
 usage words (Ok line) s f (inl e) two = absurd (not_both s 2 0 two e (inr (lit< tt)))
 usage words (Ok line) s f (inr e) two = absurd (not_both s 2 11 two e (inl (lit< tt)))
@@ -317,10 +352,10 @@ neither : ReadsAll 11 → ⊥
 neither (inl k) = cc
 neither (inr k) = let most : 11 ≤ 8 = k.1 in omega (arith, most)
 
-pub read_to_end : {L : Type 0} (r : Result L Refusal) (s : ℕ) (rest : Option (List ℕ)) → MatchResult r (λ _. IsAtEnd rest) (λ e. ReadsAll (status_of e) → IsAtEnd rest) → Status r s → ReadsAll s → IsAtEnd rest
-read_to_end (Ok line) s rest f st all = f
-read_to_end (Err r) s rest f (inl e) all = f (subst ReadsAll e all)
-read_to_end (Err r) s rest f (inr e) all = absurd (neither (subst ReadsAll e all))
+pub read_to_end : {L M : Type 0} (r : Result L Refusal) (s : ℕ) (rest : Option (List ℕ)) → (M → MatchResult r (λ _. IsAtEnd rest) (λ e. ReadsAll (status_of e) → IsAtEnd rest)) → Status r s → M → ReadsAll s → IsAtEnd rest
+read_to_end (Ok line) s rest f st m all = f m
+read_to_end (Err r) s rest f (inl e) m all = f m (subst ReadsAll e all)
+read_to_end (Err r) s rest f (inr e) m all = absurd (neither (subst ReadsAll e all))
 
 long_alone : (r : Refusal) → status_of r ≡ 9 → r ≡ refusals.TooLong
 long_alone refusals.TooLong k = refl

@@ -1,7 +1,7 @@
 -- What single words say.
-use Rattle.std.proofs.Common.{◌≡◌, ◌≤◌, ◌<◌, ℕ, ℤ, pos, negsuc, Option, Some, None, Result, Ok, Err, List, [], ◌∷◌, refl, sym, ap, ◌∙◌, arith, w64, to_z, of_z, Bool, true, false}
+use Rattle.std.proofs.Common.{◌≡◌, ◌≤◌, ◌<◌, ◌^◌, ℕ, ℤ, pos, negsuc, Option, Some, None, Result, Ok, Err, List, [], ◌∷◌, refl, sym, ap, ◌∙◌, arith, w64, to_z, of_z, Bool, true, false}
 use Rattle.std.specs.Result.{result_ok}
-use Rattle.std.specs.Fmt.{signed_decimal}
+use Rattle.std.specs.Fmt.{decimal, signed_decimal}
 use Rattle.std.specs.Int.Signed.{lt_z, le_z_yes}
 use Rattle.std.proofs.Math.Facts.{to_z-of_z}
 use Rattle.std.specs.Prelude.{bytes_eq, not, IsNone, IsSome}
@@ -10,8 +10,8 @@ use Rattle.std.proofs.lemmas.Bool.{le-leb}
 use Rattle.std.proofs.lemmas.Bool.Decides.{Decides-ltb}
 use Rattle.std.proofs.lemmas.Slice.Eq.{bytes_eq-Decides}
 use Rattle.rpki_base.specs.Civil as civil
-use Rattle.std.specs.Str.Parse.{ParsesSigned}
-use Rattle.std.proofs.lemmas.Fmt.{parse-signed_decimal}
+use Rattle.std.specs.Str.Parse.{ParsesSigned, ParsesUnsigned}
+use Rattle.std.proofs.lemmas.Fmt.{parse-decimal, parse-signed_decimal}
 use Rattle.std.proofs.lemmas.Int.{fits_signed_from_abs}
 use Rattle.rpki_common.specs.Chaining.{◌>>=◌}
 use Rattle.rpki_der.specs.declared.mode.Mode.{Mode}
@@ -24,7 +24,7 @@ use Rattle.hex.specs.Hex.{decode_of}
 use Rattle.rpki_der.specs.declared.error.DecodeError.{DecodeError}
 use Rattle.rpki_der.specs.declared.mode.Mode.TheVariants.{Der}
 use Rattle.rpki_base.specs.PublicKey.{KeyFields, public_key}
-use Rattle.rpki_ca.specs.Words.{IsMoment, key_of}
+use Rattle.rpki_ca.specs.Words.{IsMoment, IsNumber, key_of}
 
 -- ---- moments
 
@@ -97,6 +97,34 @@ nothing_there (Some x) n s = not_so n
   where
     not_so : true ≡ false → ⊥
     not_so k = cc
+
+-- ---- numbers
+
+is_number : {E : Type 0} (word : List ℕ) (most n : ℕ) (r : Result ℕ E) → most < 2 ^ 32 → IsNumber word most n → ParsesUnsigned 32 10 word r → r ≡ Ok n
+is_number word most n r fits m p =
+    let within : n ≤ most = m.1 in
+    parse-decimal 32 n word r (omega (arith, within, fits)) (omega (arith, within, fits)) m.0 p
+
+pub no_number : {E : Type 0} (word : List ℕ) (most n : ℕ) (e : E) → most < 2 ^ 32 → IsNumber word most n → ParsesUnsigned 32 10 word (Err e) → ⊥
+no_number word most n e fits m p = let same : Err e ≡ Ok n = is_number word most n (Err e) fits m p in cc
+
+one_number : {E : Type 0} (word : List ℕ) (most k n : ℕ) (r : Result ℕ E) → most < 2 ^ 32 → IsNumber word most n → r ≡ Ok k → ParsesUnsigned 32 10 word r → k ≡ n
+one_number word most k n r fits m is p = let same : Ok k ≡ Ok n = sym is ∙ is_number word most n r fits m p in cc
+
+pub number_alike : {E : Type 0} (word text : List ℕ) (most k n : ℕ) (r : Result ℕ E) → most < 2 ^ 32 → IsNumber word most n → r ≡ Ok k → ParsesUnsigned 32 10 word r → text ≡ decimal k → not (bytes_eq text word) ≡ true → ⊥
+number_alike word text most k n r fits m is p t d =
+    let same : text ≡ word = t ∙ ap decimal (one_number word most k n r fits m is p) ∙ sym m.0 in
+    not_both (bytes_eq text word) ((bytes_eq-Decides text word).1 same) d
+  where
+    not_both : (b : Bool) → b ≡ true → not b ≡ true → ⊥
+    not_both true e d = cc
+    not_both false e d = cc
+
+pub number_within : {E : Type 0} (word : List ℕ) (most k n : ℕ) (r : Result ℕ E) → most < 2 ^ 32 → IsNumber word most n → r ≡ Ok k → ParsesUnsigned 32 10 word r → most < k → ⊥
+number_within word most k n r fits m is p over =
+    let within : n ≤ most = m.1 in
+    let same = one_number word most k n r fits m is p in
+    omega (arith, within, over, same)
 
 -- ---- keys
 

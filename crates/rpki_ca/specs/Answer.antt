@@ -9,14 +9,15 @@ use Rattle.rpki_sigmsg.specs.Message.{MessageFields}
 use Rattle.rpki_sigmsg.specs.Beginning.{BeginsSigned, HoldsContent}
 use Rattle.rpki_text.specs.Sink.{AppendsPart}
 use Rattle.rpki_ca.specs.declared.command.Command.{Command}
-use Rattle.rpki_ca.specs.declared.command.Command.TheVariants.{Content, Receive, Create, Setup}
+use Rattle.rpki_ca.specs.declared.command.Command.TheVariants.{Content, Receive, Create, Setup, Make}
 use Rattle.rpki_ca.specs.declared.receiving.Kind.{Kind}
 use Rattle.rpki_ca.specs.declared.receiving.Received.{Received}
 use Rattle.rpki_ca.specs.declared.refusals.Refusal.{Refusal}
 use Rattle.rpki_ca.specs.declared.refusals.Refusal.TheVariants as refusals
-use Rattle.rpki_ca.specs.Command.{IsCommand, IsNoCommand}
+use Rattle.rpki_ca.specs.Command.{IsCommand, IsNoCommand, ReadsInput}
 use Rattle.rpki_ca.specs.Creation.{IsCreateRefusal, IsSignersAnswer}
 use Rattle.rpki_ca.specs.Setup.{IsSetupAnswer}
+use Rattle.rpki_ca.specs.Summary.{IsMakeAnswer}
 use Rattle.rpki_ca.specs.Hexadecimal.{hexadecimal}
 use Rattle.rpki_base.specs.Scheme.{Relation}
 use Rattle.rpki_ca.specs.Acceptance.{Accepted, HoldsNoSigned, HasNoForm, HoldsNoCertificate}
@@ -77,21 +78,24 @@ IsReceiveAnswer scheme kind octets keys when (Err (refusals.Validation n)) =
     FailsAt scheme kind octets keys when n
 IsReceiveAnswer scheme kind octets keys when (Err other) = ⊥
 
--- the answer of a command to octets; that of `create` is a refusal, where it asks no signer
+-- the answer of a command to octets; that of `create` is a refusal, where it asks no signer, and
+-- `make` has none, since it always asks one
 abbrev pub Answers : Relation → Command → List ℕ → Result (List ℕ) Refusal → Type 0
 Answers scheme Content octets answer = IsContentAnswer octets answer
 Answers scheme (Receive kind when keys) octets answer =
     IsReceiveAnswer scheme kind octets keys when answer
 Answers scheme (Create kind when) octets answer = IsCreateRefusal kind octets when answer
 Answers scheme (Setup kind when) octets answer = IsSetupAnswer scheme kind octets when answer
+Answers scheme (Make count seed) octets answer = ⊥
 
 -- the octets that a command takes from the input: those that are given in hexadecimal, and for
--- `create` and `setup` the input itself
+-- `create` and `setup` the input itself; `make` looks at none
 abbrev pub octets_in : Command → List ℕ → Option (List ℕ)
 octets_in Content input = hexadecimal input
 octets_in (Receive kind when keys) input = hexadecimal input
 octets_in (Create kind when) input = Some input
 octets_in (Setup kind when) input = Some input
+octets_in (Make count seed) input = Some []
 
 -- the answer to these, where there are any
 abbrev pub AnswersSpelled : Relation → Command → Option (List ℕ) → Result (List ℕ) Refusal → Type 0
@@ -106,6 +110,8 @@ AnswersSigned scheme (Receive kind when keys) input signer answer = ⊥
 AnswersSigned scheme (Create kind when) input signer answer =
     IsSignersAnswer scheme kind input when signer answer
 AnswersSigned scheme (Setup kind when) input signer answer = ⊥
+AnswersSigned scheme (Make count seed) input signer answer =
+    IsMakeAnswer scheme count seed signer answer
 
 -- the answer of a command to input, from the signer or not
 abbrev pub Performs : {Id : Type 0} → Relation → Command → List ℕ → SignerSeen Id
@@ -117,22 +123,23 @@ Performs scheme command input signer answer =
 -- ---- words and input
 
 -- The answer to words and input, memory aside: Usage to words of no command; TooLong to more than
--- 2^26 octets of input; else that of the command.
+-- 2^26 octets of input, where the command reads it; else that of the command.
 pub record IsAnswer (scheme : Relation) (words : List (List ℕ)) (input : List ℕ)
     (answer : Result (List ℕ) Refusal) : Type 0 where
   pub usage : IsNoCommand words → answer ≡ Err refusals.Usage
-  pub long : (command : Command) → IsCommand words command → 2 ^ 26 < length input
-      → answer ≡ Err refusals.TooLong
-  pub answers : (command : Command) → IsCommand words command → length input ≤ 2 ^ 26
+  pub long : (command : Command) → IsCommand words command → ReadsInput command
+      → 2 ^ 26 < length input → answer ≡ Err refusals.TooLong
+  pub answers : (command : Command) → IsCommand words command
+      → (ReadsInput command → length input ≤ 2 ^ 26)
       → AnswersSpelled scheme command (octets_in command input) answer
 
--- The words are those of a command, the input has at most 2^26 octets, and the answer is what came
--- of asking the signer.
+-- The words are those of a command, the input has at most 2^26 octets, if the command reads it, and
+-- the answer is what came of asking the signer.
 pub record IsFromSigner {Id : Type 0} (scheme : Relation) (words : List (List ℕ))
     (signer : SignerSeen Id) (input : List ℕ) (answer : Result (List ℕ) Refusal) : Type 0 where
   pub command : Command
   pub is : IsCommand words command
-  pub within : length input ≤ 2 ^ 26
+  pub within : ReadsInput command → length input ≤ 2 ^ 26
   pub answers : AnswersSigned scheme command input signer answer
 
 -- an answer that words and input show, or one that comes from the signer

@@ -7,10 +7,10 @@ use Rattle.rpki_ca.specs.declared.receiving.Kind.TheVariants.{Publication, Provi
 use Rattle.rpki_ca.specs.declared.command.Verb.{Verb}
 use Rattle.rpki_ca.specs.declared.command.Verb.TheVariants as verbs
 use Rattle.rpki_ca.specs.declared.command.Command.{Command}
-use Rattle.rpki_ca.specs.declared.command.Command.TheVariants.{Content, Receive, Create, Setup}
+use Rattle.rpki_ca.specs.declared.command.Command.TheVariants.{Content, Receive, Create, Setup, Make}
 use Rattle.rpki_ca.specs.declared.setup_message.SetupKind.{SetupKind}
 use Rattle.rpki_ca.specs.declared.setup_message.SetupKind.TheVariants as setup
-use Rattle.rpki_ca.specs.Words.{IsMoment, key_of}
+use Rattle.rpki_ca.specs.Words.{IsMoment, IsNumber, key_of}
 
 -- the word for a kind, and the kind that a word is for
 abbrev pub kind_word : Kind → List ℕ
@@ -73,6 +73,14 @@ pub record IsSetup (words : List (List ℕ)) (kind : SetupKind) (when : ℤ) : T
   pub are : words ≡ codes "setup" ∷ setup_kind_word kind ∷ moment_word ∷ []
   pub moment : IsMoment moment_word when
 
+-- `make`, how many elements, and a seed
+pub record IsMake (words : List (List ℕ)) (count seed : ℕ) : Type 0 where
+  pub count_word : List ℕ
+  pub seed_word : List ℕ
+  pub are : words ≡ codes "make" ∷ count_word ∷ seed_word ∷ []
+  pub counts : IsNumber count_word 10000 count
+  pub seeds : IsNumber seed_word 4294967295 seed
+
 -- ---- all of them
 
 -- The first word says what is to be done. Each has one word, and a word says one of them or none.
@@ -81,6 +89,7 @@ verb_word verbs.Content = codes "content"
 verb_word verbs.Receive = codes "receive"
 verb_word verbs.Create = codes "create"
 verb_word verbs.Setup = codes "setup"
+verb_word verbs.Make = codes "make"
 
 abbrev pub verb_of : List ℕ → Option Verb
 verb_of word =
@@ -88,6 +97,7 @@ verb_of word =
     else if bytes_eq word (verb_word verbs.Receive) then Some verbs.Receive
     else if bytes_eq word (verb_word verbs.Create) then Some verbs.Create
     else if bytes_eq word (verb_word verbs.Setup) then Some verbs.Setup
+    else if bytes_eq word (verb_word verbs.Make) then Some verbs.Make
     else None
 
 -- what the first word says, if it is one of these
@@ -116,6 +126,13 @@ pub record AskToSetUp (words : List (List ℕ)) (command : Command) : Type 0 whe
   pub setup_words : IsSetup words kind when
   pub is : command ≡ Setup kind when
 
+-- the words ask to make a message, by this command
+pub record AskToMake (words : List (List ℕ)) (command : Command) : Type 0 where
+  pub count : ℕ
+  pub seed : ℕ
+  pub make : IsMake words count seed
+  pub is : command ≡ Make count seed
+
 -- the words ask for what the verb says, by this command
 abbrev pub Ask : Verb → List (List ℕ) → Command → Type 0
 Ask verbs.Content words command =
@@ -123,6 +140,7 @@ Ask verbs.Content words command =
 Ask verbs.Receive words command = AskToReceive words command
 Ask verbs.Create words command = AskToCreate words command
 Ask verbs.Setup words command = AskToSetUp words command
+Ask verbs.Make words command = AskToMake words command
 
 -- the words are those of the command
 pub record IsCommand (words : List (List ℕ)) (command : Command) : Type 0 where
@@ -133,16 +151,29 @@ pub record IsCommand (words : List (List ℕ)) (command : Command) : Type 0 wher
 abbrev pub IsNoCommand : List (List ℕ) → Type 0
 IsNoCommand words = (c : Command) → IsCommand words c → ⊥
 
--- it has one to eight keys, if it has any
-abbrev pub HasFewKeys : Command → Type 0
-HasFewKeys Content = ⊤
-HasFewKeys (Receive kind when keys) = (1 ≤ length keys) × (length keys ≤ 8)
-HasFewKeys (Create kind when) = ⊤
-HasFewKeys (Setup kind when) = ⊤
+-- it has one to eight keys, if it has any, and makes at most 10000 elements
+abbrev pub IsLimited : Command → Type 0
+IsLimited Content = ⊤
+IsLimited (Receive kind when keys) = (1 ≤ length keys) × (length keys ≤ 8)
+IsLimited (Create kind when) = ⊤
+IsLimited (Setup kind when) = ⊤
+IsLimited (Make count seed) = count ≤ 10000
 
 -- the words don't ask to create
 abbrev pub AreNoCreate : List (List ℕ) → Type 0
 AreNoCreate words = (kind : Kind) (when : ℤ) → IsCreate words kind when → ⊥
+
+-- nor to make a message
+abbrev pub AreNoMake : List (List ℕ) → Type 0
+AreNoMake words = (count seed : ℕ) → IsMake words count seed → ⊥
+
+-- the command reads input
+abbrev pub ReadsInput : Command → Type 0
+ReadsInput Content = ⊤
+ReadsInput (Receive kind when keys) = ⊤
+ReadsInput (Create kind when) = ⊤
+ReadsInput (Setup kind when) = ⊤
+ReadsInput (Make count seed) = ⊥
 
 -- the command asks for a signer
 abbrev pub AsksSigner : Command → Type 0
@@ -150,6 +181,7 @@ AsksSigner Content = ⊥
 AsksSigner (Receive kind when keys) = ⊥
 AsksSigner (Create kind when) = ⊤
 AsksSigner (Setup kind when) = ⊥
+AsksSigner (Make count seed) = ⊤
 
 -- the words don't ask for what the verb says
 abbrev pub AskInVain : Verb → List (List ℕ) → Type 0

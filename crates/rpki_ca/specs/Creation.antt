@@ -9,6 +9,8 @@ use Rattle.rpki_base.specs.PublicKey.{KeyFields}
 use Rattle.rpki_base.specs.Scheme.{Relation}
 use Rattle.rpki_signer.specs.Signer.{Holds, Lacks, AreDistinct, IsUnfit}
 use Rattle.rpki_sigmsg.specs.Checks.{IsAmong}
+use Rattle.rpki_signer.specs.declared.errors.KeyError.{KeyError}
+use Rattle.rpki_signer.specs.declared.errors.KeyError.TheVariants as keys
 use Rattle.rpki_signer.specs.declared.errors.SigningError.TheVariants as signing
 use Rattle.rpki_sigmsg.specs.declared.create_error.CreateError.{CreateError}
 use Rattle.rpki_sigmsg.specs.declared.create_error.CreateError.TheVariants as create
@@ -125,6 +127,12 @@ refusal_of_create (create.Signing (signing.Signer error)) = refusals.Signer
 refusal_of_create (create.Signing signing.OutOfMemory) = refusals.OutOfMemory
 refusal_of_create create.OutOfMemory = refusals.OutOfMemory
 
+-- how a refusal to give a key is answered
+abbrev pub refusal_of_key : {E : Type 0} → KeyError E → Refusal
+refusal_of_key keys.KeyNotFound = refusals.KeyNotFound
+refusal_of_key (keys.Signer error) = refusals.Signer
+refusal_of_key keys.OutOfMemory = refusals.OutOfMemory
+
 -- ---- at the end of a call
 
 -- The input reads as a message, the signer holds the issuing key, which it did not give for one
@@ -141,16 +149,9 @@ pub record Creates {Id : Type 0} (scheme : Relation) (kind : Kind) (when : ℤ) 
   pub receivable : IsReceivable scheme kind octets message when signer
   pub written : Appends sink.before sink.after (encode_lower octets ++ 10 ∷ [])
 
--- The input has at most 2^26 octets and reads as a message whose text has at most 2^31, the moment
--- has a window, the signer, whose identifiers are distinct, holds a fitting key, and it neither
--- failed nor gave too many octets, nor that key for one use.
-pub record CanCreate {Id : Type 0} (kind : Kind) (when : ℤ) (input : List ℕ)
-    (signer : SignerSeen Id) : Type 0 where
-  pub short : length input ≤ 2 ^ 26
-  pub message : Received
-  pub reads : ReadsAs kind input message
-  pub window_is : HasWindow when
-  pub fits : length (text_of message) ≤ 2 ^ 31
+-- The signer, whose identifiers are distinct, holds a fitting key, and it neither failed nor gave
+-- too many octets, nor that key for one use.
+pub record CanSign {Id : Type 0} (signer : SignerSeen Id) : Type 0 where
   pub issuing : KeyFields
   pub holds : Holds signer.before.keyring signer.id issuing
   pub distinct : AreDistinct signer.before.keyring
@@ -158,3 +159,14 @@ pub record CanCreate {Id : Type 0} (kind : Kind) (when : ℤ) (input : List ℕ)
   pub no_fault : Rose signer.before.faults signer.after.faults → ⊥
   pub short_answers : Rose signer.before.overlong signer.after.overlong → ⊥
   pub other : Rose signer.before.reused signer.after.reused → signer.after.drawn ≢ Some issuing
+
+-- The input has at most 2^26 octets and reads as a message whose text has at most 2^31, the moment
+-- has a window, and the signer can sign.
+pub record CanCreate {Id : Type 0} (kind : Kind) (when : ℤ) (input : List ℕ)
+    (signer : SignerSeen Id) : Type 0 where
+  pub short : length input ≤ 2 ^ 26
+  pub message : Received
+  pub reads : ReadsAs kind input message
+  pub window_is : HasWindow when
+  pub fits : length (text_of message) ≤ 2 ^ 31
+  pub signs : CanSign signer

@@ -1,4 +1,4 @@
--- Said in contracts, and to be believed: Refusal, Hexadecimal, Words, Command, Acceptance, Seen, Creation, Setup, Answer.
+-- Said in contracts, and to be believed: Refusal, Hexadecimal, Words, Command, Acceptance, Seen, Creation, Setup, Summary, Answer.
 pub mod Refusal
 pub mod Hexadecimal
 pub mod Words
@@ -7,4 +7,5 @@ pub mod Acceptance
 pub mod Seen
 pub mod Creation
 pub mod Setup
+pub mod Summary
 pub mod Answer

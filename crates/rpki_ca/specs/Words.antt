@@ -20,6 +20,16 @@ pub record IsMomentAt (words : List (List ℕ)) (index : ℕ) (when : ℤ) : Typ
   pub stands : slice_get words index ≡ Some word
   pub moment : IsMoment word when
 
+-- the word is the number in decimal digits without a leading zero, and the number is at most this
+abbrev pub IsNumber : List ℕ → ℕ → ℕ → Type 0
+IsNumber word most number = (word ≡ decimal number) × (number ≤ most)
+
+-- such a word stands at the index
+pub record IsNumberAt (words : List (List ℕ)) (index most number : ℕ) : Type 0 where
+  pub word : List ℕ
+  pub stands : slice_get words index ≡ Some word
+  pub number_is : IsNumber word most number
+
 -- the one key that the octets are which the word spells, two digits each
 abbrev pub key_of : List ℕ → Option KeyFields
 key_of word = result_ok (decode_of word) >>= whole_of public_key Der

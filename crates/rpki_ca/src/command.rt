@@ -14,6 +14,9 @@ use rpki_base::{PublicKey, Time};
 use rpki_common::{OutOfMemory, Sequence};
 use std::alloc::Global;
 
+/// The most elements that `make` makes.
+const MOST_ELEMENTS: u32 = 10_000;
+
 /// What the words of a command line ask for.
 #[derive(Debug, Drop)]
 pub enum Command {
@@ -43,6 +46,13 @@ pub enum Command {
         /// The moment at which its certificate is validated.
         when: Time,
     },
+    /// A signed message that is made of two numbers and received, in a summary.
+    Make {
+        /// How many elements it has, at most 10000.
+        count: u32,
+        /// What the octets of its objects are made of.
+        seed: u32,
+    },
 }
 
 // What the first word says to do.
@@ -52,6 +62,7 @@ enum Verb {
     Receive,
     Create,
     Setup,
+    Make,
 }
 
 fn verb_of(word: &str) -> Option<Verb>
@@ -62,6 +73,7 @@ fn verb_of(word: &str) -> Option<Verb>
         "receive" => Some(Verb::Receive),
         "create" => Some(Verb::Create),
         "setup" => Some(Verb::Setup),
+        "make" => Some(Verb::Make),
         _ => None,
     }
 }
@@ -100,6 +112,7 @@ impl Words {
             Some(Verb::Receive) => self.receive(alloc),
             Some(Verb::Create) => Ok(self.create()),
             Some(Verb::Setup) => Ok(self.setup()),
+            Some(Verb::Make) => Ok(self.make()),
         }
     }
 
@@ -226,6 +239,24 @@ impl Words {
         };
         match self.moment(2) {
             Some(when) => Some(Command::Setup { kind, when }),
+            None => None,
+        }
+    }
+
+    // The command `make`, if the two words behind the first are of its form.
+    fn make(&self) -> Option<Command>
+        requires { verb_in self.now ≡ Some verbs.Make }
+        ensures command { IfSome result (Ask verbs.Make self.now) }
+        ensures none { IsNone result → AskInVain verbs.Make self.now }
+    {
+        if self.len() != 3 {
+            return None;
+        }
+        let Some(count) = self.number(1, MOST_ELEMENTS) else {
+            return None;
+        };
+        match self.number(2, u32::MAX) {
+            Some(seed) => Some(Command::Make { count, seed }),
             None => None,
         }
     }

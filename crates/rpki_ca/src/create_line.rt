@@ -62,8 +62,8 @@ fn message_in(alloc: Global, kind: Kind, input: &[u8]) -> Result<Received, Recei
     }
 }
 
-// The octets of a signed message with this message of the publication protocol.
-fn publication_octets<P: Scheme, S: Signer<P>>(
+/// The octets of a signed message with this message of the publication protocol.
+pub(crate) fn publication_octets<P: Scheme, S: Signer<P>>(
     alloc: Global,
     message: publication::Message,
     when: Time,

@@ -22,6 +22,7 @@ mod create_line;
 mod hexadecimal;
 mod law;
 mod line;
+mod make_line;
 mod receive_line;
 mod receiving;
 mod refusals;

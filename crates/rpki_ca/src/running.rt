@@ -10,10 +10,11 @@ ghost use Rattle.rpki_ca.specs.declared.receiving.Kind.{Kind};
 ghost use Rattle.rpki_ca.specs.declared.refusals.Refusal.{Refusal};
 ghost use Rattle.rpki_ca.specs.Refusal.{status_of};
 ghost use Rattle.rpki_ca.specs.Command.{IsNoCommand, IsReceive, IsCreate, AreNoCreate, AsksSigner};
-ghost use Rattle.rpki_ca.specs.Command.{HasFewKeys, IsSetup};
+ghost use Rattle.rpki_ca.specs.Command.{IsLimited, IsSetup, IsMake, AreNoMake, ReadsInput};
+ghost use Rattle.rpki_ca.specs.Summary.{IsMakeAnswer, Makes};
 ghost use Rattle.rpki_ca.specs.Setup.{IsSetUp};
 ghost use Rattle.rpki_ca.specs.declared.setup_message.SetupKind.{SetupKind};
-ghost use Rattle.rpki_ca.specs.Creation.{Creates, CanCreate};
+ghost use Rattle.rpki_ca.specs.Creation.{Creates, CanCreate, CanSign};
 ghost use Rattle.rpki_ca.specs.Seen.{seen, seen_signer, HasFailed, IsSteady};
 ghost use Rattle.rpki_ca.specs.Answer.{Performs, IsAnswer, IsGiven, IsShown, IsAdmitted, IsUnread};
 ghost use Rattle.rpki_ca.specs.Answer.{IsLineOf, Ends, EndsAs, ReadsAll, Delivers, Holds, Succeeds};
@@ -23,6 +24,7 @@ use crate::command::Command;
 use crate::content_line::content_line;
 use crate::create_line::create_line;
 use crate::hexadecimal::input_octets;
+use crate::make_line::make_line;
 use crate::receive_line::receive_line;
 use crate::refusals::Refusal;
 use crate::setup_line::setup_line;
@@ -48,7 +50,7 @@ fn perform<P: Scheme, V: Verifier<P>, S: Signer<P>>(
     signer: &mut S,
     key: &S::KeyId,
 ) -> Result<Vec<u8>, Refusal>
-    requires { HasFewKeys command.now }
+    requires { IsLimited command.now }
     ensures ok { IfOk result (λ line. IsLineOf (Performs P.checks command.now input.now
         (seen_signer key.now (S.state signer.old) (S.state signer.new))) line.items) }
     ensures err { IfErr result (λ e. e ≢ Refusal.OutOfMemory
@@ -68,6 +70,7 @@ fn perform<P: Scheme, V: Verifier<P>, S: Signer<P>>(
         }
         Command::Create { kind, when } => create_line(alloc, *kind, input, *when, key, signer),
         Command::Setup { kind, when } => setup_line(alloc, *kind, input, *when, verifier),
+        Command::Make { count, seed } => make_line(alloc, *count, *seed, verifier, key, signer),
     }
 }
 
@@ -88,6 +91,27 @@ fn read_input<I: Source>(alloc: Global, input: &mut I) -> Result<Vec<u8>, Refusa
     }
 }
 
+// The whole input, if the command reads it.
+fn input_for<I: Source>(
+    alloc: Global,
+    command: &Command,
+    input: &mut I,
+) -> Result<Vec<u8>, Refusal>
+    ensures ok { IfOk result (λ octets. IfSome (I.rest input.old) (λ rest.
+        ReadsInput command.now → (octets.items ≡ rest) × (length rest ≤ 2 ^ 26))) }
+    ensures steady { OnOk result (IsSteady (seen I.rest I.faults input.old input.new)) }
+    ensures end { ReadsInput command.now → OnOk result (IsAtEnd (I.rest input.new)) }
+    ensures err { IfErr result (λ e. IsUnread (seen I.rest I.faults input.old input.new) e) }
+    ensures reads { IfErr result (λ e. ReadsInput command.now) }
+    ensures unread { ReadsInput command.now ⊎ (input.new ≡ input.old) }
+    ensures most { TakesAtMost (I.rest input.old) (I.rest input.new) (2 ^ 26 + 1) }
+{
+    match command {
+        Command::Make { .. } => Ok(Vec::new(alloc)),
+        _ => read_input(alloc, input),
+    }
+}
+
 // The line with the text that the words ask for.
 fn answer<P: Scheme, I: Source, V: Verifier<P>, S: Signer<P>>(
     alloc: Global,
@@ -104,21 +128,28 @@ fn answer<P: Scheme, I: Source, V: Verifier<P>, S: Signer<P>>(
         IsAdmitted P.checks words.now (seen I.rest I.faults input.old input.new)
         (seen_signer key.now (S.state signer.old) (S.state signer.new)) (Err e)) }
     ensures keeps { Keeps (S.state signer.old) (S.state signer.new) }
-    ensures untouched { AreNoCreate words.now → signer.new ≡ signer.old }
+    ensures untouched { AreNoCreate words.now → AreNoMake words.now → signer.new ≡ signer.old }
     ensures usage { IsErrOf result Refusal.Usage → IsNoCommand words.now }
     ensures usage_always { IsNoCommand words.now
         → IsErrOf result Refusal.Usage ⊎ IsErrOf result Refusal.OutOfMemory }
     ensures unread { IsNoCommand words.now → input.new ≡ input.old }
-    ensures whole { MatchResult result (λ _. IsAtEnd (I.rest input.new))
+    ensures whole { AreNoMake words.now → MatchResult result (λ _. IsAtEnd (I.rest input.new))
         (λ e. ReadsAll (status_of e) → IsAtEnd (I.rest input.new)) }
-    ensures long { IsErrOf result Refusal.TooLong → IfSome (I.rest input.old)
+    ensures long { AreNoMake words.now → IsErrOf result Refusal.TooLong → IfSome (I.rest input.old)
         (λ rest. length rest ≤ 2 ^ 26 → IsAtEnd (I.rest input.new)) }
+    ensures made { (count seed : ℕ) → IsMake words.now count seed → MatchResult result
+        (λ line. IsLineOf (IsMakeAnswer P.checks count seed
+        (seen_signer key.now (S.state signer.old) (S.state signer.new))) line.items)
+        (λ e. e ≢ Refusal.OutOfMemory → IsMakeAnswer P.checks count seed
+        (seen_signer key.now (S.state signer.old) (S.state signer.new)) (Err e)) }
+    ensures unread_by_make { (count seed : ℕ) → IsMake words.now count seed
+        → input.new ≡ input.old }
     ensures most { TakesAtMost (I.rest input.old) (I.rest input.new) (2 ^ 26 + 1) }
 {
     let Some(command) = words.command(alloc)? else {
         return Err(Refusal::Usage);
     };
-    let octets = read_input(alloc, input)?;
+    let octets = input_for(alloc, &command, input)?;
     perform(alloc, &command, &octets, verifier, signer, key)
 }
 
@@ -177,7 +208,8 @@ fn finish<O: Sink>(output: &mut O, answer: Result<Vec<u8>, Refusal>) -> Status
 /// reads a message and writes, in hexadecimal, a signed message with it, which the signer makes
 /// under the issuing key with the identifier `key`. `setup MESSAGE MOMENT` reads one of the four
 /// setup messages and writes it anew, where its certificate is believed as a trust anchor's at the
-/// moment. Reading stops behind 2^26 octets and one more. The whole line is made before the first
+/// moment. `make COUNT SEED` makes a message of the publication protocol with COUNT elements, at most
+/// 10000, creates and receives it, and writes a summary; it reads nothing. Reading stops behind 2^26 octets and one more. The whole line is made before the first
 /// write.
 pub fn run<P: Scheme, I: Source, O: Sink, V: Verifier<P>, S: Signer<P>>(
     alloc: Global,
@@ -226,6 +258,18 @@ pub fn run<P: Scheme, I: Source, O: Sink, V: Verifier<P>, S: Signer<P>>(
         × IsSetUp P.checks kind rest when text
         × Appends (O.written output.old) (O.written output.new) (text ++ 10 ∷ [])) }
 
+    // `make` ends with 0 only where the signer holds the issuing key, and what was written is the
+    // summary of octets that are received, under every list of keys that holds it, as the message
+    // with so many elements, at each second from 300 before the moment to 300 after it. And where
+    // the signer gives what is asked it ends with 0, but for want of memory and a fault of the sink.
+    ensures made { (count seed : ℕ) → IsMake words.now count seed → result.0 ≡ 0
+        → Makes P.checks count seed
+        (seen_signer key.now (S.state signer.old) (S.state signer.new))
+        (seen O.written O.faults output.old output.new) }
+    ensures makes { (count seed : ℕ) → IsMake words.now count seed
+        → CanSign (seen_signer key.now (S.state signer.old) (S.state signer.new))
+        → (result.0 ≡ 0) ⊎ ((result.0 ≡ 12) ⊎ (result.0 ≡ 11)) }
+
     // Where words and input show an answer, the call ends with it, but for want of memory and for
     // faults of source and sink.
     ensures shown { (answer : Result (List ℕ) Refusal) → IfSome (I.rest input.old) (λ rest.
@@ -247,9 +291,10 @@ pub fn run<P: Scheme, I: Source, O: Sink, V: Verifier<P>, S: Signer<P>>(
         (seen_signer key.now (S.state signer.old) (S.state signer.new)) rest (Ok text)
         × Appends (O.written output.old) (O.written output.new) (text ++ 10 ∷ [])) }
 
-    // The signer holds the same keys, and words other than those of `create` leave it untouched.
+    // The signer holds the same keys, and words other than those of `create` and `make` leave it
+    // untouched.
     ensures keeps { Keeps (S.state signer.old) (S.state signer.new) }
-    ensures untouched { AreNoCreate words.now → signer.new ≡ signer.old }
+    ensures untouched { AreNoCreate words.now → AreNoMake words.now → signer.new ≡ signer.old }
 
     // A fault of the source or of the sink is told, and nothing else is told as one.
     ensures read_fault { result.0 ≡ 10 → HasFailed (seen I.rest I.faults input.old input.new) }
@@ -261,16 +306,18 @@ pub fn run<P: Scheme, I: Source, O: Sink, V: Verifier<P>, S: Signer<P>>(
         → IsSteady (seen O.written O.faults output.old output.new) }
 
     // Other words leave the source unread, and are answered so unless the write fails or memory
-    // runs out.
+    // runs out. `make` leaves it unread too.
     ensures usage { result.0 ≡ 2 → IsNoCommand words.now }
     ensures usage_always { IsNoCommand words.now
         → (result.0 ≡ 2) ⊎ ((result.0 ≡ 11) ⊎ (result.0 ≡ 12)) }
     ensures unread { IsNoCommand words.now → input.new ≡ input.old }
+    ensures unread_by_make { (count seed : ℕ) → IsMake words.now count seed
+        → input.new ≡ input.old }
 
-    // Where the input decided or the signer, nothing of it is left; and no more is read than the
-    // limit and one.
-    ensures whole { ReadsAll result.0 → IsAtEnd (I.rest input.new) }
-    ensures long { result.0 ≡ 9 → IfSome (I.rest input.old)
+    // Where the input decided or the signer, nothing of it is left, but by `make`; and no more is
+    // read than the limit and one.
+    ensures whole { AreNoMake words.now → ReadsAll result.0 → IsAtEnd (I.rest input.new) }
+    ensures long { AreNoMake words.now → result.0 ≡ 9 → IfSome (I.rest input.old)
         (λ rest. length rest ≤ 2 ^ 26 → IsAtEnd (I.rest input.new)) }
     ensures most { TakesAtMost (I.rest input.old) (I.rest input.new) (2 ^ 26 + 1) }
 {

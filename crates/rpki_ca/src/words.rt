@@ -1,8 +1,8 @@
 //! The words of a command line.
 
-ghost use Rattle.std.specs.Prelude.{◌≡◌, ◌++◌, ◌∷◌, [], ◌↔◌, ◌<◌, ℤ, length, OnOk, OnErr, IfOk, IfSome, IsSome, IsNone, IsTrue, slice_get, Some, None};
+ghost use Rattle.std.specs.Prelude.{◌≡◌, ◌++◌, ◌∷◌, [], ◌↔◌, ◌<◌, ℕ, ℤ, length, OnOk, OnErr, IfOk, IfSome, IsSome, IsNone, IsTrue, slice_get, Some, None};
 ghost use Rattle.rpki_base.specs.PublicKey.{KeyFields};
-ghost use Rattle.rpki_ca.specs.Words.{IsMoment, IsMomentAt, key_of, key_at};
+ghost use Rattle.rpki_ca.specs.Words.{IsMoment, IsMomentAt, IsNumber, IsNumberAt, key_of, key_at};
 
 use crate::hexadecimal::octets_of;
 use itoa::Buffer;
@@ -88,6 +88,15 @@ impl Words {
         moment_of(self.get(index)?)
     }
 
+    /// The number that the word at `index` names in decimal digits without a leading zero, where it
+    /// is at most `most`. None exactly where no such word is there.
+    pub fn number(&self, index: usize, most: u32) -> Option<u32>
+        ensures some { IfSome result (λ n. IsNumberAt self.now index most n) }
+        ensures none { IsNone result → (n : ℕ) → IsNumberAt self.now index most n → ⊥ }
+    {
+        number_of(self.get(index)?, most)
+    }
+
     /// The public key whose DER the word at `index` spells, two hexadecimal digits of either case
     /// an octet. None exactly where no such word is there: an even number of digits, whose octets
     /// are one key with nothing behind it.
@@ -116,6 +125,23 @@ fn moment_of(word: &str) -> Option<Time>
         return None;
     }
     Time::new(seconds)
+}
+
+// The number that a word names, where it is at most this.
+fn number_of(word: &str, most: u32) -> Option<u32>
+    ensures some { IfSome result (λ n. IsNumber word.now most n) }
+    ensures none { IsNone result → (n : ℕ) → IsNumber word.now most n → ⊥ }
+{
+    let Ok(number) = word.parse::<u32>() else {
+        return None;
+    };
+    if Buffer::new().format(number) != word {
+        return None;
+    }
+    if number > most {
+        return None;
+    }
+    Some(number)
 }
 
 // The key whose DER a word spells.

@@ -85,7 +85,7 @@ reply_sizes h a is =
     subst (λ (b : ReplyAttributes). AtMost (values h.attributes) b.tag × AtMost (values h.attributes) b.uri) (same_some (record { hash = d.0; uri = u.0; tag = t.0; error_code = c.0 }) a c.2)
     (optional_size (codes "tag") h t.0 t.1, uri_size rsync (codes "uri") h u.0 u.1)
 
-tag_size : (n : ℕ) (tag : Option (List ℕ)) → AtMost n tag → length (tag_text tag) ≤ n
+pub tag_size : (n : ℕ) (tag : Option (List ℕ)) → AtMost n tag → length (tag_text tag) ≤ n
 tag_size n None h = omega arith
 tag_size n (Some tag) h = h
 
@@ -99,7 +99,7 @@ two_attributes tag uri n t u =
     let g = ap (λ (l : List ℕ). length l) (append-nil (spelled_attribute (codes "uri") uri)) in
     omega (arith, t, u, a, b, e, g)
 
-three_attributes : (tag uri hash : List ℕ) (n : ℕ) → length tag ≤ n → length uri ≤ n → IsDigest hash
+pub three_attributes : (tag uri hash : List ℕ) (n : ℕ) → length tag ≤ n → length uri ≤ n → IsDigest hash
     → length (spelled_attribute (codes "tag") tag ++ (spelled_attribute (codes "uri") uri ++ (spelled_attribute (codes "hash") (encode_lower hash) ++ []))) ≤ 12 * n + 86
 three_attributes tag uri hash n t u h =
     let a = attribute_size (codes "tag") tag in
@@ -111,7 +111,7 @@ three_attributes tag uri hash n t u h =
     let g = ap (λ (l : List ℕ). length l) (append-nil last) in
     omega (arith, t, u, a, b, c, e, f, g)
 
-published_size : (tag : Option (List ℕ)) (uri content : List ℕ) (hash : Option (List ℕ)) (n k : ℕ) → AtMost n tag → length uri ≤ n → IfSome hash IsDigest → length (encode_of standard content) ≤ k
+pub published_size : (tag : Option (List ℕ)) (uri content : List ℕ) (hash : Option (List ℕ)) (n k : ℕ) → AtMost n tag → length uri ≤ n → IfSome hash IsDigest → length (encode_of standard content) ≤ k
     → length (spelled (change_element (published tag uri content hash))) ≤ 12 * n + 6 * k + 120
 unfolding change_element
 published_size tag uri content None n k t u h c =
@@ -320,7 +320,7 @@ error_size e r l is =
 
 -- ---- messages
 
-root_size : (type : List ℕ) (children : Elements) → length (start_text type) ≤ 180 → length (spelled (root_element type children)) ≤ 200 + length (spelled_all children)
+pub root_size : (type : List ℕ) (children : Elements) → length (start_text type) ≤ 180 → length (spelled (root_element type children)) ≤ 200 + length (spelled_all children)
 root_size type children s = go (is_none children) refl
   where
     go : (b : Bool) → is_none children ≡ b → length (spelled (root_element type children)) ≤ 200 + length (spelled_all children)
@@ -334,7 +334,7 @@ root_size type children s = go (is_none children) refl
         let z = length-append (spelled_all children) (codes "</msg>") in
         omega (arith, x, y, z, s)
 
-query_start : length (start_text (codes "query")) ≤ 180
+pub query_start : length (start_text (codes "query")) ≤ 180
 unfolding spelled_value
 query_start = omega arith
 

@@ -1,12 +1,15 @@
 -- The digits of a digest stand for themselves, and are octets that a document may have.
-use Rattle.std.proofs.Common.{◌≡◌, ℕ, suc, ◌/◌, ◌%◌, ◌<◌, Bool, true, false, ◌&&◌, not, List, [], ◌∷◌, ◌++◌, length, Some, None, Result, Ok, Err, refl, sym, ap, arith}
+use Rattle.std.proofs.Common.{◌≡◌, ℕ, zero, suc, ◌/◌, ◌%◌, ◌<◌, Bool, true, false, ◌&&◌, not, List, [], ◌∷◌, ◌++◌, length, Some, None, Result, Ok, Err, refl, sym, ap, arith}
 use Rattle.std.specs.Prelude.{nat_eq, ◌==◌, if◌then◌else◌, codes}
 use Rattle.std.specs.List.{list_all, flat_map}
 use Rattle.std.specs.Result.{result_ok}
+use Rattle.std.specs.Int.{to_be_bytes, bytes_high_first, byte_at, w64}
 use Rattle.std.proofs.lemmas.Bool.{eqb-true}
 use Rattle.hex.specs.Hex.{lower_digits, encode_with, encode_lower, decode_of, IsBytes}
 use Rattle.hex.specs.declared.error.FromHexError.{FromHexError}
 use Rattle.hex.proofs.HexLemmas.{decode_of-ok}
+use Rattle.sha2.specs.Sha256.{sha256, digest_bytes}
+use Rattle.sha2.proofs.Facts256.{length-sha256}
 use Rattle.rpki_common.proofs.Truths.{both, none_some, same_some}
 use Rattle.rpki_message.proofs.Base64s.{symbol, member}
 use Rattle.rpki_text.specs.Hash.{digest_of_text}
@@ -75,3 +78,37 @@ read_at text h true is e =
 
 pub digest_read : (text h : List ℕ) → digest_of_text text ≡ Some h → IsDigest h
 digest_read text h e = read_at text h (length text == 64) refl e
+
+-- ---- what SHA-256 gives is a digest
+
+byte_first : (x : ℕ) (m : List ℕ) → x < 256 → IsBytes m → IsBytes (x ∷ m)
+byte_first x m lt h zero = lt
+byte_first x m lt h (suc i) = h i
+
+no_bytes : IsBytes []
+no_bytes i = omega arith
+
+joined : (a b : List ℕ) → IsBytes a → IsBytes b → IsBytes (a ++ b)
+joined [] b h k = k
+joined (x ∷ a) b h k = byte_first x (a ++ b) (h 0) (joined a b (rest_bytes x a h) k)
+
+byte : (i n : ℕ) → byte_at i n < 256
+byte zero n = omega arith
+byte (suc i) n = omega arith
+
+high_first : (k n : ℕ) → IsBytes (bytes_high_first k n)
+high_first zero n = no_bytes
+high_first (suc k) n = byte_first (byte_at k n) (bytes_high_first k n) (byte k n) (high_first k n)
+
+words : (h : List ℕ) (n : ℕ) → IsBytes (digest_bytes h n)
+unfolding digest_bytes
+words h zero = no_bytes
+words h (suc n) = joined (digest_bytes h n) _ (words h n) (high_first 4 _)
+
+-- octets of numbers, the most significant first
+pub numbers : (a b : ℕ) → IsBytes (to_be_bytes w64 a ++ to_be_bytes w64 b)
+numbers a b = joined (to_be_bytes w64 a) (to_be_bytes w64 b) (high_first 8 a) (high_first 8 b)
+
+pub sha256_digest : (m : List ℕ) → IsDigest (sha256 m)
+unfolding sha256
+sha256_digest m = (length-sha256 m, words _ 8)

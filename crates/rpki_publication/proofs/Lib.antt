@@ -1,5 +1,6 @@
 pub mod Again
 pub mod Bounds
+pub mod Deltas
 pub mod Causes
 pub mod Counted
 pub mod Digits

@@ -1,5 +1,5 @@
 -- The elements of a query (RFC 8181, 2.2 and 2.3): `publish`, which with a hash is an update, `withdraw` and `list`.
-use Rattle.std.specs.Prelude.{◌≡◌, ℕ, List, [], ◌∷◌, Option, None, Some, IfSome, length, if◌then◌else◌, codes}
+use Rattle.std.specs.Prelude.{◌≡◌, ◌≤◌, ℕ, List, [], ◌∷◌, Option, None, Some, IfSome, length, if◌then◌else◌, codes}
 use Rattle.base64.specs.Engines.{standard}
 use Rattle.base64.specs.GeneralPurpose.{encode_of, IsBytes}
 use Rattle.hex.specs.Hex as hex
@@ -154,3 +154,16 @@ normal_change (change.Withdraw w) =
 unfoldable pub normal_pdu : QueryPdu → QueryPdu
 normal_pdu pdu.List = pdu.List
 normal_pdu (pdu.PublishDeltaElement c) = pdu.PublishDeltaElement (normal_change c)
+
+-- ---- changes of which a query's text is short
+
+-- its tag, its URI and its base64 text have at most 64 octets each, and a hash is a digest
+abbrev pub IsSmallChange : PublishDeltaElement → Type 0
+IsSmallChange (change.Publish p) =
+    IfSome p.tag (λ tag. length tag ≤ 64)
+    × ((length p.uri ≤ 64) × (length (encode_of standard p.content) ≤ 64))
+IsSmallChange (change.Update u) =
+    IsDigest u.hash × (IfSome u.tag (λ tag. length tag ≤ 64)
+    × ((length u.uri ≤ 64) × (length (encode_of standard u.content) ≤ 64)))
+IsSmallChange (change.Withdraw w) =
+    IsDigest w.hash × (IfSome w.tag (λ tag. length tag ≤ 64) × (length w.uri ≤ 64))

@@ -1,6 +1,10 @@
 //! Laws about messages and their octets.
 
 ghost use Rattle.std.specs.Prelude.{◌≡◌, ◌↔◌, ◌≤◌, ◌+◌, ◌*◌, ◌++◌, ℕ, List, [], length, Some, true, codes};
+ghost use Rattle.std.specs.List.{AllByRecursion};
+ghost use Rattle.rpki_publication.specs.Change.{IsSmallChange};
+ghost use Rattle.rpki_publication.specs.declared.message.Message.TheVariants as messages;
+ghost use Rattle.rpki_publication.specs.declared.query.Query.TheVariants as queries;
 ghost use Rattle.rpki_publication.specs.ListElement.{ListElementFields};
 ghost use Rattle.rpki_publication.specs.Message.{Reads, text_of, IsWritable, normal_form};
 ghost use Rattle.rpki_publication.specs.Publish.{PublishFields, UpdateFields, WithdrawFields};
@@ -113,4 +117,10 @@ pub fn equal_messages_are_the_same()
 /// The media type is that of the protocol (RFC 8181, 2).
 pub fn content_type_is()
     ensures { CONTENT_TYPE.now ≡ codes "application/rpki-publication" }
+{}
+
+/// The text of a query of small changes has at most 1300 octets for each of them, and 200 more.
+pub fn small_deltas_are_short()
+    ensures { (changes : List Change) → AllByRecursion IsSmallChange changes
+        → length (text_of (messages.Query (queries.Delta changes))) ≤ 200 + 1300 * length changes }
 {}

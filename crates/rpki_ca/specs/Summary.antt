@@ -1,0 +1,144 @@
+-- What `make` makes of two numbers, and what it says of it.
+use Rattle.std.specs.Prelude.{◌≡◌, ◌≢◌, ◌++◌, ◌∷◌, [], ◌%◌, ◌==◌, ◌⊎◌, ℕ, ℤ, pos, Bool, true, false, if◌then◌else◌, List, length, map, count_by, codes, Some, Result, Ok, Err}
+use Rattle.std.specs.Fmt.{decimal}
+use Rattle.std.specs.Int.{to_be_bytes, w64}
+use Rattle.std.specs.List.{range_with_len}
+use Rattle.std.specs.Io.KnownBytes.{Appends}
+use Rattle.hex.specs.Hex.{encode_lower}
+use Rattle.sha2.specs.Sha256.{sha256}
+use Rattle.rpki_base.specs.declared.algorithm.SigningAlgorithm.TheVariants.{RsaSha256}
+use Rattle.rpki_base.specs.Algorithm.{format_of}
+use Rattle.rpki_base.specs.PublicKey.{KeyFields}
+use Rattle.rpki_base.specs.Scheme.{Relation}
+use Rattle.rpki_signer.specs.Signer.{Holds}
+use Rattle.rpki_publication.specs.declared.message.Message.TheVariants as messages
+use Rattle.rpki_publication.specs.declared.query.Query.TheVariants as queries
+use Rattle.rpki_publication.specs.Publish.{PublishFields, UpdateFields, WithdrawFields}
+use Rattle.rpki_publication.specs.declared.publish_delta_element.PublishDeltaElement.{PublishDeltaElement}
+use Rattle.rpki_publication.specs.declared.publish_delta_element.PublishDeltaElement.TheVariants as change
+use Rattle.rpki_ca.specs.declared.make_line.Deed.{Deed}
+use Rattle.rpki_ca.specs.declared.make_line.Deed.TheVariants as deeds
+use Rattle.rpki_ca.specs.declared.receiving.Kind.TheVariants as kinds
+use Rattle.rpki_ca.specs.declared.receiving.Received.{Received}
+use Rattle.rpki_ca.specs.declared.receiving.Received.TheVariants as received
+use Rattle.rpki_ca.specs.declared.refusals.Refusal.{Refusal}
+use Rattle.rpki_ca.specs.Creation.{IsReceivable, IsSigned}
+use Rattle.rpki_ca.specs.Seen.{Seen, SignerSeen}
+
+-- ---- the message
+
+-- the moment at which it is made, and at which it is received
+abbrev pub made_at : ℤ
+made_at = pos 1700000000
+
+-- the octets of the object at a place: the seed and the place, each as eight octets, the most
+-- significant first
+abbrev pub object_at : ℕ → ℕ → List ℕ
+object_at seed place = to_be_bytes w64 seed ++ to_be_bytes w64 place
+
+-- where it is published
+abbrev pub uri_at : ℕ → List ℕ
+uri_at place = codes "rsync://localhost/ca/f" ++ decimal place ++ codes ".txt"
+
+-- its digest as a tag
+abbrev pub tag_at : ℕ → ℕ → List ℕ
+tag_at seed place = encode_lower (sha256 (object_at seed place))
+
+-- the object is published
+abbrev pub publish_at : ℕ → ℕ → PublishFields
+publish_at seed place = record {
+  tag = Some (tag_at seed place);
+  uri = uri_at place;
+  content = object_at seed place;
+}
+
+-- it is published in the place of one whose octets were these and a 0
+abbrev pub update_at : ℕ → ℕ → UpdateFields
+update_at seed place = record {
+  tag = Some (tag_at seed place);
+  uri = uri_at place;
+  content = object_at seed place;
+  hash = sha256 (object_at seed place ++ 0 ∷ []);
+}
+
+-- it is withdrawn
+abbrev pub withdraw_at : ℕ → ℕ → WithdrawFields
+withdraw_at seed place = record {
+  tag = Some (tag_at seed place);
+  uri = uri_at place;
+  hash = sha256 (object_at seed place);
+}
+
+-- the change at a place: these three in turn
+abbrev pub change_at : ℕ → ℕ → PublishDeltaElement
+change_at seed place =
+    if place % 3 == 0 then change.Publish (publish_at seed place)
+    else if place % 3 == 1 then change.Update (update_at seed place)
+    else change.Withdraw (withdraw_at seed place)
+
+-- those at the places 0 and up, so many
+abbrev pub changes : ℕ → ℕ → List PublishDeltaElement
+changes seed count = map (change_at seed) (range_with_len 0 count)
+
+-- the query with these
+abbrev pub made_message : ℕ → ℕ → Received
+made_message seed count =
+    received.Publication (messages.Query (queries.Delta (changes seed count)))
+
+-- the changes of a query; none of another message
+abbrev pub changes_in : Received → List PublishDeltaElement
+changes_in (received.Publication (messages.Query (queries.Delta elements))) = elements
+changes_in (received.Publication (messages.Query queries.List)) = []
+changes_in (received.Publication (messages.Reply reply)) = []
+changes_in (received.Provisioning m) = []
+
+-- ---- the summary
+
+-- whether the change does this
+abbrev pub does : Deed → PublishDeltaElement → Bool
+does deeds.Publish (change.Publish p) = true
+does deeds.Update (change.Update u) = true
+does deeds.Withdraw (change.Withdraw w) = true
+does deed other = false
+
+-- how many changes there are, how many publish, update and withdraw, and the digest of the signed
+-- message's octets
+abbrev pub summary : List PublishDeltaElement → List ℕ → List ℕ
+summary elements octets =
+    codes "elements " ++ decimal (length elements)
+    ++ codes " publish " ++ decimal (count_by (does deeds.Publish) elements)
+    ++ codes " update " ++ decimal (count_by (does deeds.Update) elements)
+    ++ codes " withdraw " ++ decimal (count_by (does deeds.Withdraw) elements)
+    ++ codes " envelope " ++ encode_lower (sha256 octets)
+
+-- ---- the command
+
+-- The signer holds an issuing key that fits, which it did not give for one use, and the text is the
+-- summary of the message and of octets of which it is received, under every list of keys that holds
+-- the issuing key, at each second from 300 before the moment to 300 after it.
+pub record IsSummed {Id : Type 0} (scheme : Relation) (count seed : ℕ) (signer : SignerSeen Id)
+    (text : List ℕ) : Type 0 where
+  pub issuing : KeyFields
+  pub holds : Holds signer.before.keyring signer.id issuing
+  pub format : issuing.format ≡ format_of RsaSha256
+  pub other : signer.after.drawn ≢ Some issuing
+  pub octets : List ℕ
+  pub receivable : IsReceivable scheme kinds.Publication octets (made_message seed count) made_at
+      signer
+  pub written : text ≡ summary (changes seed count) octets
+
+-- `make`: the summary, or why the signer gave nothing
+abbrev pub IsMakeAnswer : {Id : Type 0} → Relation → ℕ → ℕ → SignerSeen Id
+    → Result (List ℕ) Refusal → Type 0
+IsMakeAnswer scheme count seed signer (Ok text) = IsSummed scheme count seed signer text
+IsMakeAnswer scheme count seed signer (Err refusal) =
+    IsSigned scheme kinds.Publication (made_message seed count) made_at signer (Err refusal)
+
+-- ---- at the end of a call
+
+-- such a summary was written
+pub record Makes {Id : Type 0} (scheme : Relation) (count seed : ℕ) (signer : SignerSeen Id)
+    (sink : Seen) : Type 0 where
+  pub text : List ℕ
+  pub summed : IsSummed scheme count seed signer text
+  pub written : Appends sink.before sink.after (text ++ 10 ∷ [])
