@@ -19,13 +19,13 @@ Or a line is `NAME CALL ANSWER WORD..`: what words say by themselves.
     words       how many they are, whether there is none, and each
     moment      the seconds that the word at 1 names, or `none`
     key         the format and the bits of the key that the word at 0 spells, or `none`
-    command     `content`, or kind, seconds and keys, or `create` or `setup`, kind and seconds, or `none`
+    command     `content`, or kind, seconds and keys, or `create` or `setup`, kind and seconds, or `make`, how many and the seed, or `none`
 
 Or it is `NAME faults ANSWER READ WRITE ROOM INPUT WORD..`: READ and WRITE say how many octets a call gives or takes, and behind a `/`
 which call fails, from 0; ROOM is how many octets the sink has room for. ANSWER is the status, what is written in hexadecimal, and
 how many calls of the source and of the sink failed, with `/` between.
 
-Or it is `NAME signed ANSWER SIGNER KEY,MOMENT.. INPUT WORD..`, with words of `create`. SIGNER is `rsa` for one with an RSA key, `ec`
+Or it is `NAME signed ANSWER SIGNER KEY,MOMENT.. INPUT WORD..`, with words of `create` or `make`. SIGNER is `rsa` for one with an RSA key, `ec`
 for one with a key of an elliptic curve, `reused` for one that gives its RSA key for one use too, `missing` where no key has the
 identifier, or a number: the call that fails, of which the first, 0, makes the key. ANSWER is the status, how often the signer failed,
 and what is written in hexadecimal; or where the status is 0 the status and the line, in hexadecimal, of `receive` of what was written,
@@ -38,7 +38,7 @@ import sys
 
 from certificates import certificate, own_anchor
 from messages import CONTENT_A, NOW, QUERY, built, created, indefinite, key_bits, message, own_crl, overlong, segmented, value
-from publication import mixed, root, shaped
+from publication import digest, element, mixed, root, shaped
 from requests import options_of, request
 from resource_certificates import certificate_of
 from stored import terms
@@ -364,6 +364,36 @@ def shape_rows():
         yield f"receive-{label}", receive(), message(content=text).hex().encode(), XML_ERROR
 
 
+def change_at(seed, place):
+    """The change at a place of the query that `make` makes: a new object, one in another's place and one less, in turn."""
+    content = seed.to_bytes(8, "big") + place.to_bytes(8, "big")
+    attributes = {"tag": digest(content), "uri": b"rsync://localhost/ca/f%d.txt" % place}
+    if place % 3 == 0:
+        return element(b"publish", base64.b64encode(content), **attributes)
+    if place % 3 == 1:
+        return element(b"publish", base64.b64encode(content), **attributes, hash=digest(content + b"\0"))
+    return element(b"withdraw", **attributes, hash=digest(content))
+
+
+def summary(count, seed):
+    """What `make` writes: of so many changes, and of their query as the toy signer of seed 1 signs it."""
+    octets = created(root(b"query", *(change_at(seed, place) for place in range(count))), NOW)
+    return b"elements %d publish %d update %d withdraw %d envelope %s" % (
+        count, (count + 2) // 3, (count + 1) // 3, count // 3, digest(octets))
+
+
+def make_rows():
+    """Queries that `make` makes, of few and of many changes, and words of `make` that are none. The input isn't read."""
+    assert summary(10, 7).startswith(b"elements 10 publish 4 update 3 withdraw 3 envelope 4596f0fb")
+    for count, seed in (0, 0), (1, 0), (2, 1), (3, 2), (10, 7), (127, 3), (128, 4), (256, 4294967295), (1000, 5), (10000, 6):
+        yield f"make-{count}-{seed}", ("make", str(count), str(seed)), QUERY, (0, summary(count, seed))
+    for number, words in enumerate((
+            (), ("10",), ("10", "7", "0"), ("10001", "0"), ("4294967296", "0"), ("0", "4294967296"), ("99999999999999999999", "0"), ("010", "7"),
+            ("10", "07"), ("+10", "7"), ("10", "-7"), ("", "7"), ("10", ""), ("ten", "7"), ("publication", "10"))):
+        yield f"make-of-other-words-{number}", ("make", *words), QUERY, USAGE
+    yield "make-with-a-capital", ("Make", "0", "0"), QUERY, USAGE
+
+
 def setup_rows():
     """Words of `setup` that are none, and inputs that are no setup message."""
     for label, words in (("alone", ("setup",)), ("without-moment", ("setup", "child_request")), ("at-no-moment", ("setup", "child_request", "01")),
@@ -474,6 +504,7 @@ def commands():
     yield "command-of-provisioning", "command", receive(moment="1", kind="provisioning"), f"provisioning/1/{bits_of(0)}"
     for kind in SETUP_MESSAGES:
         yield f"command-setup-{kind}", "command", ("setup", kind, "7"), f"setup/{kind}/7"
+    yield "command-make", "command", ("make", "10000", "4294967295"), "make/10000/4294967295"
     yield "no-command", "command", ("contents",), "none"
 
 
@@ -514,12 +545,19 @@ def signer_rows():
         yield f"signer-call-{call}-fails", (7, 1, b"Signer"), str(call), KEY, (), create()
     yield "signer-is-asked-six-times", (0, 0, [received]), "7", KEY, (1700000000,), create()
     yield "signs-under-another-key", (0, 0, [validation(6)]), "rsa", OTHER_KEY, (1700000000,), create()
+    make = "make", "10", "7"
+    for signer, word in ("reused", b"KeyReused"), ("ec", b"IncompatibleKey"), ("missing", b"KeyNotFound"):
+        yield f"maker-{signer}", (7, 0, word), signer, KEY, (), make
+    for call in range(1, 8):
+        yield f"maker-call-{call}-fails", (7, 1, b"Signer"), str(call), KEY, (), make
+    yield "maker-is-asked-seven-times", (0, 0, []), "8", KEY, (), make
 
 
 def signed_case(name, answer, signer, key, moments, words):
     status, faults, said = answer
     ends = [line_of(said)] if isinstance(said, bytes) else [f"{end}/{line_of(text)}" for end, text in said]
-    answer = "/".join((str(status), str(faults), *ends))
+    left = ("left",) if words[0] == "make" else ()
+    answer = "/".join((str(status), str(faults), *ends, *left))
     return " ".join((name, "signed", answer, signer, ",".join((key, *map(str, moments))), QUERY.hex(), *map(word_of, words)))
 
 
@@ -547,7 +585,7 @@ def case(name, words, given, status, written):
 
 def rows():
     for row in (*moment_rows(), *key_rows(), *list_rows(), *word_rows(), *input_rows(), *crl_rows(), *create_rows(), *shape_rows(),
-                *updown_rows(), *setup_rows(), *anchor_rows(), *content_rows(), *built_rows()):
+                *updown_rows(), *setup_rows(), *make_rows(), *anchor_rows(), *content_rows(), *built_rows()):
         name, words, given, (status, text) = row
         yield case(name, words, given, status, text + b"\n")
     for name, call, words, answer in (*moments(), *keys(), *commands(), *orders()):

@@ -1,16 +1,17 @@
 -- One command, and one answer to it.
 use Rattle.std.proofs.Common.{◌≡◌, ◌≢◌, ◌<◌, ◌≤◌, ◌^◌, ◌⊎◌, ℕ, inl, inr, Option, Some, None, Result, Ok, Err, List, length, refl, sym, ap, subst, ◌∙◌, arith}
-use Rattle.std.specs.Prelude.{IfSome, IfOk, IfErr, IsErrOf}
+use Rattle.std.specs.Prelude.{IfSome, IfOk, IfErr, IsErrOf, MatchResult}
 use Rattle.rpki_ca.specs.declared.command.Command.{Command}
 use Rattle.rpki_ca.specs.declared.command.Command.TheVariants.{Content, Receive, Create, Setup, Make}
 use Rattle.rpki_ca.specs.declared.refusals.Refusal.{Refusal}
 use Rattle.rpki_ca.specs.declared.refusals.Refusal.TheVariants as refusals
-use Rattle.rpki_ca.specs.Command.{IsCommand, IsNoCommand, ReadsInput}
+use Rattle.rpki_ca.specs.Command.{IsCommand, IsNoCommand, IsMake, ReadsInput}
+use Rattle.rpki_ca.specs.Summary.{IsMakeAnswer}
 use Rattle.rpki_base.specs.Scheme.{Relation}
 use Rattle.rpki_ca.specs.Refusal.{status_of}
 use Rattle.rpki_ca.specs.Seen.{Seen, SignerSeen, IsSteady}
-use Rattle.rpki_ca.specs.Answer.{octets_in, AnswersSpelled, AnswersSigned, Performs, IsAnswer, IsGiven, IsShown, IsAdmitted}
-use Rattle.rpki_ca.proofs.Commands.{one_command}
+use Rattle.rpki_ca.specs.Answer.{octets_in, AnswersSpelled, AnswersSigned, Performs, IsAnswer, IsGiven, IsShown, IsAdmitted, IsLineOf, ReadsAll}
+use Rattle.rpki_ca.proofs.Commands.{one_command, is_make}
 
 -- ---- the answer
 
@@ -297,3 +298,25 @@ usage_of_none {X = X} scheme words c input signer r said is = absurd (performs_n
   where
     other : refusals.Usage ≡ refusals.OutOfMemory → ⊥
     other k = cc
+
+-- ---- the end of the input, and `make`
+
+pub at_end : {L : Type 0} {End : Type 0} (r : Result L Refusal) → End → MatchResult r (λ _. End) (λ e. ReadsAll (status_of e) → End)
+at_end (Ok line) end = end
+at_end (Err e) end = λ reads. end
+
+-- what is performed of `make` is its answer
+by_make : {I : Type 0} (scheme : Relation) (count seed : ℕ) (c : Command) (octets : List ℕ) (signer : SignerSeen I) (a : Result (List ℕ) Refusal) → c ≡ Make count seed → Performs scheme c octets signer a → IsMakeAnswer scheme count seed signer a
+by_make scheme count seed c octets signer a is said = told (subst (λ (x : Command). Performs scheme x octets signer a) is said)
+  where
+    told : Performs scheme (Make count seed) octets signer a → IsMakeAnswer scheme count seed signer a
+    told (inl pure) = absurd pure
+    told (inr signed) = signed
+
+pub made_by_words : {L I : Type 0} (scheme : Relation) (words : List (List ℕ)) (count seed : ℕ) (c : Command) (octets : List ℕ) (signer : SignerSeen I) (items : L → List ℕ) (r : Result L Refusal) → IsCommand words c → IsMake words count seed
+    → IfOk r (λ line. IsLineOf (Performs scheme c octets signer) (items line)) → IfErr r (λ e. e ≢ refusals.OutOfMemory → Performs scheme c octets signer (Err e))
+    → MatchResult r (λ line. IsLineOf (IsMakeAnswer scheme count seed signer) (items line)) (λ e. e ≢ refusals.OutOfMemory → IsMakeAnswer scheme count seed signer (Err e))
+made_by_words scheme words count seed c octets signer items (Ok line) is make told refused =
+    (told.0, by_make scheme count seed c octets signer (Ok told.0) (one_command words c (Make count seed) is (is_make words count seed make)) told.1, told.2)
+made_by_words scheme words count seed c octets signer items (Err e) is make told refused = λ other.
+    by_make scheme count seed c octets signer (Err e) (one_command words c (Make count seed) is (is_make words count seed make)) (refused other)

@@ -570,8 +570,8 @@ asks_signer words c a asks none no_make = by_verb a.verb a.ask
     by_verb verbs.Setup p = subst AsksSigner p.is asks
     by_verb verbs.Make p = no_make p.count p.seed p.make
 
-pub has_few : (words : List (List ℕ)) (c : Command) → IsCommand words c → IsLimited c
-has_few words c a = by_verb a.verb a.ask
+pub limited : (words : List (List ℕ)) (c : Command) → IsCommand words c → IsLimited c
+limited words c a = by_verb a.verb a.ask
   where
     by_verb : (verb : Verb) → Ask verb words c → IsLimited c
     by_verb verbs.Content p = subst IsLimited (sym p.1) tt

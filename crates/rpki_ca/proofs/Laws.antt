@@ -30,7 +30,7 @@ use Rattle.rpki_ca.specs.declared.refusals.Refusal.{Refusal}
 use Rattle.rpki_ca.specs.declared.refusals.Refusal.TheVariants as refusals
 use Rattle.rpki_ca.specs.Refusal.{status_of}
 use Rattle.rpki_ca.specs.Answer.{IsContent, FailsDigest, IsContentAnswer, FailsAt, IsTextAccepted, IsReceiveAnswer, octets_in, AnswersSpelled, AnswersSigned, IsAnswer, IsFromSigner}
-use Rattle.rpki_ca.specs.Command.{IsCommand, IsNoCommand, ReadsInput}
+use Rattle.rpki_ca.specs.Command.{IsCommand, IsNoCommand}
 use Rattle.rpki_ca.specs.Creation.{RefusesInput, HasNoWindow, HasLongText, IsCreateRefusal, IsSignersAnswer}
 use Rattle.rpki_ca.specs.Seen.{SignerSeen}
 use Rattle.rpki_ca.specs.Setup.{ReadsSetup, certificate_octets, setup_text, IsAnchored, RefusesAnchor, IsSetUp, IsNoSetup, HoldsNoAnchor, IsSetupAnswer}

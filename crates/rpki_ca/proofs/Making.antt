@@ -1,5 +1,5 @@
 -- The message that `make` makes, and what comes of it.
-use Rattle.std.proofs.Common.{◌≡◌, ◌≢◌, ◌≤◌, ◌<◌, ◌+◌, ◌^◌, ◌⊎◌, ◌%◌, ◌==◌, ℕ, zero, suc, ℤ, inl, inr, Bool, true, false, if◌then◌else◌, Some, None, Result, Ok, Err, List, [], ◌∷◌, ◌++◌, length, map, take, slice_index_or, refl, sym, ap, subst, ◌∙◌, arith, length-append}
+use Rattle.std.proofs.Common.{◌≡◌, ◌≢◌, ◌≤◌, ◌<◌, ◌+◌, ◌^◌, ◌%◌, ◌==◌, ℕ, zero, suc, ℤ, inl, inr, Bool, true, false, if◌then◌else◌, Some, None, Err, List, [], ◌∷◌, ◌++◌, length, map, take, slice_index_or, refl, sym, ap, subst, ◌∙◌, arith, length-append}
 use Rattle.std.specs.Prelude.{codes}
 use Rattle.std.specs.Fmt.{decimal}
 use Rattle.std.specs.List.{AllByRecursion, range_with_len, count_by}
@@ -11,7 +11,7 @@ use Rattle.std.proofs.lemmas.List.Sums.{count_by_more_yes, count_by_more_no}
 use Rattle.std.proofs.Math.Seq.{take-length}
 use Rattle.base64.specs.Engines.{standard}
 use Rattle.base64.specs.GeneralPurpose.{encode_of}
-use Rattle.hex.specs.Hex.{encode_lower, lower_digits}
+use Rattle.hex.specs.Hex.{lower_digits}
 use Rattle.hex.proofs.HexLemmas.{length-encode_with}
 use Rattle.sha2.specs.Sha256.{sha256}
 use Rattle.sha2.proofs.Facts256.{length-sha256}
@@ -40,16 +40,17 @@ use Rattle.rpki_sigmsg.specs.declared.create_error.CreateError.{CreateError}
 use Rattle.rpki_sigmsg.specs.declared.create_error.CreateError.TheVariants as create
 use Rattle.rpki_sigmsg.specs.Making.{HasWindow, CreateFails}
 use Rattle.rpki_ca.specs.declared.receiving.Received.TheVariants as received
-use Rattle.rpki_ca.specs.declared.make_line.Deed.{Deed}
+use Rattle.rpki_ca.specs.declared.make_line.Action.{Action}
 use Rattle.rpki_ca.specs.declared.receiving.Kind.TheVariants as kinds
+use Rattle.rpki_ca.specs.declared.receiving.ReceiveError.{ReceiveError}
 use Rattle.rpki_ca.specs.declared.receiving.Received.{Received}
 use Rattle.rpki_ca.specs.declared.refusals.Refusal.TheVariants as refusals
-use Rattle.rpki_ca.specs.Acceptance.{IsWritable, Accepted, text_of, normal_form}
+use Rattle.rpki_ca.specs.Acceptance.{IsWritable, Accepted, RefusesReceipt, text_of, normal_form, refusal_of}
 use Rattle.rpki_ca.specs.Answer.{IsLineOf}
 use Rattle.rpki_ca.specs.Creation.{AreCreated, IsSigned, refusal_of_create, refusal_of_key}
 use Rattle.rpki_ca.specs.Seen.{SignerSeen, seen_signer}
 use Rattle.rpki_ca.proofs.Creating.{signer_refused, drawn_other}
-use Rattle.rpki_ca.proofs.Laws.{one_accepted}
+use Rattle.rpki_ca.proofs.Laws.{one_accepted, accepted_alone}
 use Rattle.rpki_ca.specs.Summary.{made_at, object_at, uri_at, tag_at, publish_at, update_at, withdraw_at, change_at, changes, made_message, changes_in, does, summary, IsMakeAnswer}
 
 -- ---- the changes
@@ -184,10 +185,10 @@ made_refused scheme message when signer create.OutOfMemory w l f other = absurd 
 
 -- the signer holds the same keys before and after it signed
 held_before : {I : Type 0} (id : I) (before middle : SignerState I) (key : KeyFields) → Keeps before middle → Holds middle.keyring id key → Holds before.keyring id key
-held_before id before middle key keeps holds = subst (λ (k : List (HeldKey I)). Holds k id key) keeps.keyring holds
+held_before {I = I} id before middle key keeps holds = subst (λ (k : List (HeldKey I)). Holds k id key) keeps.keyring holds
 
 held_after : {I : Type 0} (id : I) (before middle : SignerState I) (key : KeyFields) → Keeps before middle → Holds before.keyring id key → Holds middle.keyring id key
-held_after id before middle key keeps holds = subst (λ (k : List (HeldKey I)). Holds k id key) (sym keeps.keyring) holds
+held_after {I = I} id before middle key keeps holds = subst (λ (k : List (HeldKey I)). Holds k id key) (sym keeps.keyring) holds
 
 -- the issuing key wasn't given then
 pub key_refused : {I E : Type 0} (scheme : Relation) (message : Received) (when : ℤ) (id : I) (before middle after : SignerState I) (octets : List ℕ) (e : KeyError E)
@@ -214,33 +215,61 @@ pub summed : {I : Type 0} (scheme : Relation) → ((kind : SigningAlgorithm) (ke
     → IsLineOf (IsMakeAnswer scheme count seed (seen_signer id before after)) line
 summed scheme fit seed count id before middle after octets issuing m line created keeps key accepted is =
     let same = one_accepted scheme kinds.Publication octets (issuing ∷ []) made_at m (made_message seed count) accepted
-        (accepted_made scheme seed count id before middle octets issuing created keeps key.holds) in
-    let made = created.created in
-    (summary (changes seed count) octets, record {
-      issuing = made.issuing;
-      holds = made.holds;
-      format = fit RsaSha256 made.issuing _ _ made.made.issued.signed;
-      other = subst (λ d. d ≢ Some made.issuing) (sym key.stays.drawn) (drawn_other middle.drawn made.key made.issuing made.drawn made.other);
-      octets = octets;
-      receivable = created.receivable;
-      written = refl;
-    }, is ∙ ap (λ (x : Received). summary (changes_in x) octets ++ 10 ∷ []) same)
+    (accepted_made scheme seed count id before middle octets issuing created keeps key.holds) in
+    let made = created.created in (
+      summary (changes seed count) octets,
+      record {
+        issuing = made.issuing;
+        holds = made.holds;
+        format = fit RsaSha256 made.issuing _ _ made.made.issued.signed;
+        other = subst (λ d. d ≢ Some made.issuing) (sym key.stays.drawn) (drawn_other middle.drawn made.key made.issuing made.drawn made.other);
+        octets = octets;
+        receivable = created.receivable;
+        written = refl;
+      },
+      is ∙ ap (λ (x : Received). summary (changes_in x) octets ++ 10 ∷ []) same,
+    )
+
+-- ---- the same of what the calls are given
+
+-- what was created of the message at that moment
+pub created_here : {I : Type 0} (scheme : Relation) (seed count : ℕ) (m : Message) (when : ℤ) (signer : SignerSeen I) (octets : List ℕ) → received.Publication m ≡ made_message seed count → when ≡ made_at
+    → AreCreated scheme kinds.Publication (received.Publication m) when signer octets → AreCreated scheme kinds.Publication (made_message seed count) made_at signer octets
+created_here scheme seed count m when signer octets is at created =
+    subst (λ (t : ℤ). AreCreated scheme kinds.Publication (made_message seed count) t signer octets) at (subst (λ (x : Received). AreCreated scheme kinds.Publication x when signer octets) is created)
+
+pub octets_refused : {I E : Type 0} (scheme : Relation) (seed count : ℕ) (m : Message) (when : ℤ) (signer : SignerSeen I) (e : CreateError E) → received.Publication m ≡ made_message seed count → when ≡ made_at → count ≤ 10000
+    → CreateFails (publication.text_of m) when signer.id signer.before signer.after e → refusal_of_create e ≢ refusals.OutOfMemory → IsMakeAnswer scheme count seed signer (Err (refusal_of_create e))
+octets_refused scheme seed count m when signer e is at few f other =
+    let here = subst (λ (x : Received). CreateFails (text_of x) when signer.id signer.before signer.after e) is f in
+    made_refused scheme (made_message seed count) made_at signer e made_window (fits seed count few) (subst (λ (t : ℤ). CreateFails (text_of (made_message seed count)) t signer.id signer.before signer.after e) at here) other
+
+pub receipt_refused : {I : Type 0} (scheme : Relation) (seed count : ℕ) (id : I) (before middle after : SignerState I) (octets held : List ℕ) (issuing : KeyFields) (when : ℤ) (e : ReceiveError)
+    → AreCreated scheme kinds.Publication (made_message seed count) made_at (seen_signer id before middle) octets → Keeps before middle → Holds middle.keyring id issuing → held ≡ octets → when ≡ made_at
+    → RefusesReceipt scheme kinds.Publication held (issuing ∷ []) when e → refusal_of e ≢ refusals.OutOfMemory → IsMakeAnswer scheme count seed (seen_signer id before after) (Err (refusal_of e))
+receipt_refused scheme seed count id before middle after octets held issuing when e created keeps holds same at refused other =
+    absurd (accepted_alone scheme kinds.Publication octets (issuing ∷ []) made_at (made_message seed count) e (accepted_made scheme seed count id before middle octets issuing created keeps holds)
+    (subst (λ (t : ℤ). RefusesReceipt scheme kinds.Publication octets (issuing ∷ []) t e) at (subst (λ (o : List ℕ). RefusesReceipt scheme kinds.Publication o (issuing ∷ []) when e) same refused)) other)
+
+pub accepted_here : (scheme : Relation) (octets held : List ℕ) (keys : List KeyFields) (when : ℤ) (m : Received) → held ≡ octets → when ≡ made_at → Accepted scheme kinds.Publication held keys when m → Accepted scheme kinds.Publication octets keys made_at m
+accepted_here scheme octets held keys when m same at accepted =
+    subst (λ (t : ℤ). Accepted scheme kinds.Publication octets keys t m) at (subst (λ (o : List ℕ). Accepted scheme kinds.Publication o keys when m) same accepted)
 
 -- ---- how many changes do something
 
-pub counted_yes : (deed : Deed) (cs : List PublishDeltaElement) (i k n : ℕ) (c : PublishDeltaElement) → i < length cs → c ≡ slice_index_or cs i c → does deed c ≡ true → n ≡ k + 1 → (k ≡ count_by (does deed) (take i cs)) × (k ≤ i)
-    → (n ≡ count_by (does deed) (take (i + 1) cs)) × (n ≤ i + 1)
-counted_yes deed cs i k n c l at yes more h =
-    let there = subst (λ x. does deed x ≡ true) at yes in
-    (more ∙ ap (λ m. m + 1) h.0 ∙ sym (count_by_more_yes (does deed) cs i c l there), omega (arith, more, h.1))
+pub counted_yes : (action : Action) (cs : List PublishDeltaElement) (i k n : ℕ) (c : PublishDeltaElement) → i < length cs → c ≡ slice_index_or cs i c → does action c ≡ true → n ≡ k + 1 → (k ≡ count_by (does action) (take i cs)) × (k ≤ i)
+    → (n ≡ count_by (does action) (take (i + 1) cs)) × (n ≤ i + 1)
+counted_yes action cs i k n c l at so more h =
+    let there = subst (λ x. does action x ≡ true) at so in
+    (more ∙ ap (λ m. m + 1) h.0 ∙ sym (count_by_more_yes (does action) cs i c l there), omega (arith, more, h.1))
 
-pub counted_no : (deed : Deed) (cs : List PublishDeltaElement) (i k n : ℕ) (c : PublishDeltaElement) → i < length cs → c ≡ slice_index_or cs i c → does deed c ≡ false → n ≡ k → (k ≡ count_by (does deed) (take i cs)) × (k ≤ i)
-    → (n ≡ count_by (does deed) (take (i + 1) cs)) × (n ≤ i + 1)
-counted_no deed cs i k n c l at no same h =
-    let there = subst (λ x. does deed x ≡ false) at no in
-    (same ∙ h.0 ∙ sym (count_by_more_no (does deed) cs i c l there), omega (arith, same, h.1))
+pub counted_no : (action : Action) (cs : List PublishDeltaElement) (i k n : ℕ) (c : PublishDeltaElement) → i < length cs → c ≡ slice_index_or cs i c → does action c ≡ false → n ≡ k → (k ≡ count_by (does action) (take i cs)) × (k ≤ i)
+    → (n ≡ count_by (does action) (take (i + 1) cs)) × (n ≤ i + 1)
+counted_no action cs i k n c l at so same h =
+    let there = subst (λ x. does action x ≡ false) at so in
+    (same ∙ h.0 ∙ sym (count_by_more_no (does action) cs i c l there), omega (arith, same, h.1))
 
-pub counted_all : (deed : Deed) (cs : List PublishDeltaElement) (i k : ℕ) → i ≤ length cs → length cs ≤ i → (k ≡ count_by (does deed) (take i cs)) × (k ≤ i) → k ≡ count_by (does deed) cs
-counted_all deed cs i k m l h =
+pub counted_all : (action : Action) (cs : List PublishDeltaElement) (i k : ℕ) → i ≤ length cs → length cs ≤ i → (k ≡ count_by (does action) (take i cs)) × (k ≤ i) → k ≡ count_by (does action) cs
+counted_all action cs i k m l h =
     let whole : i ≡ length cs = omega (arith, m, l) in
-    h.0 ∙ ap (λ j. count_by (does deed) (take j cs)) whole ∙ ap (count_by (does deed)) (take-length cs)
+    h.0 ∙ ap (λ j. count_by (does action) (take j cs)) whole ∙ ap (count_by (does action)) (take-length cs)

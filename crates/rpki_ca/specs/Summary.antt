@@ -1,5 +1,5 @@
 -- What `make` makes of two numbers, and what it says of it.
-use Rattle.std.specs.Prelude.{◌≡◌, ◌≢◌, ◌++◌, ◌∷◌, [], ◌%◌, ◌==◌, ◌⊎◌, ℕ, ℤ, pos, Bool, true, false, if◌then◌else◌, List, length, map, count_by, codes, Some, Result, Ok, Err}
+use Rattle.std.specs.Prelude.{◌≡◌, ◌≢◌, ◌++◌, ◌∷◌, [], ◌%◌, ◌==◌, ℕ, ℤ, pos, Bool, true, false, if◌then◌else◌, List, length, map, count_by, codes, Some, Result, Ok, Err}
 use Rattle.std.specs.Fmt.{decimal}
 use Rattle.std.specs.Int.{to_be_bytes, w64}
 use Rattle.std.specs.List.{range_with_len}
@@ -16,8 +16,8 @@ use Rattle.rpki_publication.specs.declared.query.Query.TheVariants as queries
 use Rattle.rpki_publication.specs.Publish.{PublishFields, UpdateFields, WithdrawFields}
 use Rattle.rpki_publication.specs.declared.publish_delta_element.PublishDeltaElement.{PublishDeltaElement}
 use Rattle.rpki_publication.specs.declared.publish_delta_element.PublishDeltaElement.TheVariants as change
-use Rattle.rpki_ca.specs.declared.make_line.Deed.{Deed}
-use Rattle.rpki_ca.specs.declared.make_line.Deed.TheVariants as deeds
+use Rattle.rpki_ca.specs.declared.make_line.Action.{Action}
+use Rattle.rpki_ca.specs.declared.make_line.Action.TheVariants as actions
 use Rattle.rpki_ca.specs.declared.receiving.Kind.TheVariants as kinds
 use Rattle.rpki_ca.specs.declared.receiving.Received.{Received}
 use Rattle.rpki_ca.specs.declared.receiving.Received.TheVariants as received
@@ -95,21 +95,24 @@ changes_in (received.Provisioning m) = []
 -- ---- the summary
 
 -- whether the change does this
-abbrev pub does : Deed → PublishDeltaElement → Bool
-does deeds.Publish (change.Publish p) = true
-does deeds.Update (change.Update u) = true
-does deeds.Withdraw (change.Withdraw w) = true
-does deed other = false
+abbrev pub does : Action → PublishDeltaElement → Bool
+does actions.Publish (change.Publish p) = true
+does actions.Update (change.Update u) = true
+does actions.Withdraw (change.Withdraw w) = true
+does action other = false
 
--- how many changes there are, how many publish, update and withdraw, and the digest of the signed
--- message's octets
+-- how many changes there are, and how many publish, update and withdraw
+abbrev pub numbers : List PublishDeltaElement → List ℕ
+numbers elements =
+    codes "elements " ++ decimal (length elements)
+    ++ codes " publish " ++ decimal (count_by (does actions.Publish) elements)
+    ++ codes " update " ++ decimal (count_by (does actions.Update) elements)
+    ++ codes " withdraw " ++ decimal (count_by (does actions.Withdraw) elements)
+
+-- and the digest of the signed message's octets
 abbrev pub summary : List PublishDeltaElement → List ℕ → List ℕ
 summary elements octets =
-    codes "elements " ++ decimal (length elements)
-    ++ codes " publish " ++ decimal (count_by (does deeds.Publish) elements)
-    ++ codes " update " ++ decimal (count_by (does deeds.Update) elements)
-    ++ codes " withdraw " ++ decimal (count_by (does deeds.Withdraw) elements)
-    ++ codes " envelope " ++ encode_lower (sha256 octets)
+    numbers elements ++ codes " envelope " ++ encode_lower (sha256 octets)
 
 -- ---- the command
 

@@ -3,17 +3,19 @@
 //!
 //! - `content` reads a signed message in hexadecimal and writes its content, if the content has the
 //!   digest that was signed. It says nothing of who signed.
-//! - `receive publication MOMENT KEY..` writes the message of the publication protocol that a signed
-//!   message is, if one of the one to eight keys issued its certificate for the moment;
-//!   [`receive_any`] is the same for octets, and [`receive`] for one key.
-//! - `create publication MOMENT` reads a message of the publication protocol and writes a signed
-//!   message with it, which is received as that message's normal form at each second from 300 before
-//!   the moment to 300 after it.
+//! - `receive KIND MOMENT KEY..` writes the message of the protocol, `publication` or
+//!   `provisioning`, that a signed message is, if one of the one to eight keys issued its
+//!   certificate for the moment; [`receive_any`] is the same for octets, and [`receive`] for one key.
+//! - `create KIND MOMENT` reads a message of the protocol and writes a signed message with it, which
+//!   is received as that message's normal form at each second from 300 before the moment to 300
+//!   after it.
 //! - `setup MESSAGE MOMENT` reads one of the four setup messages and writes it anew, if its
 //!   certificate is believed as a trust anchor's at the moment.
+//! - `make COUNT SEED` reads nothing: it makes a query with so many elements, creates and receives
+//!   it, and writes how many there are of each kind and the digest of the signed message.
 //!
-//! What is accepted stands in specs/Acceptance.antt, what is created in specs/Creation.antt, and what
-//! is answered to words and input in specs/Answer.antt.
+//! What is accepted stands in specs/Acceptance.antt, what is created in specs/Creation.antt, what is
+//! made in specs/Summary.antt, and what is answered to words and input in specs/Answer.antt.
 #![tactic(auto)]
 
 mod command;

@@ -1,6 +1,7 @@
 //! The command `make`.
 
 ghost use Rattle.std.specs.Prelude.{count_by, ◌≡◌, ◌≢◌, ◌≤◌, ◌++◌, ◌∷◌, [], None, Ok, Err, OnOk, IfOk, IfErr};
+ghost use Rattle.std.specs.Fmt.{decimal};
 ghost use Rattle.sha2.specs.Sha256.{sha256};
 ghost use Rattle.rpki_signer.specs.Limits.{Keeps};
 ghost use Rattle.rpki_text.specs.Uri.{rsync, fault_of};
@@ -9,11 +10,12 @@ ghost use Rattle.rpki_ca.specs.Answer.{IsLineOf};
 ghost use Rattle.rpki_ca.specs.Creation.{refusal_of_key};
 ghost use Rattle.rpki_ca.specs.Seen.{seen_signer};
 ghost use Rattle.rpki_ca.specs.Summary.{object_at, uri_at, publish_at, update_at, withdraw_at, change_at};
-ghost use Rattle.rpki_ca.specs.Summary.{made_message, made_at, changes_in, does, summary, IsMakeAnswer};
+ghost use Rattle.rpki_ca.specs.Summary.{made_message, made_at, changes_in, does, numbers, summary, IsMakeAnswer};
 
 use crate::create_line::publication_octets;
 use crate::receiving::{Kind, Received, receive};
 use crate::refusals::Refusal;
+use itoa::Buffer;
 use rpki_base::{Scheme, Time, Verifier};
 use rpki_common::OutOfMemory;
 use rpki_publication::{
@@ -39,7 +41,7 @@ fn object_at(alloc: Global, seed: u32, place: u32) -> Result<Vec<u8>, OutOfMemor
     Ok(octets)
 }
 
-// Where it is published. The text breaks no rule, so that memory alone is wanting where none is made.
+// Where it is published. The text breaks no rule, so memory alone is wanting where none is made.
 fn uri_at(alloc: Global, place: u32) -> Result<uri::Rsync, OutOfMemory>
     ensures uri { IfOk result (λ u. u ≡ uri_at place) }
     ensures lawful { IfOk result (λ u. fault_of rsync u ≡ None) }
@@ -117,7 +119,6 @@ fn add_change(
 
 // The query with so many changes.
 fn made_message(alloc: Global, count: u32, seed: u32) -> Result<Message, OutOfMemory>
-    requires { count ≤ 10000 }
     ensures message { IfOk result (λ m. Received.Publication m ≡ made_message seed count) }
     ensures writable { IfOk result (λ m. IsWritable (Received.Publication m)) }
 {
@@ -140,35 +141,56 @@ fn changes_in(message: &Received) -> &[PublishDeltaElement]
 
 // What a change does.
 #[derive(Clone, Copy)]
-enum Deed {
+enum Action {
     Publish,
     Update,
     Withdraw,
 }
 
 // Whether a change does this.
-fn does(deed: Deed, change: &PublishDeltaElement) -> bool
-    ensures { result ≡ does deed change.now }
+fn does(action: Action, change: &PublishDeltaElement) -> bool
+    ensures { result ≡ does action change.now }
 {
-    match (deed, change) {
-        (Deed::Publish, PublishDeltaElement::Publish(_)) => true,
-        (Deed::Update, PublishDeltaElement::Update(_)) => true,
-        (Deed::Withdraw, PublishDeltaElement::Withdraw(_)) => true,
+    match (action, change) {
+        (Action::Publish, PublishDeltaElement::Publish(_)) => true,
+        (Action::Update, PublishDeltaElement::Update(_)) => true,
+        (Action::Withdraw, PublishDeltaElement::Withdraw(_)) => true,
         _ => false,
     }
 }
 
 // How many of the changes do this.
-fn number(deed: Deed, changes: &[PublishDeltaElement]) -> usize
-    ensures { result ≡ count_by (does deed) changes.now }
+fn number(action: Action, changes: &[PublishDeltaElement]) -> usize
+    ensures { result ≡ count_by (does action) changes.now }
 {
     let mut number = 0;
     for change in changes {
-        if does(deed, change) {
+        if does(action, change) {
             number += 1;
         }
     }
     number
+}
+
+// Appends a name and a number.
+fn append_number(line: &mut Vec<u8>, name: &str, number: usize) -> Result<(), OutOfMemory>
+    ensures { OnOk result (line.new.items ≡ line.old.items ++ name.now ++ decimal number) }
+{
+    line.extend_from_slice(name.as_bytes())?;
+    line.extend_from_slice(Buffer::new().format(number).as_bytes())?;
+    Ok(())
+}
+
+// The numbers of a summary.
+fn numbers_line(alloc: Global, changes: &[PublishDeltaElement]) -> Result<Vec<u8>, OutOfMemory>
+    ensures { IfOk result (λ line. line.items ≡ numbers changes.now) }
+{
+    let mut line = Vec::new(alloc);
+    append_number(&mut line, "elements ", changes.len())?;
+    append_number(&mut line, " publish ", number(Action::Publish, changes))?;
+    append_number(&mut line, " update ", number(Action::Update, changes))?;
+    append_number(&mut line, " withdraw ", number(Action::Withdraw, changes))?;
+    Ok(line)
 }
 
 // The summary of these changes and the octets of a signed message, and a line feed.
@@ -179,16 +201,12 @@ fn summary_line(
 ) -> Result<Vec<u8>, OutOfMemory>
     ensures { IfOk result (λ line. line.items ≡ summary changes.now octets.now ++ 10 ∷ []) }
 {
-    let text = format!(
-        in alloc;
-        "elements {} publish {} update {} withdraw {} envelope {}\n",
-        changes.len(),
-        number(Deed::Publish, changes),
-        number(Deed::Update, changes),
-        number(Deed::Withdraw, changes),
-        Hash::from_data(octets)
-    )?;
-    Ok(text.into_bytes())
+    let mut line = numbers_line(alloc, changes)?;
+    line.extend_from_slice(b" envelope ")?;
+    let digest = Hash::from_data(octets);
+    line.extend_from_slice(hex::encode(alloc, digest.as_slice())?.as_bytes())?;
+    line.push(b'\n')?;
+    Ok(line)
 }
 
 impl<E: Drop> From<KeyError<E>> for Refusal {

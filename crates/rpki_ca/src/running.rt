@@ -92,11 +92,7 @@ fn read_input<I: Source>(alloc: Global, input: &mut I) -> Result<Vec<u8>, Refusa
 }
 
 // The whole input, if the command reads it.
-fn input_for<I: Source>(
-    alloc: Global,
-    command: &Command,
-    input: &mut I,
-) -> Result<Vec<u8>, Refusal>
+fn input_for<I: Source>(alloc: Global, command: &Command, input: &mut I) -> Result<Vec<u8>, Refusal>
     ensures ok { IfOk result (λ octets. IfSome (I.rest input.old) (λ rest.
         ReadsInput command.now → (octets.items ≡ rest) × (length rest ≤ 2 ^ 26))) }
     ensures steady { OnOk result (IsSteady (seen I.rest I.faults input.old input.new)) }
@@ -202,14 +198,15 @@ fn finish<O: Sink>(output: &mut O, answer: Result<Vec<u8>, Refusal>) -> Status
 ///
 /// `content` and `receive` read a signed message in hexadecimal, an even number of digits of either
 /// case and at most one line feed behind them; octets behind the message are allowed. `content`
-/// writes its content. `receive publication MOMENT KEY..` writes the message that it is, where one
-/// of the one to eight keys issued its certificate for the moment and all fourteen checks hold under
-/// it: MOMENT in seconds since 1970, each KEY in DER and hexadecimal. `create publication MOMENT`
-/// reads a message and writes, in hexadecimal, a signed message with it, which the signer makes
-/// under the issuing key with the identifier `key`. `setup MESSAGE MOMENT` reads one of the four
-/// setup messages and writes it anew, where its certificate is believed as a trust anchor's at the
-/// moment. `make COUNT SEED` makes a message of the publication protocol with COUNT elements, at most
-/// 10000, creates and receives it, and writes a summary; it reads nothing. Reading stops behind 2^26 octets and one more. The whole line is made before the first
+/// writes its content. `receive KIND MOMENT KEY..` writes the message of the protocol that it is,
+/// where one of the one to eight keys issued its certificate for the moment and all fourteen checks
+/// hold under it: MOMENT in seconds since 1970, each KEY in DER and hexadecimal. `create KIND
+/// MOMENT` reads a message and writes, in hexadecimal, a signed message with it, which the signer
+/// makes under the issuing key with the identifier `key`. `setup MESSAGE MOMENT` reads one of the
+/// four setup messages and writes it anew, where its certificate is believed as a trust anchor's at
+/// the moment. `make COUNT SEED` makes a query of the publication protocol with COUNT elements, at
+/// most 10000, creates a signed message with it and receives that, and writes a summary; it reads
+/// nothing. Reading stops behind 2^26 octets and one more. The whole line is made before the first
 /// write.
 pub fn run<P: Scheme, I: Source, O: Sink, V: Verifier<P>, S: Signer<P>>(
     alloc: Global,

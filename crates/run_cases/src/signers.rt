@@ -87,8 +87,8 @@ fn words_to_receive(alloc: Global, moment: &str, key: &str) -> io::Result<Words>
     Ok(words)
 }
 
-// What `create` of these words answers to the input: its status, how many calls of the signer failed, and its line; or where that is
-// what was asked for, the key under which it is received, and what comes of that at the moments.
+// What `create` or `make` of these words answers to the input: its status, how many calls of the signer failed, and its line; or where
+// that is what was asked for, the key under which it is received, and what comes of that at the moments.
 fn created(
     alloc: Global,
     words: &Words,

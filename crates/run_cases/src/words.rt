@@ -89,7 +89,7 @@ fn setup_text(kind: SetupKind) -> &'static str {
 }
 
 // A command: `content`, or the kind, the seconds of the moment, and the keys; or `create` or `setup`, the kind
-// and the seconds.
+// and the seconds; or `make`, how many elements and the seed.
 fn command_text(alloc: Global, command: &Command) -> io::Result<String> {
     match command {
         Command::Content => Ok(format!(in alloc; "content")?),
@@ -111,6 +111,7 @@ fn command_text(alloc: Global, command: &Command) -> io::Result<String> {
             setup_text(*kind),
             when.seconds()
         )?),
+        Command::Make { count, seed } => Ok(format!(in alloc; "make/{count}/{seed}")?),
     }
 }
 

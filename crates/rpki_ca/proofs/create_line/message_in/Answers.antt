@@ -1,4 +1,3 @@
-use Rattle.std.proofs.Common.{refl}
 use Rattle.std.proofs.lemmas.Result.{err_from_is_err_and}
 use Rattle.rpki_publication.proofs.Writable as publication
 use Rattle.rpki_provisioning.proofs.Writables as provisioning

@@ -102,4 +102,16 @@ pub returns-clause-whole : goal.returns-clause-whole
 returns-clause-whole g c = runs.read_to_end c.answer-answer.result c.finish.result.0 _ c.answer-answer.ensures.whole c.finish.ensures.status
 
 pub returns-clause-long : goal.returns-clause-long
-returns-clause-long g c = runs.long_to_end c.answer-answer.result c.finish.result.0 _ _ c.answer-answer.ensures.long c.finish.ensures.status
+returns-clause-long g c = λ none. runs.long_to_end c.answer-answer.result c.finish.result.0 _ _ (c.answer-answer.ensures.long none) c.finish.ensures.status
+
+pub returns-clause-made : goal.returns-clause-made
+returns-clause-made g c = λ count seed is zero.
+    let sink : Seen = seen g.O.Sink.written g.O.Sink.faults c.args.output.now c.finish.new.output in
+    let signer = seen_signer c.args.key.now (g.S.Signer.state c.args.signer.now) (g.S.Signer.state c.answer-answer.new.signer) in
+    runs.made (λ line. line.items) g.P.Scheme.checks count seed signer sink c.answer-answer.result c.finish.result.0 (c.answer-answer.ensures.made count seed is) c.finish.ensures.text
+    c.finish.ensures.status zero
+
+pub returns-clause-makes : goal.returns-clause-makes
+returns-clause-makes g c = λ count seed is.
+    let signer = seen_signer c.args.key.now (g.S.Signer.state c.args.signer.now) (g.S.Signer.state c.answer-answer.new.signer) in
+    runs.makes (λ line. line.items) g.P.Scheme.checks count seed signer c.answer-answer.result c.finish.result.0 (c.answer-answer.ensures.made count seed is) c.finish.ensures.status

@@ -22,3 +22,7 @@ returns-in-Some-Create-clause-none c = λ n.
 pub returns-in-Some-Setup-clause-none : goal.returns-in-Some-Setup-clause-none
 returns-in-Some-Setup-clause-none c = λ n.
     no_other c.args.self.now verbs.Setup (sym c.verb.ensures ∙ c.in-Some-Setup.is ∙ ap Some c.in-Some-Setup.field-0-is) (c.setup.ensures.none n)
+
+pub returns-in-Some-Make-clause-none : goal.returns-in-Some-Make-clause-none
+returns-in-Some-Make-clause-none c = λ n.
+    no_other c.args.self.now verbs.Make (sym c.verb.ensures ∙ c.in-Some-Make.is ∙ ap Some c.in-Some-Make.field-0-is) (c.make.ensures.none n)
