@@ -382,6 +382,15 @@ def compared(name, octets, expected):
         raise SystemExit(f"{name}: {octets[:80]} reads as {element_of(octets)}")
 
 
+# More levels than a reader that called itself at each could go into.
+DEEP = 100000
+
+
+def sized(name, n, document, element):
+    """A document, and what it is read as, in parts."""
+    return f"{name}-{n}", ",".join(map(given, document)), ",".join(map(given, element)) if element is not None else "-"
+
+
 def cases():
     for kind, table in [("document", LAWFUL), ("no-document", UNLAWFUL)]:
         for number, octets in enumerate(table, 1):
@@ -399,7 +408,10 @@ def cases():
         for name, document, element in sizes(n):
             if n <= 256 or name in ("name", "value", "text", "attributes"):
                 compared(name, expanded(document), expanded(element) if element is not None else None)
-            yield f"{name}-{n}", ",".join(map(given, document)), ",".join(map(given, element)) if element is not None else "-"
+            yield sized(name, n, document, element)
+    for name, document, element in sizes(DEEP):
+        if name.startswith("levels"):
+            yield sized(name, DEEP, document, element)
 
 
 def main():

@@ -99,6 +99,7 @@ SHAPES = {
     "overlong": (node("30", leaf("04", b"", lambda n: b"\x81\0"), spell=lambda n: b"\x81\3"), False),
     "overlong-by-four": (node("30", A, spell=lambda n: overlong(n)), False),
     "long-identifier": (node("3f8101", leaf("05", b"")), True),
+    "long-identifier-without-contents": (leaf("1f8101", b""), True),
     "identifier-of-four": (node("bf818203", leaf("9f818203", b"x")), True),
     "five-levels": (node("30", node("30", node("30", node("30", node("30"))))), True),
     "mixed": (node("30", node("24", A, spell=indefinite), SEVEN, node("30"), spell=indefinite), False),
@@ -667,6 +668,10 @@ def nested(count, identifier=0x30):
     return bytes(turned[::-1])
 
 
+# More levels than a reader that called itself at each could go into.
+DEEP = 100000
+
+
 def size_cases():
     for n in SIZES:
         part = b"a" * n
@@ -675,6 +680,7 @@ def size_cases():
         yield from leaf_sizes(n, part)
         yield from part_sizes(n, part)
         yield from written_sizes(n, part)
+    yield from deep_cases(DEEP)
 
 
 def string_sizes(n, part):
@@ -718,6 +724,13 @@ def level_sizes(n):
         octets = nested(n)
         yield case(f"{n}-definite-levels", "both", octets, step("tree_size", len(octets), n),
             step("descend", n, argument=b"\x10"), step("ascend", n), end())
+
+
+def deep_cases(n):
+    """So many levels of segments, round one segment without contents."""
+    octets = (b"\x24\x80") * n + octet_string(b"") + b"\0\0" * n
+    yield case(f"{n}-levels", "ber", octets, step("octet_string", b"", 0, b""), step("tree_size", len(octets), n + 1), step("capture", octets), end())
+    yield from refused(f"{n}-levels-without-an-end", "ber", octets[:-2], "octet_string", "tree_size", "capture")
 
 
 def leaf_sizes(n, part):
