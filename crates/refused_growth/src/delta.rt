@@ -1,0 +1,92 @@
+//! Changes of three objects, created as a signed message and received.
+
+use crate::ended::Ended;
+use crate::signing::{KEY, after_refusal, signer_of};
+use bytes::Bytes;
+use rpki_base::Time;
+use rpki_ca::{Kind, Received, receive};
+use rpki_publication::{Message, PublicationCms, Publish, PublishDelta, Update, Withdraw};
+use rpki_signer::{ToyScheme, ToySigner, ToyVerifier};
+use rpki_text::{Base64, Hash, uri};
+use std::alloc::Global;
+
+/// A new object.
+pub fn publish(alloc: Global) -> Result<Publish, Ended> {
+    let uri = uri::Rsync::from_str(alloc, "rsync://localhost/ca/f1.txt")?;
+    let content = Base64::from_content(alloc, b"a")?;
+    Ok(Publish::with_hash_tag(alloc, uri, content)?)
+}
+
+/// An object in another one's place.
+pub fn update(alloc: Global) -> Result<Update, Ended> {
+    let uri = uri::Rsync::from_str(alloc, "rsync://localhost/ca/f2.txt")?;
+    let content = Base64::from_content(alloc, b"b")?;
+    Ok(Update::with_hash_tag(alloc, uri, content, Hash::from_data(b"c"))?)
+}
+
+/// An object less.
+pub fn withdraw(alloc: Global) -> Result<Withdraw, Ended> {
+    let uri = uri::Rsync::from_str(alloc, "rsync://localhost/ca/f3.txt")?;
+    Ok(Withdraw::with_hash_tag(alloc, uri, Hash::from_data(b"d"))?)
+}
+
+// Whether all three are added.
+fn is_filled(
+    delta: &mut PublishDelta,
+    publish: Publish,
+    update: Update,
+    withdraw: Withdraw,
+) -> bool {
+    delta.add_publish(publish).is_ok()
+        && delta.add_update(update).is_ok()
+        && delta.add_withdraw(withdraw).is_ok()
+}
+
+/// A publish, an update and a withdraw.
+pub fn three(alloc: Global) -> Result<PublishDelta, Ended> {
+    let mut delta = PublishDelta::empty(alloc);
+    let publish = publish(alloc)?;
+    let update = update(alloc)?;
+    let withdraw = withdraw(alloc)?;
+    if is_filled(&mut delta, publish, update, withdraw) {
+        return Ok(delta);
+    }
+    Err(Ended::OutOfMemory)
+}
+
+/// The moment at which all is made.
+pub fn moment() -> Result<Time, Ended> {
+    match Time::new(1700000000) {
+        Some(moment) => Ok(moment),
+        None => Err(Ended::Wrong),
+    }
+}
+
+// The octets of what is created.
+fn created(alloc: Global, message: Message, signer: &mut ToySigner) -> Result<Bytes, Ended> {
+    match PublicationCms::create::<ToyScheme, ToySigner>(alloc, message, moment()?, &KEY, signer) {
+        Ok(cms) => Ok(cms.to_bytes(alloc)?),
+        Err(error) => Err(after_refusal(alloc, Ended::from(error), signer)),
+    }
+}
+
+fn received(alloc: Global, octets: &[u8]) -> Result<Message, Ended> {
+    let key = ToyScheme::key(alloc, 1, KEY)?;
+    let verifier = ToyVerifier::new();
+    match receive(alloc, Kind::Publication, octets, &key, moment()?, &verifier) {
+        Ok(Received::Publication(message)) => Ok(message),
+        Ok(Received::Provisioning(_)) => Err(Ended::Wrong),
+        Err(error) => Err(Ended::from(error)),
+    }
+}
+
+/// Creates the message and receives it.
+pub fn exchanged(alloc: Global) -> Result<(), Ended> {
+    let message = Message::delta(three(alloc)?);
+    let mut signer = signer_of(alloc)?;
+    let octets = created(alloc, message.clone(alloc)?, &mut signer)?;
+    if received(alloc, octets.as_slice())? == message {
+        return Ok(());
+    }
+    Err(Ended::Wrong)
+}

@@ -1,0 +1,63 @@
+//! An authority's request, constructed and decoded.
+
+use crate::ended::Ended;
+use crate::signing::{KEY, after_refusal, signer_of};
+use rpki_cert::{RpkiCaCsr, construct_rpki_ca};
+use rpki_der::Captured;
+use rpki_signer::{ToyScheme, ToySigner, ToyVerifier};
+use rpki_text::uri::{Https, Rsync};
+use std::alloc::Global;
+
+#[derive(Drop)]
+struct Places {
+    repository: Rsync,
+    manifest: Rsync,
+    notify: Https,
+}
+
+fn places_of(alloc: Global) -> Result<Places, Ended> {
+    let repository = Rsync::from_str(alloc, "rsync://localhost/repo/x")?;
+    let manifest = Rsync::from_str(alloc, "rsync://localhost/repo/ca.mft")?;
+    let notify = Https::from_str(alloc, "https://localhost/repo/notify.xml")?;
+    Ok(Places {
+        repository,
+        manifest,
+        notify,
+    })
+}
+
+fn constructed(alloc: Global, places: &Places, signer: &mut ToySigner) -> Result<Captured, Ended> {
+    match construct_rpki_ca::<ToyScheme, ToySigner>(
+        alloc,
+        signer,
+        &KEY,
+        &places.repository,
+        &places.manifest,
+        Some(&places.notify),
+    ) {
+        Ok(captured) => Ok(captured),
+        Err(error) => Err(after_refusal(alloc, Ended::from(error), signer)),
+    }
+}
+
+// Whether the request is signed with its key, and names these places.
+fn is_for(request: &RpkiCaCsr, slashed: &Rsync, places: &Places) -> bool {
+    let verified = request.verify_signature::<ToyScheme, ToyVerifier>(&ToyVerifier::new());
+    verified.is_ok()
+        && request.ca_repository() == Some(slashed)
+        && request.rpki_manifest() == Some(&places.manifest)
+        && request.rpki_notify() == Some(&places.notify)
+}
+
+/// Constructs the request and decodes it.
+pub fn exchanged(alloc: Global) -> Result<(), Ended> {
+    let places = places_of(alloc)?;
+    let slashed = Rsync::from_str(alloc, "rsync://localhost/repo/x/")?;
+    let mut signer = signer_of(alloc)?;
+    let captured = constructed(alloc, &places, &mut signer)?;
+    let request = RpkiCaCsr::decode(alloc, captured.as_slice())?;
+    if is_for(&request, &slashed, &places) {
+        return Ok(());
+    }
+    Err(Ended::Wrong)
+}

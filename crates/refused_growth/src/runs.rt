@@ -1,0 +1,78 @@
+//! Commands in memory.
+
+use crate::ended::Ended;
+use crate::signing::{KEY, signer_of};
+use rpki_ca::{Status, Words, run};
+use rpki_signer::{ToySigner, ToyVerifier};
+use rpki_text::{MemorySink, MemorySource};
+use std::alloc::Global;
+use stored_cases::octets_of;
+
+// Input, the line that is to be written, and the words.
+#[derive(Drop)]
+struct Asked {
+    input: Vec<u8>,
+    line: Vec<u8>,
+    words: Words,
+}
+
+fn octets(alloc: Global, word: Option<&str>) -> Result<Vec<u8>, Ended> {
+    let Some(word) = word else {
+        return Err(Ended::Wrong);
+    };
+    match octets_of(alloc, word) {
+        Ok(octets) => Ok(octets),
+        Err(error) => Err(crate::ended_by(&error)),
+    }
+}
+
+fn asked_of(alloc: Global, line: &str) -> Result<Asked, Ended> {
+    let mut fields = line.split_whitespace().skip(2);
+    let input = octets(alloc, fields.next())?;
+    let line = octets(alloc, fields.next())?;
+    let mut words = Words::new(alloc);
+    for word in fields {
+        words.push(word)?;
+    }
+    Ok(Asked { input, line, words })
+}
+
+// The status, where nothing was counted.
+fn status_of(
+    alloc: Global,
+    words: &Words,
+    source: &mut MemorySource,
+    sink: &mut MemorySink,
+    signer: &mut ToySigner,
+) -> Option<u8> {
+    let Status(status) = run(
+        alloc,
+        words,
+        source,
+        sink,
+        &ToyVerifier::new(),
+        signer,
+        &KEY,
+    );
+    let is_uncounted = source.faults() == 0
+        && sink.faults() == 0
+        && signer.faults() == 0
+        && signer.reused() == 0;
+    if is_uncounted { Some(status) } else { None }
+}
+
+/// Runs the command of the line `NAME run INPUT LINE WORD..`, which has to write LINE, or the line of want of memory.
+pub fn ran(alloc: Global, line: &str) -> Result<(), Ended> {
+    let asked = asked_of(alloc, line)?;
+    let mut source = MemorySource::new(alloc, &asked.input, 1000, &[])?;
+    let mut sink = MemorySink::new(alloc, 1 << 16, 1000, &[])?;
+    let mut signer = signer_of(alloc)?;
+    let status = status_of(alloc, &asked.words, &mut source, &mut sink, &mut signer);
+    if status == Some(0) && sink.written() == asked.line.as_slice() {
+        return Ok(());
+    }
+    if status == Some(12) && sink.written() == b"OutOfMemory\n".as_slice() {
+        return Err(Ended::OutOfMemory);
+    }
+    Err(Ended::Wrong)
+}
