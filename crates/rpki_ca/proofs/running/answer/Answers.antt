@@ -15,8 +15,11 @@ pub returns-clause-ok : goal.returns-clause-ok
 returns-clause-ok g c =
     let is = rw c.in-Some.is at c.in_ok-command.ensures.command in
     let within = if_some (g.I.Source.rest c.args.input.now) _ _ (λ input p reads. (c.deref.ensures.value ∙ (p reads).0, (p reads).1)) c.in_ok-octets.ensures.ok in
-    IfOk-weaker c.perform.result _ _ (λ line t. (t.0, shown g.P.Scheme.checks c.args.words.now _ _ c.deref.result.now c.in-Some.command (Ok t.0) is within c.in_ok-octets.ensures.steady t.1,
-    t.2)) c.perform.ensures.ok
+    IfOk-weaker c.perform.result _ _ (λ line t. (
+      t.0,
+      shown g.P.Scheme.checks c.args.words.now _ _ c.deref.result.now c.in-Some.command (Ok t.0) is within c.in_ok-octets.ensures.steady t.1,
+      t.2,
+    )) c.perform.ensures.ok
 
 pub returns-clause-err : goal.returns-clause-err
 returns-clause-err g c =
