@@ -47,6 +47,13 @@ rpkica reads, checks and makes the messages of RPKI certification authorities.
         repository_response.
         Example: rpkica setup child_request 1700000000 < examples/child-request.xml
 
+    rpkica make COUNT SEED
+        Makes a query of the publication protocol with COUNT elements, at most
+        10000, signs it as create does at 1700000000, receives it, and writes
+        how many elements it has and the SHA-256 of the signed message. SEED,
+        below 4294967296, is what its objects are made of. Nothing is read.
+        Example: rpkica make 10 7
+
     rpkica --help
     rpkica --version
 
