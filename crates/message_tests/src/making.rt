@@ -70,8 +70,15 @@ fn make_asks_three_questions(rt: HostRuntime) -> Result<(), Fail> {
     Ok(())
 }
 
-// The octets of the object at a place, and a 0 behind them.
-fn object_at(place: u8) -> [u8; 17] {
+// The octets of the object at a place, and those of the one that it may replace.
+fn object_at(place: u8) -> [u8; 16] {
+    let mut octets = [0u8; 16];
+    octets[7] = 7;
+    octets[15] = place;
+    octets
+}
+
+fn old_object_at(place: u8) -> [u8; 17] {
     let mut octets = [0u8; 17];
     octets[7] = 7;
     octets[15] = place;
@@ -81,21 +88,19 @@ fn object_at(place: u8) -> [u8; 17] {
 // Adds the change at a place.
 fn add_change(alloc: Global, delta: &mut PublishDelta, place: u8) -> Result<(), Fail> {
     let octets = object_at(place);
+    let old = Hash::from_data(&old_object_at(place));
     let text = format!(in alloc; "rsync://localhost/ca/f{place}.txt")?;
     let uri = uri::Rsync::from_str(alloc, text.as_str())?;
-    let content = Base64::from_content(alloc, &octets[..16])?;
+    let content = Base64::from_content(alloc, &octets)?;
     let added = match place % 3 {
         0 => delta
             .add_publish(Publish::with_hash_tag(alloc, uri, content)?)
             .is_ok(),
-        1 => {
-            let old = Hash::from_data(&octets);
-            delta
-                .add_update(Update::with_hash_tag(alloc, uri, content, old)?)
-                .is_ok()
-        }
+        1 => delta
+            .add_update(Update::with_hash_tag(alloc, uri, content, old)?)
+            .is_ok(),
         _ => {
-            let hash = Hash::from_data(&octets[..16]);
+            let hash = Hash::from_data(&octets);
             delta
                 .add_withdraw(Withdraw::with_hash_tag(alloc, uri, hash)?)
                 .is_ok()
