@@ -82,10 +82,9 @@ fn enter(cursor: &mut Cursor<'_>, tag: Tag) -> Result<(), Ended> {
     answered(cursor, before, answer)
 }
 
+// Where octets can't be taken, nothing is said of where the cursor is.
 fn octets(alloc: Global, cursor: &mut Cursor<'_>) -> Result<Vec<u8>, Ended> {
-    let before = place_of(cursor);
-    let answer = take_octets(alloc, cursor, Tag::OCTET_STRING);
-    answered(cursor, before, answer)
+    Ok(take_octets(alloc, cursor, Tag::OCTET_STRING)?)
 }
 
 fn leave(cursor: &mut Cursor<'_>) -> Result<(), Ended> {

@@ -20,11 +20,6 @@ use std::alloc::Global;
 use std::io;
 use std::io::ErrorKind;
 
-/// How a case ends whose words can't be had.
-fn ended_by(error: &io::Error) -> Ended {
-    ended::refused(error.kind() == ErrorKind::OutOfMemory)
-}
-
 // How the case of a line ends.
 fn outcome(alloc: Global, line: &str) -> Result<(), Ended> {
     match line.split_whitespace().nth(1).unwrap_or("") {

@@ -16,13 +16,14 @@ struct Asked {
     words: Words,
 }
 
+// The octets of a word; a word that spells none is told as want of memory too, and ends the gate's run.
 fn octets(alloc: Global, word: Option<&str>) -> Result<Vec<u8>, Ended> {
     let Some(word) = word else {
         return Err(Ended::Wrong);
     };
     match octets_of(alloc, word) {
         Ok(octets) => Ok(octets),
-        Err(error) => Err(crate::ended_by(&error)),
+        Err(_) => Err(Ended::OutOfMemory),
     }
 }
 
