@@ -21,6 +21,7 @@ pub struct Command {
     pub words: Words,
 }
 
+/// Want of memory, as the case programs tell it.
 pub fn out_of_memory(_: OutOfMemory) -> io::Error {
     io::Error::from(ErrorKind::OutOfMemory)
 }
