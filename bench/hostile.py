@@ -18,6 +18,8 @@ from measuring import TOP, best_of_three, build_program
 sys.path.insert(0, os.path.join(TOP, "tools"))
 import messages  # noqa: E402
 import provisioning_cases as provisioning  # noqa: E402
+import publication  # noqa: E402
+import run_cases  # noqa: E402
 
 LIMIT = 2**26
 SECONDS, OCTETS, ROOM = 5, 8, 64 * 10**6
@@ -26,6 +28,8 @@ NOW = str(messages.NOW)
 RECEIVE = ["receive", "publication", NOW, KEY]
 CREATE = ["create", "publication", NOW]
 CREATE_PROVISIONING = ["create", "provisioning", NOW]
+SETUP = ["setup", "child_request", NOW]
+OTHER_KEYS = [KEY[:-2] + f"{number:02}" for number in range(7, 0, -1)]
 PUBLICATION = b'<msg xmlns="http://www.hactrn.net/uris/rpki/publication-spec/" version="4" type="%s">%s</msg>'
 MILLION = 10**6
 
@@ -35,16 +39,27 @@ def nested(count):
     return messages.message(content_string=lambda octets: b"\x24\x80" * count + messages.octet_string(octets) + b"\0\0" * count)
 
 
+def beside(count):
+    """A good message before whose content's octets so many empty segments stand."""
+    return messages.message(content_string=lambda octets: b"\x24\x80" + b"\4\0" * count + messages.octet_string(octets) + b"\0\0")
+
+
+def extended(count, **parts):
+    """A good message, with so many unknown extensions in the part that is named."""
+    unknown = messages.seq(messages.oid("1.2.3"), messages.octet_string(b""))
+    return messages.message(**{name: lambda extensions: extensions + [unknown] * count for name in parts})
+
+
 def numbers(count):
     """So many serial numbers, each of three octets or four."""
     return range(2**16, 2**16 + count)
 
 
-def attributes(length):
+def attributes(length, prefix=b"a"):
     """Attributes of this length together, each with a name of its own."""
     found, number, held = [], 0, 0
     while held < length:
-        found.append(b' a%d=""' % number)
+        found.append(b' %s%d=""' % (prefix, number))
         held += len(found[-1])
         number += 1
     return b"".join(found)
@@ -61,6 +76,23 @@ def address(number):
 
 def long_address(number):
     return b"2001:db8::%x:%x" % divmod(number, 2**16)
+
+
+def filled(length, element):
+    """The element, as often as it fits into this length."""
+    return element * (length // len(element))
+
+
+def reply(*elements):
+    return publication.root(b"reply", *elements)
+
+
+def query(*elements):
+    return publication.root(b"query", *elements)
+
+
+OBJECT = publication.element(b"list", uri=b"rsync://h/m/", hash=publication.digest(b""))
+CHANGE = b'<publish tag="" uri="rsync://h/m/"/>'
 
 
 def classes(count):
@@ -81,11 +113,27 @@ INPUTS = [
     ("segments, 100000 nested", RECEIVE, 0, lambda: nested(100000).hex().encode()),
     ("segments, a million nested", RECEIVE, 0, lambda: nested(MILLION).hex().encode()),
     ("revoked serial numbers, a million", RECEIVE, 0, lambda: messages.message(entries=numbers(MILLION)).hex().encode()),
+    ("revoked serial numbers, a million, under eight keys", [*RECEIVE[:3], *OTHER_KEYS, KEY], 0,
+     lambda: messages.message(entries=numbers(MILLION)).hex().encode()),
+    ("segments, as many beside one another as fit", RECEIVE, 0, lambda: beside((LIMIT // 2 - 2**16) // 2).hex().encode()),
+    ("unknown extensions of the certificate, a million", RECEIVE, 0, lambda: extended(MILLION, certificate_extensions=1).hex().encode()),
+    ("unknown extensions of the CRL, a million", RECEIVE, 0, lambda: extended(MILLION, crl_extensions=1).hex().encode()),
+    ("objects, as many as fit, received", RECEIVE, 0,
+     lambda: messages.message(content=reply(filled(LIMIT // 2 - 2**16, OBJECT))).hex().encode()),
+    ("changes, as many as fit, received", RECEIVE, 0,
+     lambda: messages.message(content=query(filled(LIMIT // 2 - 2**16, CHANGE))).hex().encode()),
     ("attributes of 2^25 octets", CREATE, 5, lambda: b"<msg" + attributes(2**25) + b"/>"),
+    ("declarations of namespaces of 2^25 octets", CREATE, 5, lambda: b"<msg" + attributes(2**25, b"xmlns:a") + b"/>"),
     ("a name of 2^25 octets", CREATE, 5, lambda: b"<" + b"a" * 2**25 + b"/>"),
     ("elements, 100000 nested", CREATE, 5, lambda: b"<a>" * 100000 + b"</a>" * 100000),
     ("elements, as many nested as fit", CREATE, 5, lambda: b"<a>" * (LIMIT // 7) + b"</a>" * (LIMIT // 7)),
     ("empty PDUs, a million", CREATE, 5, lambda: PUBLICATION % (b"query", b"<list/>" * MILLION)),
+    ("objects, as many as fit", CREATE, 0, lambda: reply(filled(LIMIT - 2**16, OBJECT))),
+    ("changes, as many as fit", CREATE, 0, lambda: query(filled(LIMIT - 2**16, CHANGE))),
+    ("signs for <, as many as fit", CREATE, 0, lambda: reply(publication.report(b"other_error", filled(LIMIT - 2**16, b"&lt;")))),
+    ("an object of as many octets as fit", CREATE, 0,
+     lambda: query(publication.element(b"publish", b"A" * (LIMIT - 2**16), tag=b"", uri=publication.URI))),
+    ("a certificate of zeros, as many as fit", SETUP, 5, lambda: run_cases.setup_message(*run_cases.ROOTS[0], b"A" * (LIMIT - 2**16))),
     ("one comment", CREATE, 5, lambda: b"<!--" + b"-a" * (LIMIT // 2 - 4) + b"-->"),
     ("white space", CREATE, 5, lambda: b" " * LIMIT),
     ("empty classes, a million", CREATE_PROVISIONING, 5, lambda: provisioning.root(b"list_response", b"<class/>" * MILLION)),

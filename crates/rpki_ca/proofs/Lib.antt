@@ -9,3 +9,6 @@ pub mod Making
 pub mod Runs
 pub mod Creating
 pub mod SettingUp
+pub mod Cutting
+pub mod Outputs
+pub mod Asked

@@ -1,4 +1,4 @@
--- Said in contracts, and to be believed: Refusal, Hexadecimal, Words, Command, Acceptance, Seen, Creation, Setup, Summary, Answer.
+-- Said in contracts, and to be believed: Refusal, Hexadecimal, Words, Command, Acceptance, Seen, Creation, Setup, Summary, Answer, Lines.
 pub mod Refusal
 pub mod Hexadecimal
 pub mod Words
@@ -9,3 +9,4 @@ pub mod Creation
 pub mod Setup
 pub mod Summary
 pub mod Answer
+pub mod Lines

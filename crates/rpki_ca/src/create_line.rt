@@ -62,6 +62,16 @@ fn message_in(alloc: Global, kind: Kind, input: &[u8]) -> Result<Received, Recei
     }
 }
 
+// The same. The input is gone then.
+fn message_of(alloc: Global, kind: Kind, input: Vec<u8>) -> Result<Received, ReceiveError>
+    ensures ok { IfOk result (λ m. ReadsAs kind input.items m) }
+    ensures writable { IfOk result IsWritable }
+    ensures err { IfErr result (λ e. refusal_of e ≢ Refusal.OutOfMemory
+        → RefusesInput kind input.items (refusal_of e)) }
+{
+    message_in(alloc, kind, &input)
+}
+
 /// The octets of a signed message with this message of the publication protocol.
 pub(crate) fn publication_octets<P: Scheme, S: Signer<P>>(
     alloc: Global,
@@ -144,19 +154,19 @@ fn hexadecimal_line(alloc: Global, octets: &[u8]) -> Result<Vec<u8>, OutOfMemory
 pub(crate) fn create_line<P: Scheme, S: Signer<P>>(
     alloc: Global,
     kind: Kind,
-    input: &[u8],
+    input: Vec<u8>,
     when: Time,
     key: &S::KeyId,
     signer: &mut S,
 ) -> Result<Vec<u8>, Refusal>
-    ensures ok { IfOk result (λ line. IsLineOf (IsCreateAnswer P.checks kind input.now when
+    ensures ok { IfOk result (λ line. IsLineOf (IsCreateAnswer P.checks kind input.items when
         (seen_signer key.now (S.state signer.old) (S.state signer.new))) line.items) }
     ensures err { IfErr result (λ e. e ≢ Refusal.OutOfMemory
-        → IsCreateAnswer P.checks kind input.now when
+        → IsCreateAnswer P.checks kind input.items when
         (seen_signer key.now (S.state signer.old) (S.state signer.new)) (Err e)) }
     ensures keeps { Keeps (S.state signer.old) (S.state signer.new) }
 {
-    let message = message_in(alloc, kind, input)?;
+    let message = message_of(alloc, kind, input)?;
     let octets = signed_octets(alloc, message, when, key, signer)?;
     Ok(hexadecimal_line(alloc, octets.as_slice())?)
 }

@@ -47,13 +47,13 @@ fn digits(input: &[u8]) -> &[u8]
     }
 }
 
-/// The octets that the input spells.
-pub(crate) fn input_octets(alloc: Global, input: &[u8]) -> Result<Vec<u8>, Refusal>
-    ensures ok { IfOk result (λ v. hexadecimal input.now ≡ Some v.items) }
+/// The octets that the input spells. The input is gone then.
+pub(crate) fn input_octets(alloc: Global, input: Vec<u8>) -> Result<Vec<u8>, Refusal>
+    ensures ok { IfOk result (λ v. hexadecimal input.items ≡ Some v.items) }
     ensures err { IfErr result (λ e. e ≢ Refusal.OutOfMemory
-        → (e ≡ Refusal.Hex) × (hexadecimal input.now ≡ None)) }
+        → (e ≡ Refusal.Hex) × (hexadecimal input.items ≡ None)) }
 {
-    match octets_of(alloc, digits(input))? {
+    match octets_of(alloc, digits(&input))? {
         Some(octets) => Ok(octets),
         None => Err(Refusal::Hex),
     }

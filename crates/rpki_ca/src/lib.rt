@@ -24,7 +24,9 @@ mod create_line;
 mod hexadecimal;
 mod law;
 mod line;
+mod lines;
 mod make_line;
+mod reading;
 mod receive_line;
 mod receiving;
 mod refusals;
@@ -38,6 +40,8 @@ pub use law::{
     accepted_moments_are_one_span, more_keys_accept, one_answer, one_answer_to_words,
     receipts_ask_three_questions, rewritten_is_received_alike,
 };
+pub use lines::{Lines, Stop, finish_lines, spelled_key, spelled_octets, split_word};
+pub use reading::read_input;
 pub use receiving::{
     Kind, ReceiveError, Received, receive, receive_any, receive_any_counted, receive_counted,
 };

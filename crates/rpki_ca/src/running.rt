@@ -45,16 +45,16 @@ const LIMIT: u64 = 1 << 26;
 fn perform<P: Scheme, V: Verifier<P>, S: Signer<P>>(
     alloc: Global,
     command: &Command,
-    input: &[u8],
+    input: Vec<u8>,
     verifier: &V,
     signer: &mut S,
     key: &S::KeyId,
 ) -> Result<Vec<u8>, Refusal>
     requires { IsLimited command.now }
-    ensures ok { IfOk result (λ line. IsLineOf (Performs P.checks command.now input.now
+    ensures ok { IfOk result (λ line. IsLineOf (Performs P.checks command.now input.items
         (seen_signer key.now (S.state signer.old) (S.state signer.new))) line.items) }
     ensures err { IfErr result (λ e. e ≢ Refusal.OutOfMemory
-        → Performs P.checks command.now input.now
+        → Performs P.checks command.now input.items
         (seen_signer key.now (S.state signer.old) (S.state signer.new)) (Err e)) }
     ensures keeps { Keeps (S.state signer.old) (S.state signer.new) }
     ensures untouched { AsksSigner command.now ⊎ (signer.new ≡ signer.old) }
@@ -69,7 +69,7 @@ fn perform<P: Scheme, V: Verifier<P>, S: Signer<P>>(
             receive_line(alloc, *kind, &octets, keys.as_slice(), *when, verifier)
         }
         Command::Create { kind, when } => create_line(alloc, *kind, input, *when, key, signer),
-        Command::Setup { kind, when } => setup_line(alloc, *kind, input, *when, verifier),
+        Command::Setup { kind, when } => setup_line(alloc, *kind, &input, *when, verifier),
         Command::Make { count, seed } => make_line(alloc, *count, *seed, verifier, key, signer),
     }
 }
@@ -146,7 +146,7 @@ fn answer<P: Scheme, I: Source, V: Verifier<P>, S: Signer<P>>(
         return Err(Refusal::Usage);
     };
     let octets = input_for(alloc, &command, input)?;
-    perform(alloc, &command, &octets, verifier, signer, key)
+    perform(alloc, &command, octets, verifier, signer, key)
 }
 
 // Writes the line, and answers the status; or 11, where a write fails.

@@ -191,16 +191,24 @@ fn write_attributes(covered: &[u8], out: &mut Writer) -> Result<(), OutOfMemory>
     }
 }
 
+// Appends the octets as one string under a tag of its own.
+fn write_octets_in(content: &[u8], out: &mut Writer) -> Result<(), OutOfMemory>
+    ensures ok { OnOk result (out.new ≡ out.old ++ der_constructed (context 0)
+        (der_primitive octet_string_tag content.now)) }
+{
+    let mut octets = out.inner();
+    write_octets(content, &mut octets)?;
+    write_constructed(Tag::CTX_0, &octets, out)
+}
+
 // Appends the content under its type.
 #[tactic(auto, unfolding(crate::specs::Spelling::spelled_content))]
 fn write_content(content: &[u8], out: &mut Writer) -> Result<(), OutOfMemory>
     ensures ok { OnOk result (out.new ≡ out.old ++ spec.spelled_content content.now) }
 {
-    let mut octets = out.inner();
-    write_octets(content, &mut octets)?;
     let mut inner = out.inner();
     inner.primitive(Tag::OID, &CT_XML)?;
-    write_constructed(Tag::CTX_0, &octets, &mut inner)?;
+    write_octets_in(content, &mut inner)?;
     write_constructed(Tag::SEQUENCE, &inner, out)
 }
 
@@ -264,15 +272,23 @@ impl SignedMessage {
         self.write_signers(out)
     }
 
+    // Appends the signed data.
+    fn write_data(&self, out: &mut Writer) -> Result<(), OutOfMemory>
+        ensures ok { OnOk result
+            (out.new ≡ out.old ++ der_constructed sequence (spec.signed_data_fields self.now)) }
+    {
+        let mut fields = out.inner();
+        self.write_fields(&mut fields)?;
+        write_constructed(Tag::SEQUENCE, &fields, out)
+    }
+
     // Appends the type and the signed data.
     #[tactic(auto, unfolding(crate::specs::Spelling::message_parts))]
     fn write_parts(&self, out: &mut Writer) -> Result<(), OutOfMemory>
         ensures ok { OnOk result (out.new ≡ out.old ++ spec.message_parts self.now) }
     {
-        let mut fields = out.inner();
-        self.write_fields(&mut fields)?;
         let mut data = out.inner();
-        write_constructed(Tag::SEQUENCE, &fields, &mut data)?;
+        self.write_data(&mut data)?;
         out.primitive(Tag::OID, &SIGNED_DATA)?;
         write_constructed(Tag::CTX_0, &data, out)
     }

@@ -1,10 +1,11 @@
 //! Octets that travel as base64 text.
 
 ghost use Rattle.std.specs.Prelude.{ℕ, List, ◌≡◌, ◌↔◌, ◌≤◌, ◌+◌, ◌*◌, ◌/◌, Some, None, Ok, IfOk, IsErrOf, IsTrue, length, filter, nat_eq, string_bytes};
+ghost use Rattle.std.specs.List.{list_all};
 ghost use Rattle.std.specs.Cmp.Lexicographic.{pointwise, nat_list_eq_equiv};
 ghost use Rattle.std.specs.Cmp.{partial_equiv_from_equiv};
 ghost use Rattle.base64.specs.Engines.{standard};
-ghost use Rattle.base64.specs.GeneralPurpose.{encode_of, decode_of, decoded_of};
+ghost use Rattle.base64.specs.GeneralPurpose.{encode_of, decode_of, decoded_of, IsBytes};
 ghost use Rattle.serde_json.specs.Data.{string};
 ghost use Rattle.serde_json.specs.Written.{compact_text};
 ghost use Rattle.sha2.specs.Sha256.{sha256};
@@ -88,6 +89,9 @@ impl Base64 {
         ensures none { IsErrOf result Base64Error.Malformed
             → (octets : List ℕ) → ¬ (IsBase64Text text.now octets) }
     {
+        if is_without_space(text.as_bytes()) {
+            return Base64::from_spelling(alloc, text);
+        }
         let spelling = without_space(alloc, text.as_bytes())?;
         let content = match STANDARD.decode(alloc, &spelling) {
             Ok(content) => content,
@@ -95,6 +99,24 @@ impl Base64 {
             Err(DecodeAllocError::DecodeError(_)) => return Err(Base64Error::Malformed),
         };
         Ok(Base64::from_content(alloc, &content)?)
+    }
+
+    // The octets that a text spells as it stands. It is kept, since it is the one that they have.
+    fn from_spelling(alloc: Global, text: &str) -> Result<Base64, Base64Error>
+        ensures content { IfOk result (λ b. decoded_of standard text.now ≡ Some b) }
+        ensures bytes { IfOk result IsBytes }
+        ensures spelled { IfOk result (λ b. text.now ≡ encode_of standard b) }
+        ensures malformed { IsErrOf result Base64Error.Malformed
+            → decoded_of standard text.now ≡ None }
+    {
+        let _content = match STANDARD.decode(alloc, text.as_bytes()) {
+            Ok(content) => content,
+            Err(DecodeAllocError::OutOfMemory) => return Err(Base64Error::OutOfMemory),
+            Err(DecodeAllocError::DecodeError(_)) => return Err(Base64Error::Malformed),
+        };
+        Ok(Base64 {
+            text: Text::from_str(alloc, text)?,
+        })
     }
 
     /// The octets that the one string of a JSON text spells, read as [`Base64::from_str`] does.
@@ -196,6 +218,14 @@ pub fn write_octets(alloc: Global, octets: &[u8]) -> Result<String, OutOfMemory>
 {
     let spelled = STANDARD.encode(alloc, octets)?;
     write_string(alloc, spelled.as_str())
+}
+
+// Whether no octet is white space.
+fn is_without_space(text: &[u8]) -> bool
+    ensures { result ≡ list_all is_not_space text.now }
+{
+    text.iter()
+        .all(|octet| !matches!(*octet, b'\t' | b'\n' | b'\r' | b' '))
 }
 
 /// `text` without the octets that are white space.

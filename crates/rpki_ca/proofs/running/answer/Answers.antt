@@ -1,4 +1,4 @@
-use Rattle.std.proofs.Common.{Ok, refl, inl, inr, ◌∙◌}
+use Rattle.std.proofs.Common.{Ok, refl, inl, inr}
 use Rattle.std.proofs.lemmas.Result.{IfOk-weaker}
 use Rattle.rpki_ca.specs.declared.command.Command.TheVariants.{Make}
 use Rattle.rpki_ca.proofs.Commands.{asks_signer, is_make, limited, reads_input, make_reads_none}
@@ -14,21 +14,21 @@ returns-in_default-clause-usage g c = λ u. (rw c.in_default.is at c.in_ok-comma
 pub returns-clause-ok : goal.returns-clause-ok
 returns-clause-ok g c =
     let is = rw c.in-Some.is at c.in_ok-command.ensures.command in
-    let within = if_some (g.I.Source.rest c.args.input.now) _ _ (λ input p reads. (c.deref.ensures.value ∙ (p reads).0, (p reads).1)) c.in_ok-octets.ensures.ok in
+    let within = if_some (g.I.Source.rest c.args.input.now) _ _ (λ input p reads. ((p reads).0, (p reads).1)) c.in_ok-octets.ensures.ok in
     IfOk-weaker c.perform.result _ _ (λ line t. (
       t.0,
-      shown g.P.Scheme.checks c.args.words.now _ _ c.deref.result.now c.in-Some.command (Ok t.0) is within c.in_ok-octets.ensures.steady t.1,
+      shown g.P.Scheme.checks c.args.words.now _ _ c.in_ok-octets.octets.items c.in-Some.command (Ok t.0) is within c.in_ok-octets.ensures.steady t.1,
       t.2,
     )) c.perform.ensures.ok
 
 pub returns-clause-err : goal.returns-clause-err
 returns-clause-err g c =
     let is = rw c.in-Some.is at c.in_ok-command.ensures.command in
-    let within = if_some (g.I.Source.rest c.args.input.now) _ _ (λ input p reads. (c.deref.ensures.value ∙ (p reads).0, (p reads).1)) c.in_ok-octets.ensures.ok in
-    if_err c.perform.result _ _ (λ e said. admitted g.P.Scheme.checks c.args.words.now _ _ c.deref.result.now c.in-Some.command e is within c.in_ok-octets.ensures.steady said) c.perform.ensures.err
+    let within = if_some (g.I.Source.rest c.args.input.now) _ _ (λ input p reads. ((p reads).0, (p reads).1)) c.in_ok-octets.ensures.ok in
+    if_err c.perform.result _ _ (λ e said. admitted g.P.Scheme.checks c.args.words.now _ _ c.in_ok-octets.octets.items c.in-Some.command e is within c.in_ok-octets.ensures.steady said) c.perform.ensures.err
 
 pub returns-clause-usage : goal.returns-clause-usage
-returns-clause-usage g c = usage_of_none g.P.Scheme.checks c.args.words.now c.in-Some.command c.deref.result.now _ c.perform.result c.perform.ensures.err
+returns-clause-usage g c = usage_of_none g.P.Scheme.checks c.args.words.now c.in-Some.command c.in_ok-octets.octets.items _ c.perform.result c.perform.ensures.err
 
 pub returns-clause-untouched : goal.returns-clause-untouched
 returns-clause-untouched g c = λ none no_make.
@@ -51,7 +51,7 @@ returns-clause-long g c = λ none long.
 pub returns-clause-made : goal.returns-clause-made
 returns-clause-made g c = λ count seed make.
     let is = rw c.in-Some.is at c.in_ok-command.ensures.command in
-    made_by_words g.P.Scheme.checks c.args.words.now count seed c.in-Some.command c.deref.result.now _ (λ line. line.items) c.perform.result is make c.perform.ensures.ok c.perform.ensures.err
+    made_by_words g.P.Scheme.checks c.args.words.now count seed c.in-Some.command c.in_ok-octets.octets.items _ (λ line. line.items) c.perform.result is make c.perform.ensures.ok c.perform.ensures.err
 
 pub returns-clause-unread_by_make : goal.returns-clause-unread_by_make
 returns-clause-unread_by_make g c = λ count seed make.

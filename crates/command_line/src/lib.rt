@@ -1,0 +1,59 @@
+//! What the programs of this repository share at their edge: the words behind a program's name, and the
+//! texts that a program writes of itself.
+#![tactic(auto)]
+
+ghost use Rattle.rpki_ca.specs.Lines.{EndsWith};
+ghost use Rattle.rpki_ca.specs.Seen.{seen};
+
+use rpki_ca::{Refusal, Status, Words};
+use rpki_text::{Sink, write_all};
+use std::env;
+use std::io::ErrorKind;
+use std::rt::Env;
+
+/// The texts of a program on itself.
+#[derive(Clone, Copy)]
+pub struct Own<'a> {
+    /// What `--help` writes.
+    pub help: &'a [u8],
+    /// What `--version` writes.
+    pub version: &'a [u8],
+}
+
+/// The words behind the program's name. `Usage` where one isn't UTF-8, and otherwise `OutOfMemory`.
+pub fn words_of<R: Env + AllocGlobal>(rt: &R) -> Result<Words, Refusal> {
+    let mut words = Words::new(rt.alloc());
+    let all = match env::args(rt) {
+        Ok(all) => all,
+        Err(error) if error.kind() == ErrorKind::InvalidData => return Err(Refusal::Usage),
+        Err(_) => return Err(Refusal::OutOfMemory),
+    };
+    for word in all.skip(1) {
+        if words.push(word.as_str()).is_err() {
+            return Err(Refusal::OutOfMemory);
+        }
+    }
+    Ok(words)
+}
+
+/// The text that the only word asks for, `--help` or `--version`; None exactly for all other words.
+pub fn own_text<'a>(words: &Words, own: Own<'a>) -> Option<&'a [u8]> {
+    if words.len() != 1 {
+        return None;
+    }
+    match words.get(0) {
+        Some("--help") => Some(own.help),
+        Some("--version") => Some(own.version),
+        _ => None,
+    }
+}
+
+/// Writes a text and ends with 0, or with 11 where a write failed.
+pub fn write_text<O: Sink>(output: &mut O, text: &[u8]) -> Status
+    ensures { EndsWith 0 text.now result.0 (seen O.written O.faults output.old output.new) }
+{
+    match write_all(output, text) {
+        Ok(()) => Status(0),
+        Err(_) => Status(11),
+    }
+}

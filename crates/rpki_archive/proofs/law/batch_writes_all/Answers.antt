@@ -1,0 +1,5 @@
+use Rattle.rpki_archive.proofs.Tied as tied
+use Rattle.rpki_archive.proofs.law.batch_writes_all.Goals as goal
+
+pub returns : goal.returns
+returns g c = tied.batch_wrote g.P.Scheme.checks

@@ -1,0 +1,7 @@
+-- Said in contracts, and to be believed: Verdict, Explanation, Checking, Ties. Means: Entries, Lines.
+pub mod Verdict
+pub mod Explanation
+pub mod Entries
+pub mod Lines
+pub mod Checking
+pub mod Ties

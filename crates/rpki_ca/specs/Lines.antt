@@ -1,0 +1,129 @@
+-- Lines: an input cut into them, a line cut into words, and what a program writes that answers line
+-- by line.
+use Rattle.std.specs.Prelude.{◌≡◌, ◌==◌, ◌⊎◌, ℕ, List, [], ◌∷◌, ◌++◌, Result, Ok, Err}
+use Rattle.std.specs.List.{slice_split, flat_map}
+use Rattle.std.specs.Io.KnownBytes.{Appends}
+use Rattle.rpki_text.specs.Sink.{AppendsPart}
+use Rattle.rpki_ca.specs.declared.refusals.Refusal.{Refusal}
+use Rattle.rpki_ca.specs.declared.lines.Stop.{Stop}
+use Rattle.rpki_ca.specs.declared.lines.Stop.TheVariants.{Refused, WriteFault}
+use Rattle.rpki_ca.specs.Refusal.{status_of}
+use Rattle.rpki_ca.specs.Answer.{line_of, Ends}
+use Rattle.rpki_ca.specs.Seen.{Seen, HasFailed, IsSteady}
+
+-- ---- what is read
+
+-- the pieces between the octets that are the separator: one more than there are of these, and each
+-- may be empty
+abbrev pub pieces_of : ℕ → List ℕ → List (List ℕ)
+pieces_of separator octets = slice_split (λ octet. octet == separator) octets
+
+-- the same without a last piece that is empty
+abbrev pub without_empty_end : List (List ℕ) → List (List ℕ)
+without_empty_end [] = []
+without_empty_end ([] ∷ []) = []
+without_empty_end (piece ∷ pieces) = piece ∷ without_empty_end pieces
+
+-- The lines of an input: it is cut at each line feed, and a last piece that is empty is no line. So
+-- the last line may lack its line feed.
+abbrev pub lines_of : List ℕ → List (List ℕ)
+lines_of input = without_empty_end (pieces_of 10 input)
+
+-- the words of a line, between which one space stands
+abbrev pub words_of : List ℕ → List (List ℕ)
+words_of line = pieces_of 32 line
+
+-- ---- what is written
+
+-- the answers, each on a line of its own
+abbrev pub answer_lines : List (List ℕ) → List ℕ
+answer_lines answers = flat_map (λ answer. answer ++ 10 ∷ []) answers
+
+-- The output is written whole, with the status; or a part of it, and the status is 11, where the
+-- sink's count rose.
+abbrev pub EndsWith : ℕ → List ℕ → ℕ → Seen → Type 0
+EndsWith wanted output status sink =
+    ((status ≡ wanted) × Appends sink.before sink.after output × IsSteady sink)
+    ⊎ ((status ≡ 11) × AppendsPart sink.before sink.after output × HasFailed sink)
+
+-- What is written behind answers to lines, of which `all` says that they are those to all lines, with
+-- this closing text; and `first` that they are those to the first ones.
+--
+-- With 0 the answers to all lines were written, and the closing text.
+pub record EndsDone (all : List (List ℕ) → List ℕ → Type 0) (status : ℕ) (sink : Seen) : Type 0
+  where
+    pub texts : List (List ℕ)
+    pub closing : List ℕ
+    pub are : all texts closing
+    pub ends : EndsWith 0 (answer_lines texts ++ closing) status sink
+
+-- With the status of a refusal the answers to the first lines were written, and the refusal's line.
+pub record EndsRefused (first : List (List ℕ) → Type 0) (may_refuse : Refusal → Type 0) (status : ℕ)
+    (sink : Seen) : Type 0 where
+  pub texts : List (List ℕ)
+  pub refusal : Refusal
+  pub are : first texts
+  pub may : may_refuse refusal
+  pub ends : EndsWith (status_of refusal) (answer_lines texts ++ line_of (Err refusal)) status sink
+
+-- With 11 the sink failed, and a part of the answers to the first lines was written.
+pub record EndsFailed (first : List (List ℕ) → Type 0) (status : ℕ) (sink : Seen) : Type 0 where
+  pub texts : List (List ℕ)
+  pub are : first texts
+  pub is : status ≡ 11
+  pub part : AppendsPart sink.before sink.after (answer_lines texts)
+  pub failed : HasFailed sink
+
+-- how a program ends that answers line by line
+abbrev pub EndsLines : (List (List ℕ) → List ℕ → Type 0) → (List (List ℕ) → Type 0)
+    → (Refusal → Type 0) → ℕ → Seen → Type 0
+EndsLines all first may_refuse status sink =
+    EndsDone all status sink
+    ⊎ (EndsRefused first may_refuse status sink ⊎ EndsFailed first status sink)
+
+-- ---- the same before it ends
+
+-- the answers to all lines were written, and the closing text
+pub record WroteAll (all : List (List ℕ) → List ℕ → Type 0) (sink : Seen) : Type 0 where
+  pub texts : List (List ℕ)
+  pub closing : List ℕ
+  pub are : all texts closing
+  pub whole : Appends sink.before sink.after (answer_lines texts ++ closing)
+  pub steady : IsSteady sink
+
+-- those to the first lines were written, and it stops with the refusal
+pub record WroteFirst (first : List (List ℕ) → Type 0) (may_refuse : Refusal → Type 0)
+    (refusal : Refusal) (sink : Seen) : Type 0 where
+  pub texts : List (List ℕ)
+  pub are : first texts
+  pub may : may_refuse refusal
+  pub whole : Appends sink.before sink.after (answer_lines texts)
+  pub steady : IsSteady sink
+
+-- a part of the answers to the first lines was written, and the sink failed; or a part of all answers
+-- and the closing text
+pub record FailedFirst (first : List (List ℕ) → Type 0) (sink : Seen) : Type 0 where
+  pub texts : List (List ℕ)
+  pub are : first texts
+  pub part : AppendsPart sink.before sink.after (answer_lines texts)
+  pub failed : HasFailed sink
+
+pub record FailedAll (all : List (List ℕ) → List ℕ → Type 0) (sink : Seen) : Type 0 where
+  pub texts : List (List ℕ)
+  pub closing : List ℕ
+  pub are : all texts closing
+  pub part : AppendsPart sink.before sink.after (answer_lines texts ++ closing)
+  pub failed : HasFailed sink
+
+abbrev pub Answered : (List (List ℕ) → List ℕ → Type 0) → (List (List ℕ) → Type 0)
+    → (Refusal → Type 0) → Result (Unit {0}) Stop → Seen → Type 0
+Answered all first may_refuse (Ok done) sink = WroteAll all sink
+Answered all first may_refuse (Err (Refused refusal)) sink =
+    WroteFirst first may_refuse refusal sink
+Answered all first may_refuse (Err WriteFault) sink = FailedFirst first sink ⊎ FailedAll all sink
+
+-- how it ends where it stopped
+abbrev pub EndsStopped : Stop → ℕ → Seen → Type 0
+EndsStopped (Refused refusal) status sink = Ends (Err refusal) status sink
+EndsStopped WriteFault status sink =
+    (status ≡ 11) × (sink.after ≡ sink.before) × IsSteady sink

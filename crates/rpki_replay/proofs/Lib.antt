@@ -1,0 +1,10 @@
+pub mod Keys
+pub mod Standing
+pub mod Mapped
+pub mod Texts
+pub mod Lines
+pub mod Sending
+pub mod Judging
+pub mod Answering
+pub mod Rising
+pub mod Ended

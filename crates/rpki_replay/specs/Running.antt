@@ -1,0 +1,68 @@
+-- What the guard's program does with words and input.
+use Rattle.std.specs.Prelude.{◌≡◌, ◌^◌, ◌≤◌, ◌⊎◌, ℕ, ℤ, Err, List, ◌∷◌, [], ◌++◌, codes, length, IfSome}
+use Rattle.std.specs.Io.KnownBytes.{IsAtEnd}
+use Rattle.rpki_base.specs.Scheme.{Relation}
+use Rattle.rpki_ca.specs.Answer.{Ends, IsUnread}
+use Rattle.rpki_ca.specs.Lines.{EndsLines, EndsWith}
+use Rattle.rpki_ca.specs.Seen.{IsSteady, Seen}
+use Rattle.rpki_ca.specs.Words.{IsMomentAt}
+use Rattle.rpki_ca.specs.declared.refusals.Refusal.{Refusal}
+use Rattle.rpki_ca.specs.declared.refusals.Refusal.TheVariants.{Hex, OutOfMemory}
+use Rattle.rpki_replay.specs.declared.peers.Peer.{Peer}
+use Rattle.rpki_replay.specs.Answers.{AreAllAnswered, AreFirstAnswered}
+use Rattle.rpki_replay.specs.Messages.{AreNotSent, AreSent, HasNoState, Opens, Sent}
+
+-- the only word is this moment
+pub record AreWords (words : List (List ℕ)) (when : ℤ) : Type 0 where
+  pub one : length words ≡ 1
+  pub moment : IsMomentAt words 0 when
+
+abbrev pub AreNoWords : List (List ℕ) → Type 0
+AreNoWords words = (when : ℤ) → AreWords words when → ⊥
+
+-- what is written where the input holds no state
+abbrev pub bad_state : List ℕ
+bad_state = codes "BadState" ++ 10 ∷ []
+
+abbrev pub IsOutOfMemory : Refusal → Type 0
+IsOutOfMemory refusal = refusal ≡ OutOfMemory
+
+-- How it ends behind a state, where these lines follow: all are messages, and are answered one behind
+-- the other; or some line is none; or memory ran out.
+pub record EndsAnswered (scheme : Relation) (when : ℤ) (peers : List Peer) (lines : List (List ℕ))
+    (status : ℕ) (sink : Seen) : Type 0 where
+  pub messages : List Sent
+  pub are : AreSent lines messages
+  pub ends : EndsLines (AreAllAnswered scheme when peers messages)
+      (AreFirstAnswered scheme when peers messages) IsOutOfMemory status sink
+
+abbrev pub EndsMessages : Relation → ℤ → List Peer → List (List ℕ) → ℕ → Seen → Type 0
+EndsMessages scheme when peers lines status sink =
+    EndsAnswered scheme when peers lines status sink
+    ⊎ ((AreNotSent lines × Ends (Err Hex) status sink) ⊎ Ends (Err OutOfMemory) status sink)
+
+-- How it ends on an input: it begins with a state; or it doesn't; or memory ran out.
+pub record EndsState (scheme : Relation) (when : ℤ) (input : List ℕ) (status : ℕ) (sink : Seen)
+    : Type 0 where
+  pub peers : List Peer
+  pub lines : List (List ℕ)
+  pub opens : Opens input peers lines
+  pub ends : EndsMessages scheme when peers lines status sink
+
+abbrev pub EndsInput : Relation → ℤ → List ℕ → ℕ → Seen → Type 0
+EndsInput scheme when input status sink =
+    EndsState scheme when input status sink
+    ⊎ ((HasNoState input × EndsWith 13 bad_state status sink)
+    ⊎ Ends (Err OutOfMemory) status sink)
+
+-- How it ends where the input isn't read whole, and where it is.
+pub record EndsUnread (status : ℕ) (source sink : Seen) : Type 0 where
+  pub refusal : Refusal
+  pub unread : IsUnread source refusal
+  pub ends : Ends (Err refusal) status sink
+
+pub record EndsRead (scheme : Relation) (when : ℤ) (status : ℕ) (source sink : Seen) : Type 0 where
+  pub steady : IsSteady source
+  pub whole : IsAtEnd source.after
+  pub ends : IfSome source.before (λ input. (length input ≤ 2 ^ 26)
+      × EndsInput scheme when input status sink)

@@ -1,0 +1,47 @@
+-- The state of a guard: for each key under which a message was admitted, the signing time of the last one.
+use Rattle.std.specs.Prelude.{◌≡◌, ◌&&◌, ℤ, Bool, true, false, bytes_eq, if◌then◌else◌, Option, None, Some, List, [], ◌∷◌}
+use Rattle.std.specs.List.{AllByRecursion}
+use Rattle.hex.specs.Hex.{IsBytes}
+use Rattle.rpki_base.specs.Civil.{IsMoment}
+use Rattle.rpki_base.specs.declared.algorithm.PublicKeyFormat.{PublicKeyFormat}
+use Rattle.rpki_base.specs.declared.algorithm.PublicKeyFormat.TheVariants.{Rsa, EcdsaP256}
+use Rattle.rpki_base.specs.PublicKey.{KeyFields, CanBeSpelled, spelled_key}
+use Rattle.rpki_replay.specs.declared.peers.Peer.{Peer}
+
+-- two keys are the same: they have one format, and the same octets as their bits
+abbrev pub same_format : PublicKeyFormat → PublicKeyFormat → Bool
+same_format Rsa Rsa = true
+same_format EcdsaP256 EcdsaP256 = true
+same_format one other = false
+
+abbrev pub same_key : KeyFields → KeyFields → Bool
+same_key one other = same_format one.format other.format && bytes_eq one.bits other.bits
+
+-- the time that is held for a key
+abbrev pub last_of : List Peer → KeyFields → Option ℤ
+last_of [] key = None
+last_of (peer ∷ more) key = if same_key key peer.key then Some peer.last else last_of more key
+
+-- the state where a time is put for a key: in the place of the one that was held for it; or a new
+-- pair behind the others
+abbrev pub put : List Peer → KeyFields → ℤ → List Peer
+put [] key time = record { key = key; last = time } ∷ []
+put (peer ∷ more) key time =
+    if same_key key peer.key then record { key = peer.key; last = time } ∷ more
+    else peer ∷ put more key time
+
+-- no key is held twice
+abbrev pub AreDistinct : List Peer → Type 0
+AreDistinct [] = Unit {0}
+AreDistinct (peer ∷ more) = (last_of more peer.key ≡ None) × AreDistinct more
+
+-- a pair whose time lies in the years 0 to 9999, and whose key has a spelling in octets
+pub record IsPeer (peer : Peer) : Type 0 where
+  pub moment : IsMoment peer.last
+  pub spelled : CanBeSpelled peer.key
+  pub octets : IsBytes (spelled_key peer.key)
+
+-- what a state may be
+pub record IsState (peers : List Peer) : Type 0 where
+  pub distinct : AreDistinct peers
+  pub each : AllByRecursion IsPeer peers
