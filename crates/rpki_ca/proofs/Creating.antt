@@ -38,7 +38,7 @@ use Rattle.rpki_ca.specs.declared.receiving.Received.{Received}
 use Rattle.rpki_ca.specs.declared.receiving.Received.TheVariants as received
 use Rattle.rpki_ca.specs.declared.refusals.Refusal.{Refusal}
 use Rattle.rpki_ca.specs.declared.refusals.Refusal.TheVariants as refusals
-use Rattle.rpki_ca.specs.Acceptance.{ReadsAs, protocol_of, text_of, normal_form}
+use Rattle.rpki_ca.specs.Acceptance.{ReadsAs, IsWritable, protocol_of, text_of, normal_form}
 use Rattle.rpki_ca.specs.Creation.{RefusesInput, IsCreateRefusal, IsReceivable, AreCreated, IsSigned, IsSignersAnswer, IsCreateAnswer, Creates, CanCreate, CanSign, refusal_of_create}
 use Rattle.rpki_ca.specs.Answer.{AnswersSigned, IsFromSigner, IsGiven}
 use Rattle.rpki_ca.specs.Command.{IsCreate}
@@ -61,34 +61,24 @@ receivable scheme message when signer signed octets are spelled again believed r
   reads = reads;
 }
 
--- a message of the publication protocol that was created of its text
-pub publication_created : {I : Type 0} (scheme : Relation) (m : Message) (when : ℤ) (signer : SignerSeen I) (signed : MessageFields) (octets : List ℕ)
-    → IsCreated scheme (publication.text_of m) when signer.id signer.before signer.after signed → octets ≡ rewritten signed → CanBeSpelled signed
-    → ((mode : Mode) (rest : List ℕ) → CanBeSpelled signed → BeginsAs (signed_message mode) mode (rewritten signed ++ rest) signed)
-    → ((key : KeyFields) → Holds signer.before.keyring signer.id key → (moment : ℤ) → (window when).not_before ≤ℤ moment → moment ≤ℤ (window when).not_after → IsBelieved scheme signed key moment)
-    → publication.IsWritable m → AreCreated scheme kinds.Publication (received.Publication m) when signer octets
-publication_created scheme m when signer signed octets created are spelled again believed writable =
-    let content : signed.content ≡ publication.text_of m = ap (λ (s : MessageFields). s.content) created.made.is in
-    record {
-      signed = signed;
-      created = created;
-      are = are;
-      receivable = receivable scheme (received.Publication m) when signer signed octets are spelled again believed (subst (λ o. publication.Reads o (publication.normal_form m)) (sym content) (text_again m writable));
-    }
+-- a message's text is read as its normal form
+read_again : (message : Received) → IsWritable message → ReadsAs (protocol_of message) (text_of message) (normal_form message)
+read_again (received.Publication m) writable = text_again m writable
+read_again (received.Provisioning m) writable = plain.text_again m writable
 
--- one of the provisioning protocol, which is read again as it is
-pub provisioning_created : {I : Type 0} (scheme : Relation) (m : shape.MessageFields) (when : ℤ) (signer : SignerSeen I) (signed : MessageFields) (octets : List ℕ)
-    → IsCreated scheme (provisioning.text_of m) when signer.id signer.before signer.after signed → octets ≡ rewritten signed → CanBeSpelled signed
+-- what was created of it
+pub message_created : {I : Type 0} (scheme : Relation) (m : Received) (when : ℤ) (signer : SignerSeen I) (signed : MessageFields) (octets : List ℕ)
+    → IsCreated scheme (text_of m) when signer.id signer.before signer.after signed → octets ≡ rewritten signed → CanBeSpelled signed
     → ((mode : Mode) (rest : List ℕ) → CanBeSpelled signed → BeginsAs (signed_message mode) mode (rewritten signed ++ rest) signed)
     → ((key : KeyFields) → Holds signer.before.keyring signer.id key → (moment : ℤ) → (window when).not_before ≤ℤ moment → moment ≤ℤ (window when).not_after → IsBelieved scheme signed key moment)
-    → writable.IsWritable m → AreCreated scheme kinds.Provisioning (received.Provisioning m) when signer octets
-provisioning_created scheme m when signer signed octets created are spelled again believed is_writable =
-    let content : signed.content ≡ provisioning.text_of m = ap (λ (s : MessageFields). s.content) created.made.is in
+    → IsWritable m → AreCreated scheme (protocol_of m) m when signer octets
+message_created scheme m when signer signed octets created are spelled again believed writable =
+    let content : signed.content ≡ text_of m = ap (λ (s : MessageFields). s.content) created.made.is in
     record {
       signed = signed;
       created = created;
       are = are;
-      receivable = receivable scheme (received.Provisioning m) when signer signed octets are spelled again believed (subst (λ o. provisioning.Reads o m) (sym content) (plain.text_again m is_writable));
+      receivable = receivable scheme m when signer signed octets are spelled again believed (subst (λ o. ReadsAs (protocol_of m) o (normal_form m)) (sym content) (read_again m writable));
     }
 
 -- ---- each refusal by its cause

@@ -233,13 +233,13 @@ summed scheme fit seed count id before middle after octets issuing m line create
 -- ---- the same of what the calls are given
 
 -- what was created of the message at that moment
-pub created_here : {I : Type 0} (scheme : Relation) (seed count : ℕ) (m : Message) (when : ℤ) (signer : SignerSeen I) (octets : List ℕ) → received.Publication m ≡ made_message seed count → when ≡ made_at
-    → AreCreated scheme kinds.Publication (received.Publication m) when signer octets → AreCreated scheme kinds.Publication (made_message seed count) made_at signer octets
+pub created_here : {I : Type 0} (scheme : Relation) (seed count : ℕ) (m : Received) (when : ℤ) (signer : SignerSeen I) (octets : List ℕ) → m ≡ made_message seed count → when ≡ made_at
+    → AreCreated scheme (protocol_of m) m when signer octets → AreCreated scheme kinds.Publication (made_message seed count) made_at signer octets
 created_here scheme seed count m when signer octets is at created =
-    subst (λ (t : ℤ). AreCreated scheme kinds.Publication (made_message seed count) t signer octets) at (subst (λ (x : Received). AreCreated scheme kinds.Publication x when signer octets) is created)
+    subst (λ (t : ℤ). AreCreated scheme kinds.Publication (made_message seed count) t signer octets) at (subst (λ (x : Received). AreCreated scheme (protocol_of x) x when signer octets) is created)
 
-pub octets_refused : {I E : Type 0} (scheme : Relation) (seed count : ℕ) (m : Message) (when : ℤ) (signer : SignerSeen I) (e : CreateError E) → received.Publication m ≡ made_message seed count → when ≡ made_at → count ≤ 10000
-    → CreateFails (publication.text_of m) when signer.id signer.before signer.after e → refusal_of_create e ≢ refusals.OutOfMemory → IsMakeAnswer scheme count seed signer (Err (refusal_of_create e))
+pub octets_refused : {I E : Type 0} (scheme : Relation) (seed count : ℕ) (m : Received) (when : ℤ) (signer : SignerSeen I) (e : CreateError E) → m ≡ made_message seed count → when ≡ made_at → count ≤ 10000
+    → CreateFails (text_of m) when signer.id signer.before signer.after e → refusal_of_create e ≢ refusals.OutOfMemory → IsMakeAnswer scheme count seed signer (Err (refusal_of_create e))
 octets_refused scheme seed count m when signer e is at few f other =
     let here = subst (λ (x : Received). CreateFails (text_of x) when signer.id signer.before signer.after e) is f in
     made_refused scheme (made_message seed count) made_at signer e made_window (fits seed count few) (subst (λ (t : ℤ). CreateFails (text_of (made_message seed count)) t signer.id signer.before signer.after e) at here) other

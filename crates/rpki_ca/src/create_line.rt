@@ -6,9 +6,6 @@ ghost use Rattle.hex.specs.Hex.{encode_lower};
 ghost use Rattle.rpki_signer.specs.Limits.{Keeps};
 ghost use Rattle.rpki_sigmsg.specs.Making.{HasWindow, CreateFails};
 ghost use Rattle.rpki_sigmsg.specs.declared.create_error.CreateError.TheVariants as create;
-ghost use Rattle.rpki_publication.specs.Message as publication;
-ghost use Rattle.rpki_provisioning.specs.Message as provisioning;
-ghost use Rattle.rpki_provisioning.specs.Writable as writable;
 ghost use Rattle.rpki_ca.specs.Acceptance.{ReadsAs, IsWritable, protocol_of, text_of, refusal_of};
 ghost use Rattle.rpki_ca.specs.Answer.{IsLineOf};
 ghost use Rattle.rpki_ca.specs.Creation.{AreCreated, IsCreateAnswer, RefusesInput};
@@ -21,10 +18,8 @@ use bytes::Bytes;
 use rpki_base::{Scheme, Time};
 use rpki_common::OutOfMemory;
 use rpki_provisioning as provisioning;
-use rpki_provisioning::ProvisioningCms;
 use rpki_publication as publication;
-use rpki_publication::PublicationCms;
-use rpki_sigmsg::CreateError;
+use rpki_sigmsg::{CreateError, SignedMessage};
 use rpki_signer::{Signer, SigningError};
 use std::alloc::Global;
 
@@ -72,52 +67,18 @@ fn message_of(alloc: Global, kind: Kind, input: Vec<u8>) -> Result<Received, Rec
     message_in(alloc, kind, &input)
 }
 
-/// The octets of a signed message with this message of the publication protocol.
-pub(crate) fn publication_octets<P: Scheme, S: Signer<P>>(
-    alloc: Global,
-    message: publication::Message,
-    when: Time,
-    key: &S::KeyId,
-    signer: &mut S,
-) -> Result<Bytes, CreateError<S::Error>>
-    requires { publication.IsWritable message }
-    ensures created { MatchResult result
-        (AreCreated P.checks Kind.Publication (Received.Publication message) when
-        (seen_signer key.now (S.state signer.old) (S.state signer.new)))
-        (CreateFails (publication.text_of message) when key.now
-        (S.state signer.old) (S.state signer.new)) }
-    ensures too_long { HasWindow when → 2 ^ 31 < length (publication.text_of message)
-        → IsErrOf result create.TooLong ⊎ IsErrOf result create.OutOfMemory }
-    ensures keeps { Keeps (S.state signer.old) (S.state signer.new) }
+// The octets of the message's text. The message is gone then.
+fn text_of(alloc: Global, message: Received) -> Result<Bytes, OutOfMemory>
+    ensures { IfOk result (λ text. text ≡ text_of message) }
 {
-    let cms = PublicationCms::create(alloc, message, when, key, signer)?;
-    Ok(cms.to_bytes(alloc)?)
+    match &message {
+        Received::Publication(message) => message.text_bytes(alloc),
+        Received::Provisioning(message) => message.text_bytes(alloc),
+    }
 }
 
-// The octets of a signed message with this message of the provisioning protocol.
-fn provisioning_octets<P: Scheme, S: Signer<P>>(
-    alloc: Global,
-    message: provisioning::Message,
-    when: Time,
-    key: &S::KeyId,
-    signer: &mut S,
-) -> Result<Bytes, CreateError<S::Error>>
-    requires { writable.IsWritable message }
-    ensures created { MatchResult result
-        (AreCreated P.checks Kind.Provisioning (Received.Provisioning message) when
-        (seen_signer key.now (S.state signer.old) (S.state signer.new)))
-        (CreateFails (provisioning.text_of message) when key.now
-        (S.state signer.old) (S.state signer.new)) }
-    ensures too_long { HasWindow when → 2 ^ 31 < length (provisioning.text_of message)
-        → IsErrOf result create.TooLong ⊎ IsErrOf result create.OutOfMemory }
-    ensures keeps { Keeps (S.state signer.old) (S.state signer.new) }
-{
-    let cms = ProvisioningCms::create(alloc, message, when, key, signer)?;
-    Ok(cms.to_bytes(alloc)?)
-}
-
-// The octets of a signed message with this message.
-fn signed_octets<P: Scheme, S: Signer<P>>(
+/// The octets of a signed message with this message.
+pub(crate) fn signed_octets<P: Scheme, S: Signer<P>>(
     alloc: Global,
     message: Received,
     when: Time,
@@ -134,10 +95,9 @@ fn signed_octets<P: Scheme, S: Signer<P>>(
         → IsErrOf result create.TooLong ⊎ IsErrOf result create.OutOfMemory }
     ensures keeps { Keeps (S.state signer.old) (S.state signer.new) }
 {
-    match message {
-        Received::Publication(message) => publication_octets(alloc, message, when, key, signer),
-        Received::Provisioning(message) => provisioning_octets(alloc, message, when, key, signer),
-    }
+    let text = text_of(alloc, message)?;
+    let signed = SignedMessage::create(alloc, text, when, key, signer)?;
+    Ok(signed.to_captured(alloc)?.into_bytes())
 }
 
 // The octets in hexadecimal of lower case, and a line feed.

@@ -14,6 +14,9 @@
 //! - `make COUNT SEED` reads nothing: it makes a query with so many elements, creates and receives
 //!   it, and writes how many there are of each kind and the digest of the signed message.
 //!
+//! For programs that answer line by line it has [`Lines`], into which [`read_input`] input is cut, the
+//! words of a line, and [`finish_lines`], which says why such a program ends.
+//!
 //! What is accepted stands in specs/Acceptance.antt, what is created in specs/Creation.antt, what is
 //! made in specs/Summary.antt, and what is answered to words and input in specs/Answer.antt.
 #![tactic(auto)]

@@ -12,7 +12,7 @@ ghost use Rattle.rpki_ca.specs.Seen.{seen_signer};
 ghost use Rattle.rpki_ca.specs.Summary.{object_at, uri_at, publish_at, update_at, withdraw_at, change_at};
 ghost use Rattle.rpki_ca.specs.Summary.{made_message, made_at, changes_in, does, numbers, summary, IsMakeAnswer};
 
-use crate::create_line::publication_octets;
+use crate::create_line::signed_octets;
 use crate::receiving::{Kind, Received, receive};
 use crate::refusals::Refusal;
 use itoa::Buffer;
@@ -118,15 +118,15 @@ fn add_change(
 }
 
 // The query with so many changes.
-fn made_message(alloc: Global, count: u32, seed: u32) -> Result<Message, OutOfMemory>
-    ensures message { IfOk result (λ m. Received.Publication m ≡ made_message seed count) }
-    ensures writable { IfOk result (λ m. IsWritable (Received.Publication m)) }
+fn made_message(alloc: Global, count: u32, seed: u32) -> Result<Received, OutOfMemory>
+    ensures message { IfOk result (λ m. m ≡ made_message seed count) }
+    ensures writable { IfOk result IsWritable }
 {
     let mut delta = PublishDelta::empty(alloc);
     for place in 0..count {
         add_change(alloc, &mut delta, seed, place)?;
     }
-    Ok(Message::delta(delta))
+    Ok(Received::Publication(Message::delta(delta)))
 }
 
 // The changes of a query; none of another message.
@@ -240,7 +240,7 @@ pub(crate) fn make_line<P: Scheme, V: Verifier<P>, S: Signer<P>>(
     ensures keeps { Keeps (S.state signer.old) (S.state signer.new) }
 {
     let message = made_message(alloc, count, seed)?;
-    let octets = publication_octets(alloc, message, made_at(), key, signer)?;
+    let octets = signed_octets(alloc, message, made_at(), key, signer)?;
     let issuing = signer.get_key_info(alloc, key)?;
     let received = receive(
         alloc,

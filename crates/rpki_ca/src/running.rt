@@ -25,21 +25,19 @@ use crate::content_line::content_line;
 use crate::create_line::create_line;
 use crate::hexadecimal::input_octets;
 use crate::make_line::make_line;
+use crate::reading::read_input;
 use crate::receive_line::receive_line;
 use crate::refusals::Refusal;
 use crate::setup_line::setup_line;
 use crate::words::Words;
 use rpki_base::{Scheme, Verifier};
 use rpki_signer::Signer;
-use rpki_text::{ReadAllError, Sink, Source, read_all, write_all};
+use rpki_text::{Sink, Source, write_all};
 use std::alloc::Global;
 
 /// An exit status.
 #[derive(Clone, Copy, Debug, PartialEq, Eq)]
 pub struct Status(pub u8);
-
-/// The most octets of input that are read.
-const LIMIT: u64 = 1 << 26;
 
 // The line with what the command answers to the input.
 fn perform<P: Scheme, V: Verifier<P>, S: Signer<P>>(
@@ -71,23 +69,6 @@ fn perform<P: Scheme, V: Verifier<P>, S: Signer<P>>(
         Command::Create { kind, when } => create_line(alloc, *kind, input, *when, key, signer),
         Command::Setup { kind, when } => setup_line(alloc, *kind, &input, *when, verifier),
         Command::Make { count, seed } => make_line(alloc, *count, *seed, verifier, key, signer),
-    }
-}
-
-// The whole input.
-fn read_input<I: Source>(alloc: Global, input: &mut I) -> Result<Vec<u8>, Refusal>
-    ensures ok { IfOk result (λ octets. IfSome (I.rest input.old) (λ rest.
-        (octets.items ≡ rest) × (length rest ≤ 2 ^ 26))) }
-    ensures steady { OnOk result (IsSteady (seen I.rest I.faults input.old input.new)) }
-    ensures end { OnOk result (IsAtEnd (I.rest input.new)) }
-    ensures err { IfErr result (λ e. IsUnread (seen I.rest I.faults input.old input.new) e) }
-    ensures most { TakesAtMost (I.rest input.old) (I.rest input.new) (2 ^ 26 + 1) }
-{
-    match read_all(alloc, input, LIMIT) {
-        Ok(octets) => Ok(octets),
-        Err(ReadAllError::Read) => Err(Refusal::ReadFault),
-        Err(ReadAllError::TooLong) => Err(Refusal::TooLong),
-        Err(ReadAllError::OutOfMemory) => Err(Refusal::OutOfMemory),
     }
 }
 

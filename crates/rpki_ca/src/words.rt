@@ -2,13 +2,12 @@
 
 ghost use Rattle.std.specs.Prelude.{◌≡◌, ◌++◌, ◌∷◌, [], ◌↔◌, ◌<◌, ℕ, ℤ, length, OnOk, OnErr, IfOk, IfSome, IsSome, IsNone, IsTrue, slice_get, Some, None};
 ghost use Rattle.rpki_base.specs.PublicKey.{KeyFields};
-ghost use Rattle.rpki_ca.specs.Words.{IsMoment, IsMomentAt, IsNumber, IsNumberAt, key_of, key_at};
+ghost use Rattle.rpki_ca.specs.Words.{IsMoment, IsMomentAt, IsNumber, IsNumberAt, key_at};
 
-use crate::hexadecimal::octets_of;
+use crate::lines::spelled_key;
 use itoa::Buffer;
 use rpki_base::{PublicKey, Time};
 use rpki_common::OutOfMemory;
-use rpki_der::{DecodeError, Mode};
 use std::alloc::Global;
 use std::marker::Model;
 
@@ -104,7 +103,7 @@ impl Words {
         ensures { IfOk result (λ key. key ≡ key_at self.now index) }
     {
         match self.get(index) {
-            Some(word) => key_of(alloc, word),
+            Some(word) => spelled_key(alloc, word.as_bytes()),
             None => Ok(None),
         }
     }
@@ -142,18 +141,4 @@ fn number_of(word: &str, most: u32) -> Option<u32>
         return None;
     }
     Some(number)
-}
-
-// The key whose DER a word spells.
-fn key_of(alloc: Global, word: &str) -> Result<Option<PublicKey>, OutOfMemory>
-    ensures { IfOk result (λ key. key ≡ key_of word.now) }
-{
-    let Some(octets) = octets_of(alloc, word.as_bytes())? else {
-        return Ok(None);
-    };
-    match PublicKey::take(alloc, Mode::Der, &octets) {
-        Ok(key) => Ok(Some(key)),
-        Err(DecodeError::Malformed) => Ok(None),
-        Err(DecodeError::OutOfMemory) => Err(OutOfMemory),
-    }
 }
