@@ -12,10 +12,9 @@ use Rattle.rpki_sigmsg.specs.Message.{MessageFields, signed_message}
 use Rattle.rpki_sigmsg.proofs.AnyKey.{at_one}
 use Rattle.std.specs.List.{AllByRecursion}
 use Rattle.rpki_ca.specs.Acceptance.{ReadsAs}
-use Rattle.rpki_ca.specs.Answer.{AnswersSpelled, Ends, FailsAt, IsReceiveAnswer, IsUnread}
+use Rattle.rpki_ca.specs.Answer.{AnswersSpelled, FailsAt, IsReceiveAnswer}
 use Rattle.rpki_ca.specs.Creation.{RefusesInput}
-use Rattle.rpki_ca.specs.Lines.{EndsLines, EndsWith, WroteAll, answer_lines, lines_of, words_of}
-use Rattle.rpki_ca.specs.Refusal.{status_of}
+use Rattle.rpki_ca.specs.Lines.{EndsRun, WroteAll, lines_of, words_of}
 use Rattle.rpki_ca.specs.Seen.{HasFailed, Seen}
 use Rattle.rpki_ca.specs.declared.command.Command.TheVariants.{Receive}
 use Rattle.rpki_ca.specs.declared.receiving.Kind.{Kind}
@@ -23,9 +22,10 @@ use Rattle.rpki_ca.specs.declared.receiving.Received.{Received}
 use Rattle.rpki_ca.specs.declared.refusals.Refusal.{Refusal}
 use Rattle.rpki_ca.specs.declared.refusals.Refusal.TheVariants as refusals
 use Rattle.rpki_ca.proofs.Commands.{is_command}
+use Rattle.rpki_ca.proofs.Ended.{lines_end, on_input, on_input_or_12, wrote_all}
 use Rattle.rpki_ca.proofs.Laws.{one_answer_to_words}
 use Rattle.rpki_ca.proofs.Reasons.{no_reason, reason}
-use Rattle.rpki_archive.specs.Checking.{AreAllExplanations, AreAllVerdicts, EndsRead, EndsTask, EndsUnread, IsOutOfMemory}
+use Rattle.rpki_archive.specs.Checking.{AreAllExplanations, AreAllVerdicts, EndsTask}
 use Rattle.rpki_archive.specs.Explanation.{IsExplanation, IsSaidOfSpelled, digit_of}
 use Rattle.rpki_archive.specs.Lines.{IsLine}
 use Rattle.rpki_archive.specs.Ties.{BringsMessage, TellsSame}
@@ -147,94 +147,22 @@ digits_tell scheme line text answer line_is b explained answered =
 
 -- ---- how a run ends
 
-with_whole : (wanted status : ℕ) (output : List ℕ) (sink : Seen) → ¬ (HasFailed sink) → EndsWith wanted output status sink → status ≡ wanted
-with_whole wanted status output sink none (inl e) = e.0
-with_whole wanted status output sink none (inr e) = absurd (none e.2)
-
-with_refusal : (refusal : Refusal) (status : ℕ) (sink : Seen) → ¬ (HasFailed sink) → Ends (Err refusal) status sink → status ≡ status_of refusal
-with_refusal refusal status sink none (inl e) = e.0
-with_refusal refusal status sink none (inr e) = absurd (none e.2)
-
-lines_end : (all : List (List ℕ) → List ℕ → Type 0) (first : List (List ℕ) → Type 0) (status : ℕ) (sink : Seen) → ¬ (HasFailed sink) → EndsLines all first IsOutOfMemory status sink → (status ≡ 0) ⊎ (status ≡ 12)
-lines_end all first status sink none (inl done) = inl (with_whole 0 status (answer_lines done.texts ++ done.closing) sink none done.ends)
-lines_end all first status sink none (inr (inl stopped)) = inr (with_whole (status_of stopped.refusal) status _ sink none stopped.ends ∙ ap status_of stopped.may)
-lines_end all first status sink none (inr (inr failed)) = absurd (none failed.failed)
-
 task_ends : (scheme : Relation) (task : Task) (lines : List (List ℕ)) (status : ℕ) (sink : Seen) → ¬ (HasFailed sink) → EndsTask scheme task lines status sink → (status ≡ 0) ⊎ (status ≡ 12)
 task_ends scheme Batch lines status sink none ends = lines_end _ _ status sink none ends
 task_ends scheme Explain lines status sink none ends = lines_end _ _ status sink none ends
 
-some_input : (o : Option (List ℕ)) (input : List ℕ) (P : List ℕ → Type 0) → o ≡ Some input → IfSome o P → P input
-some_input o input P e h = subst (λ (x : Option (List ℕ)). IfSome x P) e h
-
-memory_alone : (source : Seen) (input : List ℕ) (refusal : Refusal) → source.before ≡ Some input → length input ≤ 2 ^ 26 → ¬ (HasFailed source) → IsUnread source refusal → refusal ≡ refusals.OutOfMemory
-memory_alone source input refusals.OutOfMemory e le none u = refl
-memory_alone source input refusals.ReadFault e le none u = absurd (none u)
-memory_alone source input refusals.TooLong e le none u = let longer = some_input source.before input (λ whole. 2 ^ 26 < length whole) e u.0 in absurd (omega (arith, le, longer))
-memory_alone source input refusals.Usage e le none u = absurd u
-memory_alone source input refusals.Hex e le none u = absurd u
-memory_alone source input refusals.CmsDecode e le none u = absurd u
-memory_alone source input refusals.XmlError e le none u = absurd u
-memory_alone source input refusals.CertSyntax e le none u = absurd u
-memory_alone source input refusals.InvalidCsrSyntax e le none u = absurd u
-memory_alone source input refusals.InvalidTaCertEncoding e le none u = absurd u
-memory_alone source input refusals.InvalidTaCert e le none u = absurd u
-memory_alone source input (refusals.Validation n) e le none u = absurd u
-memory_alone source input refusals.KeyNotFound e le none u = absurd u
-memory_alone source input refusals.IncompatibleKey e le none u = absurd u
-memory_alone source input refusals.KeyReused e le none u = absurd u
-memory_alone source input refusals.Signer e le none u = absurd u
-memory_alone source input refusals.Moment e le none u = absurd u
-
-pub ends_so : (scheme : Relation) (task : Task) (status : ℕ) (source sink : Seen) (input : List ℕ) → (EndsUnread status source sink ⊎ EndsRead scheme task status source sink) → source.before ≡ Some input → length input ≤ 2 ^ 26
+pub ends_so : (scheme : Relation) (task : Task) (status : ℕ) (source sink : Seen) (input : List ℕ) → EndsRun (λ octets. EndsTask scheme task (lines_of octets) status sink) status source sink → source.before ≡ Some input → length input ≤ 2 ^ 26
     → ¬ (HasFailed source) → ¬ (HasFailed sink) → (status ≡ 0) ⊎ (status ≡ 12)
-ends_so scheme task status source sink input (inl unread) e le sound whole =
-    inr (with_refusal unread.refusal status sink whole unread.ends ∙ ap status_of (memory_alone source input unread.refusal e le sound unread.unread))
-ends_so scheme task status source sink input (inr read) e le sound whole =
-    task_ends scheme task (lines_of input) status sink whole (some_input source.before input (λ octets. (length octets ≤ 2 ^ 26) × EndsTask scheme task (lines_of octets) status sink) e read.ends).1
+ends_so scheme task status source sink input run e le sound whole =
+    elim (on_input_or_12 (λ octets. EndsTask scheme task (lines_of octets) status sink) status source sink input run e le sound whole) [
+      | inl memory ↦ inr memory
+      | inr ends ↦ task_ends scheme task (lines_of input) status sink whole ends
+    ]
 
 -- ---- with 0
 
-no_zero : (refusal : Refusal) → ◌≡◌ {A = ℕ} 0 (status_of refusal) → ⊥
-no_zero refusals.OutOfMemory e = omega (arith, e)
-no_zero refusals.ReadFault e = omega (arith, e)
-no_zero refusals.TooLong e = omega (arith, e)
-no_zero refusals.Usage e = omega (arith, e)
-no_zero refusals.Hex e = omega (arith, e)
-no_zero refusals.CmsDecode e = omega (arith, e)
-no_zero refusals.XmlError e = omega (arith, e)
-no_zero refusals.CertSyntax e = omega (arith, e)
-no_zero refusals.InvalidCsrSyntax e = omega (arith, e)
-no_zero refusals.InvalidTaCertEncoding e = omega (arith, e)
-no_zero refusals.InvalidTaCert e = omega (arith, e)
-no_zero (refusals.Validation n) e = omega (arith, e)
-no_zero refusals.KeyNotFound e = omega (arith, e)
-no_zero refusals.IncompatibleKey e = omega (arith, e)
-no_zero refusals.KeyReused e = omega (arith, e)
-no_zero refusals.Signer e = omega (arith, e)
-no_zero refusals.Moment e = omega (arith, e)
+pub batch_wrote : (scheme : Relation) (source sink : Seen) (input : List ℕ) → EndsRun (λ octets. EndsTask scheme Batch (lines_of octets) 0 sink) 0 source sink → source.before ≡ Some input → WroteAll (AreAllVerdicts scheme (lines_of input)) sink
+batch_wrote scheme source sink input run e = wrote_all (AreAllVerdicts scheme (lines_of input)) _ sink (on_input (λ octets. EndsTask scheme Batch (lines_of octets) 0 sink) source sink input run e)
 
-no_eleven : ◌≡◌ {A = ℕ} 0 11 → ⊥
-no_eleven e = omega (arith, e)
-
-wrote_all : (all : List (List ℕ) → List ℕ → Type 0) (first : List (List ℕ) → Type 0) (sink : Seen) → EndsLines all first IsOutOfMemory 0 sink → WroteAll all sink
-wrote_all all first sink (inl done) =
-    elim done.ends [
-      | inl e ↦ record { texts = done.texts; closing = done.closing; are = done.are; whole = e.1; steady = e.2 }
-      | inr e ↦ absurd (no_eleven e.0)
-    ]
-wrote_all all first sink (inr (inl stopped)) = elim stopped.ends [ inl e ↦ absurd (no_zero stopped.refusal e.0) | inr e ↦ absurd (no_eleven e.0) ]
-wrote_all all first sink (inr (inr failed)) = absurd (no_eleven failed.is)
-
-not_unread : (source sink : Seen) → EndsUnread 0 source sink → ⊥
-not_unread source sink unread = elim unread.ends [ inl e ↦ no_zero unread.refusal e.0 | inr e ↦ no_eleven e.0 ]
-
-pub batch_wrote : (scheme : Relation) (source sink : Seen) (input : List ℕ) → (EndsUnread 0 source sink ⊎ EndsRead scheme Batch 0 source sink) → source.before ≡ Some input → WroteAll (AreAllVerdicts scheme (lines_of input)) sink
-batch_wrote scheme source sink input (inl unread) e = absurd (not_unread source sink unread)
-batch_wrote scheme source sink input (inr read) e =
-    wrote_all (AreAllVerdicts scheme (lines_of input)) _ sink (some_input source.before input (λ octets. (length octets ≤ 2 ^ 26) × EndsTask scheme Batch (lines_of octets) 0 sink) e read.ends).1
-
-pub explain_wrote : (scheme : Relation) (source sink : Seen) (input : List ℕ) → (EndsUnread 0 source sink ⊎ EndsRead scheme Explain 0 source sink) → source.before ≡ Some input → WroteAll (AreAllExplanations scheme (lines_of input)) sink
-explain_wrote scheme source sink input (inl unread) e = absurd (not_unread source sink unread)
-explain_wrote scheme source sink input (inr read) e =
-    wrote_all (AreAllExplanations scheme (lines_of input)) _ sink (some_input source.before input (λ octets. (length octets ≤ 2 ^ 26) × EndsTask scheme Explain (lines_of octets) 0 sink) e read.ends).1
+pub explain_wrote : (scheme : Relation) (source sink : Seen) (input : List ℕ) → EndsRun (λ octets. EndsTask scheme Explain (lines_of octets) 0 sink) 0 source sink → source.before ≡ Some input → WroteAll (AreAllExplanations scheme (lines_of input)) sink
+explain_wrote scheme source sink input run e = wrote_all (AreAllExplanations scheme (lines_of input)) _ sink (on_input (λ octets. EndsTask scheme Explain (lines_of octets) 0 sink) source sink input run e)

@@ -1,12 +1,9 @@
 -- What the archive checker's program does with words and input.
-use Rattle.std.specs.Prelude.{◌≡◌, ◌^◌, ◌≤◌, ℕ, Result, Err, List, [], ◌∷◌, codes, length, map, take, IfSome}
-use Rattle.std.specs.Io.KnownBytes.{IsAtEnd}
+use Rattle.std.specs.Prelude.{◌≡◌, ℕ, Result, List, [], ◌∷◌, codes, length, map, take}
 use Rattle.rpki_base.specs.Scheme.{Relation}
-use Rattle.rpki_ca.specs.Answer.{Ends, IsUnread}
-use Rattle.rpki_ca.specs.Lines.{EndsLines, lines_of}
-use Rattle.rpki_ca.specs.Seen.{IsSteady, Seen}
+use Rattle.rpki_ca.specs.Lines.{EndsLines, IsOutOfMemory}
+use Rattle.rpki_ca.specs.Seen.{Seen}
 use Rattle.rpki_ca.specs.declared.refusals.Refusal.{Refusal}
-use Rattle.rpki_ca.specs.declared.refusals.Refusal.TheVariants.{OutOfMemory}
 use Rattle.rpki_archive.specs.declared.checking.Task.{Task}
 use Rattle.rpki_archive.specs.declared.checking.Task.TheVariants.{Batch, Explain}
 use Rattle.rpki_archive.specs.Explanation.{AreExplanations}
@@ -22,9 +19,6 @@ IsTask words task = words ≡ task_word task ∷ []
 
 abbrev pub IsNoTask : List (List ℕ) → Type 0
 IsNoTask words = (task : Task) → IsTask words task → ⊥
-
-abbrev pub IsOutOfMemory : Refusal → Type 0
-IsOutOfMemory refusal = refusal ≡ OutOfMemory
 
 -- ---- with `batch`
 
@@ -63,17 +57,3 @@ EndsTask scheme Batch lines status sink =
 EndsTask scheme Explain lines status sink =
     EndsLines (AreAllExplanations scheme lines) (AreFirstExplanations scheme lines) IsOutOfMemory
     status sink
-
--- the input isn't read whole
-pub record EndsUnread (status : ℕ) (source sink : Seen) : Type 0 where
-  pub refusal : Refusal
-  pub unread : IsUnread source refusal
-  pub ends : Ends (Err refusal) status sink
-
--- or it is, and each of its lines is answered
-pub record EndsRead (scheme : Relation) (task : Task) (status : ℕ) (source sink : Seen) : Type 0
-  where
-    pub steady : IsSteady source
-    pub whole : IsAtEnd source.after
-    pub ends : IfSome source.before (λ input. (length input ≤ 2 ^ 26)
-        × EndsTask scheme task (lines_of input) status sink)

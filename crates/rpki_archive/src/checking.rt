@@ -1,13 +1,13 @@
 //! All that the program does.
 
-ghost use Rattle.std.specs.Prelude.{◌≡◌, ◌⊎◌, ◌^◌, ◌+◌, ◌<◌, ◌≤◌, if◌then◌else◌};
+ghost use Rattle.std.specs.Prelude.{◌≡◌, ◌^◌, ◌+◌, ◌<◌, ◌≤◌, if◌then◌else◌};
 ghost use Rattle.std.specs.Prelude.{Err, IfOk, IfSome, IsNone, length, string_bytes};
 ghost use Rattle.rpki_ca.specs.Answer.{Ends};
-ghost use Rattle.rpki_ca.specs.Lines.{Answered, lines_of};
+ghost use Rattle.rpki_ca.specs.Lines.{Answered, EndsRun, IsOutOfMemory, lines_of};
 ghost use Rattle.rpki_ca.specs.Seen.{seen};
 ghost use Rattle.rpki_archive.specs.Checking.{AreAllExplanations, AreAllVerdicts};
-ghost use Rattle.rpki_archive.specs.Checking.{AreFirstExplanations, AreFirstVerdicts, EndsRead};
-ghost use Rattle.rpki_archive.specs.Checking.{EndsTask, EndsUnread, IsNoTask, IsOutOfMemory, IsTask};
+ghost use Rattle.rpki_archive.specs.Checking.{AreFirstExplanations, AreFirstVerdicts};
+ghost use Rattle.rpki_archive.specs.Checking.{EndsTask, IsNoTask, IsTask};
 ghost use Rattle.rpki_archive.specs.declared.checking.Task.{Task as TaskOf};
 ghost use Rattle.rpki_archive.specs.Verdict.{total_of};
 
@@ -164,9 +164,9 @@ pub fn check<P: Scheme, I: Source, O: Sink, V: Verifier<P>>(
     // Where the source isn't read whole, that is what is answered; where it is, each line is answered,
     // and no line's form ends the run.
     ensures ends { (task : TaskOf) → IsTask words.now task
-        → EndsUnread result.0 (seen I.rest I.faults input.old input.new)
-        (seen O.written O.faults output.old output.new)
-        ⊎ EndsRead P.checks task result.0 (seen I.rest I.faults input.old input.new)
+        → EndsRun (λ octets. EndsTask P.checks task (lines_of octets) result.0
+        (seen O.written O.faults output.old output.new))
+        result.0 (seen I.rest I.faults input.old input.new)
         (seen O.written O.faults output.old output.new) }
 {
     let Some(task) = task_of(words) else {

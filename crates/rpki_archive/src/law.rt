@@ -1,14 +1,14 @@
 //! What holds of every archive.
 
 ghost use Rattle.std.specs.Prelude.{◌≡◌, ◌⊎◌, ◌^◌, ◌≤◌, ℕ, Bool, List, Result, Some, length, map};
-ghost use Rattle.rpki_archive.specs.Checking.{AreAllExplanations, AreAllVerdicts, EndsRead, EndsUnread};
+ghost use Rattle.rpki_archive.specs.Checking.{AreAllExplanations, AreAllVerdicts, EndsTask};
 ghost use Rattle.rpki_archive.specs.Explanation.{IsExplanation, digit_of};
 ghost use Rattle.rpki_archive.specs.Lines.{IsLine};
 ghost use Rattle.rpki_archive.specs.Ties.{BringsMessage, TellsSame};
 ghost use Rattle.rpki_archive.specs.Verdict.{IsLineAnswer};
 ghost use Rattle.rpki_archive.specs.declared.checking.Task.{Task as TaskOf};
 ghost use Rattle.rpki_archive.specs.declared.checking.Task.TheVariants as tasks;
-ghost use Rattle.rpki_ca.specs.Lines.{WroteAll, lines_of};
+ghost use Rattle.rpki_ca.specs.Lines.{EndsRun, WroteAll, lines_of};
 ghost use Rattle.rpki_ca.specs.Seen.{HasFailed, Seen};
 ghost use Rattle.rpki_ca.specs.declared.refusals.Refusal.{Refusal as RefusalOf};
 
@@ -34,7 +34,7 @@ pub fn digits_tell_the_answer<P: Scheme>()
 /// and the input is within the limit.
 pub fn ends_with_0_or_12<P: Scheme>()
     ensures { (task : TaskOf) (status : ℕ) (source sink : Seen) (input : List ℕ) →
-        (EndsUnread status source sink ⊎ EndsRead P.checks task status source sink) →
+        EndsRun (λ octets. EndsTask P.checks task (lines_of octets) status sink) status source sink →
         source.before ≡ Some input → length input ≤ 2 ^ 26 → ¬ (HasFailed source) → ¬ (HasFailed sink) →
         (status ≡ 0) ⊎ (status ≡ 12) }
 {}
@@ -42,7 +42,7 @@ pub fn ends_with_0_or_12<P: Scheme>()
 /// With 0 the verdicts on all lines were written, and their total.
 pub fn batch_writes_all<P: Scheme>()
     ensures { (source sink : Seen) (input : List ℕ) →
-        (EndsUnread 0 source sink ⊎ EndsRead P.checks tasks.Batch 0 source sink) →
+        EndsRun (λ octets. EndsTask P.checks tasks.Batch (lines_of octets) 0 sink) 0 source sink →
         source.before ≡ Some input →
         WroteAll (AreAllVerdicts P.checks (lines_of input)) sink }
 {}
@@ -50,7 +50,7 @@ pub fn batch_writes_all<P: Scheme>()
 /// With 0 the explanations of all lines were written.
 pub fn explain_writes_all<P: Scheme>()
     ensures { (source sink : Seen) (input : List ℕ) →
-        (EndsUnread 0 source sink ⊎ EndsRead P.checks tasks.Explain 0 source sink) →
+        EndsRun (λ octets. EndsTask P.checks tasks.Explain (lines_of octets) 0 sink) 0 source sink →
         source.before ≡ Some input →
         WroteAll (AreAllExplanations P.checks (lines_of input)) sink }
 {}

@@ -12,3 +12,4 @@ pub mod SettingUp
 pub mod Cutting
 pub mod Outputs
 pub mod Asked
+pub mod Ended

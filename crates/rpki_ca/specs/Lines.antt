@@ -1,14 +1,15 @@
 -- Lines: an input cut into them, a line cut into words, and what a program writes that answers line
 -- by line.
-use Rattle.std.specs.Prelude.{◌≡◌, ◌==◌, ◌⊎◌, ℕ, List, [], ◌∷◌, ◌++◌, Result, Ok, Err}
+use Rattle.std.specs.Prelude.{◌≡◌, ◌==◌, ◌≤◌, ◌^◌, ◌⊎◌, ℕ, List, [], ◌∷◌, ◌++◌, Result, Ok, Err, IfSome, length}
 use Rattle.std.specs.List.{slice_split, flat_map}
-use Rattle.std.specs.Io.KnownBytes.{Appends}
+use Rattle.std.specs.Io.KnownBytes.{Appends, IsAtEnd}
 use Rattle.rpki_text.specs.Sink.{AppendsPart}
 use Rattle.rpki_ca.specs.declared.refusals.Refusal.{Refusal}
+use Rattle.rpki_ca.specs.declared.refusals.Refusal.TheVariants.{OutOfMemory}
 use Rattle.rpki_ca.specs.declared.lines.Stop.{Stop}
 use Rattle.rpki_ca.specs.declared.lines.Stop.TheVariants.{Refused, WriteFault}
 use Rattle.rpki_ca.specs.Refusal.{status_of}
-use Rattle.rpki_ca.specs.Answer.{line_of, Ends}
+use Rattle.rpki_ca.specs.Answer.{line_of, Ends, IsUnread}
 use Rattle.rpki_ca.specs.Seen.{Seen, HasFailed, IsSteady}
 
 -- ---- what is read
@@ -80,6 +81,25 @@ abbrev pub EndsLines : (List (List ℕ) → List ℕ → Type 0) → (List (List
 EndsLines all first may_refuse status sink =
     EndsDone all status sink
     ⊎ (EndsRefused first may_refuse status sink ⊎ EndsFailed first status sink)
+
+-- it refuses to go on for want of memory alone
+abbrev pub IsOutOfMemory : Refusal → Type 0
+IsOutOfMemory refusal = refusal ≡ OutOfMemory
+
+-- How a program ends that reads its input whole: the input isn't read, and that is what is answered;
+pub record EndsUnread (status : ℕ) (source sink : Seen) : Type 0 where
+  pub refusal : Refusal
+  pub unread : IsUnread source refusal
+  pub ends : Ends (Err refusal) status sink
+
+-- or it is, up to its end, and the program ends so on it.
+pub record EndsRead (ends_on : List ℕ → Type 0) (source : Seen) : Type 0 where
+  pub steady : IsSteady source
+  pub whole : IsAtEnd source.after
+  pub ends : IfSome source.before (λ input. (length input ≤ 2 ^ 26) × ends_on input)
+
+abbrev pub EndsRun : (List ℕ → Type 0) → ℕ → Seen → Seen → Type 0
+EndsRun ends_on status source sink = EndsUnread status source sink ⊎ EndsRead ends_on source
 
 -- ---- the same before it ends
 

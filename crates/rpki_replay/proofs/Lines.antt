@@ -235,3 +235,17 @@ not_before_dash guard line written before rest all peers behind state h first ot
   where
     not_dash : (line written : List ℕ) → false ≡ bytes_eq line written → written ≡ dash → line ≡ dash → ⊥
     not_dash line written other is same = let e : bytes_eq line written ≡ true = (bytes_eq-Decides line written).1 (same ∙ sym is) in cc
+
+-- two states in front of a line with a dash
+same_opening : (one other : List Peer) (behind more : List (List ℕ)) → AllByRecursion IsPeer one → AllByRecursion IsPeer other → map peer_line one ++ dash ∷ behind ≡ map peer_line other ++ dash ∷ more → (one ≡ other) × (behind ≡ more)
+same_opening [] [] behind more a b e = (refl, (heads dash dash behind more e).1)
+same_opening [] (peer ∷ other) behind more a b e = absurd (dash_other peer b.0 (sym (heads dash (peer_line peer) behind (map peer_line other ++ dash ∷ more) e).0))
+same_opening (peer ∷ one) [] behind more a b e = absurd (dash_other peer a.0 (heads (peer_line peer) dash (map peer_line one ++ dash ∷ behind) more e).0)
+same_opening (p ∷ one) (q ∷ other) behind more a b e =
+    let h = heads (peer_line p) (peer_line q) (map peer_line one ++ dash ∷ behind) (map peer_line other ++ dash ∷ more) e in
+    let first : p ≡ q = one_peer p q a.0 b.0 h.0 in
+    let rest = same_opening one other behind more a.1 b.1 h.1 in
+    (λ i. first i ∷ rest.0 i, rest.1)
+
+pub one_opening : (input : List ℕ) (one other : List Peer) (behind more : List (List ℕ)) → Opens input one behind → Opens input other more → (one ≡ other) × (behind ≡ more)
+one_opening input one other behind more a b = same_opening one other behind more a.state.each b.state.each (sym a.lines ∙ b.lines)

@@ -1,12 +1,10 @@
 -- What the guard's program does with words and input.
-use Rattle.std.specs.Prelude.{◌≡◌, ◌^◌, ◌≤◌, ◌⊎◌, ℕ, ℤ, Err, List, ◌∷◌, [], ◌++◌, codes, length, IfSome}
-use Rattle.std.specs.Io.KnownBytes.{IsAtEnd}
+use Rattle.std.specs.Prelude.{◌≡◌, ◌⊎◌, ℕ, ℤ, Err, List, ◌∷◌, [], ◌++◌, codes, length}
 use Rattle.rpki_base.specs.Scheme.{Relation}
-use Rattle.rpki_ca.specs.Answer.{Ends, IsUnread}
-use Rattle.rpki_ca.specs.Lines.{EndsLines, EndsWith}
-use Rattle.rpki_ca.specs.Seen.{IsSteady, Seen}
+use Rattle.rpki_ca.specs.Answer.{Ends}
+use Rattle.rpki_ca.specs.Lines.{EndsLines, EndsWith, IsOutOfMemory}
+use Rattle.rpki_ca.specs.Seen.{Seen}
 use Rattle.rpki_ca.specs.Words.{IsMomentAt}
-use Rattle.rpki_ca.specs.declared.refusals.Refusal.{Refusal}
 use Rattle.rpki_ca.specs.declared.refusals.Refusal.TheVariants.{Hex, OutOfMemory}
 use Rattle.rpki_replay.specs.declared.peers.Peer.{Peer}
 use Rattle.rpki_replay.specs.Answers.{AreAllAnswered, AreFirstAnswered}
@@ -23,9 +21,6 @@ AreNoWords words = (when : ℤ) → AreWords words when → ⊥
 -- what is written where the input holds no state
 abbrev pub bad_state : List ℕ
 bad_state = codes "BadState" ++ 10 ∷ []
-
-abbrev pub IsOutOfMemory : Refusal → Type 0
-IsOutOfMemory refusal = refusal ≡ OutOfMemory
 
 -- How it ends behind a state, where these lines follow: all are messages, and are answered one behind
 -- the other; or some line is none; or memory ran out.
@@ -54,15 +49,3 @@ EndsInput scheme when input status sink =
     EndsState scheme when input status sink
     ⊎ ((HasNoState input × EndsWith 13 bad_state status sink)
     ⊎ Ends (Err OutOfMemory) status sink)
-
--- How it ends where the input isn't read whole, and where it is.
-pub record EndsUnread (status : ℕ) (source sink : Seen) : Type 0 where
-  pub refusal : Refusal
-  pub unread : IsUnread source refusal
-  pub ends : Ends (Err refusal) status sink
-
-pub record EndsRead (scheme : Relation) (when : ℤ) (status : ℕ) (source sink : Seen) : Type 0 where
-  pub steady : IsSteady source
-  pub whole : IsAtEnd source.after
-  pub ends : IfSome source.before (λ input. (length input ≤ 2 ^ 26)
-      × EndsInput scheme when input status sink)

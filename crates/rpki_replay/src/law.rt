@@ -1,11 +1,13 @@
 //! What holds of every guard.
 
-ghost use Rattle.std.specs.Prelude.{◌≡◌, ◌⊎◌, ◌^◌, ◌≤◌, ◌++◌, ◌∷◌, ℕ, ℤ, List, Ok, Some, length};
+ghost use Rattle.std.specs.Prelude.{◌≡◌, ◌^◌, ◌≤◌, ◌++◌, ◌∷◌, ℕ, ℤ, List, Ok, Some, length};
 ghost use Rattle.rpki_base.specs.PublicKey.{KeyFields};
+ghost use Rattle.rpki_ca.specs.Lines.{EndsRun};
 ghost use Rattle.rpki_ca.specs.Seen.{HasFailed, Seen};
 ghost use Rattle.rpki_replay.specs.Ends.{AnswersAll, EndsForCause};
 ghost use Rattle.rpki_replay.specs.History.{AreMade, Call, Rise, times_under};
-ghost use Rattle.rpki_replay.specs.Running.{EndsRead, EndsUnread};
+ghost use Rattle.rpki_replay.specs.Messages.{Opens};
+ghost use Rattle.rpki_replay.specs.Running.{EndsInput};
 ghost use Rattle.rpki_replay.specs.State.{last_of};
 ghost use Rattle.rpki_replay.specs.StateText.{IsStateText};
 ghost use Rattle.rpki_replay.specs.declared.peers.Peer.{Peer as HeldPeer};
@@ -16,6 +18,12 @@ use rpki_base::Scheme;
 pub fn one_state()
     ensures { (text : List ℕ) (one other : List HeldPeer) →
         IsStateText text one → IsStateText text other → one ≡ other }
+{}
+
+/// An input begins with one state at most, and one list of lines is behind it.
+pub fn one_opening()
+    ensures { (input : List ℕ) (one other : List HeldPeer) (behind more : List (List ℕ)) →
+        Opens input one behind → Opens input other more → (one ≡ other) × (behind ≡ more) }
 {}
 
 /// Over every list of calls the times that are admitted under one key rise strictly, from the time that
@@ -37,7 +45,7 @@ pub fn none_is_admitted_twice<P: Scheme>()
 /// With 0 the answers to all messages were written, and the new state.
 pub fn zero_answers_all<P: Scheme>()
     ensures { (when : ℤ) (source sink : Seen) (input : List ℕ) →
-        (EndsUnread 0 source sink ⊎ EndsRead P.checks when 0 source sink) →
+        EndsRun (λ octets. EndsInput P.checks when octets 0 sink) 0 source sink →
         source.before ≡ Some input → AnswersAll P.checks when input sink }
 {}
 
@@ -45,7 +53,7 @@ pub fn zero_answers_all<P: Scheme>()
 /// or with 3 or 13, where the input isn't of the form.
 pub fn runs_end_for_cause<P: Scheme>()
     ensures { (when : ℤ) (status : ℕ) (source sink : Seen) (input : List ℕ) →
-        (EndsUnread status source sink ⊎ EndsRead P.checks when status source sink) →
+        EndsRun (λ octets. EndsInput P.checks when octets status sink) status source sink →
         source.before ≡ Some input → length input ≤ 2 ^ 26 → ¬ (HasFailed source) → ¬ (HasFailed sink) →
         EndsForCause input status }
 {}

@@ -1,12 +1,11 @@
 //! All that the program does.
 
-ghost use Rattle.std.specs.Prelude.{◌≡◌, ◌⊎◌, Err, IfOk, IfSome, IsNone, string_bytes, ℤ};
+ghost use Rattle.std.specs.Prelude.{◌≡◌, Err, IfOk, IfSome, IsNone, string_bytes, ℤ};
 ghost use Rattle.rpki_ca.specs.Answer.{Ends};
-ghost use Rattle.rpki_ca.specs.Lines.{Answered, EndsWith};
+ghost use Rattle.rpki_ca.specs.Lines.{Answered, EndsRun, EndsWith, IsOutOfMemory};
 ghost use Rattle.rpki_ca.specs.Seen.{seen};
 ghost use Rattle.rpki_replay.specs.Answers.{AreAllAnswered, AreFirstAnswered, closing_text};
-ghost use Rattle.rpki_replay.specs.Running.{AreNoWords, AreWords, EndsInput, EndsMessages, EndsRead};
-ghost use Rattle.rpki_replay.specs.Running.{EndsUnread, IsOutOfMemory, bad_state};
+ghost use Rattle.rpki_replay.specs.Running.{AreNoWords, AreWords, EndsInput, EndsMessages, bad_state};
 
 use crate::guard::Guard;
 use crate::line_answers::answer_line;
@@ -134,11 +133,11 @@ pub fn run_guard<P: Scheme, I: Source, O: Sink, V: Verifier<P>>(
         → Ends (Err Refusal.Usage) result.0 (seen O.written O.faults output.old output.new) }
     ensures unread { AreNoWords words.now → input.new ≡ input.old }
 
-    // Where the source isn't read whole, that is what is answered.
+    // Where the source isn't read whole, that is what is answered; and where it is, the messages are.
     ensures ends { (when : ℤ) → AreWords words.now when
-        → EndsUnread result.0 (seen I.rest I.faults input.old input.new)
-        (seen O.written O.faults output.old output.new)
-        ⊎ EndsRead P.checks when result.0 (seen I.rest I.faults input.old input.new)
+        → EndsRun (λ octets. EndsInput P.checks when octets result.0
+        (seen O.written O.faults output.old output.new))
+        result.0 (seen I.rest I.faults input.old input.new)
         (seen O.written O.faults output.old output.new) }
 {
     let Some(when) = moment_of(words) else {

@@ -1,6 +1,6 @@
-use Rattle.rpki_ca.specs.Lines.{lines_of}
+use Rattle.rpki_ca.specs.Lines.{IsOutOfMemory, lines_of}
 use Rattle.rpki_ca.proofs.Outputs.{ends_lines}
-use Rattle.rpki_archive.specs.Checking.{AreAllExplanations, AreAllVerdicts, AreFirstExplanations, AreFirstVerdicts, IsOutOfMemory}
+use Rattle.rpki_archive.specs.Checking.{AreAllExplanations, AreAllVerdicts, AreFirstExplanations, AreFirstVerdicts}
 use Rattle.rpki_archive.proofs.checking.check_read.Goals as goal
 
 pub returns-in-Batch : goal.returns-in-Batch

@@ -1,10 +1,10 @@
 use Rattle.std.proofs.Common.{◌∷◌, ◌++◌, ◌∙◌, [], inl, refl}
-use Rattle.rpki_ca.specs.Lines.{lines_of}
+use Rattle.rpki_ca.specs.Lines.{IsOutOfMemory, lines_of}
 use Rattle.rpki_ca.specs.Seen.{seen}
 use Rattle.rpki_ca.specs.declared.lines.Stop.TheVariants.{Refused, WriteFault}
 use Rattle.rpki_ca.specs.declared.refusals.Refusal.TheVariants.{OutOfMemory}
 use Rattle.rpki_ca.proofs.Outputs.{one_more_written, part_of_more}
-use Rattle.rpki_archive.specs.Checking.{AreAllExplanations, AreFirstExplanations, IsOutOfMemory}
+use Rattle.rpki_archive.specs.Checking.{AreAllExplanations, AreFirstExplanations}
 use Rattle.rpki_archive.proofs.SoFar.{first_explained, line_is, more_explained, one_explained, stopped_so}
 use Rattle.rpki_archive.proofs.checking.explain_all.Goals as goal
 

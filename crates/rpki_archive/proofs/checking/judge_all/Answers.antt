@@ -1,11 +1,11 @@
 use Rattle.std.proofs.Common.{◌∷◌, ◌++◌, ◌∙◌, [], inl, inr, map, refl}
-use Rattle.rpki_ca.specs.Lines.{answer_lines, lines_of}
+use Rattle.rpki_ca.specs.Lines.{IsOutOfMemory, answer_lines, lines_of}
 use Rattle.rpki_ca.specs.Seen.{seen}
 use Rattle.rpki_ca.specs.declared.lines.Stop.TheVariants.{Refused, WriteFault}
 use Rattle.rpki_ca.specs.declared.refusals.Refusal.TheVariants.{OutOfMemory}
 use Rattle.rpki_ca.proofs.Outputs.{failed_later, one_more_written, part_behind, part_of_more, steady_both}
 use Rattle.std.proofs.KnownBytes.{Appends-trans}
-use Rattle.rpki_archive.specs.Checking.{AreAllVerdicts, AreFirstVerdicts, IsOutOfMemory}
+use Rattle.rpki_archive.specs.Checking.{AreAllVerdicts, AreFirstVerdicts}
 use Rattle.rpki_archive.specs.Verdict.{verdict_text}
 use Rattle.rpki_archive.proofs.SoFar.{all_judged, few_accepted, few_lines, line_is, more_judged, one_judged, so_far_judged, stopped_so}
 use Rattle.rpki_archive.proofs.checking.judge_all.Goals as goal

@@ -1,11 +1,10 @@
 use Rattle.std.proofs.Common.{◌+◌, ◌≤◌, ◌∷◌, ◌++◌, ◌∙◌, [], arith, inl, inr, length, refl}
 use Rattle.rpki_ca.specs.declared.lines.Stop.TheVariants.{Refused, WriteFault}
 use Rattle.rpki_ca.specs.declared.refusals.Refusal.TheVariants.{OutOfMemory}
-use Rattle.rpki_ca.specs.Lines.{answer_lines}
+use Rattle.rpki_ca.specs.Lines.{IsOutOfMemory, answer_lines}
 use Rattle.rpki_ca.specs.Seen.{seen}
 use Rattle.rpki_ca.proofs.Outputs.{failed_later, one_more_written, part_behind, part_of_more}
 use Rattle.rpki_replay.specs.Answers.{AreAllAnswered, AreFirstAnswered}
-use Rattle.rpki_replay.specs.Running.{IsOutOfMemory}
 use Rattle.rpki_replay.proofs.Answering.{all_so, first_so, one_more_so, stopped_so}
 use Rattle.rpki_replay.proofs.running.answer_all.Goals as goal
 

@@ -1,8 +1,8 @@
 use Rattle.std.proofs.Common.{inl, subst, sym}
+use Rattle.rpki_ca.specs.Lines.{IsOutOfMemory}
 use Rattle.rpki_ca.proofs.Outputs.{ends_lines}
 use Rattle.rpki_replay.specs.Answers.{AreAllAnswered, AreFirstAnswered}
 use Rattle.rpki_replay.specs.Messages.{AreSent}
-use Rattle.rpki_replay.specs.Running.{IsOutOfMemory}
 use Rattle.rpki_replay.proofs.running.run_messages.Goals as goal
 
 pub returns-in-Ok-Some : goal.returns-in-Ok-Some
