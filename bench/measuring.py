@@ -7,13 +7,20 @@ import sys
 import time
 
 TOP = os.path.dirname(os.path.dirname(os.path.abspath(__file__)))
-PROGRAM = os.path.join(TOP, "crates", "rpkica", "out", "rpkica")
 
 
-def build_program():
+def program_path(name):
+    """Where a program is built."""
+    return os.path.join(TOP, "crates", name, "out", name)
+
+
+PROGRAM = program_path("rpkica")
+
+
+def build_program(name="rpkica"):
     """Has the program built where it isn't there."""
-    if not os.path.exists(PROGRAM):
-        subprocess.run([os.path.join(TOP, "rpkica"), "content"], stdin=subprocess.DEVNULL, stdout=subprocess.DEVNULL, check=False)
+    if not os.path.exists(program_path(name)):
+        subprocess.run([os.path.join(TOP, name), "--version"], stdin=subprocess.DEVNULL, stdout=subprocess.DEVNULL, check=False)
 
 
 def measure(path, words):

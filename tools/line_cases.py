@@ -138,6 +138,16 @@ def archive_rows():
     yield row("return", "batch", (here + "\r",), ("3 Hex", "total 1 accepted 0"))
     yield case("arch-octets-that-are-no-text", "arch", ("batch",), b"\xff " + here.encode() + b"\n\xff 0 00 \n", 0,
         lines("2 Usage", "2 Usage", "total 2 accepted 0"))
+    parts = {
+        (here, "x"): (f"0 {digest}", "2 Usage"),
+        (late, here): ("6 Validation 5", f"0 {digest}"),
+        (other,): ("6 Validation 6",),
+        ("", here + "0"): ("2 Usage", "3 Hex"),
+    }
+    for place, (texts, answers) in enumerate(parts.items()):
+        accepted = answers.count(f"0 {digest}")
+        yield row(f"part-{place}-of-four", "batch", texts, (*answers, f"total {len(texts)} accepted {accepted}"))
+    yield row("four-parts", "batch", sum(parts, ()), (*sum(parts.values(), ()), "total 7 accepted 2"))
     yield case("arch-no-words", "arch", (), b"", 2, lines("Usage"))
     yield case("arch-two-words", "arch", ("batch", "batch"), b"", 2, lines("Usage"))
     yield case("arch-other-word", "arch", ("Batch",), b"", 2, lines("Usage"))
