@@ -46,11 +46,14 @@ def long_lines():
     """Signatures of any length; two of them are longer than memory can be."""
     for count in 0, MOST - 1, MOST:
         made = terms(created(QUERY, NOW, sign=zeros(count)).hex().encode() + b"\n")
-        yield line(f"signatures-of-{count}", "long", 0, count, 0, terms(QUERY), made, *create())
+        yield line(f"signatures-of-{count}", "long", 0, count, 0, 0, terms(QUERY), made, *create())
     for count in MOST + 1, 2 * MOST:
-        yield line(f"signatures-of-{count}", "long", 9, count, 1, terms(QUERY), terms(TOO_LONG), *create())
+        yield line(f"signatures-of-{count}", "long", 9, count, 1, 0, terms(QUERY), terms(TOO_LONG), *create())
+    # The first signature's length is looked at before the issuing key is asked for.
+    for count, status, overlong, told in (MOST, 7, 0, b"KeyNotFound\n"), (MOST + 1, 9, 1, TOO_LONG):
+        yield line(f"signatures-of-{count}-under-no-key", "long", status, count, overlong, 1, terms(QUERY), terms(told), *create())
     for count in 1 << 63, LARGEST:
-        yield line(f"signatures-of-{count}", "long", 12, count, 0, terms(QUERY), terms(OUT_OF_MEMORY), *create())
+        yield line(f"signatures-of-{count}", "long", 12, count, 0, 0, terms(QUERY), terms(OUT_OF_MEMORY), *create())
 
 
 def received(name, octets, status, written):

@@ -21,13 +21,26 @@ fn signer_of(alloc: Global, octets: u64) -> io::Result<LongSigner> {
     }
 }
 
-// The status, and whether the command's line is written.
-fn ran(alloc: Global, command: &Command, signer: &mut LongSigner) -> io::Result<(u64, bool)> {
+// The status with this issuing key, and whether the command's line is written.
+fn ran(
+    alloc: Global,
+    command: &Command,
+    signer: &mut LongSigner,
+    key: u64,
+) -> io::Result<(u64, bool)> {
     let mut source = MemorySource::new(alloc, &command.input, 1000, &[]).map_err(out_of_memory)?;
     let mut sink = MemorySink::new(alloc, ROOM, ROOM, &[]).map_err(out_of_memory)?;
     let verifier = AnyVerifier::new();
     let words = &command.words;
-    let Status(status) = rpki_ca::run(alloc, words, &mut source, &mut sink, &verifier, signer, &0);
+    let Status(status) = rpki_ca::run(
+        alloc,
+        words,
+        &mut source,
+        &mut sink,
+        &verifier,
+        signer,
+        &key,
+    );
     Ok((u64::from(status), sink.written() == command.line.as_slice()))
 }
 
@@ -36,7 +49,8 @@ pub fn holds(alloc: Global, line: &str) -> io::Result<bool> {
     let expected = number_of(line, 2)?;
     let mut signer = signer_of(alloc, number_of(line, 3)?)?;
     let overlong = number_of(line, 4)?;
-    let command = command_of(alloc, line, 5)?;
-    let (status, is_written) = ran(alloc, &command, &mut signer)?;
+    let key = number_of(line, 5)?;
+    let command = command_of(alloc, line, 6)?;
+    let (status, is_written) = ran(alloc, &command, &mut signer, key)?;
     Ok(status == expected && is_written && signer.overlong() == overlong)
 }

@@ -9,8 +9,8 @@
 //! - `NAME writes COUNT PIECE INPUT LINE WORD..`: the same of a sink that takes PIECE octets a call.
 //! - `NAME signs COUNT MAKER`: each of the COUNT calls of the signer fails in turn, and then none, where MAKER of signers.rt makes
 //!   something.
-//! - `NAME long STATUS OCTETS OVERLONG INPUT LINE WORD..`: what the command answers with signatures of so many octets, and how many of
-//!   them the signer tells as too long.
+//! - `NAME long STATUS OCTETS OVERLONG KEY INPUT LINE WORD..`: what the command answers with signatures of so many octets under the
+//!   issuing key KEY, of which 0 alone is held, and how many of them the signer tells as too long.
 //!
 //! tools/hostile_cases.py writes the file.
 #![tactic(auto)]
