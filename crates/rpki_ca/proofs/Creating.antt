@@ -23,12 +23,7 @@ use Rattle.rpki_sigmsg.specs.Checks.{IsBelieved}
 use Rattle.rpki_sigmsg.specs.Making.{window, HasWindow, IsCreated, CreateFails}
 use Rattle.rpki_sigmsg.specs.Message.{MessageFields, signed_message}
 use Rattle.rpki_sigmsg.specs.Spelling.{rewritten, CanBeSpelled}
-use Rattle.rpki_publication.specs.declared.message.Message.{Message}
-use Rattle.rpki_publication.specs.Message as publication
 use Rattle.rpki_publication.proofs.Plain.{text_again}
-use Rattle.rpki_provisioning.specs.Message as provisioning
-use Rattle.rpki_provisioning.specs.Shape as shape
-use Rattle.rpki_provisioning.specs.Writable as writable
 use Rattle.rpki_provisioning.proofs.Plain as plain
 use Rattle.rpki_ca.specs.declared.command.Command.{Command}
 use Rattle.rpki_ca.specs.declared.command.Command.TheVariants.{Create}
@@ -67,16 +62,16 @@ read_again (received.Publication m) writable = text_again m writable
 read_again (received.Provisioning m) writable = plain.text_again m writable
 
 -- what was created of it
-pub message_created : {I : Type 0} (scheme : Relation) (m : Received) (when : ℤ) (signer : SignerSeen I) (signed : MessageFields) (octets : List ℕ)
-    → IsCreated scheme (text_of m) when signer.id signer.before signer.after signed → octets ≡ rewritten signed → CanBeSpelled signed
+pub message_created : {I : Type 0} (scheme : Relation) (m : Received) (when : ℤ) (signer : SignerSeen I) (signed : MessageFields) (text octets : List ℕ) → text ≡ text_of m
+    → IsCreated scheme text when signer.id signer.before signer.after signed → octets ≡ rewritten signed → CanBeSpelled signed
     → ((mode : Mode) (rest : List ℕ) → CanBeSpelled signed → BeginsAs (signed_message mode) mode (rewritten signed ++ rest) signed)
     → ((key : KeyFields) → Holds signer.before.keyring signer.id key → (moment : ℤ) → (window when).not_before ≤ℤ moment → moment ≤ℤ (window when).not_after → IsBelieved scheme signed key moment)
     → IsWritable m → AreCreated scheme (protocol_of m) m when signer octets
-message_created scheme m when signer signed octets created are spelled again believed writable =
-    let content : signed.content ≡ text_of m = ap (λ (s : MessageFields). s.content) created.made.is in
+message_created scheme m when signer signed text octets is created are spelled again believed writable =
+    let content : signed.content ≡ text_of m = ap (λ (s : MessageFields). s.content) created.made.is ∙ is in
     record {
       signed = signed;
-      created = created;
+      created = subst (λ (t : List ℕ). IsCreated scheme t when signer.id signer.before signer.after signed) is created;
       are = are;
       receivable = receivable scheme m when signer signed octets are spelled again believed (subst (λ o. ReadsAs (protocol_of m) o (normal_form m)) (sym content) (read_again m writable));
     }
@@ -108,14 +103,6 @@ not_error {T = T} {E = E} r x e is err = unlike (sym is ∙ err)
 
     unlike : ok ≡ Err e → ⊥
     unlike k = cc
-
--- where something is there, nothing has to be told
-pub ok_tells : {T U E : Type 0} (x : T) (y : U) {W L : Type 0} {d e : E} → (W → L → IsErrOf {T = T} {E = E} (Ok x) d ⊎ IsErrOf {T = T} {E = E} (Ok x) e) → W → L → IsErrOf {T = U} {E = E} (Ok y) d ⊎ IsErrOf {T = U} {E = E} (Ok y) e
-ok_tells {T = T} {E = E} x y {d = d} {e = e} tells w l =
-    elim (tells w l) [
-      | inl k ↦ absurd (not_error (Ok x) x d refl k)
-      | inr k ↦ absurd (not_error (Ok x) x e refl k)
-    ]
 
 -- a text that is too long is told so, or memory ran out
 abbrev pub TellsText : {T E : Type 0} → Received → ℤ → Result T (CreateError E) → Type 0

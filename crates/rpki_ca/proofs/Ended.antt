@@ -1,7 +1,7 @@
 -- How a program ends that reads its input whole, and answers line by line.
 use Rattle.std.proofs.Common.{◌≡◌, ◌⊎◌, ◌<◌, ◌≤◌, ◌^◌, ℕ, Option, Some, IfSome, Err, List, ◌++◌, length, inl, inr, refl, ap, subst, ◌∙◌, arith}
 use Rattle.rpki_ca.specs.Answer.{Ends, IsUnread}
-use Rattle.rpki_ca.specs.Lines.{EndsLines, EndsRead, EndsRun, EndsUnread, EndsWith, IsOutOfMemory, WroteAll, answer_lines}
+use Rattle.rpki_ca.specs.Lines.{EndsLines, EndsRun, EndsUnread, EndsWith, IsOutOfMemory, WroteAll, answer_lines}
 use Rattle.rpki_ca.specs.Refusal.{status_of}
 use Rattle.rpki_ca.specs.Seen.{HasFailed, Seen}
 use Rattle.rpki_ca.specs.declared.refusals.Refusal.{Refusal}

@@ -45,7 +45,7 @@ use Rattle.rpki_ca.specs.declared.receiving.Kind.TheVariants as kinds
 use Rattle.rpki_ca.specs.declared.receiving.ReceiveError.{ReceiveError}
 use Rattle.rpki_ca.specs.declared.receiving.Received.{Received}
 use Rattle.rpki_ca.specs.declared.refusals.Refusal.TheVariants as refusals
-use Rattle.rpki_ca.specs.Acceptance.{IsWritable, Accepted, RefusesReceipt, text_of, normal_form, refusal_of}
+use Rattle.rpki_ca.specs.Acceptance.{IsWritable, Accepted, RefusesReceipt, protocol_of, text_of, normal_form, refusal_of}
 use Rattle.rpki_ca.specs.Answer.{IsLineOf}
 use Rattle.rpki_ca.specs.Creation.{AreCreated, IsSigned, refusal_of_create, refusal_of_key}
 use Rattle.rpki_ca.specs.Seen.{SignerSeen, seen_signer}
