@@ -12,7 +12,7 @@ use Rattle.rpki_ca.proofs.Cutting.{IsOneLine, written_read}
 use Rattle.rpki_replay.specs.declared.peers.Peer.{Peer}
 use Rattle.rpki_replay.specs.State.{IsPeer, IsState, AreDistinct, same_key, last_of}
 use Rattle.rpki_replay.specs.StateText.{IsStateText, ends_line, peer_line}
-use Rattle.rpki_replay.specs.Messages.{dash}
+use Rattle.rpki_replay.specs.Messages.{Opens, dash}
 use Rattle.rpki_replay.proofs.Keys.{same_key-sym}
 use Rattle.rpki_replay.proofs.Standing.{distinct_push, no_time}
 use Rattle.rpki_replay.proofs.Texts.{line_words, one_line, one_peer, key_word, time_word}
