@@ -53,7 +53,7 @@ answered scheme line octets c kind when keys a line_is ask is said = record {
   entry = λ e.
       let command : IsCommand (command_words e) c = subst (λ (d : Command). IsCommand (command_words e) d) (sym ask.is) (entry_command line ask.receipt.entry e ask.kind ask.when ask.keys ask.receipt.receive) in
       let spelled : hexadecimal e.envelope ≡ Some octets = entry_spells line ask.receipt.entry e (Some octets) ask.spelled in
-      answers scheme (command_words e) e.envelope (Receive kind when keys) a (subst (λ (d : Command). IsCommand (command_words e) d) is command) (envelope_short line e line_is)
+      answers scheme (command_words e) e.envelope (Receive kind when keys) a (subst (λ (d : Command). IsCommand (command_words e) d) is command) (λ reads. envelope_short line e line_is)
       (subst (λ (o : Option (List ℕ)). AnswersSpelled scheme (Receive kind when keys) o a) (sym spelled) said);
   other = λ none. absurd (none ask.receipt.entry);
 }
@@ -66,7 +66,7 @@ refused scheme line Usage line_is r other = record {
 refused scheme line Hex line_is r other = record {
   entry = λ e.
       let spelled : hexadecimal e.envelope ≡ None = entry_spells line r.receipt.entry e None r.none in
-      answers scheme (command_words e) e.envelope (Receive r.kind r.when r.keys) (Err Hex) (entry_command line r.receipt.entry e r.kind r.when r.keys r.receipt.receive) (envelope_short line e line_is)
+      answers scheme (command_words e) e.envelope (Receive r.kind r.when r.keys) (Err Hex) (entry_command line r.receipt.entry e r.kind r.when r.keys r.receipt.receive) (λ reads. envelope_short line e line_is)
       (subst (λ (o : Option (List ℕ)). AnswersSpelled scheme (Receive r.kind r.when r.keys) o (Err Hex)) (sym spelled) refl);
   other = λ none. absurd (none r.receipt.entry);
 }

@@ -1,5 +1,5 @@
 -- One verdict a line, what ties it to the explanation, and how a run ends.
-use Rattle.std.proofs.Common.{◌≡◌, ◌⊎◌, ◌<◌, ◌≤◌, ◌^◌, ℕ, ℤ, Bool, true, Option, Some, IfSome, Result, Ok, Err, List, [], ◌∷◌, ◌++◌, map, max, length, inl, inr, refl, sym, ap, subst, ◌∙◌, arith}
+use Rattle.std.proofs.Common.{◌≡◌, ◌⊎◌, ◌≤◌, ◌^◌, ℕ, ℤ, Bool, true, Option, Some, Result, Ok, Err, List, [], ◌∷◌, map, max, length, inl, inr, refl, sym, ap, subst, ◌∙◌, arith}
 use Rattle.rpki_base.specs.Checks.{first_failure, failing}
 use Rattle.rpki_base.specs.PublicKey.{KeyFields}
 use Rattle.rpki_base.specs.Scheme.{Relation}
@@ -141,7 +141,7 @@ digits_tell scheme line text answer line_is b explained answered =
     let said = subst (λ (o : Option (List ℕ)). IsSaidOfSpelled scheme o b.key b.when text) b.spelled ((explained.entry b.entry).checks b.kind b.when b.key b.receive) in
     let digits = said.some b.reads.signed b.reads.begins in
     let given = subst (λ (o : Option (List ℕ)). AnswersSpelled scheme (Receive b.kind b.when (b.key ∷ [])) o answer) b.spelled
-    ((answered.entry b.entry).answers (Receive b.kind b.when (b.key ∷ [])) (is_command (command_words b.entry) b.kind b.when (b.key ∷ []) b.receive) (envelope_short line b.entry line_is)) in
+    ((answered.entry b.entry).answers (Receive b.kind b.when (b.key ∷ [])) (is_command (command_words b.entry) b.kind b.when (b.key ∷ []) b.receive) (λ reads. envelope_short line b.entry line_is)) in
     let reads = subst (λ (m : MessageFields). ReadsAs b.kind m.content b.message) (one_signed b.octets b.reads.signed digits.signed b.reads.begins digits.begins) b.reads.content in
     (digits.checks, digits.written, tells_same scheme b.kind b.octets b.key b.when digits.signed b.message digits.checks answer digits.begins reads digits.are given)
 
