@@ -1,0 +1,100 @@
+-- A publication server for one publisher (RFC 8181, 1 and 2).
+use Rattle.std.specs.Prelude.{◌≡◌, ◌≢◌, ◌<◌, ◌≤◌, ◌^◌, ⊤, ℕ, ℤ, Result, Err, List, [], ◌∷◌, length}
+use Rattle.rpki_base.specs.PublicKey.{KeyFields}
+use Rattle.rpki_base.specs.Scheme.{Relation}
+use Rattle.rpki_publication.specs.Cms.{CmsFields}
+use Rattle.rpki_publication.specs.Message.{text_of}
+use Rattle.rpki_publication.specs.declared.message.Message.{Message}
+use Rattle.rpki_sigmsg.specs.declared.create_error.CreateError.{CreateError}
+use Rattle.rpki_sigmsg.specs.declared.create_error.CreateError.TheVariants as create
+use Rattle.rpki_sigmsg.specs.Making.{CreateFails, HasWindow, IsCreated}
+use Rattle.rpki_sigmsg.specs.Spelling.{CanBeSpelled, rewritten}
+use Rattle.rpki_ca.specs.declared.receiving.Kind.TheVariants as kinds
+use Rattle.rpki_ca.specs.declared.receiving.Received.{Received}
+use Rattle.rpki_ca.specs.declared.receiving.Received.TheVariants as received
+use Rattle.rpki_ca.specs.declared.receiving.ReceiveError.{ReceiveError}
+use Rattle.rpki_ca.specs.declared.receiving.ReceiveError.TheVariants as errors
+use Rattle.rpki_ca.specs.Acceptance.{IsReceived}
+use Rattle.rpki_ca.specs.Creation.{IsReceivable}
+use Rattle.rpki_ca.specs.Seen.{SignerSeen}
+use Rattle.rpki_pubserver.specs.Store.{Store}
+use Rattle.rpki_pubserver.specs.Replies.{Reply, reply_to}
+
+-- the text of the base, under which objects may lie; the key under which queries are believed; and the
+-- objects
+pub record ServerFields : Type 0 where
+  pub base : List ℕ
+  pub publisher : KeyFields
+  pub store : Store
+
+-- the same server with other objects
+abbrev pub with_store : ServerFields → Store → ServerFields
+with_store server store = record {
+  base = server.base;
+  publisher = server.publisher;
+  store = store;
+}
+
+-- the reply to octets at a moment: that to what is received of them under the publisher's key
+pub record IsReply (scheme : Relation) (server : ServerFields) (octets : List ℕ) (when : ℤ)
+    (reply : Reply) : Type 0 where
+  pub result : Result Received ReceiveError
+  pub given : result ≢ Err errors.OutOfMemory
+  pub received : IsReceived scheme kinds.Publication octets (server.publisher ∷ []) when result
+  pub is : reply ≡ reply_to server.base server.store result
+
+-- ---- signed
+
+-- The signed message holds the message, and was created at the moment. What is written of it is accepted
+-- as the message's normal form, under every list of keys that holds the issuing key, at each second from 300
+-- before the moment to 300 after it.
+pub record IsSigned {Id : Type 0} (scheme : Relation) (when : ℤ) (signer : SignerSeen Id)
+    (message : Message) (c : CmsFields) : Type 0 where
+  pub message_is : c.message ≡ message
+  pub fits : length (text_of message) ≤ 2 ^ 31
+  pub created : IsCreated scheme (text_of message) when signer.id signer.before signer.after c.signed
+  pub receivable : CanBeSpelled c.signed → IsReceivable scheme kinds.Publication (rewritten c.signed)
+      (received.Publication message) when signer
+
+-- the reply to octets is signed, and the server has the objects behind it
+pub record IsAnswered {Id : Type 0} (scheme : Relation) (server : ServerFields) (octets : List ℕ)
+    (when : ℤ) (signer : SignerSeen Id) (c : CmsFields) (next : ServerFields) : Type 0 where
+  pub reply : Reply
+  pub is : IsReply scheme server octets when reply
+  pub signed : IsSigned scheme when signer reply.message c
+  pub behind : next ≡ with_store server reply.next
+
+-- ---- why it isn't
+
+-- A message isn't signed for this cause: that the moment has no window, and else that the message's text has
+-- more than 2^31 octets, are always told.
+pub record Fails {Id E : Type 0} (when : ℤ) (signer : SignerSeen Id) (message : Message)
+    (error : CreateError E) : Type 0 where
+  pub cause : CreateFails (text_of message) when signer.id signer.before signer.after error
+  pub moment : (HasWindow when → ⊥) → error ≡ create.Moment
+  pub too_long : HasWindow when → 2 ^ 31 < length (text_of message) → error ≡ create.TooLong
+
+-- of want of memory nothing is said
+abbrev pub IsUnsigned : {Id E : Type 0} → ℤ → SignerSeen Id → Message → CreateError E → Type 0
+IsUnsigned when signer message create.OutOfMemory = ⊤
+IsUnsigned when signer message error = Fails when signer message error
+
+-- the reply to octets isn't signed for this cause
+pub record FailsReply {Id E : Type 0} (scheme : Relation) (server : ServerFields) (octets : List ℕ)
+    (when : ℤ) (signer : SignerSeen Id) (error : CreateError E) : Type 0 where
+  pub reply : Reply
+  pub is : IsReply scheme server octets when reply
+  pub fails : Fails when signer reply.message error
+
+abbrev pub IsUnanswered : {Id E : Type 0} → Relation → ServerFields → List ℕ → ℤ → SignerSeen Id
+    → CreateError E → Type 0
+IsUnanswered scheme server octets when signer create.OutOfMemory = ⊤
+IsUnanswered scheme server octets when signer error =
+    FailsReply scheme server octets when signer error
+
+-- there is a reply whose text has more than 2^31 octets
+pub record HasLongReply (scheme : Relation) (server : ServerFields) (octets : List ℕ) (when : ℤ)
+    : Type 0 where
+  pub reply : Reply
+  pub is : IsReply scheme server octets when reply
+  pub long : 2 ^ 31 < length (text_of reply.message)
