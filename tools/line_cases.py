@@ -18,13 +18,15 @@ import pathlib
 import re
 import sys
 
-from messages import QUERY
+from messages import QUERY, key_identifier
+from parent import BOB, CAROL, Child, Class, Parent, request_of, standard_class
+from provisioning_cases import asked, key as key_element, status as status_element
 from stored import write
 
 ROOT = pathlib.Path(__file__).resolve().parent.parent
 CRATE = ROOT / "crates" / "line_cases"
 MESSAGE = (ROOT / "examples" / "query-list.hex").read_text().strip()
-PROGRAMS = "guard", "arch"
+PROGRAMS = "guard", "arch", "up", "parent"
 
 MOMENT = 1700000000
 KEY = "3022300d06092a864886f70d010101050003110000000000000000010000000000000000"
@@ -153,7 +155,218 @@ def archive_rows():
     yield case("arch-other-word", "arch", ("Batch",), b"", 2, lines("Usage"))
 
 
-ROWS = {"guard": guard_rows, "arch": archive_rows}
+# ---- the parent
+
+
+RUNS = {b"10.0.0.0/9": ("ipv4", 0x0A000000, 0x0A7FFFFF), b"11.0.0.0/8": ("ipv4", 0x0B000000, 0x0BFFFFFF),
+    b"10.0.0.0/7": ("ipv4", 0x0A000000, 0x0BFFFFFF), b"1-10": ("asn", 1, 10), b"0-10": ("asn", 0, 10), b"5": ("asn", 5, 5),
+    b"2001:db8::/33": ("ipv6", 0x20010DB8 << 96, (0x20010DB8 << 96 | 1 << 95) - 1),
+    b"2001:db9::/32": ("ipv6", 0x20010DB9 << 96, (0x20010DBA << 96) - 1), b"": None}
+
+
+class Talk:
+    """Messages of the child, and what a parent answers to them."""
+
+    def __init__(self, **options):
+        self.child, self.parent, self.sent, self.answers = Child(), Parent(**options), [], []
+
+    def ask(self, kind, *inside, decide, **parties):
+        self.sent.append(self.child.send(kind, *inside, **parties))
+        decided = self.parent.refused(2001) if parties else decide()
+        self.answers.append(self.parent.reply(*decided))
+
+    def list(self, **parties):
+        self.ask(b"list", decide=self.parent.answer_list, **parties)
+
+    def issue(self, label=b"0", key=0, spoilt=False, spelled=None, **limit):
+        sets = {kind: [RUNS[text][1:]] if text else [] for kind, text in limit.items()}
+        octets = request_of(key, spoilt=spoilt) if spelled is None else spelled
+        self.ask(b"issue", asked(octets, class_name=label, **limit),
+            decide=lambda: self.parent.answer_issue(label, key, limit, sets, not spoilt and spelled is None))
+
+    def revoke(self, label=b"0", key=0):
+        identifier = key_identifier(1, key)
+        self.ask(b"revoke", key_element(identifier, label), decide=lambda: self.parent.answer_revoke(label, identifier))
+
+    def other(self, kind, *inside):
+        self.ask(kind, *inside, decide=lambda: self.parent.refused(1103))
+
+
+def up_talks():
+    """Each row of the tables, and what stays behind it."""
+    talk = Talk()
+    talk.list()
+    yield "list", talk
+    for name, parties in ("sender", dict(sender=BOB)), ("recipient", dict(recipient=CAROL)), ("both-parties", dict(
+            sender=BOB, recipient=CAROL)), ("sender-in-lower-case", dict(sender=b"carol")):
+        talk = Talk()
+        talk.list(**parties)
+        talk.list()
+        yield f"another-{name}", talk
+    talk = Talk()
+    talk.issue(ipv4=b"10.0.0.0/9")
+    talk.issue(ipv4=b"11.0.0.0/8")
+    talk.revoke()
+    talk.revoke()
+    yield "issue-limit-and-revoke-twice", talk
+    talk = Talk()
+    talk.issue(b"1")
+    talk.issue(b"")
+    talk.revoke(b"1")
+    talk.list()
+    yield "another-class", talk
+    talk = Talk()
+    talk.issue(spoilt=True)
+    talk.issue(spoilt=True, ipv4=b"11.0.0.0/8")
+    talk.issue(spelled=request_of(0, signature=bytes(32)))
+    talk.list()
+    yield "request-of-another-key", talk
+    talk = Talk()
+    for key in range(3):
+        talk.issue(key=key, asn=b"5")
+    talk.list()
+    talk.issue(key=1, ipv6=b"2001:db8::/33")
+    talk.list()
+    talk.revoke(key=1)
+    talk.list()
+    talk.issue(key=1)
+    talk.issue(key=2)
+    talk.list()
+    talk.revoke(key=1)
+    talk.revoke(key=0)
+    talk.revoke(key=2)
+    talk.list()
+    yield "certificates-in-their-places", talk
+    talk = Talk()
+    for limit in (dict(asn=b"1-10"), dict(asn=b"0-10"), dict(asn=b"5", ipv4=b"10.0.0.0/9", ipv6=b"2001:db8::/33"),
+            dict(asn=b"5", ipv4=b"10.0.0.0/7", ipv6=b"2001:db8::/33"), dict(ipv6=b"2001:db9::/32"), dict(asn=b"", ipv4=b"", ipv6=b""),
+            dict(asn=b"")):
+        talk.issue(**limit)
+    talk.list()
+    yield "limits", talk
+    talk = Talk()
+    talk.revoke()
+    talk.revoke(key=7)
+    talk.list()
+    yield "nothing-to-revoke", talk
+    talk = Talk()
+    talk.other(b"list_response")
+    talk.other(b"revoke_response", key_element(key_identifier(1, 0), b"0"))
+    talk.other(b"error_response", status_element(b"1201"))
+    talk.list()
+    yield "answers-in-place-of-questions", talk
+
+
+def up_rows():
+    for name, talk in up_talks():
+        yield case(f"up-{name}", "up", (str(MOMENT), KEY), lines(*talk.sent), 0, lines(*talk.answers))
+    talk = Talk()
+    talk.list()
+    yield case("up-in-upper-case", "up", (str(MOMENT), KEY.upper()), lines(talk.sent[0].upper()), 0, lines(*talk.answers))
+    yield case("up-no-line-feed-at-the-end", "up", (str(MOMENT), KEY), talk.sent[0].encode(), 0, lines(*talk.answers))
+    yield case("up-octets-behind-a-message", "up", (str(MOMENT), KEY), lines(talk.sent[0] + "00"), 0, lines(*talk.answers))
+    yield case("up-empty-line", "up", (str(MOMENT), KEY), lines("", talk.sent[0]), 0, lines("CmsDecode", *talk.answers))
+    yield case("up-no-input", "up", (str(MOMENT), KEY), b"", 0, b"")
+    yield case("up-another-key", "up", (str(MOMENT), OTHER_KEY), lines(talk.sent[0]), 0, lines("Validation 6"))
+    yield case("up-another-protocol", "up", (str(MOMENT), KEY), lines(MESSAGE), 0, lines("XmlError"))
+    for name, field in ("odd-digits", talk.sent[0][:-1]), ("blank", talk.sent[0] + " "), ("return", talk.sent[0] + "\r"):
+        yield case(f"up-{name}", "up", (str(MOMENT), KEY), lines(talk.sent[0], field), 3, lines("Hex"))
+    yield case("up-hex-before-moment", "up", ("299", KEY), lines("x"), 3, lines("Hex"))
+    for moment in 0, 299, 253402300500, 253402300799:
+        yield case(f"up-no-window-at-{moment}", "up", (str(moment), KEY), b"", 8, lines("Moment"))
+    for name, words in {"no-words": (), "no-key": (str(MOMENT),), "two-keys": (str(MOMENT), KEY, KEY), "no-moment": ("00", KEY),
+            "bad-key": (str(MOMENT), KEY + "00"), "swapped": (KEY, str(MOMENT))}.items():
+        yield case(f"up-{name}", "up", words, lines("x"), 2, lines("Usage"))
+    # The calls behind the first one, of a reply: sign_one_off, get_key_info, sign, rand, get_key_info, sign.
+    for call in range(1, 13):
+        talk = Talk()
+        talk.issue(ipv4=b"10.0.0.0/9")
+        talk.revoke()
+        answered = talk.answers[:(call - 1) // 6]
+        yield case(f"up-replies-call-{call}-failing", f"up,s{call}", (str(MOMENT), KEY), lines(*talk.sent), 7, lines(*answered, "Signer"))
+    # Behind those for its own certificate, of an issuer: rand, get_key_info and sign for a certificate, and get_key_info to revoke.
+    for call in (*range(3, 10), 12):
+        talk = Talk(failing_issuer=(call,))
+        talk.issue(ipv4=b"10.0.0.0/9")
+        talk.issue(key=1, asn=b"5")
+        talk.revoke()
+        talk.issue(key=1)
+        talk.revoke(key=1)
+        talk.list()
+        yield case(f"up-issuer-call-{call}-failing", f"up,i{call}", (str(MOMENT), KEY), lines(*talk.sent), 0, lines(*talk.answers))
+
+
+def classes():
+    return [standard_class(b"0"), standard_class(b"1"), Class(b"2", dict(asn=b"", ipv4=b"", ipv6=b""), dict(asn=[], ipv4=[], ipv6=[]))]
+
+
+def done(parent):
+    """What the issuer did."""
+    for label, identifier, resources in parent.made:
+        yield f"made {label.decode()} {identifier.hex().upper()} {resources} 2524607999"
+    for label, identifier in parent.gone:
+        yield f"gone {label.decode()} {identifier.hex().upper()}"
+    yield f"faults {parent.faults}"
+
+
+def parent_talks():
+    """Rows that need several classes."""
+    talk = Talk(classes=classes())
+    talk.list()
+    yield "classes-in-order", talk
+    talk = Talk(classes=classes())
+    talk.issue(b"2")
+    talk.issue(b"2", spoilt=True)
+    talk.issue(b"2", asn=b"5")
+    talk.list()
+    yield "no-resources", talk
+    talk = Talk(classes=classes())
+    talk.issue(b"0", ipv4=b"10.0.0.0/9")
+    talk.issue(b"1")
+    talk.issue(b"1", ipv4=b"11.0.0.0/8")
+    talk.issue(b"1", spoilt=True)
+    talk.issue(b"2")
+    talk.issue(b"1", key=1)
+    talk.issue(b"0", key=1)
+    talk.list()
+    talk.revoke(b"1")
+    talk.revoke(b"0", key=1)
+    talk.revoke(b"0")
+    talk.issue(b"1")
+    talk.issue(b"0")
+    talk.issue(b"0", ipv4=b"11.0.0.0/8")
+    talk.issue(b"1", key=2)
+    talk.revoke(b"1", key=2)
+    talk.issue(b"0", key=2)
+    talk.list()
+    yield "keys-of-other-classes", talk
+
+
+def parent_rows():
+    words = str(MOMENT), KEY
+    for name, talk in parent_talks():
+        yield case(f"parent-{name}", "parent", words, lines(*talk.sent), 0, lines(*talk.answers, *done(talk.parent)))
+    # A reply that couldn't be made was decided: what it was to say is done.
+    for call in (*range(1, 8), 12, 13):
+        talk = Talk(classes=classes(), failing=(call,))
+        talk.issue(ipv4=b"10.0.0.0/9")
+        talk.revoke()
+        talk.revoke()
+        talk.list()
+        yield case(f"parent-replies-call-{call}-failing", f"parent,s{call}", words, lines(*talk.sent), 0,
+            lines(*talk.answers, *done(talk.parent)))
+    for call in range(3, 8):
+        talk = Talk(classes=classes(), failing_issuer=(call,))
+        talk.issue(b"1", ipv4=b"10.0.0.0/9")
+        talk.issue(b"0")
+        talk.revoke(b"1")
+        talk.revoke(b"1")
+        talk.list()
+        yield case(f"parent-issuer-call-{call}-failing", f"parent,i{call}", words, lines(*talk.sent), 0,
+            lines(*talk.answers, *done(talk.parent)))
+
+
+ROWS = {"guard": guard_rows, "arch": archive_rows, "up": up_rows, "parent": parent_rows}
 
 
 def main():

@@ -1,20 +1,26 @@
 //! Runs the programs that answer line by line on stored cases, in memory, and says how many answers
 //! differ from the expected.
 //!
-//! A line of data/cases.txt is `NAME PROGRAM STATUS OUTPUT INPUT WORD..`: PROGRAM is `guard` or `arch`,
+//! A line of data/cases.txt is `NAME PROGRAM STATUS OUTPUT INPUT WORD..`: PROGRAM is `guard`, `arch`, `up` or
+//! `parent`; `up,i3` and `parent,s3` are these where call 3 of a signer fails, that of the issuer or that of the replies.
 //! OUTPUT is what has to be written, and it and INPUT are octets as in other stored cases; `-` is an empty field.
 //! tools/line_cases.py writes the file; its expected answers come from a model that was written apart
 //! from this tree, or are stated in the script.
 #![tactic(auto)]
 
+mod parents;
+mod up;
+
+use crate::parents::run_parent;
+use crate::up::{Failing, run_up};
 use rpki_archive::check;
 use rpki_ca::{Status, Words};
 use rpki_replay::run_guard;
 use rpki_signer::ToyVerifier;
 use rpki_text::{MemorySink, MemorySource};
 use std::alloc::Global;
-use std::io;
 use std::io::ErrorKind;
+use std::{io, str};
 use stored_cases::{Cases, invalid, octets_of, run};
 
 #[derive(Drop)]
@@ -38,7 +44,7 @@ fn push(alloc: Global, words: &mut Words, field: &str) -> io::Result<()> {
     let pushed = match field.strip_prefix('#') {
         Some(digits) => {
             let octets = octets_of(alloc, digits)?;
-            let Ok(word) = std::str::from_utf8(&octets) else {
+            let Ok(word) = str::from_utf8(&octets) else {
                 return Err(invalid());
             };
             words.push(word)
@@ -84,9 +90,17 @@ fn is_answered(alloc: Global, program: &str, case: &Case, piece: usize) -> io::R
         return Err(out_of_memory());
     };
     let verifier = ToyVerifier::new();
+    let (program, failing) = program.split_once(',').unwrap_or((program, ""));
     let Status(status) = match program {
         "arch" => check(alloc, &case.words, &mut source, &mut sink, &verifier),
         "guard" => run_guard(alloc, &case.words, &mut source, &mut sink, &verifier),
+        "up" => run_up(
+            alloc,
+            &case.words,
+            &mut source,
+            &mut sink,
+            &Failing::of(failing)?,
+        )?,
         _ => return Err(invalid()),
     };
     Ok(status == case.status && sink.written() == case.output.as_slice())
@@ -101,6 +115,14 @@ impl Cases for Runs {
             return Err(invalid());
         };
         let case = case_of(alloc, line)?;
+        if let Some(behind) = program.strip_prefix("parent") {
+            let failing = Failing::of(behind.strip_prefix(',').unwrap_or(""))?;
+            let Ok(input) = str::from_utf8(&case.input) else {
+                return Err(invalid());
+            };
+            let text = run_parent(alloc, &case.words, input, &failing)?;
+            return Ok(text.as_bytes() == case.output.as_slice());
+        }
         Ok(is_answered(alloc, program, &case, 1 << 20)? && is_answered(alloc, program, &case, 1)?)
     }
 }
