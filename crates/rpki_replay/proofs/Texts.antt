@@ -1,17 +1,17 @@
 -- The line of a peer, and what is read of it.
-use Rattle.std.proofs.Common.{◌≡◌, ◌/◌, ◌%◌, ◌^◌, ◌<◌, ℕ, ℤ, suc, pos, negsuc, Bool, true, false, nat_eq, not, bytes_eq, Option, None, Some, Result, Ok, Err, List, [], ◌∷◌, All, length, slice_index, w64, FitsSigned, to_z, of_z, IsSome, IfSome, append-nil, refl, sym, ap, subst, ◌∙◌, arith}
+use Rattle.std.proofs.Common.{◌≡◌, ◌/◌, ◌%◌, ◌^◌, ◌<◌, ◌≤◌, ℕ, ℤ, suc, pos, negsuc, Bool, true, false, nat_eq, not, bytes_eq, Option, None, Some, Result, Ok, Err, List, [], ◌∷◌, All, length, slice_index, get_or, w64, FitsSigned, to_z, of_z, IsSome, IfSome, append-nil, refl, sym, ap, subst, ◌∙◌, arith}
 use Rattle.std.specs.List.{join_with_byte}
 use Rattle.std.specs.Fmt.{decimal, signed_decimal}
 use Rattle.std.specs.Int.Signed.{mag}
 use Rattle.std.specs.Result.{result_ok}
 use Rattle.std.specs.Str.{IsUtf8}
 use Rattle.std.specs.Str.Parse.{ParsesSigned}
+use Rattle.core.proofs.fmt.Decimal.{decimal_is_bounded}
 use Rattle.std.proofs.lemmas.Bool.{ne_eqb}
 use Rattle.std.proofs.lemmas.Slice.Eq.{bytes_eq-Decides}
-use Rattle.std.proofs.lemmas.Fmt.{parse-signed_decimal, IsAscii-signed, signed_decimal_injective, decimal_is_IsNumeral}
+use Rattle.std.proofs.lemmas.Fmt.{parse-signed_decimal, IsAscii-signed, signed_decimal_injective}
 use Rattle.std.proofs.lemmas.Int.{fits_signed_from_abs, ints}
 use Rattle.std.proofs.lemmas.Str.{IsUtf8-from_ascii}
-use Rattle.std.proofs.lemmas.Str.Parse.{digit_at}
 use Rattle.std.proofs.lemmas.List.Elements.{All-nil, All-cons, All-append, All-from_get_or}
 use Rattle.std.proofs.lemmas.List.Splits.{slice_split_at, slice_split_none, join_with_byte-slice_split}
 use Rattle.hex.specs.Hex.{hex_digit_value, lower_digits, encode_with, encode_lower, decode_of, IsBytes}
@@ -58,7 +58,7 @@ moment_small (negsuc n) h = let least = h.0 in omega (arith, ints)
 decimal_apart : (c n : ℕ) → c < 45 → n < 2 ^ 64 → IsApart c (decimal n)
 decimal_apart c n less small =
     All-from_get_or (λ octet. nat_eq octet c ≡ false) (decimal n) 0
-    (λ i lt. let digit = digit_at (decimal n) i (decimal_is_IsNumeral n small).0.1 lt in ne_eqb _ _ (λ same. omega (arith, digit, same, less)))
+    (λ i lt. let digit = (decimal_is_bounded n small).all_digits i lt in ne_eqb _ _ (λ same. let least : 48 ≤ get_or (decimal n) i 0 = digit.0 in omega arith))
 
 pub number_apart : (c : ℕ) (z : ℤ) → c < 45 → mag z < 2 ^ 63 → IsApart c (signed_decimal z)
 number_apart c (pos n) less small = decimal_apart c n less (omega (arith, small))

@@ -1,0 +1,2 @@
+pub mod RightAnswers
+pub mod Finishing
