@@ -17,10 +17,12 @@ pub with_refusal : (refusal : Refusal) (status : ℕ) (sink : Seen) → ¬ (HasF
 with_refusal refusal status sink none (inl e) = e.0
 with_refusal refusal status sink none (inr e) = absurd (none e.2)
 
-pub lines_end : (all : List (List ℕ) → List ℕ → Type 0) (first : List (List ℕ) → Type 0) (status : ℕ) (sink : Seen) → ¬ (HasFailed sink) → EndsLines all first IsOutOfMemory status sink → (status ≡ 0) ⊎ (status ≡ 12)
-lines_end all first status sink none (inl done) = inl (with_whole 0 status (answer_lines done.texts ++ done.closing) sink none done.ends)
-lines_end all first status sink none (inr (inl stopped)) = inr (with_whole (status_of stopped.refusal) status _ sink none stopped.ends ∙ ap status_of stopped.may)
-lines_end all first status sink none (inr (inr failed)) = absurd (none failed.failed)
+-- and memory alone stops it
+pub lines_end : (all : List (List ℕ) → List ℕ → Type 0) (first : List (List ℕ) → Type 0) (may : Refusal → Type 0) (status : ℕ) (sink : Seen) → ((refusal : Refusal) → may refusal → IsOutOfMemory refusal) → ¬ (HasFailed sink)
+    → EndsLines all first may status sink → (status ≡ 0) ⊎ (status ≡ 12)
+lines_end all first may status sink alone none (inl done) = inl (with_whole 0 status (answer_lines done.texts ++ done.closing) sink none done.ends)
+lines_end all first may status sink alone none (inr (inl stopped)) = inr (with_whole (status_of stopped.refusal) status _ sink none stopped.ends ∙ ap status_of (alone stopped.refusal stopped.may))
+lines_end all first may status sink alone none (inr (inr failed)) = absurd (none failed.failed)
 
 some_input : (o : Option (List ℕ)) (input : List ℕ) (P : List ℕ → Type 0) → o ≡ Some input → IfSome o P → P input
 some_input o input P e h = subst (λ (x : Option (List ℕ)). IfSome x P) e h
@@ -68,17 +70,21 @@ no_zero refusals.Moment e = omega (arith, e)
 pub no_eleven : ◌≡◌ {A = ℕ} 0 11 → ⊥
 no_eleven e = omega (arith, e)
 
-pub wrote_all : (all : List (List ℕ) → List ℕ → Type 0) (first : List (List ℕ) → Type 0) (sink : Seen) → EndsLines all first IsOutOfMemory 0 sink → WroteAll all sink
-wrote_all all first sink (inl done) =
+pub no_refusal : (refusal : Refusal) (sink : Seen) → Ends (Err refusal) 0 sink → ⊥
+no_refusal refusal sink (inl e) = no_zero refusal e.0
+no_refusal refusal sink (inr e) = no_eleven e.0
+
+pub wrote_all : (all : List (List ℕ) → List ℕ → Type 0) (first : List (List ℕ) → Type 0) (may : Refusal → Type 0) (sink : Seen) → EndsLines all first may 0 sink → WroteAll all sink
+wrote_all all first may sink (inl done) =
     elim done.ends [
       | inl e ↦ record { texts = done.texts; closing = done.closing; are = done.are; whole = e.1; steady = e.2 }
       | inr e ↦ absurd (no_eleven e.0)
     ]
-wrote_all all first sink (inr (inl stopped)) = elim stopped.ends [ inl e ↦ absurd (no_zero stopped.refusal e.0) | inr e ↦ absurd (no_eleven e.0) ]
-wrote_all all first sink (inr (inr failed)) = absurd (no_eleven failed.is)
+wrote_all all first may sink (inr (inl stopped)) = elim stopped.ends [ inl e ↦ absurd (no_zero stopped.refusal e.0) | inr e ↦ absurd (no_eleven e.0) ]
+wrote_all all first may sink (inr (inr failed)) = absurd (no_eleven failed.is)
 
 not_unread : (source sink : Seen) → EndsUnread 0 source sink → ⊥
-not_unread source sink unread = elim unread.ends [ inl e ↦ no_zero unread.refusal e.0 | inr e ↦ no_eleven e.0 ]
+not_unread source sink unread = no_refusal unread.refusal sink unread.ends
 
 -- so it ended on the input
 pub on_input : (ends_on : List ℕ → Type 0) (source sink : Seen) (input : List ℕ) → EndsRun ends_on 0 source sink → source.before ≡ Some input → ends_on input

@@ -13,3 +13,4 @@ pub mod Cutting
 pub mod Outputs
 pub mod Asked
 pub mod Ended
+pub mod Stepping

@@ -1,4 +1,4 @@
--- Said in contracts, and to be believed: Refusal, Hexadecimal, Words, Command, Acceptance, Seen, Creation, Setup, Summary, Answer, Lines.
+-- Said in contracts, and to be believed: Refusal, Hexadecimal, Words, Command, Acceptance, Seen, Creation, Setup, Summary, Answer, Lines, Steps.
 pub mod Refusal
 pub mod Hexadecimal
 pub mod Words
@@ -10,3 +10,4 @@ pub mod Setup
 pub mod Summary
 pub mod Answer
 pub mod Lines
+pub mod Steps

@@ -1,8 +1,7 @@
 //! The command `create`.
 
-ghost use Rattle.std.specs.Prelude.{◌≡◌, ◌≢◌, ◌++◌, ◌∷◌, [], ◌⊎◌, ◌<◌, ◌^◌, length, Ok, Err};
+ghost use Rattle.std.specs.Prelude.{◌≢◌, ◌⊎◌, ◌<◌, ◌^◌, length, Err};
 ghost use Rattle.std.specs.Prelude.{IfOk, IfErr, IsErrOf, MatchResult};
-ghost use Rattle.hex.specs.Hex.{encode_lower};
 ghost use Rattle.rpki_signer.specs.Limits.{Keeps};
 ghost use Rattle.rpki_sigmsg.specs.Making.{HasWindow, CreateFails};
 ghost use Rattle.rpki_sigmsg.specs.declared.create_error.CreateError.TheVariants as create;
@@ -12,6 +11,7 @@ ghost use Rattle.rpki_ca.specs.Creation.{AreCreated, IsCreateAnswer, RefusesInpu
 ghost use Rattle.rpki_ca.specs.Creation.{refusal_of_create};
 ghost use Rattle.rpki_ca.specs.Seen.{seen_signer};
 
+use crate::hexadecimal::hexadecimal_line;
 use crate::receiving::{Kind, ReceiveError, Received};
 use crate::refusals::Refusal;
 use bytes::Bytes;
@@ -98,15 +98,6 @@ pub(crate) fn signed_octets<P: Scheme, S: Signer<P>>(
     let text = text_of(alloc, message)?;
     let signed = SignedMessage::create(alloc, text, when, key, signer)?;
     Ok(signed.to_captured(alloc)?.into_bytes())
-}
-
-// The octets in hexadecimal of lower case, and a line feed.
-fn hexadecimal_line(alloc: Global, octets: &[u8]) -> Result<Vec<u8>, OutOfMemory>
-    ensures { IfOk result (λ line. line.items ≡ encode_lower octets.now ++ 10 ∷ []) }
-{
-    let mut line = hex::encode(alloc, octets)?.into_bytes();
-    line.push(b'\n')?;
-    Ok(line)
 }
 
 /// The signed message that is made at the moment with the message that the input is, in hexadecimal,

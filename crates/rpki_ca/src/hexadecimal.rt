@@ -1,8 +1,8 @@
 //! Hexadecimal.
 
-ghost use Rattle.std.specs.Prelude.{◌≡◌, ◌≢◌, Decides, IfOk, IfErr, IfSome, IsNone, Some, None};
+ghost use Rattle.std.specs.Prelude.{◌≡◌, ◌≢◌, ◌∷◌, ◌++◌, [], Decides, IfOk, IfErr, IfSome, IsNone, Some, None};
 ghost use Rattle.std.specs.Result.{result_ok};
-ghost use Rattle.hex.specs.Hex.{decode_of};
+ghost use Rattle.hex.specs.Hex.{decode_of, encode_lower};
 ghost use Rattle.rpki_ca.specs.Hexadecimal.{digits_of, hexadecimal};
 
 use crate::refusals::Refusal;
@@ -57,4 +57,13 @@ pub(crate) fn input_octets(alloc: Global, input: Vec<u8>) -> Result<Vec<u8>, Ref
         Some(octets) => Ok(octets),
         None => Err(Refusal::Hex),
     }
+}
+
+/// The line that spells the octets: two hexadecimal digits of lower case an octet, and a line feed.
+pub fn hexadecimal_line(alloc: Global, octets: &[u8]) -> Result<Vec<u8>, OutOfMemory>
+    ensures { IfOk result (λ line. line.items ≡ encode_lower octets.now ++ 10 ∷ []) }
+{
+    let mut line = hex::encode(alloc, octets)?.into_bytes();
+    line.push(b'\n')?;
+    Ok(line)
 }

@@ -15,7 +15,7 @@
 //!   it, and writes how many there are of each kind and the digest of the signed message.
 //!
 //! For programs that answer line by line it has [`Lines`], into which [`read_input`] input is cut, the
-//! words of a line, and [`finish_lines`], which says why such a program ends.
+//! words of a line, [`hexadecimal_line`], and [`finish_lines`], which says why such a program ends.
 //!
 //! What is accepted stands in specs/Acceptance.antt, what is created in specs/Creation.antt, what is
 //! made in specs/Summary.antt, and what is answered to words and input in specs/Answer.antt.
@@ -39,6 +39,7 @@ mod setup_message;
 mod words;
 
 pub use command::Command;
+pub use hexadecimal::hexadecimal_line;
 pub use law::{
     accepted_moments_are_one_span, more_keys_accept, one_answer, one_answer_to_words,
     receipts_ask_three_questions, rewritten_is_received_alike,

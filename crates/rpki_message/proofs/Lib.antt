@@ -9,5 +9,6 @@ pub mod Plain
 pub mod Read
 pub mod Sizes
 pub mod Spelt
+pub mod Symbols
 pub mod Transfers
 pub mod Uris

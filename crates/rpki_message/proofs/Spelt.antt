@@ -1,10 +1,7 @@
 -- What a text of octets spells in base64 are octets.
-use Rattle.std.proofs.Common.{◌≡◌, ℕ, zero, suc, ◌+◌, ◌*◌, ◌/◌, ◌%◌, ◌<◌, ◌≤◌, Bool, true, false, List, [], ◌∷◌, ◌++◌, length, Some, Result, Ok, replicate, filter, cond, refl, sym, ap, subst, ◌∙◌, arith}
-use Rattle.std.specs.Prelude.{nat_lt}
-use Rattle.std.specs.List.{list_all, slice_index}
-use Rattle.std.proofs.lemmas.List.{get_or_past}
+use Rattle.std.proofs.Common.{◌≡◌, ℕ, Bool, true, false, List, [], ◌∷◌, ◌++◌, length, Some, replicate, filter, cond, refl, sym, ap, subst, ◌∙◌}
+use Rattle.std.specs.List.{list_all}
 use Rattle.std.proofs.lemmas.List.Folds.{list_all-append}
-use Rattle.std.proofs.lemmas.Bool.Decides.{nat_tests}
 use Rattle.base64.specs.Engines.{standard}
 use Rattle.base64.specs.GeneralPurpose.{encode_of, decode_of, engine_symbols, IsBytes}
 use Rattle.base64.specs.Rfc4648.{encode_symbols, padding_len}
@@ -14,127 +11,13 @@ use Rattle.rpki_text.specs.Base64.{is_not_space, base64_content}
 use Rattle.rpki_text.proofs.Base64Laws.{decode_of-told}
 use Rattle.rpki_xml.specs.Lettered.{AreOctets}
 use Rattle.rpki_xml.specs.Lexing.{is_octet}
+use Rattle.rpki_message.proofs.Symbols.{alike, octet_byte, same_ok}
 
 abbrev table : List ℕ
 table = engine_symbols standard
 
-past_none : (k : ℕ) → 64 ≤ k → is_octet (slice_index table k) ≡ false
-past_none k le = ap is_octet (get_or_past table k 0 le)
-
-differs : (x : Bool) → x ≡ true → x ≡ false → ⊥
-differs x e f = cc
-
--- what is a symbol has its place in the alphabet
-place : (k : ℕ) → is_octet (slice_index table k) ≡ true → k < 64
-place k h = go (nat_lt k 64) refl
-  where
-    go : (x : Bool) → nat_lt k 64 ≡ x → k < 64
-    go true e = grind (arith, nat_tests)
-    go false e = let le : 64 ≤ k = grind (arith, nat_tests) in absurd (differs (is_octet (slice_index table k)) h (past_none k le))
-
--- ---- octets with the same symbols
-
-byte_first : (x : ℕ) (m : List ℕ) → x < 256 → IsBytes m → IsBytes (x ∷ m)
-byte_first x m lt h zero = lt
-byte_first x m lt h (suc i) = h i
-
-no_bytes : IsBytes []
-no_bytes i = omega arith
-
-record Alike (m : List ℕ) : Type 0 where
-  octets : List ℕ
-  bytes : IsBytes octets
-  symbols : encode_symbols table octets ≡ encode_symbols table m
-  count : length octets ≡ length m
-
-abbrev one : ℕ → ℕ → ℕ
-one i j = i * 4 + j / 16
-
-abbrev two : ℕ → ℕ → ℕ
-two j k = j % 16 * 16 + k / 4
-
-abbrev three : ℕ → ℕ → ℕ
-three k l = k % 4 * 64 + l
-
--- four places, as three octets, and again
-first_place : (i j : ℕ) → j < 64 → one i j / 4 ≡ i
-first_place i j h = omega arith
-
-second_place : (i j k : ℕ) → j < 64 → k < 64 → one i j % 4 * 16 + two j k / 16 ≡ j
-second_place i j k h g = omega arith
-
-third_place : (j k l : ℕ) → k < 64 → l < 64 → two j k % 16 * 4 + three k l / 64 ≡ k
-third_place j k l h g = omega arith
-
-fourth_place : (k l : ℕ) → l < 64 → three k l % 64 ≡ l
-fourth_place k l h = omega arith
-
-last_place : (j b : ℕ) → two j (b % 16 * 4) % 16 * 4 ≡ b % 16 * 4
-last_place j b = omega arith
-
-one_byte : (i j : ℕ) → i < 64 → j < 64 → one i j < 256
-one_byte i j h g = omega arith
-
-two_byte : (j k : ℕ) → k < 64 → two j k < 256
-two_byte j k h = omega arith
-
-three_byte : (k l : ℕ) → l < 64 → three k l < 256
-three_byte k l h = omega arith
-
-alike : (m : List ℕ) → AreOctets (encode_symbols table m) → Alike m
-unfolding encode_symbols
-alike [] h = record { octets = []; bytes = no_bytes; symbols = refl; count = refl }
-alike (a ∷ []) h =
-    let p = place (a / 4) (both _ _ h).0 in
-    record { octets = a ∷ []; bytes = byte_first a [] (omega arith) no_bytes; symbols = refl; count = refl }
-alike (a ∷ b ∷ []) h =
-    let i = a / 4 in
-    let j = a % 4 * 16 + b / 16 in
-    let k = b % 16 * 4 in
-    let p = both _ _ h in
-    let q = both _ _ p.1 in
-    let li : i < 64 = place i p.0 in
-    let lj : j < 64 = place j q.0 in
-    let lk : k < 64 = omega arith in
-    record {
-      octets = one i j ∷ two j k ∷ [];
-      bytes = byte_first (one i j) (two j k ∷ []) (one_byte i j li lj) (byte_first (two j k) [] (two_byte j k lk) no_bytes);
-      symbols = rw (first_place i j lj, second_place i j k lj lk, last_place j b) refl;
-      count = refl;
-    }
-alike (a ∷ b ∷ c ∷ rest) h =
-    let i = a / 4 in
-    let j = a % 4 * 16 + b / 16 in
-    let k = b % 16 * 4 + c / 64 in
-    let l = c % 64 in
-    let p = both _ _ h in
-    let q = both _ _ p.1 in
-    let r = both _ _ q.1 in
-    let s = both _ _ r.1 in
-    let li : i < 64 = place i p.0 in
-    let lj : j < 64 = place j q.0 in
-    let lk : k < 64 = place k r.0 in
-    let ll : l < 64 = place l s.0 in
-    let more = alike rest s.1 in
-    record {
-      octets = one i j ∷ two j k ∷ three k l ∷ more.octets;
-      bytes = byte_first (one i j) (two j k ∷ three k l ∷ more.octets) (one_byte i j li lj) (byte_first (two j k) (three k l ∷ more.octets) (two_byte j k lk) (byte_first (three k l) more.octets (three_byte k l ll) more.bytes));
-      symbols = rw (first_place i j lj, second_place i j k lj lk, third_place j k l lk ll, fourth_place k l ll, more.symbols) refl;
-      count = ap (λ (n : ℕ). suc (suc (suc n))) more.count;
-    }
-
--- ---- what a text spells
-
 same_text : (a b : List ℕ) → encode_symbols table a ≡ encode_symbols table b → length a ≡ length b → encode_of standard a ≡ encode_of standard b
 same_text a b e f = ap (λ (s : List ℕ). s ++ replicate (padding_len (length a)) 61) e ∙ ap (λ (n : ℕ). encode_symbols table b ++ replicate (padding_len n) 61) f
-
-octet_byte : (text : List ℕ) → AreOctets text → IsBytes text
-octet_byte [] h i = omega arith
-octet_byte (c ∷ text) h zero = let p = (both (is_octet c) (list_all is_octet text) h).0 in small c p
-  where
-    small : (c : ℕ) → is_octet c ≡ true → c < 256
-    small c h = grind (arith, nat_tests)
-octet_byte (c ∷ text) h (suc i) = octet_byte text (both (is_octet c) (list_all is_octet text) h).1 i
 
 filtered : (test : ℕ → Bool) (text : List ℕ) → AreOctets text → AreOctets (filter test text)
 filtered test [] h = refl
@@ -145,9 +28,6 @@ filtered test (c ∷ text) h =
     go : (x : Bool) → is_octet c ≡ true → AreOctets (filter test text) → AreOctets (cond x (c ∷ filter test text) (filter test text))
     go true f g = rw (f, g) refl
     go false f g = g
-
-same_ok : {E : Type 0} (a b : List ℕ) → ◌≡◌ {A = Result (List ℕ) E} (Ok a) (Ok b) → a ≡ b
-same_ok a b e = cc
 
 -- a text of octets, without its white space, is the one text of the octets that it spells
 pub content_spelled : (text content : List ℕ) → AreOctets text → base64_content text ≡ Some content → filter is_not_space text ≡ encode_of standard content
@@ -162,7 +42,7 @@ content_bytes text content h e =
     let ok = decode_of-told standard s content e in
     let spelled : s ≡ encode_of standard content = content_spelled text content h e in
     let front = both (list_all is_octet (encode_symbols table content)) (list_all is_octet (replicate (padding_len (length content)) 61)) (sym (list_all-append is_octet (encode_symbols table content) (replicate (padding_len (length content)) 61)) ∙ subst AreOctets spelled octets) in
-    let other = alike content front.0 in
+    let other = alike table refl content front.0 in
     let again = decode_of-encode_of standard other.octets refl other.bytes in
-    let same = same_ok other.octets content (sym again ∙ ap (decode_of standard) (same_text other.octets content other.symbols other.count ∙ sym spelled) ∙ ok) in
+    let same = same_ok other.octets content (sym again ∙ ap (decode_of standard) (same_text other.octets content other.symbols other.amount ∙ sym spelled) ∙ ok) in
     subst IsBytes same other.bytes

@@ -36,22 +36,12 @@ use Rattle.rpki_cert.specs.CsrAttributes.{ca_attributes}
 use Rattle.rpki_idcert.proofs.Rewriting.{written_again}
 use Rattle.rpki_cert.proofs.Shorter.{back_bytes, request_spelled}
 use Rattle.rpki_cert.proofs.Slices.{slice_is, certificate_again}
+use Rattle.rpki_message.proofs.Symbols.{both_bytes, byte_first, no_bytes}
 use Rattle.rpki_updown.specs.Entitlements.{CaRequest}
 use Rattle.rpki_provisioning.specs.Shape.{certificate_of, request_of, request_octets}
 use Rattle.rpki_provisioning.specs.Writable.{IsCertificate, IsRequest}
 
 -- ---- octets
-
-byte_first : (x : ℕ) (m : List ℕ) → x < 256 → IsBytes m → IsBytes (x ∷ m)
-byte_first x m lt h zero = lt
-byte_first x m lt h (suc i) = h i
-
-no_bytes : IsBytes []
-no_bytes i = omega arith
-
-pub both_bytes : (a b : List ℕ) → IsBytes a → IsBytes b → IsBytes (a ++ b)
-both_bytes [] b h k = k
-both_bytes (x ∷ a) b h k = byte_first x (a ++ b) (h 0) (both_bytes a b (λ i. h (suc i)) k)
 
 all_bytes : (l : List ℕ) → list_all (λ c. nat_lt c 256) l ≡ true → IsBytes l
 all_bytes [] h = no_bytes

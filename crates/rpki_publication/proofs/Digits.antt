@@ -12,6 +12,7 @@ use Rattle.sha2.specs.Sha256.{sha256, digest_bytes}
 use Rattle.sha2.proofs.Facts256.{length-sha256}
 use Rattle.rpki_common.proofs.Truths.{both, none_some, same_some}
 use Rattle.rpki_message.proofs.Base64s.{symbol, member}
+use Rattle.rpki_message.proofs.Symbols.{both_bytes, byte_first, no_bytes}
 use Rattle.rpki_text.specs.Hash.{digest_of_text}
 use Rattle.rpki_xml.specs.Lettered.{AreOctets}
 use Rattle.rpki_xml.specs.Lexing.{is_octet}
@@ -81,17 +82,6 @@ digest_read text h e = read_at text h (length text == 64) refl e
 
 -- ---- what SHA-256 gives is a digest
 
-byte_first : (x : ℕ) (m : List ℕ) → x < 256 → IsBytes m → IsBytes (x ∷ m)
-byte_first x m lt h zero = lt
-byte_first x m lt h (suc i) = h i
-
-no_bytes : IsBytes []
-no_bytes i = omega arith
-
-joined : (a b : List ℕ) → IsBytes a → IsBytes b → IsBytes (a ++ b)
-joined [] b h k = k
-joined (x ∷ a) b h k = byte_first x (a ++ b) (h 0) (joined a b (rest_bytes x a h) k)
-
 byte : (i n : ℕ) → byte_at i n < 256
 byte zero n = omega arith
 byte (suc i) n = omega arith
@@ -103,11 +93,11 @@ high_first (suc k) n = byte_first (byte_at k n) (bytes_high_first k n) (byte k n
 words : (h : List ℕ) (n : ℕ) → IsBytes (digest_bytes h n)
 unfolding digest_bytes
 words h zero = no_bytes
-words h (suc n) = joined (digest_bytes h n) _ (words h n) (high_first 4 _)
+words h (suc n) = both_bytes (digest_bytes h n) _ (words h n) (high_first 4 _)
 
 -- octets of numbers, the most significant first
 pub numbers : (a b : ℕ) → IsBytes (to_be_bytes w64 a ++ to_be_bytes w64 b)
-numbers a b = joined (to_be_bytes w64 a) (to_be_bytes w64 b) (high_first 8 a) (high_first 8 b)
+numbers a b = both_bytes (to_be_bytes w64 a) (to_be_bytes w64 b) (high_first 8 a) (high_first 8 b)
 
 pub sha256_digest : (m : List ℕ) → IsDigest (sha256 m)
 unfolding sha256

@@ -103,7 +103,7 @@ code_octets code.NoObjectMatchingHash = refl
 code_octets code.ConsistencyProblem = refl
 code_octets code.OtherError = refl
 
-default_octets : (c : ReportErrorCode) → AreOctets (default_text c)
+pub default_octets : (c : ReportErrorCode) → AreOctets (default_text c)
 default_octets code.XmlError = refl
 default_octets code.PermissionFailure = refl
 default_octets code.BadCmsSignature = refl
@@ -113,7 +113,7 @@ default_octets code.NoObjectMatchingHash = refl
 default_octets code.ConsistencyProblem = refl
 default_octets code.OtherError = refl
 
-default_trimmed : (c : ReportErrorCode) → trimmed (default_text c) ≡ default_text c
+pub default_trimmed : (c : ReportErrorCode) → trimmed (default_text c) ≡ default_text c
 unfolding trimmed
 default_trimmed code.XmlError = refl
 default_trimmed code.PermissionFailure = refl

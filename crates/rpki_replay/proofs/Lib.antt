@@ -5,6 +5,6 @@ pub mod Texts
 pub mod Lines
 pub mod Sending
 pub mod Judging
-pub mod Answering
+pub mod Moments
 pub mod Rising
 pub mod Ended

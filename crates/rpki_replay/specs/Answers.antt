@@ -1,9 +1,10 @@
 -- What the guard's program answers to each line.
-use Rattle.std.specs.Prelude.{◌≡◌, ◌≢◌, ◌⊎◌, ℕ, ℤ, Result, Err, List, [], ◌∷◌, ◌++◌, codes, length, take}
+use Rattle.std.specs.Prelude.{◌≡◌, ◌≢◌, ◌⊎◌, ℕ, ℤ, Result, Err, List, ◌∷◌, ◌++◌, codes}
 use Rattle.rpki_base.specs.Scheme.{Relation}
 use Rattle.rpki_sigmsg.specs.Beginning.{BeginsSigned}
 use Rattle.rpki_sigmsg.specs.Message.{MessageFields}
 use Rattle.rpki_ca.specs.Acceptance.{HoldsNoSigned}
+use Rattle.rpki_ca.specs.Steps.{AreAllSteps, AreFirstSteps}
 use Rattle.rpki_replay.specs.declared.peers.Peer.{Peer}
 use Rattle.rpki_replay.specs.declared.guard.GuardError.{GuardError}
 use Rattle.rpki_replay.specs.declared.guard.GuardError.TheVariants.{OutOfMemory}
@@ -35,28 +36,15 @@ abbrev pub IsAnswered : Relation → ℤ → List Peer → Sent → List ℕ →
 IsAnswered scheme when peers sent text next =
     IsJudged scheme when peers sent text next ⊎ IsNoMessage peers sent text next
 
--- the same of all lines, one behind the other
-abbrev pub AreAnswered : Relation → ℤ → List Peer → List Sent → List (List ℕ) → List Peer → Type 0
-AreAnswered scheme when peers [] [] last = last ≡ peers
-AreAnswered scheme when peers [] (text ∷ texts) last = ⊥
-AreAnswered scheme when peers (sent ∷ more) [] last = ⊥
-AreAnswered scheme when peers (sent ∷ more) (text ∷ texts) last =
-    (next : List Peer) × IsAnswered scheme when peers sent text next
-    × AreAnswered scheme when next more texts last
-
 -- what is written behind the answers
 abbrev pub closing_text : List Peer → List ℕ
 closing_text peers = dash ++ (10 ∷ state_text peers)
 
--- the texts are the answers to all lines, and the closing text is that of the state behind them
-pub record AreAllAnswered (scheme : Relation) (when : ℤ) (peers : List Peer) (messages : List Sent)
-    (texts : List (List ℕ)) (closing : List ℕ) : Type 0 where
-  pub last : List Peer
-  pub answered : AreAnswered scheme when peers messages texts last
-  pub written : closing ≡ closing_text last
+-- the texts are the answers to all lines, one behind the other, and the closing text is that of the
+-- state behind them
+abbrev pub AreAllAnswered : Relation → ℤ → List Peer → List Sent → List (List ℕ) → List ℕ → Type 0
+AreAllAnswered scheme when = AreAllSteps (IsAnswered scheme when) closing_text
 
 -- they are the answers to the first lines
-pub record AreFirstAnswered (scheme : Relation) (when : ℤ) (peers : List Peer)
-    (messages : List Sent) (texts : List (List ℕ)) : Type 0 where
-  pub last : List Peer
-  pub answered : AreAnswered scheme when peers (take (length texts) messages) texts last
+abbrev pub AreFirstAnswered : Relation → ℤ → List Peer → List Sent → List (List ℕ) → Type 0
+AreFirstAnswered scheme when = AreFirstSteps (IsAnswered scheme when)

@@ -1,5 +1,5 @@
 use Rattle.std.proofs.Common.{inr, refl}
-use Rattle.rpki_replay.proofs.Answering.{one_moment, read_so}
+use Rattle.rpki_replay.proofs.Moments.{one_moment, read_so}
 use Rattle.rpki_replay.proofs.running.run_guard.Goals as goal
 
 pub returns-in_default-clause-ends : goal.returns-in_default-clause-ends
