@@ -57,7 +57,7 @@ receivable scheme message when signer signed octets are spelled again believed r
 }
 
 -- a message's text is read as its normal form
-read_again : (message : Received) → IsWritable message → ReadsAs (protocol_of message) (text_of message) (normal_form message)
+pub read_again : (message : Received) → IsWritable message → ReadsAs (protocol_of message) (text_of message) (normal_form message)
 read_again (received.Publication m) writable = text_again m writable
 read_again (received.Provisioning m) writable = plain.text_again m writable
 

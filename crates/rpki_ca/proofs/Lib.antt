@@ -14,3 +14,4 @@ pub mod Outputs
 pub mod Asked
 pub mod Ended
 pub mod Stepping
+pub mod Sending

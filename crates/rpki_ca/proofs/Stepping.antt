@@ -31,10 +31,14 @@ pub take_more : {X : Type 0} (xs : List X) (i : ℕ) (x : X) → i < length xs �
 take_more {X = X} xs i x lt at = rw add-one (take-suc xs i x lt ∙ ap (λ (y : X). take i xs ++ y ∷ []) (sym at))
 
 module _ {S L : Type 0} (step : S → L → List ℕ → S → Type 0) (state : S) (lines : List L) where
+  pub counted : (i : ℕ) (texts : List (List ℕ)) (last : S) → i ≤ length lines → AreSteps step state (take i lines) texts last → length texts ≡ i
+  counted i texts last le are = same_length step state (take i lines) texts last are ∙ length-take-le i lines le
+
   pub first_so : (i : ℕ) (texts : List (List ℕ)) (last : S) → i ≤ length lines → AreSteps step state (take i lines) texts last → AreFirstSteps step state lines texts
-  first_so i texts last le are =
-      let count : length texts ≡ i = same_length step state (take i lines) texts last are ∙ length-take-le i lines le in
-      record { last = last; answered = subst (λ (n : ℕ). AreSteps step state (take n lines) texts last) (sym count) are }
+  first_so i texts last le are = record {
+    last = last;
+    answered = subst (λ (n : ℕ). AreSteps step state (take n lines) texts last) (sym (counted i texts last le are)) are;
+  }
 
   pub one_more_so : (i : ℕ) (texts : List (List ℕ)) (last next : S) (line : L) (text : List ℕ) → i < length lines → line ≡ get_or lines i line → AreSteps step state (take i lines) texts last → step last line text next
       → AreSteps step state (take (i + 1) lines) (texts ++ text ∷ []) next

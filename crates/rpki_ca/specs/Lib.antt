@@ -1,4 +1,4 @@
--- Said in contracts, and to be believed: Refusal, Hexadecimal, Words, Command, Acceptance, Seen, Creation, Setup, Summary, Answer, Lines, Steps.
+-- Said in contracts, and to be believed: Refusal, Hexadecimal, Words, Command, Acceptance, Seen, Creation, Setup, Summary, Answer, Lines, Steps, Sending.
 pub mod Refusal
 pub mod Hexadecimal
 pub mod Words
@@ -11,3 +11,4 @@ pub mod Summary
 pub mod Answer
 pub mod Lines
 pub mod Steps
+pub mod Sending

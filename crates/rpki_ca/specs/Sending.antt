@@ -1,0 +1,67 @@
+-- Messages that a program signs as its answers, and why one isn't signed.
+use Rattle.std.specs.Prelude.{◌≡◌, ◌<◌, ◌≤◌, ◌^◌, ◌⊎◌, ⊤, ℕ, ℤ, length}
+use Rattle.rpki_common.specs.Causes.{Rose}
+use Rattle.rpki_base.specs.declared.algorithm.SigningAlgorithm.TheVariants.{RsaSha256}
+use Rattle.rpki_base.specs.Scheme.{Relation}
+use Rattle.rpki_signer.specs.Signer.{Lacks, IsUnfit}
+use Rattle.rpki_sigmsg.specs.declared.create_error.CreateError.{CreateError}
+use Rattle.rpki_sigmsg.specs.declared.create_error.CreateError.TheVariants as create
+use Rattle.rpki_sigmsg.specs.Making.{CreateFails, HasWindow, IsCreated, IsReused}
+use Rattle.rpki_sigmsg.specs.Message.{MessageFields}
+use Rattle.rpki_sigmsg.specs.Spelling.{CanBeSpelled, rewritten}
+use Rattle.rpki_ca.specs.declared.receiving.Received.{Received}
+use Rattle.rpki_ca.specs.declared.refusals.Refusal.{Refusal}
+use Rattle.rpki_ca.specs.declared.refusals.Refusal.TheVariants as refusals
+use Rattle.rpki_ca.specs.Acceptance.{protocol_of, text_of}
+use Rattle.rpki_ca.specs.Creation.{IsReceivable}
+use Rattle.rpki_ca.specs.Seen.{SignerSeen}
+
+-- ---- one message
+
+-- Its text has at most 2^31 octets, and the signed message was created with it at the moment. What is
+-- written of it is accepted as the message's normal form, under every list of keys that holds the
+-- issuing key, at each second from 300 before the moment to 300 after it.
+pub record IsSignedAs {Id : Type 0} (scheme : Relation) (when : ℤ) (signer : SignerSeen Id)
+    (message : Received) (signed : MessageFields) : Type 0 where
+  pub fits : length (text_of message) ≤ 2 ^ 31
+  pub created : IsCreated scheme (text_of message) when signer.id signer.before signer.after signed
+  pub receivable : CanBeSpelled signed
+      → IsReceivable scheme (protocol_of message) (rewritten signed) message when signer
+
+-- It isn't signed for this cause: that the moment has no window, and else that the message's text has
+-- more than 2^31 octets, are always told.
+pub record FailsToSign {Id E : Type 0} (when : ℤ) (signer : SignerSeen Id) (message : Received)
+    (error : CreateError E) : Type 0 where
+  pub cause : CreateFails (text_of message) when signer.id signer.before signer.after error
+  pub moment : (HasWindow when → ⊥) → error ≡ create.Moment
+  pub too_long : HasWindow when → 2 ^ 31 < length (text_of message) → error ≡ create.TooLong
+
+-- the same cause as a program tells it
+abbrev pub IsSigningCause : {Id : Type 0} → ℤ → SignerSeen Id → Received → Refusal → Type 0
+IsSigningCause when signer message refusals.Moment = HasWindow when → ⊥
+IsSigningCause when signer message refusals.TooLong =
+    Rose signer.before.overlong signer.after.overlong ⊎ (2 ^ 31 < length (text_of message))
+IsSigningCause when signer message refusals.KeyReused =
+    IsReused signer.id signer.before signer.after
+IsSigningCause when signer message refusals.KeyNotFound = Lacks signer.before.keyring signer.id
+IsSigningCause when signer message refusals.IncompatibleKey =
+    IsUnfit RsaSha256 signer.before.keyring signer.id
+IsSigningCause when signer message refusals.Signer =
+    Rose signer.before.faults signer.after.faults
+IsSigningCause when signer message other = ⊥
+
+-- ---- the messages of a run
+
+-- Why a run at a moment with a window signs no more messages: each refusal by its cause, of which the
+-- signer's are those of asking it once or more, and where `has_long` says that the text of one of
+-- them has more than 2^31 octets. Of want of memory nothing is said.
+abbrev pub MayStop : {Id : Type 0} → SignerSeen Id → Type 0 → Refusal → Type 0
+MayStop signer has_long refusals.TooLong =
+    Rose signer.before.overlong signer.after.overlong ⊎ has_long
+MayStop signer has_long refusals.KeyReused = IsReused signer.id signer.before signer.after
+MayStop signer has_long refusals.KeyNotFound = Lacks signer.before.keyring signer.id
+MayStop signer has_long refusals.IncompatibleKey =
+    IsUnfit RsaSha256 signer.before.keyring signer.id
+MayStop signer has_long refusals.Signer = Rose signer.before.faults signer.after.faults
+MayStop signer has_long refusals.OutOfMemory = ⊤
+MayStop signer has_long other = ⊥
