@@ -13,18 +13,19 @@ A line is `NAME PROGRAM STATUS OUTPUT INPUT WORD..`: the status in decimal, what
 words as they are, or behind a `#` in hexadecimal. A `-` stands for an empty field.
 """
 
+import base64
 import hashlib
 import pathlib
 import re
 import sys
 
-from messages import QUERY
+from messages import CALLS, QUERY, broken, drawn_serial, message, numbered
 from stored import write
 
 ROOT = pathlib.Path(__file__).resolve().parent.parent
 CRATE = ROOT / "crates" / "line_cases"
 MESSAGE = (ROOT / "examples" / "query-list.hex").read_text().strip()
-PROGRAMS = "guard", "arch"
+PROGRAMS = "guard", "arch", "pub"
 
 MOMENT = 1700000000
 KEY = "3022300d06092a864886f70d010101050003110000000000000000010000000000000000"
@@ -153,7 +154,108 @@ def archive_rows():
     yield case("arch-other-word", "arch", ("Batch",), b"", 2, lines("Usage"))
 
 
-ROWS = {"guard": guard_rows, "arch": archive_rows}
+BASE = "rsync://localhost/ca/"
+MEANINGS = {
+    "bad_cms_signature": "Encountered bad CMS signature.",
+    "xml_error": "Encountered an XML problem.",
+    "permission_failure": "Client does not have permission to update this URI.",
+    "object_already_present": 'An object is already present at this URI, yet a "hash" attribute was not specified.',
+    "no_object_present": 'There is no object present at this URI, yet a "hash" attribute was specified.',
+    "no_object_matching_hash":
+        'The "hash" attribute supplied does not match the "hash" attribute of the object at this URI.',
+}
+
+
+def hash_of(octets):
+    return hashlib.sha256(octets).hexdigest()
+
+
+def publish(name, octets, old=None):
+    """A publish with its digest as the tag; in another object's place, where that is given."""
+    old = "" if old is None else f' hash="{hash_of(old)}"'
+    text = base64.b64encode(octets).decode()
+    return f'<publish tag="{hash_of(octets)}" uri="{BASE}{name}"{old}>{text}</publish>'
+
+
+def withdraw(name, octets):
+    return f'<withdraw tag="{hash_of(octets)}" uri="{BASE}{name}" hash="{hash_of(octets)}"/>'
+
+
+def protocol_text(kind, *elements):
+    inside = "".join(elements)
+    start = f'<msg xmlns="http://www.hactrn.net/uris/rpki/publication-spec/" version="4" type="{kind}"'
+    return (f"{start}>{inside}</msg>" if inside else start + "/>").encode()
+
+
+def query(*elements):
+    return message(content=protocol_text("query", *elements)).hex()
+
+
+def error(code, element=None):
+    tag = "" if element is None else f' tag="{element.split(chr(34))[1]}"'
+    failed = "" if element is None else f"<failed_pdu>{element}</failed_pdu>"
+    return f'<report_error error_code="{code}"{tag}><error_text>{MEANINGS[code]}</error_text>{failed}</report_error>'
+
+
+def listed(*objects):
+    return "".join(f'<list uri="{BASE}{name}" hash="{hash_of(octets)}"/>' for name, octets in objects)
+
+
+def replies(*elements):
+    """The signed replies: the signer draws a key for each and then a serial number, of the numbers 1 and up."""
+    return [numbered(protocol_text("reply", element), MOMENT, drawn_serial(1, 2 * n + 2), ee=2 * n + 1).hex()
+        for n, element in enumerate(elements)]
+
+
+def server_rows():
+    """Queries of one publisher, and the replies to them; each call of the signer fails in turn."""
+    words = str(MOMENT), BASE, KEY
+    done = "<success/>"
+    f1, f2, f3 = publish("f1.txt", b"a"), publish("f2.txt", b"b", b"c"), withdraw("f3.txt", b"d")
+    ask = query("<list/>")
+
+    def row(name, queries, answers, words=words, status=0):
+        return case(f"pub-{name}", "pub", words, lines(*queries), status, lines(*answers))
+
+    def served(name, queries, *elements):
+        return row(name, queries, replies(*elements))
+
+    yield served("none-or-all", [query(f1, f2, f3), ask], error("no_object_present", f2), "")
+    twice = [query(f1), query(f1), ask]
+    yield served("published-twice", twice, done, error("object_already_present", f1), listed(("f1.txt", b"a")))
+    for call in range(1, CALLS + 1):
+        yield case(f"pub-signer-fails-at-{call}", f"pub{call}", words, lines(*twice), 7, lines("Signer"))
+    yield case("pub-signer-fails-later", f"pub{CALLS + 1}", words, lines(*twice), 7, lines(*replies(done), "Signer"))
+    one, other = publish("f1.txt", b"a"), publish("f1.txt", b"b", b"a")
+    yield served("replaced-and-withdrawn", [query(one), query(other), ask, query(withdraw("f1.txt", b"b")), ask],
+        done, done, listed(("f1.txt", b"b")), done, "")
+    yield served("one-behind-the-other", [query(one, other, withdraw("f1.txt", b"b"), f1), ask],
+        done, listed(("f1.txt", b"a")))
+    yield served("last-fails", [query(publish("f0.txt", b"0")), query(withdraw("f0.txt", b"0"), one, other, one), ask],
+        done, error("object_already_present", one), listed(("f0.txt", b"0")))
+    yield served("in-order-of-uris", [query(publish("b", b"1")), query(publish("a", b"2"), publish("aa", b"3")), ask],
+        done, done, listed(("a", b"2"), ("aa", b"3"), ("b", b"1")))
+    yield served("old-digest", [query(one), query(publish("f1.txt", b"b", b"b")), query(withdraw("f1.txt", b"b")), ask],
+        done, error("no_object_matching_hash", publish("f1.txt", b"b", b"b")),
+        error("no_object_matching_hash", withdraw("f1.txt", b"b")), listed(("f1.txt", b"a")))
+    outside = publish("f1.txt", b"a").replace(BASE, BASE[:-1] + "x/")
+    yield served("outside-of-the-base", [query(outside), query(one, outside), ask],
+        error("permission_failure", outside), error("permission_failure", outside), "")
+    reply = message(content=protocol_text("reply", done)).hex()
+    yield served("not-believed", [broken(3).hex(), message(content=b"<a/>").hex(), reply, "", ask],
+        error("bad_cms_signature"), error("xml_error"), error("xml_error"), error("bad_cms_signature"), "")
+    yield row("no-lines", [], [])
+    yield case("pub-no-line-feed-at-the-end", "pub", words, lines(ask)[:-1], 0, lines(*replies("")))
+    yield row("odd-digits", [ask, ask + "0"], ["Hex"], status=3)
+    yield row("hex-before-moment", ["x"], ["Hex"], ("299", BASE, KEY), 3)
+    for moment, status in (("299", 8), ("300", 0), ("253402300499", 0), ("253402300500", 8)):
+        yield row(f"moment-{moment}", [], ["Moment"] if status else [], (moment, BASE, KEY), status)
+    for name, wrong in (("no-words", ()), ("two-words", words[:2]), ("four-words", (*words, KEY)), ("no-base", (words[0], "rsync://h", KEY)),
+            ("no-directory", (words[0], BASE + "a", KEY)), ("no-key", (*words[:2], KEY + "00")), ("no-moment", ("01", *words[1:]))):
+        yield row(name, ["x"], ["Usage"], wrong, 2)
+
+
+ROWS = {"guard": guard_rows, "arch": archive_rows, "pub": server_rows}
 
 
 def main():

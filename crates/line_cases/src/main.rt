@@ -1,16 +1,19 @@
 //! Runs the programs that answer line by line on stored cases, in memory, and says how many answers
 //! differ from the expected.
 //!
-//! A line of data/cases.txt is `NAME PROGRAM STATUS OUTPUT INPUT WORD..`: PROGRAM is `guard` or `arch`,
+//! A line of data/cases.txt is `NAME PROGRAM STATUS OUTPUT INPUT WORD..`: PROGRAM is `guard`, `arch` or `pub`,
+//! or `pub` and a number, where this call of the signer fails, counted from 0, the one that makes its key;
 //! OUTPUT is what has to be written, and it and INPUT are octets as in other stored cases; `-` is an empty field.
 //! tools/line_cases.py writes the file; its expected answers come from a model that was written apart
 //! from this tree, or are stated in the script.
 #![tactic(auto)]
 
 use rpki_archive::check;
+use rpki_base::PublicKeyFormat;
 use rpki_ca::{Status, Words};
+use rpki_pubserver::serve;
 use rpki_replay::run_guard;
-use rpki_signer::ToyVerifier;
+use rpki_signer::{Signer, ToyScheme, ToySigner, ToyVerifier};
 use rpki_text::{MemorySink, MemorySource};
 use std::alloc::Global;
 use std::io;
@@ -73,6 +76,50 @@ fn case_of(alloc: Global, line: &str) -> io::Result<Case> {
     })
 }
 
+// What the publication server ends with, where the listed calls of its signer fail.
+fn served(
+    alloc: Global,
+    failing: &[u64],
+    case: &Case,
+    source: &mut MemorySource,
+    sink: &mut MemorySink,
+) -> io::Result<Status> {
+    let Ok(mut signer) = ToySigner::new(alloc, 1, failing) else {
+        return Err(out_of_memory());
+    };
+    let Ok(key) = Signer::<ToyScheme>::create_key(&mut signer, alloc, PublicKeyFormat::Rsa) else {
+        return Err(invalid());
+    };
+    let verifier = ToyVerifier::new();
+    Ok(serve(
+        alloc,
+        &case.words,
+        source,
+        sink,
+        &verifier,
+        &mut signer,
+        &key,
+    ))
+}
+
+// The same of a program whose name is `pub`, or this and the number of the call that fails.
+fn served_by(
+    alloc: Global,
+    program: &str,
+    case: &Case,
+    source: &mut MemorySource,
+    sink: &mut MemorySink,
+) -> io::Result<Status> {
+    match program.strip_prefix("pub") {
+        Some("") => served(alloc, &[], case, source, sink),
+        Some(number) => match number.parse::<u64>() {
+            Ok(call) => served(alloc, &[call], case, source, sink),
+            Err(_) => Err(invalid()),
+        },
+        None => Err(invalid()),
+    }
+}
+
 // Whether the case is answered as expected where the source gives `piece` octets a call, and the
 // sink takes as many.
 fn is_answered(alloc: Global, program: &str, case: &Case, piece: usize) -> io::Result<bool> {
@@ -87,7 +134,7 @@ fn is_answered(alloc: Global, program: &str, case: &Case, piece: usize) -> io::R
     let Status(status) = match program {
         "arch" => check(alloc, &case.words, &mut source, &mut sink, &verifier),
         "guard" => run_guard(alloc, &case.words, &mut source, &mut sink, &verifier),
-        _ => return Err(invalid()),
+        _ => served_by(alloc, program, case, &mut source, &mut sink)?,
     };
     Ok(status == case.status && sink.written() == case.output.as_slice())
 }

@@ -1,0 +1,45 @@
+-- How a run ends.
+use Rattle.std.proofs.Common.{◌≡◌, ◌≤◌, ◌^◌, ℕ, ℤ, Some, List, length, inl, inr}
+use Rattle.rpki_base.specs.Scheme.{Relation}
+use Rattle.rpki_ca.specs.Lines.{EndsRun, lines_of}
+use Rattle.rpki_ca.specs.Seen.{HasFailed, Seen, SignerSeen}
+use Rattle.rpki_ca.specs.declared.refusals.Refusal.TheVariants as refusals
+use Rattle.rpki_ca.specs.Sending.{MayStop}
+use Rattle.rpki_ca.proofs.Sending.{memory_stops}
+use Rattle.rpki_ca.proofs.Ended.{lines_end, no_refusal, on_input, on_input_or_12, with_refusal, wrote_all}
+use Rattle.rpki_pubserver.specs.Ends.{CanServe, EndsForCause, RepliesAll}
+use Rattle.rpki_pubserver.specs.Running.{EndsServed}
+use Rattle.rpki_pubserver.specs.Server.{ServerFields}
+use Rattle.rpki_pubserver.specs.Serving.{AreAllReplied, AreFirstReplied, HasLongAnswer}
+
+module _ {I : Type 0} (scheme : Relation) (when : ℤ) (signer : SignerSeen I) (server : ServerFields) where
+  served_end : (input : List ℕ) (status : ℕ) (sink : Seen) → CanServe scheme when signer server input → ¬ (HasFailed sink) → EndsServed scheme when signer server (lines_of input) status sink → EndsForCause when input status
+  served_end input status sink can none (inl a) =
+      inl (lines_end (AreAllReplied scheme when signer server a.messages) (AreFirstReplied scheme when signer server a.messages) (MayStop signer (HasLongAnswer scheme when signer server a.messages)) status sink
+      (λ r may. memory_stops signer (HasLongAnswer scheme when signer server a.messages) r can.signs (can.short a.messages a.are) may) none a.ends)
+  served_end input status sink can none (inr (inl m)) = inr (inr (with_refusal refusals.Moment status sink none m.ends, m.none))
+  served_end input status sink can none (inr (inr (inl hex))) = inr (inl (with_refusal refusals.Hex status sink none hex.1, hex.0))
+  served_end input status sink can none (inr (inr (inr memory))) = inl (inr (with_refusal refusals.OutOfMemory status sink none memory))
+
+  pub ends_so : (status : ℕ) (source sink : Seen) (input : List ℕ) → EndsRun (λ octets. EndsServed scheme when signer server (lines_of octets) status sink) status source sink → source.before ≡ Some input → length input ≤ 2 ^ 26
+      → ¬ (HasFailed source) → ¬ (HasFailed sink) → CanServe scheme when signer server input → EndsForCause when input status
+  ends_so status source sink input run e le sound whole can =
+      elim (on_input_or_12 (λ octets. EndsServed scheme when signer server (lines_of octets) status sink) status source sink input run e le sound whole) [
+        | inl memory ↦ inl (inr memory)
+        | inr ends ↦ served_end input status sink can whole ends
+      ]
+
+  -- ---- with 0
+
+  wrote_served : (input : List ℕ) (sink : Seen) → EndsServed scheme when signer server (lines_of input) 0 sink → RepliesAll scheme when signer server input sink
+  wrote_served input sink (inl a) = record {
+    messages = a.messages;
+    are = a.are;
+    wrote = wrote_all (AreAllReplied scheme when signer server a.messages) (AreFirstReplied scheme when signer server a.messages) (MayStop signer (HasLongAnswer scheme when signer server a.messages)) sink a.ends;
+  }
+  wrote_served input sink (inr (inl m)) = absurd (no_refusal refusals.Moment sink m.ends)
+  wrote_served input sink (inr (inr (inl hex))) = absurd (no_refusal refusals.Hex sink hex.1)
+  wrote_served input sink (inr (inr (inr memory))) = absurd (no_refusal refusals.OutOfMemory sink memory)
+
+  pub replies_all : (source sink : Seen) (input : List ℕ) → EndsRun (λ octets. EndsServed scheme when signer server (lines_of octets) 0 sink) 0 source sink → source.before ≡ Some input → RepliesAll scheme when signer server input sink
+  replies_all source sink input run e = wrote_served input sink (on_input (λ octets. EndsServed scheme when signer server (lines_of octets) 0 sink) source sink input run e)

@@ -1,0 +1,12 @@
+pub mod Live
+pub mod Undoing
+pub mod Making
+pub mod Placing
+pub mod Writable
+pub mod Asked
+pub mod Signed
+pub mod Replying
+pub mod Sending
+pub mod Lying
+pub mod Replied
+pub mod Ended

@@ -1,0 +1,74 @@
+-- Objects under a base, and the list of them.
+use Rattle.std.proofs.Common.{◌≡◌, ℕ, Bool, true, false, cond, if◌then◌else◌, Option, None, Some, Result, Ok, Err, List, [], ◌∷◌, map, nat_eq, refl, sym, ap, subst, ◌∙◌}
+use Rattle.std.specs.BTreeMap.{insert_entry}
+use Rattle.std.specs.Cmp.Lexicographic.{slice_cmp}
+use Rattle.std.specs.List.{starts_with}
+use Rattle.std.specs.Map.{remove_entry}
+use Rattle.std.specs.Ordering.{match_ordering, nat_cmp}
+use Rattle.std.specs.declared.cmp.Ordering.{Ordering}
+use Rattle.std.specs.declared.cmp.Ordering.TheVariants.{Less, Equal, Greater}
+use Rattle.std.specs.Str.{bytes_eq}
+use Rattle.std.proofs.lemmas.Slice.Eq.{bytes_eq-Decides}
+use Rattle.sha2.specs.Sha256.{sha256}
+use Rattle.rpki_publication.specs.declared.publish_delta_element.PublishDeltaElement.{PublishDeltaElement}
+use Rattle.rpki_publication.specs.declared.publish_delta_element.PublishDeltaElement.TheVariants as change
+use Rattle.rpki_publication.specs.declared.report_error_code.ReportErrorCode.{ReportErrorCode}
+use Rattle.rpki_publication.specs.declared.report_error_code.ReportErrorCode.TheVariants as code
+use Rattle.rpki_publication.specs.ListReply.{withdrawal_of}
+use Rattle.rpki_pubserver.specs.Changes.{Refused, after_all, changed, code_at, code_by_hash, code_of, refused_or, uri_of}
+use Rattle.rpki_pubserver.specs.Store.{LieUnder, Store, listed, octets_at, put, without}
+
+-- ---- one change
+
+abbrev IsUnder : List ℕ → List ℕ → Type 0
+IsUnder base uri = starts_with nat_eq uri base ≡ true
+
+lie_put : (base uri octets : List ℕ) (store : Store) → IsUnder base uri → LieUnder base store → LieUnder base (put store uri octets)
+lie_put base uri octets [] here lie = (here, tt)
+lie_put base uri octets (pair ∷ store) here lie = by (slice_cmp nat_cmp uri pair.0) (lie_put base uri octets store here lie.1)
+  where
+    by : (o : Ordering) → LieUnder base (put store uri octets) → LieUnder base (match_ordering o ((uri, octets) ∷ pair ∷ store) ((pair.0, octets) ∷ store) (pair ∷ put store uri octets))
+    by Less more = (here, lie)
+    by Equal more = (lie.0, lie.1)
+    by Greater more = (lie.0, more)
+
+lie_without : (base uri : List ℕ) (store : Store) → LieUnder base store → LieUnder base (without store uri)
+lie_without base uri [] lie = tt
+lie_without base uri (pair ∷ store) lie = by (bytes_eq uri pair.0) (lie_without base uri store lie.1)
+  where
+    by : (b : Bool) → LieUnder base (without store uri) → LieUnder base (cond b store (pair ∷ without store uri))
+    by true more = lie.1
+    by false more = (lie.0, more)
+
+lie_changed : (base : List ℕ) (store : Store) (e : PublishDeltaElement) → IsUnder base (uri_of e) → LieUnder base store → LieUnder base (changed store e)
+lie_changed base store (change.Publish p) here lie = lie_put base p.uri p.content store here lie
+lie_changed base store (change.Update u) here lie = lie_put base u.uri u.content store here lie
+lie_changed base store (change.Withdraw w) here lie = lie_without base w.uri store lie
+
+-- a change that is made is under the base
+under_made : (base : List ℕ) (store : Store) (e : PublishDeltaElement) → code_of base store e ≡ None → IsUnder base (uri_of e)
+under_made base store e none = by (starts_with nat_eq (uri_of e) base) none
+  where
+    by : (b : Bool) → (if b then code_at e (octets_at store (uri_of e)) else Some code.PermissionFailure) ≡ None → b ≡ true
+    by true n = refl
+    by false n = cc
+
+-- ---- all changes
+
+pub lie_all : (base : List ℕ) (store : Store) (elements : List PublishDeltaElement) (next : Store) → after_all base (Ok store) elements ≡ Ok next → LieUnder base store → LieUnder base next
+lie_all base store [] next made lie = let same : store ≡ next = cc in subst (λ (s : Store). LieUnder base s) same lie
+lie_all base store (e ∷ more) next made lie = by (code_of base store e) refl (λ h. lie_all base (changed store e) more next h) made
+  where
+    by : (o : Option ReportErrorCode) → code_of base store e ≡ o → (after_all base (Ok (changed store e)) more ≡ Ok next → LieUnder base (changed store e) → LieUnder base next)
+        → after_all base (refused_or e (changed store e) o) more ≡ Ok next → LieUnder base next
+    by None none rest made = rest made (lie_changed base store e (under_made base store e none) lie)
+    by (Some c) some rest made = cc
+
+-- ---- the list
+
+same_text : (text : List ℕ) → bytes_eq text text ≡ true
+same_text text = (bytes_eq-Decides text text).1 refl
+
+pub none_left : (base : List ℕ) (store : Store) → LieUnder base store → after_all base (Ok store) (map (λ e. change.Withdraw (withdrawal_of e)) (listed store)) ≡ Ok []
+none_left base [] lie = refl
+none_left base (pair ∷ store) lie = rw lie.0 (rw (same_text pair.0) (rw (same_text (sha256 pair.1)) (rw (same_text pair.0) (none_left base store lie.1))))

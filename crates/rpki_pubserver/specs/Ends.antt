@@ -1,0 +1,31 @@
+-- What the ends of a run of the publication server come to.
+use Rattle.std.specs.Prelude.{◌≡◌, ◌⊎◌, ℕ, ℤ, List}
+use Rattle.rpki_base.specs.Scheme.{Relation}
+use Rattle.rpki_sigmsg.specs.Making.{HasWindow}
+use Rattle.rpki_ca.specs.Creation.{CanSign}
+use Rattle.rpki_ca.specs.Lines.{WroteAll, lines_of}
+use Rattle.rpki_ca.specs.Seen.{Seen, SignerSeen}
+use Rattle.rpki_pubserver.specs.Running.{AreNotSent, AreSent}
+use Rattle.rpki_pubserver.specs.Server.{ServerFields}
+use Rattle.rpki_pubserver.specs.Serving.{AreAllReplied, HasLongAnswer}
+
+-- all lines of the input are messages, and the replies to all of them were written
+pub record RepliesAll {Id : Type 0} (scheme : Relation) (when : ℤ) (signer : SignerSeen Id)
+    (server : ServerFields) (input : List ℕ) (sink : Seen) : Type 0 where
+  pub messages : List (List ℕ)
+  pub are : AreSent (lines_of input) messages
+  pub wrote : WroteAll (AreAllReplied scheme when signer server messages) sink
+
+-- The signer, whose identifiers are distinct, holds a fitting key, and it neither failed nor gave too many
+-- octets, nor that key for one use; and no reply has a text of more than 2^31 octets.
+pub record CanServe {Id : Type 0} (scheme : Relation) (when : ℤ) (signer : SignerSeen Id)
+    (server : ServerFields) (input : List ℕ) : Type 0 where
+  pub signs : CanSign signer
+  pub short : (messages : List (List ℕ)) → AreSent (lines_of input) messages
+      → HasLongAnswer scheme when signer server messages → ⊥
+
+-- 0 or 12; or 3 where some line isn't hexadecimal, or 8 where the moment has no window
+abbrev pub EndsForCause : ℤ → List ℕ → ℕ → Type 0
+EndsForCause when input status =
+    ((status ≡ 0) ⊎ (status ≡ 12))
+    ⊎ (((status ≡ 3) × AreNotSent (lines_of input)) ⊎ ((status ≡ 8) × (HasWindow when → ⊥)))

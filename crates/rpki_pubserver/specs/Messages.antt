@@ -1,0 +1,36 @@
+-- The messages that a server replies (RFC 8181, 2.2 to 2.4).
+use Rattle.std.specs.Prelude.{None, Some, [], ◌∷◌}
+use Rattle.rpki_publication.specs.declared.message.Message.{Message}
+use Rattle.rpki_publication.specs.declared.message.Message.TheVariants as messages
+use Rattle.rpki_publication.specs.declared.query_pdu.QueryPdu.TheVariants as pdu
+use Rattle.rpki_publication.specs.declared.reply.Reply.TheVariants as replies
+use Rattle.rpki_publication.specs.declared.report_error_code.ReportErrorCode.{ReportErrorCode}
+use Rattle.rpki_publication.specs.ReportError.{ReportErrorFields}
+use Rattle.rpki_publication.specs.ReportErrorCode.{default_text}
+use Rattle.rpki_pubserver.specs.Store.{Store, listed}
+use Rattle.rpki_pubserver.specs.Changes.{Refused, tag_of}
+
+-- a reply with one error
+abbrev pub error_message : ReportErrorFields → Message
+error_message error = messages.Reply (replies.ErrorReply (error ∷ []))
+
+-- one that is of no change: its code, and the code's text
+abbrev pub error_alone : ReportErrorCode → Message
+error_alone code = error_message (record {
+  error_code = code;
+  tag = None;
+  error_text = Some (default_text code);
+  failed_pdu = None;
+})
+
+-- one that is of a change: its code, the change's tag, the code's text, and the change
+abbrev pub error_of : Refused → Message
+error_of refused = error_message (record {
+  error_code = refused.code;
+  tag = tag_of refused.element;
+  error_text = Some (default_text refused.code);
+  failed_pdu = Some (pdu.PublishDeltaElement refused.element);
+})
+
+abbrev pub list_message : Store → Message
+list_message store = messages.Reply (replies.List (listed store))

@@ -1,0 +1,55 @@
+-- Objects in places of which some may be empty, as the code keeps them.
+use Rattle.std.specs.Prelude.{◌≡◌, ℕ, true, Option, None, Some, List, [], ◌∷◌, map, string_bytes, String}
+use Rattle.std.specs.List.{AllByRecursion, list_any}
+use Rattle.std.specs.Map.{keys_of, set_value}
+use Rattle.std.specs.Str.{bytes_eq}
+use Rattle.rpki_publication.specs.declared.publish_delta_element.PublishDeltaElement.{PublishDeltaElement}
+use Rattle.rpki_publication.specs.declared.publish_delta_element.PublishDeltaElement.TheVariants as change
+use Rattle.rpki_pubserver.specs.Changes.{uri_of}
+use Rattle.rpki_pubserver.specs.Store.{Store}
+
+-- pairs of the text of a URI and what is there
+abbrev pub Places : Type 0
+Places = List (List ℕ × Option (List ℕ))
+
+-- the same by their texts
+abbrev pub placed : {Z : Type 0} → List (String Z × Option (List ℕ)) → Places
+placed entries = map (λ e. (string_bytes e.0, e.1)) entries
+
+-- the objects that are there
+abbrev pub live : Places → Store
+live [] = []
+live ((uri, None) ∷ places) = live places
+live ((uri, Some octets) ∷ places) = (uri, octets) ∷ live places
+
+-- what is at a place that may be missing
+abbrev pub joined : Option (Option (List ℕ)) → Option (List ℕ)
+joined None = None
+joined (Some there) = there
+
+-- there is a place for a URI
+abbrev pub HasPlace : Places → List ℕ → Type 0
+HasPlace places uri = list_any (bytes_eq uri) (keys_of places) ≡ true
+
+-- the places where an object, or none, is put at a URI for which there is one
+abbrev pub with_object : Places → List ℕ → Option (List ℕ) → Places
+with_object places uri object = set_value (bytes_eq uri) places object
+
+-- ---- by changes
+
+-- what is at its URI behind a change
+abbrev pub object_of : PublishDeltaElement → Option (List ℕ)
+object_of (change.Publish p) = Some p.content
+object_of (change.Update u) = Some u.content
+object_of (change.Withdraw w) = None
+
+-- there is a place for each
+abbrev pub HavePlaces : Places → List PublishDeltaElement → Type 0
+HavePlaces places changes = AllByRecursion (λ e. HasPlace places (uri_of e)) changes
+
+-- the places where each change, the last one first, is undone: what was there before it is put back
+abbrev pub undone : List PublishDeltaElement → List (Option (List ℕ)) → Places → Places
+undone [] before places = places
+undone (e ∷ more) [] places = places
+undone (e ∷ more) (there ∷ before) places =
+    with_object (undone more before places) (uri_of e) there

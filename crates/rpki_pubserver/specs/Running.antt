@@ -1,0 +1,75 @@
+-- What the publication server's program does with words and input.
+use Rattle.std.specs.Prelude.{◌≡◌, ◌⊎◌, ℕ, ℤ, true, None, Some, Err, List, [], length, map, slice_get}
+use Rattle.std.specs.Result.{result_ok}
+use Rattle.hex.specs.Hex.{decode_of}
+use Rattle.rpki_base.specs.PublicKey.{KeyFields}
+use Rattle.rpki_base.specs.Scheme.{Relation}
+use Rattle.rpki_text.specs.Uri.{rsync, fault_of, names_directory, path_of}
+use Rattle.rpki_sigmsg.specs.Making.{HasWindow}
+use Rattle.rpki_ca.specs.Answer.{Ends}
+use Rattle.rpki_ca.specs.Lines.{EndsLines}
+use Rattle.rpki_ca.specs.Seen.{Seen, SignerSeen}
+use Rattle.rpki_ca.specs.Sending.{MayStop}
+use Rattle.rpki_ca.specs.Words.{IsMomentAt, key_at}
+use Rattle.rpki_ca.specs.declared.refusals.Refusal.TheVariants.{Hex, Moment, OutOfMemory}
+use Rattle.rpki_pubserver.specs.Server.{ServerFields}
+use Rattle.rpki_pubserver.specs.Serving.{AreAllReplied, AreFirstReplied, HasLongAnswer}
+
+-- ---- words
+
+-- a URI under which objects may lie: the path in it is empty or ends with a slash
+pub record IsBase (base : List ℕ) : Type 0 where
+  pub lawful : fault_of rsync base ≡ None
+  pub directory : names_directory (path_of rsync base) ≡ true
+
+-- three words: a moment, such a URI, and the publisher's key
+pub record AreWords (words : List (List ℕ)) (when : ℤ) (base : List ℕ) (publisher : KeyFields)
+    : Type 0 where
+  pub three : length words ≡ 3
+  pub moment : IsMomentAt words 0 when
+  pub stands : slice_get words 1 ≡ Some base
+  pub base_is : IsBase base
+  pub key : key_at words 2 ≡ Some publisher
+
+abbrev pub AreNoWords : List (List ℕ) → Type 0
+AreNoWords words =
+    (when : ℤ) (base : List ℕ) (publisher : KeyFields) → AreWords words when base publisher → ⊥
+
+-- the server at first
+abbrev pub new_server : List ℕ → KeyFields → ServerFields
+new_server base publisher = record { base = base; publisher = publisher; store = [] }
+
+-- ---- lines
+
+-- each line is the hexadecimal of these octets, in digits of either case
+abbrev pub AreSent : List (List ℕ) → List (List ℕ) → Type 0
+AreSent lines messages = map (λ line. result_ok (decode_of line)) lines ≡ map Some messages
+
+-- some line is that of none
+abbrev pub AreNotSent : List (List ℕ) → Type 0
+AreNotSent lines = (messages : List (List ℕ)) → AreSent lines messages → ⊥
+
+-- How it ends where each line is that of octets: they are answered one behind the other; or the moment
+-- has no window.
+pub record EndsAnswered {Id : Type 0} (scheme : Relation) (when : ℤ) (signer : SignerSeen Id)
+    (server : ServerFields) (lines : List (List ℕ)) (status : ℕ) (sink : Seen) : Type 0 where
+  pub messages : List (List ℕ)
+  pub are : AreSent lines messages
+  pub window_is : HasWindow when
+  pub ends : EndsLines (AreAllReplied scheme when signer server messages)
+      (AreFirstReplied scheme when signer server messages)
+      (MayStop signer (HasLongAnswer scheme when signer server messages)) status sink
+
+pub record EndsMoment (when : ℤ) (lines : List (List ℕ)) (status : ℕ) (sink : Seen) : Type 0 where
+  pub messages : List (List ℕ)
+  pub are : AreSent lines messages
+  pub none : HasWindow when → ⊥
+  pub ends : Ends (Err Moment) status sink
+
+-- or some line is that of none; or memory ran out
+abbrev pub EndsServed : {Id : Type 0} → Relation → ℤ → SignerSeen Id → ServerFields
+    → List (List ℕ) → ℕ → Seen → Type 0
+EndsServed scheme when signer server lines status sink =
+    EndsAnswered scheme when signer server lines status sink
+    ⊎ (EndsMoment when lines status sink
+    ⊎ ((AreNotSent lines × Ends (Err Hex) status sink) ⊎ Ends (Err OutOfMemory) status sink))

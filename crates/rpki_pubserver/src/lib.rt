@@ -1,0 +1,28 @@
+//! A publication server: it keeps the objects of one publisher and answers its queries (RFC 8181).
+//!
+//! - [`Server::answer`] takes the octets of a received query and gives the signed reply, behind which the
+//!   objects are changed; all changes of a query are made, or none.
+//! - [`Server::get`], [`Server::len`] and [`Server::list_reply`] say what is published.
+//! - [`serve`] is what the program `rpkipub` does.
+//!
+//! What becomes of the objects stands in specs/Changes.antt, what is replied in specs/Replies.antt and
+//! specs/Server.antt, and what the program writes in specs/Serving.antt.
+#![tactic(auto)]
+
+mod asking;
+mod changes;
+mod law;
+mod object;
+mod objects;
+mod preparing;
+mod replies;
+mod server;
+mod serving;
+mod signing;
+
+pub use law::{
+    objects_lie_under_the_base, others_change_nothing, runs_end_for_cause,
+    withdrawn_list_leaves_none, zero_replies_to_all,
+};
+pub use server::Server;
+pub use serving::serve;

@@ -1,0 +1,85 @@
+//! What the program reads: words and input.
+
+ghost use Rattle.std.specs.Prelude.{◌≡◌, ◌≢◌, IfErr, IfOk, IfSome, IsNone, List, Some, map, slice_get, ℕ};
+ghost use Rattle.rpki_ca.specs.declared.refusals.Refusal.TheVariants as refusals;
+ghost use Rattle.rpki_pubserver.specs.Running.{AreNoWords, AreNotSent, AreSent, AreWords, IsBase};
+
+use rpki_base::{PublicKey, Time};
+use rpki_ca::{Lines, Refusal, Words, spelled_octets};
+use rpki_common::OutOfMemory;
+use rpki_text::uri;
+use std::alloc::Global;
+
+/// The moment, the base and the publisher's key.
+pub(crate) struct Terms {
+    pub(crate) when: Time,
+    pub(crate) base: uri::Rsync,
+    pub(crate) publisher: PublicKey,
+}
+
+// The base that the word at `index` names, if it is a URI of a directory.
+fn base_at(alloc: Global, words: &Words, index: usize) -> Result<Option<uri::Rsync>, OutOfMemory>
+    ensures some { IfOk result (λ o. IfSome o (λ base.
+        (slice_get words.now index ≡ Some base) × IsBase base)) }
+    ensures none { IfOk result (λ o. IsNone o → (base : List ℕ) →
+        slice_get words.now index ≡ Some base → IsBase base → ⊥) }
+{
+    let Some(word) = words.get(index) else {
+        return Ok(None);
+    };
+    match uri::Rsync::from_str(alloc, word) {
+        Ok(base) => {
+            if base.path_is_dir() {
+                Ok(Some(base))
+            } else {
+                Ok(None)
+            }
+        }
+        Err(uri::Error::OutOfMemory) => Err(OutOfMemory),
+        Err(_) => Ok(None),
+    }
+}
+
+/// What the three words ask for. `Usage` exactly where they don't.
+pub(crate) fn terms_of(alloc: Global, words: &Words) -> Result<Terms, Refusal>
+    ensures ok { IfOk result (λ terms. AreWords words.now terms.when terms.base terms.publisher) }
+    ensures err { IfErr result (λ e. e ≢ refusals.OutOfMemory
+        → (e ≡ refusals.Usage) × AreNoWords words.now) }
+{
+    if words.len() != 3 {
+        return Err(Refusal::Usage);
+    }
+    let Some(when) = words.moment(0) else {
+        return Err(Refusal::Usage);
+    };
+    let Some(base) = base_at(alloc, words, 1)? else {
+        return Err(Refusal::Usage);
+    };
+    let Some(publisher) = words.key(alloc, 2)? else {
+        return Err(Refusal::Usage);
+    };
+    Ok(Terms {
+        when,
+        base,
+        publisher,
+    })
+}
+
+/// The octets that the lines spell; None where some line spells none.
+pub(crate) fn messages_in(
+    alloc: Global,
+    lines: Lines<'_>,
+) -> Result<Option<Vec<Vec<u8>>>, OutOfMemory>
+    ensures some { IfOk result (λ o. IfSome o (λ messages.
+        AreSent lines.entry (map (λ m. m.items) messages.items))) }
+    ensures none { IfOk result (λ o. IsNone o → AreNotSent lines.entry) }
+{
+    let mut messages = Vec::new(alloc);
+    for line in lines {
+        match spelled_octets(alloc, line)? {
+            Some(octets) => messages.push(octets)?,
+            None => return Ok(None),
+        }
+    }
+    Ok(Some(messages))
+}

@@ -1,0 +1,223 @@
+//! The server.
+
+ghost use Rattle.std.specs.Prelude.{◌≡◌, ◌≢◌, ◌↔◌, IfErr, IfOk, IfSome, IsSome, Ok, OnErr, OnOk, length, true};
+ghost use Rattle.std.specs.List.{AllByRecursion};
+ghost use Rattle.std.specs.Option.{option_map};
+ghost use Rattle.rpki_text.specs.Uri.{names_directory, path_of, rsync};
+ghost use Rattle.rpki_signer.specs.Limits.{Keeps};
+ghost use Rattle.rpki_publication.specs.Change.{IsWritableChange};
+ghost use Rattle.rpki_publication.specs.ListReply.{IsWritableListElement};
+ghost use Rattle.rpki_sigmsg.specs.declared.create_error.CreateError.TheVariants as create;
+ghost use Rattle.rpki_ca.specs.declared.receiving.Received.TheVariants as received;
+ghost use Rattle.rpki_ca.specs.Seen.{seen_signer};
+ghost use Rattle.rpki_ca.specs.Sending.{FailsToSign};
+ghost use Rattle.rpki_pubserver.specs.Changes.{after_all};
+ghost use Rattle.rpki_pubserver.specs.Replies.{reply_to_changes};
+ghost use Rattle.rpki_pubserver.specs.Running.{new_server};
+ghost use Rattle.rpki_pubserver.specs.Server.{FailsReply, IsAnswered, IsSigned, with_store};
+ghost use Rattle.rpki_pubserver.specs.Store.{listed, octets_at};
+
+use crate::asking::{Asked, asked_by};
+use crate::changes::{change_all, drop_places, prepare, undo};
+use crate::objects::Objects;
+use crate::replies::{error_alone, error_of};
+use crate::signing::signed;
+use rpki_base::{PublicKey, Scheme, Time, Verifier};
+use rpki_ca::{Kind, receive};
+use rpki_common::OutOfMemory;
+use rpki_publication::{ListReply, Message, PublicationCms, PublishDelta};
+use rpki_sigmsg::CreateError;
+use rpki_signer::Signer;
+use rpki_text::{Base64, uri};
+use std::alloc::Global;
+use std::marker::Model;
+
+/// A publication server for one publisher: the objects that it published under one base URI (RFC 8181, 1).
+///
+/// In a clause it is the record of the base's text, the publisher's key, and the objects: pairs of a URI's
+/// text and the octets there, ascending by the texts' octets.
+#[derive(Drop)]
+pub struct Server {
+    alloc: Global,
+    base: uri::Rsync,
+    publisher: PublicKey,
+    objects: Objects,
+}
+
+impl Model for Server {
+    ghost use Rattle.rpki_pubserver.specs.Places.{live};
+    ghost use Rattle.rpki_pubserver.specs.Server.{ServerFields};
+
+    ghost Value = { ServerFields };
+
+    ghost view = { λ s. record {
+      base = s.base;
+      publisher = s.publisher;
+      store = live s.objects;
+    } };
+}
+
+impl Server {
+    /// A server without objects, for the publisher whose queries are believed under this key, and who may
+    /// publish under this base. None exactly where the base is no directory: its path is there and doesn't end
+    /// with a slash. It takes no memory; later growth takes it from `alloc`.
+    pub fn new(alloc: Global, base: uri::Rsync, publisher_key: PublicKey) -> Option<Server>
+        ensures some { IsSome result ↔ (names_directory (path_of rsync base) ≡ true) }
+        ensures server { IfSome result (λ server. server ≡ new_server base publisher_key) }
+    {
+        if !base.path_is_dir() {
+            return None;
+        }
+        Some(Server {
+            alloc,
+            base,
+            publisher: publisher_key,
+            objects: Objects::new(alloc),
+        })
+    }
+
+    /// The octets of the object at a URI; None exactly where there is none.
+    pub fn get(&self, uri: &uri::Rsync) -> Option<&Base64>
+        ensures { option_map (λ content. content.now) result ≡ octets_at self.now.store uri.now }
+    {
+        match self.objects.get(uri.as_str()) {
+            Some(object) => Some(object.content()),
+            None => None,
+        }
+    }
+
+    /// How many objects there are.
+    pub fn len(&self) -> usize
+        ensures { result ≡ length self.now.store }
+    {
+        self.objects.len()
+    }
+
+    /// The list of all objects: their URIs, in the order of these, and digests (RFC 8181, 2.3).
+    pub fn list_reply(&self, alloc: Global) -> Result<ListReply, OutOfMemory>
+        ensures list { IfOk result (λ reply. reply ≡ listed self.now.store) }
+        ensures writable { IfOk result (AllByRecursion IsWritableListElement) }
+    {
+        self.objects.list(alloc)
+    }
+
+    /// The signed reply to the octets of a received query, at a moment (RFC 8181, 2).
+    ///
+    /// The query is believed under the publisher's key if all fourteen checks hold at the moment. Where it
+    /// isn't, or there is no signed message, the reply is the error `bad_cms_signature`; where its content is
+    /// no query, `xml_error`. To the query for the list the reply is [`Server::list_reply`]. Of changes all
+    /// are made, one behind the other, and the reply is `success`; or none is, and the reply is the error of
+    /// the first that can't be made: `permission_failure` where its URI doesn't begin with the base,
+    /// `object_already_present` for a new object where there is one, `no_object_present` and
+    /// `no_object_matching_hash` where an object is to be replaced or withdrawn and there is none, or one with
+    /// another digest.
+    ///
+    /// The reply is signed as [`PublicationCms::create`] does it, under the issuing key with the identifier
+    /// `key`, and refused as it refuses. After a refusal the server is as it was.
+    pub fn answer<P: Scheme, V: Verifier<P>, S: Signer<P>>(
+        &mut self,
+        octets: &[u8],
+        when: Time,
+        verifier: &V,
+        signer: &mut S,
+        key: &S::KeyId,
+    ) -> Result<PublicationCms, CreateError<S::Error>>
+        // The reply is signed, and the objects are those behind it.
+        ensures answered { IfOk result (λ c. IsAnswered P.checks self.old octets.now when
+            (seen_signer key.now (S.state signer.old) (S.state signer.new)) c self.new) }
+
+        // Each refusal by its cause; it leaves the server.
+        ensures refused { IfErr result (λ e. e ≢ create.OutOfMemory → FailsReply P.checks self.old
+            octets.now when (seen_signer key.now (S.state signer.old) (S.state signer.new)) e) }
+        ensures unchanged { OnErr result (self.new ≡ self.old) }
+
+        // The signer holds the same keys, whatever the answer.
+        ensures keeps { Keeps (S.state signer.old) (S.state signer.new) }
+    {
+        let received = receive(
+            self.alloc,
+            Kind::Publication,
+            octets,
+            &self.publisher,
+            when,
+            verifier,
+        );
+        match asked_by(received)? {
+            Asked::Changes(delta) => self.answer_delta(&delta, when, signer, key),
+            Asked::List => {
+                let list = self.list_reply(self.alloc)?;
+                signed(self.alloc, Message::list_reply(list), when, key, signer)
+            }
+            Asked::Nothing(code) => {
+                let reply = error_alone(self.alloc, code)?;
+                signed(self.alloc, reply, when, key, signer)
+            }
+        }
+    }
+
+    // The signed reply to changes.
+    fn answer_delta<P: Scheme, S: Signer<P>>(
+        &mut self,
+        delta: &PublishDelta,
+        when: Time,
+        signer: &mut S,
+        key: &S::KeyId,
+    ) -> Result<PublicationCms, CreateError<S::Error>>
+        requires { AllByRecursion IsWritableChange delta.now }
+        ensures signed { IfOk result (IsSigned P.checks when
+            (seen_signer key.now (S.state signer.old) (S.state signer.new))
+            (reply_to_changes self.old.store
+            (after_all self.old.base (Ok self.old.store) delta.now)).message) }
+        ensures fails { IfErr result (λ e. e ≢ create.OutOfMemory → FailsToSign when
+            (seen_signer key.now (S.state signer.old) (S.state signer.new))
+            (received.Publication (reply_to_changes self.old.store
+            (after_all self.old.base (Ok self.old.store) delta.now)).message) e) }
+        ensures changed { OnOk result (self.new ≡ with_store self.old (reply_to_changes
+            self.old.store (after_all self.old.base (Ok self.old.store) delta.now)).next) }
+        ensures unchanged { OnErr result (self.new ≡ self.old) }
+        ensures keeps { Keeps (S.state signer.old) (S.state signer.new) }
+    {
+        let answer = self.answer_changes(delta, when, signer, key);
+        drop_places(&mut self.objects, delta.elements());
+        answer
+    }
+
+    // The same, with empty places left.
+    fn answer_changes<P: Scheme, S: Signer<P>>(
+        &mut self,
+        delta: &PublishDelta,
+        when: Time,
+        signer: &mut S,
+        key: &S::KeyId,
+    ) -> Result<PublicationCms, CreateError<S::Error>>
+        requires { AllByRecursion IsWritableChange delta.now }
+        ensures signed { IfOk result (IsSigned P.checks when
+            (seen_signer key.now (S.state signer.old) (S.state signer.new))
+            (reply_to_changes self.old.store
+            (after_all self.old.base (Ok self.old.store) delta.now)).message) }
+        ensures fails { IfErr result (λ e. e ≢ create.OutOfMemory → FailsToSign when
+            (seen_signer key.now (S.state signer.old) (S.state signer.new))
+            (received.Publication (reply_to_changes self.old.store
+            (after_all self.old.base (Ok self.old.store) delta.now)).message) e) }
+        ensures changed { OnOk result (self.new ≡ with_store self.old (reply_to_changes
+            self.old.store (after_all self.old.base (Ok self.old.store) delta.now)).next) }
+        ensures unchanged { OnErr result (self.new ≡ self.old) }
+        ensures keeps { Keeps (S.state signer.old) (S.state signer.new) }
+    {
+        let changes = delta.elements();
+        let mut next = prepare(self.alloc, &mut self.objects, changes)?;
+        match change_all(&self.base, &mut self.objects, changes, &mut next) {
+            Ok(()) => {
+                let answer = signed(self.alloc, Message::success(), when, key, signer);
+                if answer.is_err() {
+                    undo(&mut self.objects, changes, &mut next);
+                }
+                answer
+            }
+            Err(refused) => {
+                let reply = error_of(self.alloc, &changes[refused.place], refused.code)?;
+                signed(self.alloc, reply, when, key, signer)
+            }
+        }
+    }
+}
