@@ -7,6 +7,7 @@ pub mod Asked
 pub mod Signed
 pub mod Replying
 pub mod Sending
+pub mod Ordered
 pub mod Lying
 pub mod Replied
 pub mod Ended

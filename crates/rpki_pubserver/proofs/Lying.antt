@@ -1,9 +1,7 @@
 -- Objects under a base, and the list of them.
-use Rattle.std.proofs.Common.{◌≡◌, ℕ, Bool, true, false, cond, if◌then◌else◌, Option, None, Some, Result, Ok, Err, List, [], ◌∷◌, map, nat_eq, refl, sym, ap, subst, ◌∙◌}
-use Rattle.std.specs.BTreeMap.{insert_entry}
+use Rattle.std.proofs.Common.{◌≡◌, ℕ, Bool, true, false, cond, if◌then◌else◌, Option, None, Some, Ok, List, [], ◌∷◌, map, nat_eq, refl}
 use Rattle.std.specs.Cmp.Lexicographic.{slice_cmp}
 use Rattle.std.specs.List.{starts_with}
-use Rattle.std.specs.Map.{remove_entry}
 use Rattle.std.specs.Ordering.{match_ordering, nat_cmp}
 use Rattle.std.specs.declared.cmp.Ordering.{Ordering}
 use Rattle.std.specs.declared.cmp.Ordering.TheVariants.{Less, Equal, Greater}
@@ -12,10 +10,9 @@ use Rattle.std.proofs.lemmas.Slice.Eq.{bytes_eq-Decides}
 use Rattle.sha2.specs.Sha256.{sha256}
 use Rattle.rpki_publication.specs.declared.publish_delta_element.PublishDeltaElement.{PublishDeltaElement}
 use Rattle.rpki_publication.specs.declared.publish_delta_element.PublishDeltaElement.TheVariants as change
-use Rattle.rpki_publication.specs.declared.report_error_code.ReportErrorCode.{ReportErrorCode}
 use Rattle.rpki_publication.specs.declared.report_error_code.ReportErrorCode.TheVariants as code
 use Rattle.rpki_publication.specs.ListReply.{withdrawal_of}
-use Rattle.rpki_pubserver.specs.Changes.{Refused, after_all, changed, code_at, code_by_hash, code_of, refused_or, uri_of}
+use Rattle.rpki_pubserver.specs.Changes.{after_all, changed, code_at, code_of, uri_of}
 use Rattle.rpki_pubserver.specs.Store.{LieUnder, Store, listed, octets_at, put, without}
 
 -- ---- one change
@@ -53,16 +50,8 @@ under_made base store e none = by (starts_with nat_eq (uri_of e) base) none
     by true n = refl
     by false n = cc
 
--- ---- all changes
-
-pub lie_all : (base : List ℕ) (store : Store) (elements : List PublishDeltaElement) (next : Store) → after_all base (Ok store) elements ≡ Ok next → LieUnder base store → LieUnder base next
-lie_all base store [] next made lie = let same : store ≡ next = cc in subst (λ (s : Store). LieUnder base s) same lie
-lie_all base store (e ∷ more) next made lie = by (code_of base store e) refl (λ h. lie_all base (changed store e) more next h) made
-  where
-    by : (o : Option ReportErrorCode) → code_of base store e ≡ o → (after_all base (Ok (changed store e)) more ≡ Ok next → LieUnder base (changed store e) → LieUnder base next)
-        → after_all base (refused_or e (changed store e) o) more ≡ Ok next → LieUnder base next
-    by None none rest made = rest made (lie_changed base store e (under_made base store e none) lie)
-    by (Some c) some rest made = cc
+pub lie_made : (base : List ℕ) (store : Store) (e : PublishDeltaElement) → code_of base store e ≡ None → LieUnder base store → LieUnder base (changed store e)
+lie_made base store e none lie = lie_changed base store e (under_made base store e none) lie
 
 -- ---- the list
 
