@@ -1,5 +1,5 @@
 -- Objects under a base, and the list of them.
-use Rattle.std.proofs.Common.{◌≡◌, ℕ, Bool, true, false, cond, if◌then◌else◌, Option, None, Some, Ok, List, [], ◌∷◌, map, nat_eq, refl}
+use Rattle.std.proofs.Common.{◌≡◌, ℕ, Bool, true, false, cond, if◌then◌else◌, None, Some, Result, Ok, List, [], ◌∷◌, map, nat_eq, refl, ap, ◌∙◌}
 use Rattle.std.specs.Cmp.Lexicographic.{slice_cmp}
 use Rattle.std.specs.List.{starts_with}
 use Rattle.std.specs.Ordering.{match_ordering, nat_cmp}
@@ -7,12 +7,13 @@ use Rattle.std.specs.declared.cmp.Ordering.{Ordering}
 use Rattle.std.specs.declared.cmp.Ordering.TheVariants.{Less, Equal, Greater}
 use Rattle.std.specs.Str.{bytes_eq}
 use Rattle.std.proofs.lemmas.Slice.Eq.{bytes_eq-Decides}
+use Rattle.hex.specs.Hex.{encode_lower}
 use Rattle.sha2.specs.Sha256.{sha256}
 use Rattle.rpki_publication.specs.declared.publish_delta_element.PublishDeltaElement.{PublishDeltaElement}
 use Rattle.rpki_publication.specs.declared.publish_delta_element.PublishDeltaElement.TheVariants as change
 use Rattle.rpki_publication.specs.declared.report_error_code.ReportErrorCode.TheVariants as code
 use Rattle.rpki_publication.specs.ListReply.{withdrawal_of}
-use Rattle.rpki_pubserver.specs.Changes.{after_all, changed, code_at, code_of, uri_of}
+use Rattle.rpki_pubserver.specs.Changes.{Refused, after_all, after_element, changed, code_at, code_of, uri_of}
 use Rattle.rpki_pubserver.specs.Store.{LieUnder, Store, listed, octets_at, put, without}
 
 -- ---- one change
@@ -58,6 +59,11 @@ lie_made base store e none lie = lie_changed base store e (under_made base store
 same_text : (text : List ℕ) → bytes_eq text text ≡ true
 same_text text = (bytes_eq-Decides text text).1 refl
 
+-- a withdraw of the first object is made
+first_taken : (base uri octets : List ℕ) (store : Store) → IsUnder base uri → after_element base ((uri, octets) ∷ store) (change.Withdraw (record { tag = Some (encode_lower (sha256 octets)); uri = uri; hash = sha256 octets })) ≡ Ok store
+first_taken base uri octets store under = rw under (rw (same_text uri) (rw (same_text (sha256 octets)) refl))
+
 pub none_left : (base : List ℕ) (store : Store) → LieUnder base store → after_all base (Ok store) (map (λ e. change.Withdraw (withdrawal_of e)) (listed store)) ≡ Ok []
 none_left base [] lie = refl
-none_left base (pair ∷ store) lie = rw lie.0 (rw (same_text pair.0) (rw (same_text (sha256 pair.1)) (rw (same_text pair.0) (none_left base store lie.1))))
+none_left base (pair ∷ store) lie =
+    ap (λ (r : Result Store Refused). after_all base r (map (λ e. change.Withdraw (withdrawal_of e)) (listed store))) (first_taken base pair.0 pair.1 store lie.0) ∙ none_left base store lie.1
