@@ -17,7 +17,7 @@ Asked is, and what is not so is printed:
 - that docs/ARCHITECTURE.md has each crate of crates.txt, and says of none that it stands on a crate which it doesn't use; that the crates
   that are trusted are those that are used;
 - that a number that NUMBERS below knows is what is counted, and that a number in front of what figures.py counts is one of its counts;
-- that no line but of a table, a link or a block of code has more than 140 characters.
+- that no line but of a table, a link or a block of code has more than 140 characters, and no name in backquotes goes over a line's end.
 
 The first column of docs/DIFFERENCES.md speaks of the Rust crate, and is left out; tools/quotations.py looks at blocks of code. The exit
 status is 0 where all is so, else 1."""
@@ -228,6 +228,8 @@ class Looker:
             is_row = line.startswith("|")
             if len(line) > MOST and not is_row and not line.startswith(("<!--", "- [", "[")):
                 self.say(document, number, f"the line has {len(line)} characters")
+            if line.count("`") % 2:
+                self.say(document, number, "a name in backquotes goes over the end of the line")
             asked = line
             if document.name == "DIFFERENCES.md" and is_row:
                 asked = line.split("|", 2)[2]
