@@ -491,6 +491,9 @@ def main():
     parser.add_argument("crates", nargs="*", metavar="CRATE")
     told = parser.parse_args()
     table = Table()
+    for name in told.crates:
+        if name not in table.tree.crates:
+            parser.error(f"there is no crate {name}")
     for name in told.crates or libraries(table.tree):
         lines = list(table.crate(name))
         if not told.missing:
