@@ -8,6 +8,8 @@
 //! from this tree, or are stated in the script.
 #![tactic(auto)]
 
+mod server;
+
 use rpki_archive::check;
 use rpki_base::PublicKeyFormat;
 use rpki_ca::{Status, Words};
@@ -15,6 +17,7 @@ use rpki_pubserver::serve;
 use rpki_replay::run_guard;
 use rpki_signer::{Signer, ToyScheme, ToySigner, ToyVerifier};
 use rpki_text::{MemorySink, MemorySource};
+use server::answers_alike;
 use std::alloc::Global;
 use std::io;
 use std::io::ErrorKind;
@@ -76,6 +79,17 @@ fn case_of(alloc: Global, line: &str) -> io::Result<Case> {
     })
 }
 
+// The signer of the replies, of which the listed calls fail, and the identifier of its one key.
+fn signer_of(alloc: Global, failing: &[u64]) -> io::Result<(ToySigner, u64)> {
+    let Ok(mut signer) = ToySigner::new(alloc, 1, failing) else {
+        return Err(out_of_memory());
+    };
+    match Signer::<ToyScheme>::create_key(&mut signer, alloc, PublicKeyFormat::Rsa) {
+        Ok(key) => Ok((signer, key)),
+        Err(_) => Err(invalid()),
+    }
+}
+
 // What the publication server ends with, where the listed calls of its signer fail.
 fn served(
     alloc: Global,
@@ -84,12 +98,7 @@ fn served(
     source: &mut MemorySource,
     sink: &mut MemorySink,
 ) -> io::Result<Status> {
-    let Ok(mut signer) = ToySigner::new(alloc, 1, failing) else {
-        return Err(out_of_memory());
-    };
-    let Ok(key) = Signer::<ToyScheme>::create_key(&mut signer, alloc, PublicKeyFormat::Rsa) else {
-        return Err(invalid());
-    };
+    let (mut signer, key) = signer_of(alloc, failing)?;
     let verifier = ToyVerifier::new();
     Ok(serve(
         alloc,
@@ -142,12 +151,16 @@ fn is_answered(alloc: Global, program: &str, case: &Case, piece: usize) -> io::R
 struct Runs;
 
 impl Cases for Runs {
-    // Whether the case is answered as expected, whole and an octet at a time.
+    // Whether the case is answered as expected, whole and an octet at a time; and by the calls of a
+    // server, where it is one whose queries are all answered.
     fn holds(&self, alloc: Global, line: &str) -> io::Result<bool> {
         let Some(program) = line.split_whitespace().nth(1) else {
             return Err(invalid());
         };
         let case = case_of(alloc, line)?;
+        if program == "pub" && case.status == 0 && !answers_alike(alloc, &case)? {
+            return Ok(false);
+        }
         Ok(is_answered(alloc, program, &case, 1 << 20)? && is_answered(alloc, program, &case, 1)?)
     }
 }
