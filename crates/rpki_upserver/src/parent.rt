@@ -1,0 +1,416 @@
+//! A parent.
+
+ghost use Rattle.std.specs.Prelude.{◌≡◌, ◌≢◌, ◌↔◌, ◌<◌, length, map, position, slice_get, IfErr, IfOk, IfSome, IsErrOf, IsSome, IsTrue, MatchResult, OnErr, Some};
+ghost use Rattle.std.specs.List.{AllByRecursion};
+ghost use Rattle.rpki_base.specs.Scheme.{Relation};
+ghost use Rattle.rpki_signer.specs.Limits.{Keeps};
+ghost use Rattle.rpki_updown.specs.declared.error.Error.TheVariants as errors;
+ghost use Rattle.rpki_provisioning.specs.declared.payload.Payload.{Payload as Said};
+ghost use Rattle.rpki_provisioning.specs.declared.payload.Payload.TheVariants as payloads;
+ghost use Rattle.rpki_provisioning.specs.Writable.{IsWritable, IsWritableKey, IsWritableRequest};
+ghost use Rattle.rpki_xml.specs.Lettered.{AreOctets};
+ghost use Rattle.rpki_ca.specs.Seen.{seen_signer};
+ghost use Rattle.rpki_upserver.specs.Answering.{IsReceived, IsRefused, IsReplyMade, IsReplyUnmade, IsSent, RefusesOctets, SendsNothing};
+ghost use Rattle.rpki_upserver.specs.Answering.{exchange, refused};
+ghost use Rattle.rpki_upserver.specs.Decision.{CanBeSaid, IsDecidedAs, IsFirstReason, IsPayloadDecidedAs, IsPayloadOf};
+ghost use Rattle.rpki_upserver.specs.Issuer.{Leaves};
+ghost use Rattle.rpki_upserver.specs.Response.{IsFromChild, reply};
+ghost use Rattle.rpki_upserver.specs.Table.{AreDistinct, AreWritable, ClassState, IsParent, entitled, is_named, new_parent};
+ghost use Rattle.rpki_upserver.specs.declared.parent.AnswerError.TheVariants as answers;
+
+use crate::class::Class;
+use crate::decision::{Decision, Reason};
+use crate::issuer::{Issuer, IssuerError};
+use crate::writable::is_handle;
+use rpki_base::{PublicKey, Scheme, Time, Verifier};
+use rpki_common::OutOfMemory;
+use rpki_provisioning::{Message, Payload, ProvisioningCms, read_is_writable};
+use rpki_sigmsg::CreateError;
+use rpki_signer::Signer;
+use rpki_text::{RecipientHandle, SenderHandle};
+use rpki_updown::{
+    Error, IssuanceRequest, ResourceClassEntitlements, ResourceClassListResponse,
+    ResourceClassName, RevocationRequest, RevocationResponse,
+};
+use std::alloc::Global;
+use std::marker::Model;
+
+/// Why a parent sends nothing.
+#[derive(Debug, PartialEq, Eq, Drop)]
+pub enum AnswerError<E> {
+    /// The octets are no message of the child. What is inside is never `OutOfMemory`.
+    Refused(Error),
+    /// The reply was decided, and what it says is done; but it couldn't be made.
+    Unsent(CreateError<E>),
+    /// Memory ran out before anything was done.
+    OutOfMemory,
+}
+
+impl<E> From<OutOfMemory> for AnswerError<E> {
+    ghost from_gives = { λ _ e. e ≡ answers.OutOfMemory };
+
+    fn from(_: OutOfMemory) -> AnswerError<E> {
+        AnswerError::OutOfMemory
+    }
+}
+
+impl<E> From<CreateError<E>> for AnswerError<E> {
+    ghost from_gives = { λ error e. e ≡ answers.Unsent error };
+
+    fn from(error: CreateError<E>) -> AnswerError<E> {
+        AnswerError::Unsent(error)
+    }
+}
+
+/// A parent of one child, to which it issues certificates in resource classes (RFC 6492). In a clause it is the record of both handles,
+/// the child's key and the table of the classes.
+#[derive(Drop)]
+pub struct Parent {
+    alloc: Global,
+    me: RecipientHandle,
+    child: SenderHandle,
+    child_key: PublicKey,
+    classes: Vec<Class>,
+}
+
+impl Model for Parent {
+    ghost use Rattle.rpki_upserver.specs.Table.{AreWritable, IsParent, ParentState};
+
+    ghost Value = { ParentState };
+
+    ghost view = { λ p. record {
+      me = p.me;
+      child = p.child;
+      child_key = p.child_key;
+      table = p.classes.items;
+    } };
+
+    ghost invariant = { λ p. IsParent p.me p.child p.classes.items
+        × AreWritable p.classes.items };
+}
+
+// The place of the first class of this name.
+fn place_named(classes: &[Class], name: &ResourceClassName) -> Option<usize>
+    ensures place { result ≡ position (is_named name.now) classes.now }
+    ensures within { IfSome result (λ place. place < length classes.now) }
+{
+    classes.iter().position(|class| class.name() == name)
+}
+
+// Whether no two classes have one name.
+fn are_distinct(classes: &[Class]) -> bool
+    ensures { IsTrue result ↔ AreDistinct classes.now }
+{
+    let mut rest = classes;
+    while let [class, more @ ..] = rest {
+        if place_named(more, class.name()).is_some() {
+            return false;
+        }
+        rest = more;
+    }
+    true
+}
+
+// Whether each class can be told so that it is read again.
+fn are_writable(classes: &[Class]) -> bool
+    ensures names { IsTrue result
+        ↔ AllByRecursion (λ c. AreOctets c.class_name) classes.now }
+    ensures classes { IsTrue result → AreWritable classes.now }
+{
+    classes.iter().all(|class| class.is_writable())
+}
+
+/// # Making
+impl Parent {
+    /// A parent that calls itself `me`, and whose child calls itself `child` and has this key. None exactly where two classes have one
+    /// name, or a handle or the name of a class can't be written so that it is read again. It takes no memory; later growth takes it from
+    /// `alloc`.
+    pub fn new(
+        alloc: Global,
+        me: RecipientHandle,
+        child: SenderHandle,
+        child_key: PublicKey,
+        classes: Vec<Class>,
+    ) -> Option<Parent>
+        ensures some { IsSome result ↔ IsParent me child classes.items }
+        ensures value { IfSome result (λ p. p ≡ new_parent me child child_key classes.items) }
+    {
+        if !is_handle(me.as_str()) || !is_handle(child.as_str()) {
+            return None;
+        }
+        if !are_distinct(&classes) || !are_writable(&classes) {
+            return None;
+        }
+        Some(Parent {
+            alloc,
+            me,
+            child,
+            child_key,
+            classes,
+        })
+    }
+
+    /// The classes, in their order.
+    pub fn classes(&self) -> &[Class]
+        ensures { result.now ≡ self.now.table }
+    {
+        &self.classes
+    }
+}
+
+// Of an error of receipt: want of memory, or a refusal.
+fn refused<E>(error: Error) -> AnswerError<E>
+    ensures { result ≡ refused error }
+{
+    match error {
+        Error::OutOfMemory => AnswerError::OutOfMemory,
+        error => AnswerError::Refused(error),
+    }
+}
+
+/// # What is decided
+impl Parent {
+    // The message of the child that the octets are.
+    fn received<P: Scheme, V: Verifier<P>>(
+        &self,
+        octets: &[u8],
+        when: Time,
+        verifier: &V,
+    ) -> Result<Message, Error>
+        ensures message { MatchResult result
+            (IsReceived P.checks octets.now self.now.child_key when)
+            (λ e. (e ≢ errors.OutOfMemory)
+            → RefusesOctets P.checks octets.now self.now.child_key when e) }
+        ensures writable { IfOk result IsWritable }
+    {
+        read_is_writable();
+        let cms = ProvisioningCms::decode(self.alloc, octets)?;
+        cms.validate_at(verifier, &self.child_key, when)?;
+        Ok(cms.into_message())
+    }
+
+    // Whether the child sends the message to this parent.
+    fn is_from_child(&self, message: &Message) -> bool
+        ensures { IsTrue result ↔ IsFromChild self.now.me self.now.child message.now }
+    {
+        *message.sender() == self.child && *message.recipient() == self.me
+    }
+
+    // Why no certificate is issued on a request for the class at this place, of which the limit isn't looked at.
+    fn refusal<P: Scheme, V: Verifier<P>>(
+        &self,
+        place: usize,
+        request: &IssuanceRequest,
+        verifier: &V,
+    ) -> Option<Reason>
+        requires { place < length self.now.table }
+        ensures { (c : ClassState) → slice_get self.now.table place ≡ Some c
+            → IsFirstReason P.checks self.now.table request.now c result }
+    {
+        let class = &self.classes[place];
+        let key = request.csr().public_key().key_identifier();
+        if class.is_empty() {
+            return Some(Reason::NoResources);
+        }
+        if request.csr().verify_signature::<P, V>(verifier).is_err() {
+            return Some(Reason::BadRequest);
+        }
+        let is_revoked = self.classes.iter().any(|class| class.has_revoked(key));
+        let is_elsewhere = self.classes.iter().any(|other| other.name() != class.name()
+            && other.has_issued(key));
+        if is_revoked || is_elsewhere {
+            return Some(Reason::UsedKey);
+        }
+        None
+    }
+
+    // What comes of a request for a certificate.
+    fn issue<P: Scheme, V: Verifier<P>, N: Issuer>(
+        &mut self,
+        request: IssuanceRequest,
+        verifier: &V,
+        issuer: &mut N,
+    ) -> Result<Decision, OutOfMemory>
+        requires { IsWritableRequest request }
+        ensures ok { IfOk result (IsPayloadDecidedAs P.checks self.old self.new
+            (payloads.Issue request) (N.state issuer.old) (N.state issuer.new)) }
+        ensures err { OnErr result ((self.new ≡ self.old)
+            × Leaves (N.state issuer.old) (N.state issuer.new)) }
+    {
+        let Some(place) = place_named(&self.classes, request.class_name()) else {
+            return Ok(Decision::NotPerformed(Reason::NoClass));
+        };
+        if let Some(reason) = self.refusal(place, &request, verifier) {
+            return Ok(Decision::NotPerformed(reason));
+        }
+        let class = &mut self.classes[place];
+        let set = match request.limit().apply_to(self.alloc, class.resource_set()) {
+            Ok(set) => set,
+            Err(Error::OutOfMemory) => return Err(OutOfMemory),
+            Err(_) => return Ok(Decision::NotPerformed(Reason::NoResources)),
+        };
+        match class.issue(self.alloc, request, &set, issuer) {
+            Ok(at) => Ok(Decision::Issued {
+                class: place,
+                place: at,
+            }),
+            Err(IssuerError::Failed) => Ok(Decision::NotPerformed(Reason::ServerError)),
+            Err(IssuerError::OutOfMemory) => Err(OutOfMemory),
+        }
+    }
+
+    // What comes of a request to revoke the certificates of a key.
+    fn revoke<N: Issuer>(
+        &mut self,
+        request: RevocationRequest,
+        issuer: &mut N,
+    ) -> Result<Decision, OutOfMemory>
+        requires { IsWritableKey request }
+        ensures ok { (scheme : Relation) → IfOk result (IsPayloadDecidedAs scheme self.old self.new
+            (payloads.Revoke request) (N.state issuer.old) (N.state issuer.new)) }
+        ensures err { OnErr result ((self.new ≡ self.old)
+            × Leaves (N.state issuer.old) (N.state issuer.new)) }
+    {
+        let Some(place) = place_named(&self.classes, request.class_name()) else {
+            return Ok(Decision::NotPerformed(Reason::NoClassToRevoke));
+        };
+        let class = &mut self.classes[place];
+        let Some(at) = class.place_of(request.key()) else {
+            return Ok(Decision::NotPerformed(Reason::NoKeyToRevoke));
+        };
+        match class.revoke(self.alloc, at, request.key(), issuer) {
+            Ok(()) => Ok(Decision::Revoked(request)),
+            Err(IssuerError::Failed) => Ok(Decision::NotPerformed(Reason::ServerError)),
+            Err(IssuerError::OutOfMemory) => Err(OutOfMemory),
+        }
+    }
+
+    // What comes of a message.
+    fn decide<P: Scheme, V: Verifier<P>, N: Issuer>(
+        &mut self,
+        message: Message,
+        verifier: &V,
+        issuer: &mut N,
+    ) -> Result<Decision, OutOfMemory>
+        requires { IsWritable message }
+        ensures ok { IfOk result (IsDecidedAs P.checks self.old self.new message
+            (N.state issuer.old) (N.state issuer.new)) }
+        ensures err { OnErr result ((self.new ≡ self.old)
+            × Leaves (N.state issuer.old) (N.state issuer.new)) }
+    {
+        if !self.is_from_child(&message) {
+            return Ok(Decision::NotPerformed(Reason::ServerError));
+        }
+        match message.into_payload() {
+            Payload::List => Ok(Decision::Listed),
+            Payload::Issue(request) => self.issue(request, verifier, issuer),
+            Payload::Revoke(request) => self.revoke(request, issuer),
+            _ => Ok(Decision::NotPerformed(Reason::UnknownType)),
+        }
+    }
+}
+
+/// # What is said
+impl Parent {
+    // What the child is told of all classes.
+    fn entitlements(&self) -> Result<Vec<ResourceClassEntitlements>, OutOfMemory>
+        ensures { IfOk result (λ told. told.items ≡ map entitled self.now.table) }
+    {
+        let mut told = Vec::with_capacity(self.alloc, self.classes.len())?;
+        for class in &self.classes {
+            told.push(class.entitlements(self.alloc)?)?;
+        }
+        Ok(told)
+    }
+
+    // The reply in which a decision is said.
+    fn reply(&self, decision: &Decision) -> Result<Message, OutOfMemory>
+        requires { CanBeSaid self.now.table decision.now }
+        ensures { IfOk result (λ m. (payload : Said) → IsPayloadOf self.now.table decision.now payload
+            → m ≡ reply self.now.me self.now.child payload) }
+    {
+        let alloc = self.alloc;
+        let me = self.me.convert()?;
+        let child = self.child.convert()?;
+        match decision {
+            Decision::NotPerformed(reason) => {
+                let response = reason.response(alloc)?;
+                Ok(Message::not_performed_response(me, child, response))
+            }
+            Decision::Listed => {
+                let response = ResourceClassListResponse::new(self.entitlements()?);
+                Ok(Message::list_response(me, child, response))
+            }
+            Decision::Issued { class, place } => {
+                let response = self.classes[*class].issuance(alloc, *place)?;
+                Ok(Message::issue_response(me, child, response))
+            }
+            Decision::Revoked(request) => {
+                let response = RevocationResponse::from_request(alloc, request)?;
+                Ok(Message::revoke_response(me, child, response))
+            }
+        }
+    }
+
+    // The same, signed.
+    fn send<P: Scheme, S: Signer<P>>(
+        &self,
+        decision: &Decision,
+        when: Time,
+        signer: &mut S,
+        key: &S::KeyId,
+    ) -> Result<ProvisioningCms, CreateError<S::Error>>
+        requires { CanBeSaid self.now.table decision.now }
+        ensures sent { (payload : Said) → IsPayloadOf self.now.table decision.now payload
+            → MatchResult result (IsReplyMade P.checks self.now payload when
+            (seen_signer key.now (S.state signer.old) (S.state signer.new)))
+            (IsReplyUnmade self.now payload when
+            (seen_signer key.now (S.state signer.old) (S.state signer.new))) }
+        ensures keeps { Keeps (S.state signer.old) (S.state signer.new) }
+    {
+        let reply = self.reply(decision)?;
+        ProvisioningCms::create(self.alloc, reply, when, key, signer)
+    }
+}
+
+impl Parent {
+    /// Answers octets of the child: a signed message in BER in which it lists its classes, asks for a certificate or asks to revoke one
+    /// (RFC 6492, 3.3 to 3.5), at a moment. The issuer does what the table allows; the answer is a signed message to the child that says
+    /// what was done, or why nothing was (3.6), signed under the issuing key with the identifier `key`.
+    ///
+    /// `Refused` where the octets are no such message: then issuer, signer and table are as before. `OutOfMemory` before anything was
+    /// issued or revoked: then the table is as before. `Unsent` where the reply was decided and couldn't be made: what it was to say is
+    /// done.
+    pub fn answer<P: Scheme, V: Verifier<P>, N: Issuer, S: Signer<P>>(
+        &mut self,
+        octets: &[u8],
+        when: Time,
+        verifier: &V,
+        issuer: &mut N,
+        signer: &mut S,
+        key: &S::KeyId,
+    ) -> Result<ProvisioningCms, AnswerError<S::Error>>
+        // The reply says what comes of the message by the table's rows, and is received over its window; or it has a cause that
+        // nothing is sent.
+        ensures answer { MatchResult result
+            (IsSent P.checks (exchange octets.now when self.old self.new (N.state issuer.old)
+            (N.state issuer.new))
+            (seen_signer key.now (S.state signer.old) (S.state signer.new)))
+            (SendsNothing P.checks (exchange octets.now when self.old self.new (N.state issuer.old)
+            (N.state issuer.new))
+            (seen_signer key.now (S.state signer.old) (S.state signer.new))) }
+
+        // Octets that are refused leave all as it was, and nothing is signed before a reply is decided.
+        ensures refused { IfErr result (λ e. IsRefused e → (issuer.new ≡ issuer.old)
+            × (signer.new ≡ signer.old)) }
+        ensures unsigned { IsErrOf result answers.OutOfMemory → signer.new ≡ signer.old }
+        ensures keeps { Keeps (S.state signer.old) (S.state signer.new) }
+    {
+        let message = match self.received(octets, when, verifier) {
+            Ok(message) => message,
+            Err(error) => return Err(refused(error)),
+        };
+        let decision = self.decide(message, verifier, issuer)?;
+        Ok(self.send(&decision, when, signer, key)?)
+    }
+}

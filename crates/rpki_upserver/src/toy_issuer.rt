@@ -1,0 +1,219 @@
+//! An issuer of the toy scheme.
+
+ghost use Rattle.std.specs.Prelude.{◌≡◌, map, IfErr, IfOk, MatchResult};
+ghost use Rattle.rpki_base.specs.RpkiSignatureAlgorithm.{spelled_x509};
+ghost use Rattle.rpki_base.specs.SignedData.{spelled_data};
+ghost use Rattle.rpki_provisioning.specs.Writable.{IsCertificate};
+ghost use Rattle.rpki_upserver.specs.Issuer.{IsIssued, IsRevoked, IssuerFails};
+ghost use Rattle.rpki_upserver.specs.ToyIssuer.{IsToyCertificate, IsToyIssue, IsToyRevocation, MakesNone};
+ghost use Rattle.rpki_upserver.specs.ToyIssuer.{after_fault, issuer_state, made_of, toy_issuer};
+ghost use Rattle.rpki_upserver.specs.declared.issuer.IssuerError.TheVariants as errors;
+
+use crate::issuer::{Issuer, IssuerError};
+use rpki_base::{KeyIdentifier, Time, Validity};
+use rpki_cert::{Cert, RpkiCaCsr};
+use rpki_common::OutOfMemory;
+use rpki_idcert::IdCert;
+use rpki_sets::ResourceSet;
+use rpki_signer::{KeyError, MakeError, Signer, ToyScheme, ToySigner};
+use rpki_updown::{KeyElement, ResourceClassName};
+use std::alloc::Global;
+use std::marker::Model;
+
+/// A certificate that was issued.
+#[derive(Drop)]
+pub struct ToyMade {
+    /// In which class.
+    pub class_name: ResourceClassName,
+    /// For the key with which identifier.
+    pub key: KeyIdentifier,
+    /// For which resources.
+    pub resource_set: ResourceSet,
+    /// Until when.
+    pub not_after: Time,
+    /// The certificate.
+    pub cert: Cert,
+}
+
+/// An issuer whose certificates are signed by a toy signer, without security. They are end entity certificates of the BPKI, which have the
+/// outer form of resource certificates, and say nothing of resources.
+///
+/// In a clause it is the record of its signer, the identifier of its key, from when its certificates are valid, and what it issued and
+/// revoked and how often it failed, a count that stops at 2^64 - 1.
+#[derive(Drop)]
+pub struct ToyIssuer {
+    alloc: Global,
+    signer: ToySigner,
+    key: u64,
+    from: Time,
+    made: Vec<ToyMade>,
+    gone: Vec<KeyElement>,
+    faults: u64,
+}
+
+impl Model for ToyIssuer {
+    ghost use Rattle.std.specs.Prelude.{map};
+    ghost use Rattle.rpki_upserver.specs.ToyIssuer.{ToyIssuerState, made_of};
+
+    ghost Value = { ToyIssuerState };
+
+    ghost view = { λ i. record {
+      signer = i.signer;
+      key = i.key;
+      from = i.from;
+      issuer = record {
+        made = map made_of i.made.items;
+        gone = i.gone.items;
+        faults = i.faults;
+      };
+    } };
+}
+
+impl ToyIssuer {
+    /// An issuer that signs with the signer's key of this number, and whose certificates are valid from this moment. It has issued and
+    /// revoked nothing. It takes no memory; later growth takes it from `alloc`.
+    pub fn new(alloc: Global, signer: ToySigner, key: u64, from: Time) -> ToyIssuer
+        ensures { result ≡ toy_issuer signer key from }
+    {
+        ToyIssuer {
+            alloc,
+            signer,
+            key,
+            from,
+            made: Vec::new(alloc),
+            gone: Vec::new(alloc),
+            faults: 0,
+        }
+    }
+
+    /// What it issued, in order.
+    pub fn made(&self) -> &[ToyMade]
+        ensures { map made_of result.now ≡ self.now.issuer.made }
+    {
+        &self.made
+    }
+
+    /// The keys whose certificates it revoked, each with its class, in order.
+    pub fn gone(&self) -> &[KeyElement]
+        ensures { result.now ≡ self.now.issuer.gone }
+    {
+        &self.gone
+    }
+
+    /// How often it failed.
+    pub fn faults(&self) -> u64
+        ensures { result ≡ self.now.issuer.faults }
+    {
+        self.faults
+    }
+
+    // Counts a fault.
+    fn fail(&mut self) -> IssuerError
+        ensures answer { result ≡ errors.Failed }
+        ensures counted { self.new ≡ after_fault self.old }
+    {
+        self.faults = self.faults.saturating_add(1);
+        IssuerError::Failed
+    }
+
+    // The signed certificate for the key of a request, until this time.
+    fn certificate(
+        &mut self,
+        alloc: Global,
+        csr: &RpkiCaCsr,
+        not_after: Time,
+    ) -> Result<Cert, IssuerError>
+        ensures ok { IfOk result (IsToyCertificate csr.now not_after self.old self.new) }
+        ensures err { IfErr result (MakesNone self.old self.new) }
+    {
+        let validity = Validity::new(self.from, not_after);
+        match IdCert::new_ee::<ToyScheme, ToySigner>(
+            alloc,
+            csr.public_key(),
+            validity,
+            &self.key,
+            &mut self.signer,
+        ) {
+            Ok(cert) => Ok(resource_certificate(alloc, &cert)?),
+            Err(MakeError::OutOfMemory) => Err(IssuerError::OutOfMemory),
+            Err(_) => Err(self.fail()),
+        }
+    }
+}
+
+/// The same certificate as a resource certificate, of which an identity certificate has the outer form (RFC 5280, 4.1; RFC 6487, 4).
+pub fn resource_certificate(alloc: Global, cert: &IdCert) -> Result<Cert, OutOfMemory>
+    ensures octets { IfOk result (λ c. c.slice ≡ spelled_data spelled_x509 cert.now.signed) }
+    ensures key { IfOk result (λ c. c.key ≡ cert.now.tbs.key) }
+    ensures der { IfOk result IsCertificate }
+{
+    let octets = cert.to_bytes(alloc)?;
+    match Cert::decode(alloc, octets.as_slice()) {
+        Ok(cert) => Ok(cert),
+        // What is written of a certificate is one.
+        Err(_) => Err(OutOfMemory),
+    }
+}
+
+impl Issuer for ToyIssuer {
+    ghost use Rattle.rpki_upserver.specs.ToyIssuer.{issuer_state};
+
+    ghost state = { issuer_state };
+
+    fn issue(
+        &mut self,
+        alloc: Global,
+        class_name: &ResourceClassName,
+        csr: &RpkiCaCsr,
+        set: &ResourceSet,
+        not_after: Time,
+    ) -> Result<Cert, IssuerError>
+        // What each issuer promises.
+        ensures issued { MatchResult result
+            (IsIssued class_name.now csr.now set.now not_after (issuer_state self.old)
+            (issuer_state self.new))
+            (IssuerFails (issuer_state self.old) (issuer_state self.new)) }
+
+        // Which answer, and what the issuer is then.
+        ensures exact { IsToyIssue class_name.now csr.now set.now not_after self.old self.new result }
+    {
+        let cert = self.certificate(alloc, csr, not_after)?;
+        let made = ToyMade {
+            class_name: class_name.clone(alloc)?,
+            key: csr.public_key().key_identifier(),
+            resource_set: set.clone(alloc)?,
+            not_after,
+            cert: cert.clone(alloc)?,
+        };
+        match self.made.push(made) {
+            Ok(()) => Ok(cert),
+            Err(_) => Err(IssuerError::OutOfMemory),
+        }
+    }
+
+    fn revoke(
+        &mut self,
+        class_name: &ResourceClassName,
+        key: KeyIdentifier,
+    ) -> Result<(), IssuerError>
+        // What each issuer promises.
+        ensures revoked { MatchResult result
+            (λ _. IsRevoked class_name.now key (issuer_state self.old) (issuer_state self.new))
+            (IssuerFails (issuer_state self.old) (issuer_state self.new)) }
+
+        // Which answer, and what the issuer is then.
+        ensures exact { IsToyRevocation class_name.now key self.old self.new result }
+    {
+        let alloc = self.alloc;
+        match Signer::<ToyScheme>::get_key_info(&mut self.signer, alloc, &self.key) {
+            Ok(_) => {}
+            Err(KeyError::OutOfMemory) => return Err(IssuerError::OutOfMemory),
+            Err(_) => return Err(self.fail()),
+        }
+        let gone = KeyElement::new(class_name.clone(alloc)?, key);
+        match self.gone.push(gone) {
+            Ok(()) => Ok(()),
+            Err(_) => Err(IssuerError::OutOfMemory),
+        }
+    }
+}
