@@ -4,7 +4,6 @@ use Rattle.rpki_base.specs.Scheme.{Relation}
 use Rattle.rpki_cert.specs.Cert.{CertFields}
 use Rattle.rpki_sets.specs.Resources.{Resources}
 use Rattle.rpki_updown.specs.Entitlements.{IssuanceRequestFields, IssuedFields, issuance}
-use Rattle.rpki_provisioning.specs.Shape.{MessageFields}
 use Rattle.rpki_provisioning.specs.Writable.{IsWritablePayload}
 use Rattle.rpki_provisioning.specs.declared.payload.Payload.{Payload}
 use Rattle.rpki_provisioning.specs.declared.payload.Payload.TheVariants as payloads
@@ -12,10 +11,10 @@ use Rattle.rpki_upserver.specs.declared.decision.Decision.{Decision}
 use Rattle.rpki_upserver.specs.declared.decision.Decision.TheVariants as decisions
 use Rattle.rpki_upserver.specs.declared.decision.Reason.{Reason}
 use Rattle.rpki_upserver.specs.declared.decision.Reason.TheVariants as reasons
-use Rattle.rpki_upserver.specs.Answering.{with_table}
+use Rattle.rpki_upserver.specs.Answering.{ParentAndIssuer}
 use Rattle.rpki_upserver.specs.Issuer.{IsIssued, IssuerState}
-use Rattle.rpki_upserver.specs.Response.{IsEmpty, IsPayloadAnswer, IsProven, IsResponse, IsUsed, Row, published, refusal, requested_key}
-use Rattle.rpki_upserver.specs.Table.{ClassState, ParentState, Table, entitled, with_issued}
+use Rattle.rpki_upserver.specs.Response.{IsEmpty, IsProven, IsUsed, Outcome, Row, published, refusal, requested_key}
+use Rattle.rpki_upserver.specs.Table.{ClassState, Table, entitled, with_issued, with_table}
 
 -- the status of each reason (RFC 6492, 3.6)
 abbrev pub status_of : Reason → ℕ
@@ -60,33 +59,19 @@ pub record CanBeSaid (table : Table) (decision : Decision) : Type 0 where
   pub said : IsPayloadOf table decision payload
   pub writable : IsWritablePayload payload
 
--- What was decided on a message, from the parent and its issuer to what they are behind it.
-pub record IsDecidedAs (scheme : Relation) (before after : ParentState) (message : MessageFields)
-    (issuer_before issuer_after : IssuerState) (decision : Decision) : Type 0 where
+-- What was decided, from parent and issuer to what they are behind it: this outcome comes, which says the decision.
+pub record IsDecidedBy (comes : Outcome → Type 0) (before after : ParentAndIssuer)
+    (decision : Decision) : Type 0 where
   pub payload : Payload
-  pub said : IsPayloadOf after.table decision payload
+  pub said : IsPayloadOf after.parent.table decision payload
   pub writable : IsWritablePayload payload
-  pub response : IsResponse scheme before.me before.child before.table message (record {
+  pub response : comes (record {
     payload = payload;
-    next = after.table;
-    before = issuer_before;
-    after = issuer_after;
+    next = after.parent.table;
+    before = before.issuer;
+    after = after.issuer;
   })
-  pub behind : after ≡ with_table after.table before
-
--- the same of a payload of a message
-pub record IsPayloadDecidedAs (scheme : Relation) (before after : ParentState) (asked : Payload)
-    (issuer_before issuer_after : IssuerState) (decision : Decision) : Type 0 where
-  pub payload : Payload
-  pub said : IsPayloadOf after.table decision payload
-  pub writable : IsWritablePayload payload
-  pub answer : IsPayloadAnswer scheme before.table asked (record {
-    payload = payload;
-    next = after.table;
-    before = issuer_before;
-    after = issuer_after;
-  })
-  pub behind : after ≡ with_table after.table before
+  pub behind : after.parent ≡ with_table after.parent.table before.parent
 
 -- the first row that refuses a request for the class, of those before the limit
 abbrev pub IsFirstReason : Relation → Table → IssuanceRequestFields → ClassState → Option Reason

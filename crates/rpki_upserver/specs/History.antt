@@ -11,20 +11,20 @@ use Rattle.rpki_provisioning.specs.declared.payload.Payload.{Payload}
 use Rattle.rpki_provisioning.specs.declared.payload.Payload.TheVariants as payloads
 use Rattle.rpki_upserver.specs.Issuer.{IssuerState, Made}
 use Rattle.rpki_upserver.specs.Response.{IsResponse, Outcome}
-use Rattle.rpki_upserver.specs.Table.{ClassState, Table, class_named, has_key}
+use Rattle.rpki_upserver.specs.Table.{ClassState, ParentState, Table, class_named, has_key, with_table}
 
 -- a message, and what came of it
 pub record Call : Type 0 where
   pub message : MessageFields
   pub outcome : Outcome
 
--- each came of the table and the issuer that the calls before it left
-abbrev pub AreMade : Relation → List ℕ → List ℕ → Table → IssuerState → List Call → Type 0
-AreMade scheme me child table issuer [] = ⊤
-AreMade scheme me child table issuer (call ∷ calls) =
+-- each came of the parent and the issuer that the calls before it left
+abbrev pub AreMade : Relation → ParentState → IssuerState → List Call → Type 0
+AreMade scheme p issuer [] = ⊤
+AreMade scheme p issuer (call ∷ calls) =
     (call.outcome.before ≡ issuer)
-    × (IsResponse scheme me child table call.message call.outcome
-    × AreMade scheme me child call.outcome.next call.outcome.after calls)
+    × (IsResponse scheme p call.message call.outcome
+    × AreMade scheme (with_table call.outcome.next p) call.outcome.after calls)
 
 -- the table that they leave
 abbrev pub table_behind : Table → List Call → Table

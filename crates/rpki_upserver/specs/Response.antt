@@ -14,7 +14,7 @@ use Rattle.rpki_provisioning.specs.Shape.{MessageFields}
 use Rattle.rpki_provisioning.specs.declared.payload.Payload.{Payload}
 use Rattle.rpki_provisioning.specs.declared.payload.Payload.TheVariants as payloads
 use Rattle.rpki_upserver.specs.Issuer.{IsIssued, IsRevoked, IssuerState, Leaves}
-use Rattle.rpki_upserver.specs.Table.{ClassState, Table, change, class_named, entitled, has_key, is_issued_elsewhere, is_issued_in, is_revoked, place_of, with_issued, with_revoked}
+use Rattle.rpki_upserver.specs.Table.{ClassState, ParentState, Table, change, class_named, entitled, has_key, is_issued_elsewhere, is_issued_in, is_revoked, place_of, with_issued, with_revoked}
 
 -- what comes of a message: the payload of the reply, the table behind it, and the issuer's state
 -- before and after
@@ -136,16 +136,12 @@ IsPayloadAnswer scheme table (payloads.Revoke request) o =
 IsPayloadAnswer scheme table other o = Refuses 1103 table o
 
 -- the child sends it to this parent
-pub record IsFromChild (me child : List ℕ) (m : MessageFields) : Type 0 where
-  pub sender : m.sender ≡ child
-  pub recipient : m.recipient ≡ me
+pub record IsFromChild (p : ParentState) (m : MessageFields) : Type 0 where
+  pub sender : m.sender ≡ p.child
+  pub recipient : m.recipient ≡ p.me
 
 -- what comes of a message
-abbrev pub IsResponse : Relation → List ℕ → List ℕ → Table → MessageFields → Outcome → Type 0
-IsResponse scheme me child table m o =
-    Row (IsFromChild me child m → ⊥) (Refuses 2001 table o)
-    (IsPayloadAnswer scheme table m.payload o)
-
--- the reply with a payload goes from the parent to the child
-abbrev pub reply : List ℕ → List ℕ → Payload → MessageFields
-reply me child payload = record { sender = me; recipient = child; payload = payload }
+abbrev pub IsResponse : Relation → ParentState → MessageFields → Outcome → Type 0
+IsResponse scheme p m o =
+    Row (IsFromChild p m → ⊥) (Refuses 2001 p.table o)
+    (IsPayloadAnswer scheme p.table m.payload o)

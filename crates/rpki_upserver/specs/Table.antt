@@ -149,6 +149,10 @@ pub record ParentState : Type 0 where
 abbrev pub new_parent : List ℕ → List ℕ → KeyFields → Table → ParentState
 new_parent me child key table = record { me = me; child = child; child_key = key; table = table }
 
+-- the parent with another table; handles and key stay
+abbrev pub with_table : Table → ParentState → ParentState
+with_table table p = record p { table = table }
+
 -- both are handles, and the classes have distinct names, which can be written so that they are read again
 pub record IsParent (me child : List ℕ) (table : Table) : Type 0 where
   pub me_is : IsHandle me

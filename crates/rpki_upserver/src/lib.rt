@@ -9,7 +9,8 @@
 //!   [`internal_errors_have_causes`]: what holds of every parent, whatever its child asks.
 //! - [`serve`] is what the program `rpkiup` does.
 //!
-//! What is answered stands row by row in specs/Response.antt, and what a run comes to in specs/Running.antt.
+//! What is answered stands row by row in specs/Response.antt, what is sent in specs/Answering.antt, and what the program writes in
+//! specs/Serving.antt.
 #![tactic(auto)]
 
 mod certified;
@@ -18,10 +19,10 @@ mod decision;
 mod issuer;
 mod kept;
 mod law;
-mod line_answers;
 mod parent;
 mod preparing;
-mod running;
+mod serving;
+mod signing;
 mod toy_issuer;
 mod writable;
 
@@ -33,5 +34,5 @@ pub use law::{
     what_is_told_was_issued_and_not_revoked, zero_answers_all,
 };
 pub use parent::{AnswerError, Parent};
-pub use running::serve;
+pub use serving::serve;
 pub use toy_issuer::{ToyIssuer, ToyMade, resource_certificate};

@@ -1,28 +1,34 @@
 //! A parent.
 
-ghost use Rattle.std.specs.Prelude.{◌≡◌, ◌≢◌, ◌↔◌, ◌<◌, length, map, position, slice_get, IfErr, IfOk, IfSome, IsErrOf, IsSome, IsTrue, MatchResult, OnErr, Some};
+ghost use Rattle.std.specs.Prelude.{◌≡◌, ◌≢◌, ◌↔◌, ◌<◌, ◌∷◌, [], length, map, position, slice_get, IfErr, IfOk, IfSome, IsErrOf, IsSome, IsTrue, OnErr, Some};
 ghost use Rattle.std.specs.List.{AllByRecursion};
 ghost use Rattle.rpki_base.specs.Scheme.{Relation};
 ghost use Rattle.rpki_signer.specs.Limits.{Keeps};
-ghost use Rattle.rpki_updown.specs.declared.error.Error.TheVariants as errors;
+ghost use Rattle.rpki_sigmsg.specs.declared.create_error.CreateError.TheVariants as create;
+ghost use Rattle.rpki_xml.specs.Lettered.{AreOctets};
+ghost use Rattle.rpki_provisioning.specs.Writable.{IsWritable, IsWritableKey, IsWritableRequest};
 ghost use Rattle.rpki_provisioning.specs.declared.payload.Payload.{Payload as Said};
 ghost use Rattle.rpki_provisioning.specs.declared.payload.Payload.TheVariants as payloads;
-ghost use Rattle.rpki_provisioning.specs.Writable.{IsWritable, IsWritableKey, IsWritableRequest};
-ghost use Rattle.rpki_xml.specs.Lettered.{AreOctets};
+ghost use Rattle.rpki_ca.specs.Acceptance.{Accepted, RefusesReceipt};
 ghost use Rattle.rpki_ca.specs.Seen.{seen_signer};
-ghost use Rattle.rpki_upserver.specs.Answering.{IsReceived, IsRefused, IsReplyMade, IsReplyUnmade, IsSent, RefusesOctets, SendsNothing};
-ghost use Rattle.rpki_upserver.specs.Answering.{exchange, refused};
-ghost use Rattle.rpki_upserver.specs.Decision.{CanBeSaid, IsDecidedAs, IsFirstReason, IsPayloadDecidedAs, IsPayloadOf};
+ghost use Rattle.rpki_ca.specs.Sending.{FailsToSign};
+ghost use Rattle.rpki_ca.specs.declared.receiving.Kind.TheVariants as kinds;
+ghost use Rattle.rpki_ca.specs.declared.receiving.Received.TheVariants as received;
+ghost use Rattle.rpki_ca.specs.declared.receiving.ReceiveError.TheVariants as receipt;
+ghost use Rattle.rpki_upserver.specs.Answering.{IsAnswered, IsRefused, IsSigned, SendsNothing, refused, reply, with_issuer};
+ghost use Rattle.rpki_upserver.specs.Decision.{CanBeSaid, IsDecidedBy, IsFirstReason, IsPayloadOf};
 ghost use Rattle.rpki_upserver.specs.Issuer.{Leaves};
-ghost use Rattle.rpki_upserver.specs.Response.{IsFromChild, reply};
+ghost use Rattle.rpki_upserver.specs.Response.{IsFromChild, IsPayloadAnswer, IsResponse};
 ghost use Rattle.rpki_upserver.specs.Table.{AreDistinct, AreWritable, ClassState, IsParent, entitled, is_named, new_parent};
 ghost use Rattle.rpki_upserver.specs.declared.parent.AnswerError.TheVariants as answers;
 
 use crate::class::Class;
 use crate::decision::{Decision, Reason};
 use crate::issuer::{Issuer, IssuerError};
+use crate::signing::signed;
 use crate::writable::is_handle;
 use rpki_base::{PublicKey, Scheme, Time, Verifier};
+use rpki_ca::{Kind, ReceiveError, Received, receive};
 use rpki_common::OutOfMemory;
 use rpki_provisioning::{Message, Payload, ProvisioningCms, read_is_writable};
 use rpki_sigmsg::CreateError;
@@ -32,6 +38,7 @@ use rpki_updown::{
     Error, IssuanceRequest, ResourceClassEntitlements, ResourceClassListResponse,
     ResourceClassName, RevocationRequest, RevocationResponse,
 };
+use rpki_xml::XmlError;
 use std::alloc::Global;
 use std::marker::Model;
 
@@ -158,13 +165,17 @@ impl Parent {
     }
 }
 
-// Of an error of receipt: want of memory, or a refusal.
-fn refused<E>(error: Error) -> AnswerError<E>
+// Of an error of receipt: want of memory, or a refusal, as the calls for signed messages of the protocol say it.
+fn refused<E>(error: ReceiveError) -> AnswerError<E>
     ensures { result ≡ refused error }
 {
     match error {
-        Error::OutOfMemory => AnswerError::OutOfMemory,
-        error => AnswerError::Refused(error),
+        ReceiveError::CmsDecode => AnswerError::Refused(Error::CmsDecode),
+        ReceiveError::XmlError => AnswerError::Refused(Error::XmlError(XmlError::Malformed)),
+        ReceiveError::CertSyntax => AnswerError::Refused(Error::CertSyntax),
+        ReceiveError::InvalidCsrSyntax => AnswerError::Refused(Error::InvalidCsrSyntax),
+        ReceiveError::Validation(error) => AnswerError::Refused(Error::Validation(error)),
+        ReceiveError::OutOfMemory => AnswerError::OutOfMemory,
     }
 }
 
@@ -176,22 +187,27 @@ impl Parent {
         octets: &[u8],
         when: Time,
         verifier: &V,
-    ) -> Result<Message, Error>
-        ensures message { MatchResult result
-            (IsReceived P.checks octets.now self.now.child_key when)
-            (λ e. (e ≢ errors.OutOfMemory)
-            → RefusesOctets P.checks octets.now self.now.child_key when e) }
+    ) -> Result<Message, ReceiveError>
+        ensures ok { IfOk result (λ m. Accepted P.checks kinds.Provisioning octets.now
+            (self.now.child_key ∷ []) when (received.Provisioning m)) }
         ensures writable { IfOk result IsWritable }
+        ensures err { IfErr result (λ e. e ≢ receipt.OutOfMemory
+            → RefusesReceipt P.checks kinds.Provisioning octets.now (self.now.child_key ∷ [])
+            when e) }
     {
         read_is_writable();
-        let cms = ProvisioningCms::decode(self.alloc, octets)?;
-        cms.validate_at(verifier, &self.child_key, when)?;
-        Ok(cms.into_message())
+        let kind = Kind::Provisioning;
+        match receive(self.alloc, kind, octets, &self.child_key, when, verifier) {
+            Ok(Received::Provisioning(message)) => Ok(message),
+            // A message of the other protocol isn't received.
+            Ok(Received::Publication(_)) => Err(ReceiveError::OutOfMemory),
+            Err(error) => Err(error),
+        }
     }
 
     // Whether the child sends the message to this parent.
     fn is_from_child(&self, message: &Message) -> bool
-        ensures { IsTrue result ↔ IsFromChild self.now.me self.now.child message.now }
+        ensures { IsTrue result ↔ IsFromChild self.now message.now }
     {
         *message.sender() == self.child && *message.recipient() == self.me
     }
@@ -232,8 +248,10 @@ impl Parent {
         issuer: &mut N,
     ) -> Result<Decision, OutOfMemory>
         requires { IsWritableRequest request }
-        ensures ok { IfOk result (IsPayloadDecidedAs P.checks self.old self.new
-            (payloads.Issue request) (N.state issuer.old) (N.state issuer.new)) }
+        ensures ok { IfOk result (IsDecidedBy
+            (IsPayloadAnswer P.checks self.old.table (payloads.Issue request))
+            (with_issuer self.old (N.state issuer.old))
+            (with_issuer self.new (N.state issuer.new))) }
         ensures err { OnErr result ((self.new ≡ self.old)
             × Leaves (N.state issuer.old) (N.state issuer.new)) }
     {
@@ -266,8 +284,10 @@ impl Parent {
         issuer: &mut N,
     ) -> Result<Decision, OutOfMemory>
         requires { IsWritableKey request }
-        ensures ok { (scheme : Relation) → IfOk result (IsPayloadDecidedAs scheme self.old self.new
-            (payloads.Revoke request) (N.state issuer.old) (N.state issuer.new)) }
+        ensures ok { (scheme : Relation) → IfOk result (IsDecidedBy
+            (IsPayloadAnswer scheme self.old.table (payloads.Revoke request))
+            (with_issuer self.old (N.state issuer.old))
+            (with_issuer self.new (N.state issuer.new))) }
         ensures err { OnErr result ((self.new ≡ self.old)
             × Leaves (N.state issuer.old) (N.state issuer.new)) }
     {
@@ -293,8 +313,9 @@ impl Parent {
         issuer: &mut N,
     ) -> Result<Decision, OutOfMemory>
         requires { IsWritable message }
-        ensures ok { IfOk result (IsDecidedAs P.checks self.old self.new message
-            (N.state issuer.old) (N.state issuer.new)) }
+        ensures ok { IfOk result (IsDecidedBy (IsResponse P.checks self.old message)
+            (with_issuer self.old (N.state issuer.old))
+            (with_issuer self.new (N.state issuer.new))) }
         ensures err { OnErr result ((self.new ≡ self.old)
             × Leaves (N.state issuer.old) (N.state issuer.new)) }
     {
@@ -326,8 +347,9 @@ impl Parent {
     // The reply in which a decision is said.
     fn reply(&self, decision: &Decision) -> Result<Message, OutOfMemory>
         requires { CanBeSaid self.now.table decision.now }
-        ensures { IfOk result (λ m. (payload : Said) → IsPayloadOf self.now.table decision.now payload
-            → m ≡ reply self.now.me self.now.child payload) }
+        ensures message { IfOk result (λ m. (payload : Said)
+            → IsPayloadOf self.now.table decision.now payload → m ≡ reply self.now payload) }
+        ensures writable { IfOk result IsWritable }
     {
         let alloc = self.alloc;
         let me = self.me.convert()?;
@@ -361,22 +383,26 @@ impl Parent {
         key: &S::KeyId,
     ) -> Result<ProvisioningCms, CreateError<S::Error>>
         requires { CanBeSaid self.now.table decision.now }
-        ensures sent { (payload : Said) → IsPayloadOf self.now.table decision.now payload
-            → MatchResult result (IsReplyMade P.checks self.now payload when
-            (seen_signer key.now (S.state signer.old) (S.state signer.new)))
-            (IsReplyUnmade self.now payload when
-            (seen_signer key.now (S.state signer.old) (S.state signer.new))) }
+        ensures ok { IfOk result (λ c. (payload : Said)
+            → IsPayloadOf self.now.table decision.now payload → IsSigned P.checks when
+            (seen_signer key.now (S.state signer.old) (S.state signer.new))
+            (reply self.now payload) c) }
+        ensures err { IfErr result (λ e. e ≢ create.OutOfMemory → (payload : Said)
+            → IsPayloadOf self.now.table decision.now payload → FailsToSign when
+            (seen_signer key.now (S.state signer.old) (S.state signer.new))
+            (received.Provisioning (reply self.now payload)) e) }
         ensures keeps { Keeps (S.state signer.old) (S.state signer.new) }
     {
         let reply = self.reply(decision)?;
-        ProvisioningCms::create(self.alloc, reply, when, key, signer)
+        signed(self.alloc, reply, when, key, signer)
     }
 }
 
 impl Parent {
     /// Answers octets of the child: a signed message in BER in which it lists its classes, asks for a certificate or asks to revoke one
-    /// (RFC 6492, 3.3 to 3.5), at a moment. The issuer does what the table allows; the answer is a signed message to the child that says
-    /// what was done, or why nothing was (3.6), signed under the issuing key with the identifier `key`.
+    /// (RFC 6492, 3.3 to 3.5), which is believed under the child's key at the moment. The issuer does what the table allows; the answer
+    /// is a signed message to the child that says what was done, or why nothing was (3.6), signed as [`ProvisioningCms::create`] does
+    /// it, under the issuing key with the identifier `key`.
     ///
     /// `Refused` where the octets are no such message: then issuer, signer and table are as before. `OutOfMemory` before anything was
     /// issued or revoked: then the table is as before. `Unsent` where the reply was decided and couldn't be made: what it was to say is
@@ -390,14 +416,14 @@ impl Parent {
         signer: &mut S,
         key: &S::KeyId,
     ) -> Result<ProvisioningCms, AnswerError<S::Error>>
-        // The reply says what comes of the message by the table's rows, and is received over its window; or it has a cause that
-        // nothing is sent.
-        ensures answer { MatchResult result
-            (IsSent P.checks (exchange octets.now when self.old self.new (N.state issuer.old)
-            (N.state issuer.new))
-            (seen_signer key.now (S.state signer.old) (S.state signer.new)))
-            (SendsNothing P.checks (exchange octets.now when self.old self.new (N.state issuer.old)
-            (N.state issuer.new))
+        // The reply says what comes of the message by the table's rows, and is received over its window.
+        ensures answered { IfOk result (IsAnswered P.checks octets.now when
+            (with_issuer self.old (N.state issuer.old)) (with_issuer self.new (N.state issuer.new))
+            (seen_signer key.now (S.state signer.old) (S.state signer.new))) }
+
+        // Or nothing is sent, for a cause, and this is left.
+        ensures unanswered { IfErr result (SendsNothing P.checks octets.now when
+            (with_issuer self.old (N.state issuer.old)) (with_issuer self.new (N.state issuer.new))
             (seen_signer key.now (S.state signer.old) (S.state signer.new))) }
 
         // Octets that are refused leave all as it was, and nothing is signed before a reply is decided.

@@ -1,15 +1,15 @@
 //! What the program begins with: the lines of its input, and its parent.
 
-ghost use Rattle.std.specs.Prelude.{◌≡◌, IfOk, IfSome, IsNone, Some};
+ghost use Rattle.std.specs.Prelude.{◌≡◌, ◌≢◌, IfErr, IfOk, IfSome, IsNone, Some, map};
 ghost use Rattle.rpki_provisioning.specs.Writable.{IsCertificate};
 ghost use Rattle.rpki_sets.specs.Kinds.{blocks_of};
-ghost use Rattle.rpki_upserver.specs.Lines.{AreNotSpelled, AreSpelled, octets_of};
-ghost use Rattle.rpki_upserver.specs.Running.{AreNoWords, AreWords, IsFirstClass, IsFirstParent, IsSet};
+ghost use Rattle.rpki_ca.specs.declared.refusals.Refusal.TheVariants as refusals;
+ghost use Rattle.rpki_upserver.specs.Running.{AreNoWords, AreNotSent, AreSent, AreWords, IsFirstClass, IsFirstParent, IsFirstSet};
 
 use crate::class::Class;
 use crate::parent::Parent;
 use rpki_base::{PublicKey, Time};
-use rpki_ca::{Lines, Words, spelled_octets};
+use rpki_ca::{Lines, Refusal, Words, spelled_octets};
 use rpki_common::OutOfMemory;
 use rpki_sets::{AsBlocks, Blocks, Ipv4Blocks, Ipv6Blocks, Numbers, ResourceSet};
 use rpki_text::uri::Rsync;
@@ -17,34 +17,38 @@ use rpki_text::{RecipientHandle, SenderHandle};
 use rpki_updown::{ResourceClassName, SigningCert};
 use std::alloc::Global;
 
-/// The moment and the child's key, if the words are these two.
-pub(crate) fn moment_and_key(
-    alloc: Global,
-    words: &Words,
-) -> Result<Option<(Time, PublicKey)>, OutOfMemory>
-    ensures some { IfOk result (λ o. IfSome o (λ given. AreWords words.now given.0 given.1)) }
-    ensures none { IfOk result (λ o. IsNone o → AreNoWords words.now) }
-{
-    if words.len() != 2 {
-        return Ok(None);
-    }
-    let Some(when) = words.moment(0) else {
-        return Ok(None);
-    };
-    match words.key(alloc, 1)? {
-        Some(key) => Ok(Some((when, key))),
-        None => Ok(None),
-    }
+/// The moment and the child's key.
+pub(crate) struct Terms {
+    pub(crate) when: Time,
+    pub(crate) child: PublicKey,
 }
 
-/// The octets of the lines; None where some line is no even number of hexadecimal digits.
-pub(crate) fn octets_in(
+/// What the two words ask for. `Usage` exactly where they don't.
+pub(crate) fn terms_of(alloc: Global, words: &Words) -> Result<Terms, Refusal>
+    ensures ok { IfOk result (λ terms. AreWords words.now terms.when terms.child) }
+    ensures err { IfErr result (λ e. e ≢ refusals.OutOfMemory
+        → (e ≡ refusals.Usage) × AreNoWords words.now) }
+{
+    if words.len() != 2 {
+        return Err(Refusal::Usage);
+    }
+    let Some(when) = words.moment(0) else {
+        return Err(Refusal::Usage);
+    };
+    let Some(child) = words.key(alloc, 1)? else {
+        return Err(Refusal::Usage);
+    };
+    Ok(Terms { when, child })
+}
+
+/// The octets that the lines spell; None where some line spells none.
+pub(crate) fn messages_in(
     alloc: Global,
     lines: Lines<'_>,
 ) -> Result<Option<Vec<Vec<u8>>>, OutOfMemory>
     ensures some { IfOk result (λ o. IfSome o (λ messages.
-        AreSpelled lines.entry (octets_of messages.items))) }
-    ensures none { IfOk result (λ o. IsNone o → AreNotSpelled lines.entry) }
+        AreSent lines.entry (map (λ m. m.items) messages.items))) }
+    ensures none { IfOk result (λ o. IsNone o → AreNotSent lines.entry) }
 {
     let mut messages = Vec::new(alloc);
     for line in lines {
@@ -68,7 +72,7 @@ fn blocks<N: Numbers>(alloc: Global, text: &str) -> Result<Blocks<N>, OutOfMemor
 
 // The child's resources.
 fn resources(alloc: Global) -> Result<ResourceSet, OutOfMemory>
-    ensures { IfOk result IsSet }
+    ensures { IfOk result IsFirstSet }
 {
     let asn: AsBlocks = blocks(alloc, "1-10")?;
     let ipv4: Ipv4Blocks = blocks(alloc, "10.0.0.0/8")?;
@@ -118,7 +122,7 @@ fn made_parent(
 
 /// The program's parent: it calls itself `Bob`, its child is `Carol` with this key, and it has one class, `0`, in which nothing was
 /// issued.
-pub(crate) fn parent_of(
+pub(crate) fn first_parent(
     alloc: Global,
     child_key: PublicKey,
     signing: &SigningCert,
