@@ -1,1 +1,5 @@
-pub mod Places
+pub mod Outcomes
+pub mod Revoked
+pub mod Causes
+pub mod Signed
+pub mod Sending

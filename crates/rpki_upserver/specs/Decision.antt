@@ -13,7 +13,7 @@ use Rattle.rpki_upserver.specs.declared.decision.Reason.{Reason}
 use Rattle.rpki_upserver.specs.declared.decision.Reason.TheVariants as reasons
 use Rattle.rpki_upserver.specs.Answering.{ParentAndIssuer}
 use Rattle.rpki_upserver.specs.Issuer.{IsIssued, IssuerState}
-use Rattle.rpki_upserver.specs.Response.{IsEmpty, IsProven, IsUsed, Outcome, Row, published, refusal, requested_key}
+use Rattle.rpki_upserver.specs.Response.{IsEmpty, IsProven, IsUsed, Outcome, Row, Unless, published, refusal, requested_key}
 use Rattle.rpki_upserver.specs.Table.{ClassState, Table, entitled, with_issued, with_table}
 
 -- the status of each reason (RFC 6492, 3.6)
@@ -78,6 +78,6 @@ abbrev pub IsFirstReason : Relation → Table → IssuanceRequestFields → Clas
     → Type 0
 IsFirstReason scheme table request c reason =
     Row (IsEmpty c.resource_set) (reason ≡ Some reasons.NoResources)
-    (Row (IsProven scheme request.csr → ⊥) (reason ≡ Some reasons.BadRequest)
+    (Unless (IsProven scheme request.csr) (reason ≡ Some reasons.BadRequest)
     (Row (IsUsed request.class_name (requested_key request) table) (reason ≡ Some reasons.UsedKey)
     (reason ≡ None)))

@@ -1,5 +1,5 @@
 -- What a parent answers to a message of its child, row by row (RFC 6492, 3.3 to 3.6).
-use Rattle.std.specs.Prelude.{◌≡◌, ◌≢◌, ◌⊎◌, ◌||◌, ℕ, Bool, true, Option, None, Some, List, [], ◌∷◌, map}
+use Rattle.std.specs.Prelude.{◌≡◌, ◌⊎◌, ◌||◌, ℕ, Bool, true, Option, None, Some, List, [], ◌∷◌, map}
 use Rattle.sha1.specs.Sha1.{sha1}
 use Rattle.rpki_common.specs.Causes.{Rose}
 use Rattle.rpki_base.specs.Scheme.{Relation}
@@ -24,9 +24,13 @@ pub record Outcome : Type 0 where
   pub before : IssuerState
   pub after : IssuerState
 
--- a row of a table: its condition holds, and this comes; or it doesn't, and the rows behind it decide
+-- a row of a table: where its condition holds this comes, and where it doesn't the rows behind it decide
 abbrev pub Row : Type 0 → Type 0 → Type 0 → Type 0
 Row condition here behind = (condition × here) ⊎ ((condition → ⊥) × behind)
+
+-- unless its condition holds this comes, and where it holds the rows behind it decide
+abbrev pub Unless : Type 0 → Type 0 → Type 0 → Type 0
+Unless condition here behind = (condition × behind) ⊎ ((condition → ⊥) × here)
 
 -- ---- what is answered
 
@@ -99,9 +103,9 @@ abbrev pub IsIssueAnswerIn : Relation → Table → IssuanceRequestFields → Cl
     → Type 0
 IsIssueAnswerIn scheme table request c o =
     Row (IsEmpty c.resource_set) (Refuses 1202 table o)
-    (Row (IsProven scheme request.csr → ⊥) (Refuses 1203 table o)
+    (Unless (IsProven scheme request.csr) (Refuses 1203 table o)
     (Row (IsUsed request.class_name (requested_key request) table) (Refuses 1204 table o)
-    (Row (IsContained request.limit c.resource_set → ⊥) (Refuses 1202 table o)
+    (Unless (IsContained request.limit c.resource_set) (Refuses 1202 table o)
     (Fails table o ⊎ Issues table c request o))))
 
 -- the same where there is such a class
@@ -121,7 +125,7 @@ pub record Revokes (table : Table) (request : KeyElementFields) (o : Outcome) : 
 abbrev pub IsRevokeAnswer : Table → KeyElementFields → Option ClassState → Outcome → Type 0
 IsRevokeAnswer table request None o = Refuses 1301 table o
 IsRevokeAnswer table request (Some c) o =
-    Row (is_issued_in request.key c ≢ true) (Refuses 1302 table o)
+    Unless (is_issued_in request.key c ≡ true) (Refuses 1302 table o)
     (Fails table o ⊎ Revokes table request o)
 
 -- ---- messages
@@ -143,5 +147,5 @@ pub record IsFromChild (p : ParentState) (m : MessageFields) : Type 0 where
 -- what comes of a message
 abbrev pub IsResponse : Relation → ParentState → MessageFields → Outcome → Type 0
 IsResponse scheme p m o =
-    Row (IsFromChild p m → ⊥) (Refuses 2001 p.table o)
+    Unless (IsFromChild p m) (Refuses 2001 p.table o)
     (IsPayloadAnswer scheme p.table m.payload o)
