@@ -1,5 +1,7 @@
 //! A parent of several classes, which goes on where a reply couldn't be made; and what its issuer did.
 
+ghost use Rattle.rpki_provisioning.specs.Writable.{IsCertificate};
+
 use crate::up::{Failing, first_issuer, first_signer, out_of_memory};
 use rpki_base::{PublicKey, Time};
 use rpki_ca::Words;
@@ -29,7 +31,9 @@ fn set_of(alloc: Global, asn: &str) -> io::Result<ResourceSet> {
     Ok(ResourceSet::new(asn, ipv4, ipv6))
 }
 
-fn class_of(alloc: Global, name: &str, asn: &str, signing: &SigningCert) -> io::Result<Class> {
+fn class_of(alloc: Global, name: &str, asn: &str, signing: &SigningCert) -> io::Result<Class>
+    requires { IsCertificate signing.now.cert }
+{
     let (Some(until), Ok(base), Ok(name), Ok(signing)) = (
         Time::new(2_524_607_999),
         Rsync::from_str(alloc, "rsync://localhost/repo/"),
@@ -46,7 +50,9 @@ fn class_of(alloc: Global, name: &str, asn: &str, signing: &SigningCert) -> io::
 }
 
 // A parent of the classes `0`, `1` and `2`: the last one is empty.
-fn parent_of(alloc: Global, key: PublicKey, signing: &SigningCert) -> io::Result<Parent> {
+fn parent_of(alloc: Global, key: PublicKey, signing: &SigningCert) -> io::Result<Parent>
+    requires { IsCertificate signing.now.cert }
+{
     let mut classes = Vec::new(alloc);
     for (name, asn) in [("0", "1-10"), ("1", "1-10"), ("2", "")] {
         let class = class_of(alloc, name, asn, signing)?;

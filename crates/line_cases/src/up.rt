@@ -1,5 +1,8 @@
 //! The parent's program, as `rpkiup` runs it, or with signers of which one call fails.
 
+ghost use Rattle.std.specs.Prelude.{IfOk};
+ghost use Rattle.rpki_provisioning.specs.Writable.{IsCertificate};
+
 use rpki_base::{PublicKeyFormat, Time, Validity};
 use rpki_ca::{Status, Words};
 use rpki_idcert::IdCert;
@@ -32,7 +35,9 @@ fn signer_of(alloc: Global, seed: u64, failing: Option<u64>) -> io::Result<ToySi
 }
 
 // The certificate of the issuer's key: its own, always valid.
-fn signing_cert(alloc: Global, signer: &mut ToySigner) -> io::Result<SigningCert> {
+fn signing_cert(alloc: Global, signer: &mut ToySigner) -> io::Result<SigningCert>
+    ensures { IfOk result (λ s. IsCertificate s.cert) }
+{
     let (Some(first), Some(last), Ok(url)) = (
         Time::new(0),
         Time::new(253_402_300_799),
@@ -88,7 +93,9 @@ pub fn first_signer(alloc: Global, failing: &Failing) -> io::Result<ToySigner> {
 }
 
 /// The issuer, and the certificate of its key.
-pub fn first_issuer(alloc: Global, failing: &Failing) -> io::Result<(ToyIssuer, SigningCert)> {
+pub fn first_issuer(alloc: Global, failing: &Failing) -> io::Result<(ToyIssuer, SigningCert)>
+    ensures { IfOk result (λ pair. IsCertificate pair.1.cert) }
+{
     let mut signer = signer_of(alloc, 3, failing.issuer)?;
     let signing = signing_cert(alloc, &mut signer)?;
     match Time::new(0) {

@@ -140,13 +140,13 @@ within_class scheme p m o made response adds =
       | inl left ↦ absurd (left_adds_nothing p.table o made left adds)
       | inr (inr revoked) ↦ absurd (revoked_adds_nothing p.table o made revoked adds)
       | inr (inl h) ↦ subst (λ (e : Made). IsEntitled p.table e) (sym (added_is p.table o made h adds)) (record {
-          c = h.c;
-          named = h.named;
-          within = record {
-            asn = within_kind h.request.limit.asn h.c.resource_set.asn h.contained.asn;
-            ipv4 = within_kind h.request.limit.ipv4 h.c.resource_set.ipv4 h.contained.ipv4;
-            ipv6 = within_kind h.request.limit.ipv6 h.c.resource_set.ipv6 h.contained.ipv6;
-          };
-          until = refl;
-        })
+        c = h.c;
+        named = h.named;
+        within = record {
+          asn = within_kind h.request.limit.asn h.c.resource_set.asn h.contained.asn;
+          ipv4 = within_kind h.request.limit.ipv4 h.c.resource_set.ipv4 h.contained.ipv4;
+          ipv6 = within_kind h.request.limit.ipv6 h.c.resource_set.ipv6 h.contained.ipv6;
+        };
+        until = refl;
+      })
     ]

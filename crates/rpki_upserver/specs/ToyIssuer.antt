@@ -6,7 +6,9 @@ use Rattle.rpki_base.specs.RpkiSignatureAlgorithm.{spelled_x509}
 use Rattle.rpki_base.specs.SignedData.{spelled_data}
 use Rattle.rpki_base.specs.PublicKey.{KeyFields}
 use Rattle.rpki_base.specs.declared.errors.ToyFault.{ToyFault}
-use Rattle.rpki_cert.specs.Cert.{CertFields}
+use Rattle.rpki_der.specs.declared.mode.Mode.TheVariants.{Der}
+use Rattle.rpki_der.specs.Takes.{BeginsAs}
+use Rattle.rpki_cert.specs.Cert.{CertFields, certificate}
 use Rattle.rpki_idcert.specs.IdCert.{CertificateFields}
 use Rattle.rpki_idcert.specs.Making.{IsEndEntityMade}
 use Rattle.rpki_sets.specs.Resources.{Resources}
@@ -64,14 +66,15 @@ after_fault i = record i { issuer = record i.issuer { faults = count_after i.iss
 pub record DidNothing (before after : ToyIssuerState) : Type 0 where
   pub is : after ≡ record before { signer = after.signer }
 
--- The certificate is the end entity certificate for the key of the request that its signer makes, valid until then; it is one in DER.
+-- The certificate is what the octets of the end entity certificate are read as that its signer makes for the key of the request, valid
+-- until then. It has that key, and is one in DER.
 pub record IsToyCertificate (csr : CaRequest) (not_after : ℤ) (before after : ToyIssuerState)
     (cert : CertFields) : Type 0 where
   pub made : CertificateFields
   pub is_made : IsEndEntityMade ToyChecks csr.tbs.key before.key
       (record { not_before = before.from; not_after = not_after })
       (state_of before.signer) (state_of after.signer) made
-  pub octets : cert.slice ≡ spelled_data spelled_x509 made.signed
+  pub decoded : BeginsAs (certificate Der) Der (spelled_data spelled_x509 made.signed) cert
   pub key : cert.key ≡ csr.tbs.key
   pub der : IsCertificate cert
   pub rest : DidNothing before after

@@ -1,8 +1,11 @@
 //! An issuer of the toy scheme.
 
 ghost use Rattle.std.specs.Prelude.{◌≡◌, map, IfErr, IfOk, MatchResult};
+ghost use Rattle.rpki_der.specs.declared.mode.Mode.TheVariants.{Der};
+ghost use Rattle.rpki_der.specs.Takes.{Decodes};
 ghost use Rattle.rpki_base.specs.RpkiSignatureAlgorithm.{spelled_x509};
 ghost use Rattle.rpki_base.specs.SignedData.{spelled_data};
+ghost use Rattle.rpki_cert.specs.Cert.{certificate};
 ghost use Rattle.rpki_provisioning.specs.Writable.{IsCertificate};
 ghost use Rattle.rpki_upserver.specs.Issuer.{IsIssued, IsRevoked, IssuerFails};
 ghost use Rattle.rpki_upserver.specs.ToyIssuer.{IsToyCertificate, IsToyIssue, IsToyRevocation, MakesNone};
@@ -12,7 +15,7 @@ ghost use Rattle.rpki_upserver.specs.declared.issuer.IssuerError.TheVariants as 
 use crate::issuer::{Issuer, IssuerError};
 use rpki_base::{KeyIdentifier, Time, Validity};
 use rpki_cert::{Cert, RpkiCaCsr};
-use rpki_common::OutOfMemory;
+use rpki_der::DecodeError;
 use rpki_idcert::IdCert;
 use rpki_sets::ResourceSet;
 use rpki_signer::{KeyError, MakeError, Signer, ToyScheme, ToySigner};
@@ -134,25 +137,26 @@ impl ToyIssuer {
             &self.key,
             &mut self.signer,
         ) {
-            Ok(cert) => Ok(resource_certificate(alloc, &cert)?),
+            Ok(cert) => match resource_certificate(alloc, &cert) {
+                Ok(cert) => Ok(cert),
+                // What is written of a certificate that was made is read as one.
+                Err(_) => Err(IssuerError::OutOfMemory),
+            },
             Err(MakeError::OutOfMemory) => Err(IssuerError::OutOfMemory),
             Err(_) => Err(self.fail()),
         }
     }
 }
 
-/// The same certificate as a resource certificate, of which an identity certificate has the outer form (RFC 5280, 4.1; RFC 6487, 4).
-pub fn resource_certificate(alloc: Global, cert: &IdCert) -> Result<Cert, OutOfMemory>
-    ensures octets { IfOk result (λ c. c.slice ≡ spelled_data spelled_x509 cert.now.signed) }
-    ensures key { IfOk result (λ c. c.key ≡ cert.now.tbs.key) }
+/// The resource certificate that the octets of an identity certificate are read as, of which it has the outer form (RFC 5280, 4.1;
+/// RFC 6487, 4).
+pub fn resource_certificate(alloc: Global, cert: &IdCert) -> Result<Cert, DecodeError>
+    ensures decoded { Decodes (certificate Der) (λ c. c) Der
+        (spelled_data spelled_x509 cert.now.signed) result }
     ensures der { IfOk result IsCertificate }
 {
     let octets = cert.to_bytes(alloc)?;
-    match Cert::decode(alloc, octets.as_slice()) {
-        Ok(cert) => Ok(cert),
-        // What is written of a certificate is one.
-        Err(_) => Err(OutOfMemory),
-    }
+    Cert::decode(alloc, octets.as_slice())
 }
 
 impl Issuer for ToyIssuer {

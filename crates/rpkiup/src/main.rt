@@ -1,6 +1,9 @@
 //! The program: its words, standard input and standard output are handed to `rpki_upserver::serve`, with toy signers and a toy issuer.
 #![tactic(auto)]
 
+ghost use Rattle.std.specs.Prelude.{IfOk};
+ghost use Rattle.rpki_provisioning.specs.Writable.{IsCertificate};
+
 use command_line::{Own, own_text, words_of, write_text};
 use rpki_base::{PublicKeyFormat, Time, Validity};
 use rpki_ca::{Refusal, Status, Words, refuse};
@@ -79,7 +82,9 @@ fn signer_of(alloc: Global, seed: u64) -> Result<(ToySigner, u64), Refusal> {
 }
 
 // The certificate of the key under which certificates are issued: its own, always valid.
-fn signing_cert(alloc: Global, signer: &mut ToySigner, key: u64) -> Result<SigningCert, Refusal> {
+fn signing_cert(alloc: Global, signer: &mut ToySigner, key: u64) -> Result<SigningCert, Refusal>
+    ensures { IfOk result (λ s. IsCertificate s.cert) }
+{
     let (Some(first), Some(last), Ok(url)) = (
         Time::new(0),
         Time::new(253_402_300_799),
@@ -91,11 +96,16 @@ fn signing_cert(alloc: Global, signer: &mut ToySigner, key: u64) -> Result<Signi
     let Ok(anchor) = IdCert::new_ta::<ToyScheme, ToySigner>(alloc, validity, &key, signer) else {
         return Err(Refusal::OutOfMemory);
     };
-    Ok(SigningCert::new(url, resource_certificate(alloc, &anchor)?))
+    match resource_certificate(alloc, &anchor) {
+        Ok(cert) => Ok(SigningCert::new(url, cert)),
+        Err(_) => Err(Refusal::OutOfMemory),
+    }
 }
 
 // The issuer, and the certificate of its key.
-fn issuer_of(alloc: Global) -> Result<(ToyIssuer, SigningCert), Refusal> {
+fn issuer_of(alloc: Global) -> Result<(ToyIssuer, SigningCert), Refusal>
+    ensures { IfOk result (λ pair. IsCertificate pair.1.cert) }
+{
     let (mut signer, key) = signer_of(alloc, 3)?;
     let signing = signing_cert(alloc, &mut signer, key)?;
     match Time::new(0) {
