@@ -1,5 +1,6 @@
 pub mod Outcomes
 pub mod Revoked
 pub mod Causes
+pub mod Told
 pub mod Signed
 pub mod Sending
