@@ -222,9 +222,3 @@ one_task words Explain Batch a b = absurd (differ (sym a ∙ b))
   where
     differ : task_word Explain ∷ [] ≡ task_word Batch ∷ [] → ⊥
     differ e = cc
-
-pub read_so : (scheme : Relation) (held task : Task) (rest : Option (List ℕ)) (octets input : List ℕ) (status : ℕ) (sink : Seen) → held ≡ task → input ≡ octets → IfSome rest (λ whole. (octets ≡ whole) × (length whole ≤ 2 ^ 26))
-    → EndsTask scheme held (lines_of input) status sink → IfSome rest (λ whole. (length whole ≤ 2 ^ 26) × EndsTask scheme task (lines_of whole) status sink)
-read_so scheme held task None octets input status sink same is read ends = tt
-read_so scheme held task (Some whole) octets input status sink same is read ends =
-    (read.1, subst (λ (t : Task). EndsTask scheme t (lines_of whole) status sink) same (subst (λ (l : List ℕ). EndsTask scheme held (lines_of l) status sink) (is ∙ read.0) ends))

@@ -16,6 +16,7 @@ use Rattle.rpki_ca.specs.declared.command.Command.{Command}
 use Rattle.rpki_ca.specs.declared.command.Command.TheVariants.{Content, Receive, Create, Setup, Make}
 use Rattle.rpki_ca.specs.declared.setup_message.SetupKind.{SetupKind}
 use Rattle.rpki_ca.specs.declared.setup_message.SetupKind.TheVariants as setup
+use Rattle.rpki_common.proofs.Truths.{same_some}
 use Rattle.rpki_ca.specs.Words.{IsMoment, IsMomentAt, IsNumber, IsNumberAt, key_of, key_at}
 use Rattle.rpki_ca.specs.Command.{setup_kind_word, setup_kind_of, setup_kind_at, IsSetup, IsMake, AreNoMake, ReadsInput}
 use Rattle.rpki_ca.specs.Command.{kind_word, kind_of, kind_at, verb_word, verb_of, verb_in, AreKeys, IsReceive, IsCreate, AreNoCreate, AsksSigner, AskToReceive, Ask, IsCommand, IsNoCommand, AskInVain, IsLimited}
@@ -468,13 +469,17 @@ made words count seed e l n m =
 
 -- ---- one command
 
-one_moment : (word : List ℕ) (a b : ℤ) → IsMoment word a → IsMoment word b → a ≡ b
+pub one_moment : (word : List ℕ) (a b : ℤ) → IsMoment word a → IsMoment word b → a ≡ b
 one_moment word (pos m) (pos n) p q =
     let low : m ≤ 253402300799 = p.1 in
     let high : n ≤ 253402300799 = q.1 in
     signed_decimal_injective (pos m) (pos n) (omega (arith, low)) (omega (arith, high)) (sym p.0 ∙ q.0)
 one_moment word (pos m) (negsuc n) p q = absurd q
 one_moment word (negsuc m) b p q = absurd p
+
+-- the word at a place is one moment
+pub one_moment_at : (words : List (List ℕ)) (index : ℕ) (one other : ℤ) → IsMomentAt words index one → IsMomentAt words index other → one ≡ other
+one_moment_at words index one other a b = one_moment b.word one other (subst (λ (w : List ℕ). IsMoment w one) (same_some a.word b.word (sym a.stands ∙ b.stands)) a.moment) b.moment
 
 one_receive : (words : List (List ℕ)) (a b : Kind) (s t : ℤ) (k l : List KeyFields) → IsReceive words a s k → IsReceive words b t l → Receive a s k ≡ Receive b t l
 one_receive words a b s t k l p q =

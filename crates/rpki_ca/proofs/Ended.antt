@@ -1,5 +1,5 @@
 -- How a program ends that reads its input whole, and answers line by line.
-use Rattle.std.proofs.Common.{◌≡◌, ◌⊎◌, ◌<◌, ◌≤◌, ◌^◌, ℕ, Option, Some, IfSome, Err, List, ◌++◌, length, inl, inr, refl, ap, subst, ◌∙◌, arith}
+use Rattle.std.proofs.Common.{◌≡◌, ◌⊎◌, ◌<◌, ◌≤◌, ◌^◌, ℕ, Option, None, Some, IfSome, Err, List, ◌++◌, length, inl, inr, refl, ap, subst, ◌∙◌, arith}
 use Rattle.rpki_ca.specs.Answer.{Ends, IsUnread}
 use Rattle.rpki_ca.specs.Lines.{EndsLines, EndsRun, EndsUnread, EndsWith, IsOutOfMemory, WroteAll, answer_lines}
 use Rattle.rpki_ca.specs.Refusal.{status_of}
@@ -97,3 +97,9 @@ pub on_input_or_12 : (ends_on : List ℕ → Type 0) (status : ℕ) (source sink
 on_input_or_12 ends_on status source sink input (inl unread) e le sound whole =
     inl (with_refusal unread.refusal status sink whole unread.ends ∙ ap status_of (memory_alone source input unread.refusal e le sound unread.unread))
 on_input_or_12 ends_on status source sink input (inr read) e le sound whole = inr (some_input source.before input (λ octets. (length octets ≤ 2 ^ 26) × ends_on octets) e read.ends).1
+
+-- ---- what is read is the input
+
+pub ends_read : (ends_on : List ℕ → Type 0) (rest : Option (List ℕ)) (octets input : List ℕ) → input ≡ octets → IfSome rest (λ whole. (octets ≡ whole) × (length whole ≤ 2 ^ 26)) → ends_on input → IfSome rest (λ whole. (length whole ≤ 2 ^ 26) × ends_on whole)
+ends_read ends_on None octets input is read ends = tt
+ends_read ends_on (Some whole) octets input is read ends = (read.1, subst ends_on (is ∙ read.0) ends)

@@ -1,6 +1,6 @@
 //! The command `create`.
 
-ghost use Rattle.std.specs.Prelude.{◌≢◌, ◌⊎◌, ◌<◌, ◌^◌, length, Err};
+ghost use Rattle.std.specs.Prelude.{◌≡◌, ◌≢◌, ◌⊎◌, ◌<◌, ◌^◌, length, Err};
 ghost use Rattle.std.specs.Prelude.{IfOk, IfErr, IsErrOf, MatchResult};
 ghost use Rattle.rpki_signer.specs.Limits.{Keeps};
 ghost use Rattle.rpki_sigmsg.specs.Making.{HasWindow, CreateFails};

@@ -1,12 +1,15 @@
 pub mod Live
+pub mod Placing
+pub mod Counting
+pub mod Listing
 pub mod Undoing
 pub mod Making
-pub mod Placing
+pub mod Ordered
+pub mod Lying
 pub mod Writable
 pub mod Asked
 pub mod Signed
 pub mod Replying
 pub mod Sending
-pub mod Lying
 pub mod Replied
 pub mod Ended

@@ -1,11 +1,10 @@
 -- The objects in places, where one is put, taken or asked for.
 use Rattle.std.proofs.Common.{◌≡◌, ◌||◌, ℕ, Bool, true, false, cond, Option, None, Some, List, [], ◌∷◌, refl, sym, ap, subst, ◌∙◌}
 use Rattle.std.specs.BTreeMap.{insert_entry}
-use Rattle.std.specs.Cmp.{IsTotalOrder}
 use Rattle.std.specs.Cmp.Lexicographic.{slice_cmp, nat_list_cmp_total}
 use Rattle.std.specs.List.{AllByRecursion, list_any}
 use Rattle.std.specs.List.Sorted.{IsStrictlySortedBy}
-use Rattle.std.specs.Map.{keys_of, lookup, remove_entry, set_value}
+use Rattle.std.specs.Map.{keys_of, lookup, remove_entry}
 use Rattle.std.specs.Ordering.{is_eq, match_ordering, nat_cmp, ordering_reverse}
 use Rattle.std.specs.declared.cmp.Ordering.{Ordering}
 use Rattle.std.specs.declared.cmp.Ordering.TheVariants.{Less, Equal, Greater}
@@ -17,7 +16,7 @@ use Rattle.rpki_publication.specs.declared.publish_delta_element.PublishDeltaEle
 use Rattle.rpki_publication.specs.declared.publish_delta_element.PublishDeltaElement.TheVariants as change
 use Rattle.rpki_pubserver.specs.Store.{Store, IsStore, octets_at, put, without}
 use Rattle.rpki_pubserver.specs.Changes.{changed, uri_of}
-use Rattle.rpki_pubserver.specs.Places.{HasPlace, Places, joined, live, object_of, with_object}
+use Rattle.rpki_pubserver.specs.Places.{HasPlace, Places, joined, live, object_of, with_object, with_octets}
 
 -- ---- texts in order
 
@@ -134,6 +133,12 @@ live_without uri ((key, Some octets) ∷ places) sorted =
       | false ↦ λ other. ap (λ (s : Store). (key, octets) ∷ s) (live_without uri places (sorted_tail _ key (keys_of places) sorted))
     ] refl
 
+-- ---- where one, or none, is put
+
+pub live_set : (uri : List ℕ) (places : Places) (object : Option (List ℕ)) → AreSorted places → HasPlace places uri → live (with_object places uri object) ≡ with_octets (live places) uri object
+live_set uri places None sorted has = live_without uri places sorted
+live_set uri places (Some octets) sorted has = live_put uri octets places sorted has
+
 -- ---- empty places
 
 -- where one that was empty is taken out
@@ -189,7 +194,7 @@ live_ordered ((key, Some octets) ∷ places) sorted = (behind_live key places so
 
 -- ---- by changes
 
-pub live_changed : (places : Places) (e : PublishDeltaElement) → AreSorted places → HasPlace places (uri_of e) → live (with_object places (uri_of e) (object_of e)) ≡ changed (live places) e
-live_changed places (change.Publish p) sorted has = live_put p.uri p.content places sorted has
-live_changed places (change.Update u) sorted has = live_put u.uri u.content places sorted has
-live_changed places (change.Withdraw w) sorted has = live_without w.uri places sorted
+pub octets_changed : (store : Store) (e : PublishDeltaElement) → with_octets store (uri_of e) (object_of e) ≡ changed store e
+octets_changed store (change.Publish p) = refl
+octets_changed store (change.Update u) = refl
+octets_changed store (change.Withdraw w) = refl

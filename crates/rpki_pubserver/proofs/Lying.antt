@@ -1,21 +1,19 @@
 -- Objects under a base, and the list of them.
-use Rattle.std.proofs.Common.{◌≡◌, ℕ, Bool, true, false, cond, if◌then◌else◌, Option, None, Some, Result, Ok, Err, List, [], ◌∷◌, map, nat_eq, refl, sym, ap, subst, ◌∙◌}
-use Rattle.std.specs.BTreeMap.{insert_entry}
+use Rattle.std.proofs.Common.{◌≡◌, ℕ, Bool, true, false, cond, if◌then◌else◌, None, Some, Result, Ok, List, [], ◌∷◌, map, nat_eq, refl, ap, ◌∙◌}
 use Rattle.std.specs.Cmp.Lexicographic.{slice_cmp}
 use Rattle.std.specs.List.{starts_with}
-use Rattle.std.specs.Map.{remove_entry}
 use Rattle.std.specs.Ordering.{match_ordering, nat_cmp}
 use Rattle.std.specs.declared.cmp.Ordering.{Ordering}
 use Rattle.std.specs.declared.cmp.Ordering.TheVariants.{Less, Equal, Greater}
 use Rattle.std.specs.Str.{bytes_eq}
 use Rattle.std.proofs.lemmas.Slice.Eq.{bytes_eq-Decides}
+use Rattle.hex.specs.Hex.{encode_lower}
 use Rattle.sha2.specs.Sha256.{sha256}
 use Rattle.rpki_publication.specs.declared.publish_delta_element.PublishDeltaElement.{PublishDeltaElement}
 use Rattle.rpki_publication.specs.declared.publish_delta_element.PublishDeltaElement.TheVariants as change
-use Rattle.rpki_publication.specs.declared.report_error_code.ReportErrorCode.{ReportErrorCode}
 use Rattle.rpki_publication.specs.declared.report_error_code.ReportErrorCode.TheVariants as code
 use Rattle.rpki_publication.specs.ListReply.{withdrawal_of}
-use Rattle.rpki_pubserver.specs.Changes.{Refused, after_all, changed, code_at, code_by_hash, code_of, refused_or, uri_of}
+use Rattle.rpki_pubserver.specs.Changes.{Refused, after_all, after_element, changed, code_at, code_of, uri_of}
 use Rattle.rpki_pubserver.specs.Store.{LieUnder, Store, listed, octets_at, put, without}
 
 -- ---- one change
@@ -53,22 +51,19 @@ under_made base store e none = by (starts_with nat_eq (uri_of e) base) none
     by true n = refl
     by false n = cc
 
--- ---- all changes
-
-pub lie_all : (base : List ℕ) (store : Store) (elements : List PublishDeltaElement) (next : Store) → after_all base (Ok store) elements ≡ Ok next → LieUnder base store → LieUnder base next
-lie_all base store [] next made lie = let same : store ≡ next = cc in subst (λ (s : Store). LieUnder base s) same lie
-lie_all base store (e ∷ more) next made lie = by (code_of base store e) refl (λ h. lie_all base (changed store e) more next h) made
-  where
-    by : (o : Option ReportErrorCode) → code_of base store e ≡ o → (after_all base (Ok (changed store e)) more ≡ Ok next → LieUnder base (changed store e) → LieUnder base next)
-        → after_all base (refused_or e (changed store e) o) more ≡ Ok next → LieUnder base next
-    by None none rest made = rest made (lie_changed base store e (under_made base store e none) lie)
-    by (Some c) some rest made = cc
+pub lie_made : (base : List ℕ) (store : Store) (e : PublishDeltaElement) → code_of base store e ≡ None → LieUnder base store → LieUnder base (changed store e)
+lie_made base store e none lie = lie_changed base store e (under_made base store e none) lie
 
 -- ---- the list
 
 same_text : (text : List ℕ) → bytes_eq text text ≡ true
 same_text text = (bytes_eq-Decides text text).1 refl
 
+-- a withdraw of the first object is made
+first_taken : (base uri octets : List ℕ) (store : Store) → IsUnder base uri → after_element base ((uri, octets) ∷ store) (change.Withdraw (record { tag = Some (encode_lower (sha256 octets)); uri = uri; hash = sha256 octets })) ≡ Ok store
+first_taken base uri octets store under = rw under (rw (same_text uri) (rw (same_text (sha256 octets)) refl))
+
 pub none_left : (base : List ℕ) (store : Store) → LieUnder base store → after_all base (Ok store) (map (λ e. change.Withdraw (withdrawal_of e)) (listed store)) ≡ Ok []
 none_left base [] lie = refl
-none_left base (pair ∷ store) lie = rw lie.0 (rw (same_text pair.0) (rw (same_text (sha256 pair.1)) (rw (same_text pair.0) (none_left base store lie.1))))
+none_left base (pair ∷ store) lie =
+    ap (λ (r : Result Store Refused). after_all base r (map (λ e. change.Withdraw (withdrawal_of e)) (listed store))) (first_taken base pair.0 pair.1 store lie.0) ∙ none_left base store lie.1

@@ -1,5 +1,5 @@
 -- Places by their texts, and by the keys of a map.
-use Rattle.std.proofs.Common.{◌≡◌, ◌||◌, ℕ, Bool, true, false, cond, Option, None, Some, List, [], ◌∷◌, map, refl, sym, ap, subst, ◌∙◌}
+use Rattle.std.proofs.Common.{◌≡◌, ◌||◌, ℕ, Bool, true, false, cond, Option, None, Some, is_some, List, [], ◌∷◌, refl, sym, ap, subst, ◌∙◌}
 use Rattle.std.specs.Prelude.{string_bytes, String}
 use Rattle.std.specs.BTreeMap.{insert_entry, is_at}
 use Rattle.std.specs.Cmp.Lexicographic.{slice_cmp}
@@ -13,7 +13,7 @@ use Rattle.std.specs.String.{string_cmp}
 use Rattle.std.specs.Str.{bytes_eq}
 use Rattle.std.proofs.lemmas.Map.Text.{is_eq-slice_cmp}
 use Rattle.std.proofs.lemmas.Slice.Eq.{bytes_eq-Decides}
-use Rattle.rpki_pubserver.specs.Places.{HasPlace, Places, joined, placed}
+use Rattle.rpki_pubserver.specs.Places.{HasPlace, Places, placed}
 
 module _ {Z : Type 0} where
   -- the test by which the map looks a text up
@@ -61,26 +61,21 @@ module _ {Z : Type 0} where
   placed_ordered [] sorted = tt
   placed_ordered (e ∷ entries) sorted = (behind_placed e.0 entries sorted.0, placed_ordered entries sorted.1)
 
+  pub placed_sorted : (entries : List (String Z × Option (List ℕ))) (places : Places) → placed entries ≡ places → IsStrictlySortedBy string_cmp (keys_of entries) → IsStrictlySortedBy (slice_cmp nat_cmp) (keys_of places)
+  placed_sorted entries places is sorted = subst (λ (p : Places). IsStrictlySortedBy (slice_cmp nat_cmp) (keys_of p)) is (placed_ordered entries sorted)
+
 -- ---- whether there is a place
 
-pub place_found : (uri : List ℕ) (places : Places) (there : Option (List ℕ)) → lookup (bytes_eq uri) places ≡ Some there → HasPlace places uri
-place_found uri [] there e = cc
-place_found uri ((key, o) ∷ places) there e = by (bytes_eq uri key) (place_found uri places there) e
+pub some_found : (uri : List ℕ) (places : Places) → is_some (lookup (bytes_eq uri) places) ≡ list_any (bytes_eq uri) (keys_of places)
+some_found uri [] = refl
+some_found uri ((key, o) ∷ places) = by (bytes_eq uri key) (some_found uri places)
   where
-    by : (b : Bool) → (lookup (bytes_eq uri) places ≡ Some there → HasPlace places uri) → cond b (Some o) (lookup (bytes_eq uri) places) ≡ Some there → (b || list_any (bytes_eq uri) (keys_of places)) ≡ true
-    by true more e = refl
-    by false more e = more e
-
-pub no_place_found : (uri : List ℕ) (places : Places) → lookup (bytes_eq uri) places ≡ None → list_any (bytes_eq uri) (keys_of places) ≡ false
-no_place_found uri [] e = refl
-no_place_found uri ((key, o) ∷ places) e = by (bytes_eq uri key) (no_place_found uri places) e
-  where
-    by : (b : Bool) → (lookup (bytes_eq uri) places ≡ None → list_any (bytes_eq uri) (keys_of places) ≡ false) → cond b (Some o) (lookup (bytes_eq uri) places) ≡ None → (b || list_any (bytes_eq uri) (keys_of places)) ≡ false
-    by true more e = cc
-    by false more e = more e
+    by : (b : Bool) → is_some (lookup (bytes_eq uri) places) ≡ list_any (bytes_eq uri) (keys_of places) → is_some (cond b (Some o) (lookup (bytes_eq uri) places)) ≡ (b || list_any (bytes_eq uri) (keys_of places))
+    by true more = refl
+    by false more = more
 
 pub not_nowhere : (uri : List ℕ) (places : Places) → HasPlace places uri → lookup (bytes_eq uri) places ≡ None → ⊥
-not_nowhere uri places has none = let no = no_place_found uri places none in cc
+not_nowhere uri places has none = let no : false ≡ true = ap is_some (sym none) ∙ some_found uri places ∙ has in cc
 
 -- ---- a new place
 

@@ -1,7 +1,7 @@
 -- Changes that are undone.
-use Rattle.std.proofs.Common.{◌≡◌, ◌≢◌, ◌+◌, ◌<◌, ◌≤◌, ◌||◌, ℕ, zero, suc, Bool, true, false, Option, None, Some, List, [], ◌∷◌, ◌++◌, length, get_or, set, take, refl, sym, ap, subst, ◌∙◌, arith}
-use Rattle.std.specs.List.{AllByRecursion, list_any}
-use Rattle.std.specs.Map.{keys_of, lookup, set_value}
+use Rattle.std.proofs.Common.{◌≡◌, ◌+◌, ◌<◌, ◌≤◌, ℕ, zero, suc, Bool, true, false, Option, None, Some, List, [], ◌∷◌, ◌++◌, length, get_or, map, set, take, refl, sym, ap, subst, ◌∙◌, arith}
+use Rattle.std.specs.List.{list_any}
+use Rattle.std.specs.Map.{keys_of, lookup}
 use Rattle.std.specs.Str.{bytes_eq}
 use Rattle.std.proofs.lemmas.List.{get_or-set_same, length-set, length-take-le}
 use Rattle.std.proofs.lemmas.Map.{keys-set_value}
@@ -10,6 +10,27 @@ use Rattle.rpki_publication.specs.declared.publish_delta_element.PublishDeltaEle
 use Rattle.rpki_ca.proofs.Stepping.{take_more}
 use Rattle.rpki_pubserver.specs.Changes.{uri_of}
 use Rattle.rpki_pubserver.specs.Places.{HasPlace, HavePlaces, Places, undone, with_object}
+
+-- ---- elements of lists
+
+pub get_any : {X : Type 0} (xs : List X) (i : ℕ) (d e : X) → i < length xs → get_or xs i d ≡ get_or xs i e
+get_any [] i d e lt = absurd (omega (arith, lt))
+get_any (x ∷ xs) zero d e lt = refl
+get_any (x ∷ xs) (suc i) d e lt = get_any xs i d e (omega (arith, lt))
+
+pub get_behind : {X : Type 0} (xs : List X) (i k : ℕ) (x d : X) → i < k → get_or (set xs i x) k d ≡ get_or xs k d
+get_behind [] i k x d lt = refl
+get_behind (y ∷ xs) zero zero x d lt = absurd (omega (arith, lt))
+get_behind (y ∷ xs) zero (suc k) x d lt = refl
+get_behind (y ∷ xs) (suc i) zero x d lt = absurd (omega (arith, lt))
+get_behind (y ∷ xs) (suc i) (suc k) x d lt = get_behind xs i k x d (omega (arith, lt))
+
+pub get_mapped : {X Y : Type 0} (f : X → Y) (xs : List X) (i : ℕ) (x : X) (d : Y) → i < length xs → x ≡ get_or xs i x → get_or (map f xs) i d ≡ f x
+get_mapped f [] i x d lt at = absurd (omega (arith, lt))
+get_mapped f (y ∷ xs) zero x d lt at = ap f (sym at)
+get_mapped f (y ∷ xs) (suc i) x d lt at = get_mapped f xs i x d (omega (arith, lt)) at
+
+-- ---- one place
 
 -- a place that is put twice has the second object
 pub put_twice : (uri : List ℕ) (places : Places) (one other : Option (List ℕ)) → with_object (with_object places uri one) uri other ≡ with_object places uri other
@@ -35,6 +56,10 @@ has_still old new uri same has = ap (λ (ks : List (List ℕ)). list_any (bytes_
 pub have_still : (old new : Places) (changes : List PublishDeltaElement) → keys_of new ≡ keys_of old → HavePlaces old changes → HavePlaces new changes
 have_still old new [] same have = tt
 have_still old new (e ∷ changes) same have = (has_still old new (uri_of e) same have.0, have_still old new changes same have.1)
+
+pub have_more : (old new : Places) (changes : List PublishDeltaElement) → ((other : List ℕ) → HasPlace old other → HasPlace new other) → HavePlaces old changes → HavePlaces new changes
+have_more old new [] still have = tt
+have_more old new (e ∷ changes) still have = (still (uri_of e) have.0, have_more old new changes still have.1)
 
 pub place_at : (places : Places) (changes : List PublishDeltaElement) (i : ℕ) (e : PublishDeltaElement) → HavePlaces places changes → i < length changes → e ≡ get_or changes i e → HasPlace places (uri_of e)
 place_at places [] i e have lt at = absurd (omega (arith, lt))

@@ -1,10 +1,10 @@
 -- Replies can be written so that they are read again.
-use Rattle.std.proofs.Common.{◌≡◌, ◌≢◌, ℕ, Option, None, Some, IfSome, List, [], ◌∷◌, refl}
-use Rattle.std.specs.List.{AllByRecursion}
+use Rattle.std.proofs.Common.{◌≡◌, ◌≢◌, IfSome, Result, Ok, Err, IfOk, [], ◌∷◌, sym, subst}
 use Rattle.rpki_xml.specs.Lettered.{AreOctets}
 use Rattle.rpki_publication.specs.declared.publish_delta_element.PublishDeltaElement.{PublishDeltaElement}
 use Rattle.rpki_publication.specs.declared.publish_delta_element.PublishDeltaElement.TheVariants as change
 use Rattle.rpki_publication.specs.declared.report_error_code.ReportErrorCode.{ReportErrorCode}
+use Rattle.rpki_publication.specs.declared.message.Message.{Message}
 use Rattle.rpki_publication.specs.Change.{IsWritableChange}
 use Rattle.rpki_publication.specs.Message.{IsWritable}
 use Rattle.rpki_publication.specs.ReportError.{ReportErrorFields, IsWritableError}
@@ -28,3 +28,7 @@ tag_octets (change.Withdraw w) h = h.tag
 
 pub error_writable : (r : Refused) → IsWritableChange r.element → IsWritable (error_of r)
 error_writable r h = one_error _ (record { tag = tag_octets r.element h; error_text = default_octets r.code; trimmed = default_trimmed r.code; failed_pdu = h })
+
+pub ok_writable : {E : Type 0} (r : Result Message E) (m : Message) → IfOk r (λ x. x ≡ m) → IsWritable m → IfOk r IsWritable
+ok_writable (Ok x) m is writable = subst IsWritable (sym is) writable
+ok_writable (Err e) m is writable = tt

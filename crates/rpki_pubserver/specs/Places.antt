@@ -6,7 +6,7 @@ use Rattle.std.specs.Str.{bytes_eq}
 use Rattle.rpki_publication.specs.declared.publish_delta_element.PublishDeltaElement.{PublishDeltaElement}
 use Rattle.rpki_publication.specs.declared.publish_delta_element.PublishDeltaElement.TheVariants as change
 use Rattle.rpki_pubserver.specs.Changes.{uri_of}
-use Rattle.rpki_pubserver.specs.Store.{Store}
+use Rattle.rpki_pubserver.specs.Store.{Store, put, without}
 
 -- pairs of the text of a URI and what is there
 abbrev pub Places : Type 0
@@ -34,6 +34,11 @@ HasPlace places uri = list_any (bytes_eq uri) (keys_of places) ≡ true
 -- the places where an object, or none, is put at a URI for which there is one
 abbrev pub with_object : Places → List ℕ → Option (List ℕ) → Places
 with_object places uri object = set_value (bytes_eq uri) places object
+
+-- the objects where one, or none, is put at a URI
+abbrev pub with_octets : Store → List ℕ → Option (List ℕ) → Store
+with_octets store uri None = without store uri
+with_octets store uri (Some octets) = put store uri octets
 
 -- ---- by changes
 

@@ -13,7 +13,7 @@ ghost use Rattle.rpki_pubserver.specs.Ends.{CanServe, EndsForCause, RepliesAll};
 ghost use Rattle.rpki_pubserver.specs.Replies.{Reply};
 ghost use Rattle.rpki_pubserver.specs.Running.{EndsServed};
 ghost use Rattle.rpki_pubserver.specs.Server.{IsReply, ServerFields};
-ghost use Rattle.rpki_pubserver.specs.Store.{LieUnder, Store, listed};
+ghost use Rattle.rpki_pubserver.specs.Store.{IsStore, LieUnder, Store, listed};
 
 use rpki_base::Scheme;
 use rpki_signer::Signer;
@@ -32,6 +32,12 @@ pub fn objects_lie_under_the_base<P: Scheme>()
     ensures { (server : ServerFields) (octets : List ℕ) (when : ℤ) (reply : Reply) →
         IsReply P.checks server octets when reply → LieUnder server.base server.store →
         LieUnder server.base reply.next }
+{}
+
+/// Where the objects ascend by their URIs, which then are distinct, they still do behind each reply.
+pub fn objects_stay_in_order<P: Scheme>()
+    ensures { (server : ServerFields) (octets : List ℕ) (when : ℤ) (reply : Reply) →
+        IsReply P.checks server octets when reply → IsStore server.store → IsStore reply.next }
 {}
 
 /// The changes that withdraw each listed object are all made, and leave none.

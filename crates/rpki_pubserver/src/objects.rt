@@ -6,7 +6,7 @@ ghost use Rattle.std.specs.List.{AllByRecursion};
 ghost use Rattle.std.specs.Map.{lookup};
 ghost use Rattle.std.specs.Str.{bytes_eq};
 ghost use Rattle.rpki_publication.specs.ListReply.{IsWritableListElement};
-ghost use Rattle.rpki_pubserver.specs.Places.{HasPlace, live, with_object};
+ghost use Rattle.rpki_pubserver.specs.Places.{HasPlace, live, with_object, with_octets};
 ghost use Rattle.rpki_pubserver.specs.Store.{listed, octets_at};
 
 use crate::object::Object;
@@ -52,10 +52,7 @@ impl Objects {
     pub(crate) fn get(&self, uri: &str) -> Option<&Object>
         ensures { option_map (λ o. o.now) result ≡ octets_at (live self.now) uri.now }
     {
-        match self.places.get(uri) {
-            Some(Some(object)) => Some(object),
-            _ => None,
-        }
+        self.places.get(uri)?.as_ref()
     }
 
     /// How many objects there are.
@@ -63,7 +60,7 @@ impl Objects {
         ensures { result ≡ length (live self.now) }
     {
         let mut number = 0;
-        for (_, place) in &self.places {
+        for place in self.places.values() {
             if place.is_some() {
                 number += 1;
             }
@@ -107,6 +104,7 @@ impl Objects {
     pub(crate) fn exchange(&mut self, uri: &str, object: &mut Option<Object>)
         requires { HasPlace self.old uri.now }
         ensures put { self.new ≡ with_object self.old uri.now object.old }
+        ensures live { live self.new ≡ with_octets (live self.old) uri.now object.old }
         ensures taken { Some object.new ≡ lookup (bytes_eq uri.now) self.old }
     {
         if let Some(place) = self.places.get_mut(uri) {

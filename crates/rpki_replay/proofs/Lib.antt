@@ -5,6 +5,5 @@ pub mod Texts
 pub mod Lines
 pub mod Sending
 pub mod Judging
-pub mod Moments
 pub mod Rising
 pub mod Ended

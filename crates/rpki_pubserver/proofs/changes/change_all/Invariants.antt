@@ -5,8 +5,8 @@ use Rattle.rpki_pubserver.specs.Places.{live, object_of, undone}
 use Rattle.rpki_pubserver.proofs.changes.change_all.Given as goal
 
 -- the first changes are made; undone they give back what was there; and what the others put at their URIs is still to come
-abbrev pub invariant-loop-making : goal.invariant-loop-making
-invariant-loop-making l = record {
+abbrev pub invariant-making : goal.invariant-making
+invariant-making l = record {
   within : l.place ≤ length l.changes;
   size : length l.next ≡ length l.changes;
   rest : (k : ℕ) → l.place ≤ k → get_or l.next k None ≡ get_or (map object_of l.changes) k None;
@@ -15,5 +15,5 @@ invariant-loop-making l = record {
   keys : keys_of l.objects ≡ keys_of l.initial.objects;
 }
 
-abbrev pub decreases-loop-making : goal.decreases-loop-making
-decreases-loop-making l = length l.changes - l.place
+abbrev pub decreases-making : goal.decreases-making
+decreases-making l = length l.changes - l.place

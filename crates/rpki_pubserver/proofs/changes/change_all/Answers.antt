@@ -1,0 +1,50 @@
+use Rattle.std.proofs.Common.{◌≡◌, ◌∙◌, None, Some, Ok, Option, ap, arith, get_or, refl, sym, ℕ, List}
+use Rattle.std.specs.Map.{keys_of, lookup}
+use Rattle.std.specs.Str.{bytes_eq}
+use Rattle.std.proofs.lemmas.List.{length-set}
+use Rattle.std.proofs.lemmas.Option.{slice_get-get_or}
+use Rattle.rpki_pubserver.specs.Changes.{changed, uri_of}
+use Rattle.rpki_pubserver.specs.Places.{Places, live, object_of, with_object, with_octets}
+use Rattle.rpki_pubserver.proofs.Live.{octets_changed}
+use Rattle.rpki_pubserver.proofs.Making.{one_made, one_refused}
+use Rattle.rpki_pubserver.proofs.Undoing.{get_any, get_behind, get_mapped, have_still, same_keys, undone_made}
+use Rattle.rpki_pubserver.proofs.changes.change_all.Goals as goal
+
+pub returns-in-Some-clause-refused : goal.returns-in-Some-clause-refused
+returns-in-Some-clause-refused c =
+    let e = c.index-changes-place.result in
+    record {
+      element = e;
+      stands = slice_get-get_or c.args.changes.now c.making.place e c.making-test.true ∙ ap Some (sym c.index-changes-place.is);
+      first = one_refused c.args.base.now (Ok (live c.args.objects.now)) c.args.changes.now c.making.place e (live c.making.objects) c.in-Some.code c.making-test.true c.index-changes-place.is c.making.invariant.made c.in-Some.ensures;
+    }
+
+pub making-preserved : goal.making-preserved
+making-preserved c =
+    let i : ℕ = c.making.place in
+    let so_far = c.making.invariant in
+    let size = so_far.size in
+    let lt = c.making-test.true in
+    let e = c.index-changes-place.result in
+    let uri : c.as_str.result.now ≡ uri_of e = c.as_str.ensures.text ∙ c.uri_of.ensures in
+    let object : get_or c.making.next i c.index-next-place.result ≡ object_of e =
+    get_any c.making.next i c.index-next-place.result None (omega (arith, lt, size)) ∙ so_far.rest i (omega arith) ∙ get_mapped object_of c.args.changes.now i e None lt c.index-changes-place.is in
+    let put : c.exchange.new.self ≡ with_object c.making.objects (uri_of e) (object_of e) =
+    c.exchange.ensures.put ∙ ap (λ (u : List ℕ). with_object c.making.objects u (get_or c.making.next i c.index-next-place.result)) uri ∙ ap (λ (o : Option (List ℕ)). with_object c.making.objects (uri_of e) o) object in
+    let next : live c.exchange.new.self ≡ changed (live c.making.objects) e =
+    c.exchange.ensures.live
+    ∙ ap (λ (u : List ℕ). with_octets (live c.making.objects) u (get_or c.making.next i c.index-next-place.result)) uri
+    ∙ ap (λ (o : Option (List ℕ)). with_octets (live c.making.objects) (uri_of e) o) object
+    ∙ octets_changed (live c.making.objects) e in
+    let was : Some c.exchange.new.object ≡ lookup (bytes_eq (uri_of e)) c.making.objects = c.exchange.ensures.taken ∙ ap (λ (u : List ℕ). lookup (bytes_eq u) c.making.objects) uri in
+    record {
+      within = omega (arith, lt);
+      size = length-set c.making.next i c.exchange.new.object ∙ size;
+      rest = λ k le. get_behind c.making.next i k c.exchange.new.object None (omega (arith, le)) ∙ so_far.rest k (omega (arith, le));
+      made = one_made c.args.base.now (Ok (live c.args.objects.now)) c.args.changes.now i e (live c.making.objects) (live c.exchange.new.self) lt c.index-changes-place.is so_far.made (sym c.in_default.is ∙ c.code_of.ensures) next;
+      back = undone_made c.args.changes.now i e c.making.next _ c.args.objects.now c.making.objects c.exchange.new.self (object_of e) c.exchange.new.object lt c.index-changes-place.is size so_far.back put was refl;
+      keys = ap (λ (p : Places). keys_of p) put ∙ same_keys (uri_of e) c.making.objects (object_of e) ∙ so_far.keys;
+    }
+
+pub returns-clause-places : goal.returns-clause-places
+returns-clause-places c = have_still c.args.objects.now c.making.objects c.args.changes.now c.making.invariant.keys c.requires.places
