@@ -4,3 +4,5 @@ pub mod Causes
 pub mod Told
 pub mod Signed
 pub mod Sending
+pub mod Ended
+pub mod Answering

@@ -1,5 +1,5 @@
 -- Keys that were revoked.
-use Rattle.std.proofs.Common.{◌≡◌, ◌≢◌, ◌||◌, ◌⊎◌, ◌×◌, ℕ, Bool, true, false, if◌then◌else◌, Option, None, Some, List, [], ◌∷◌, ◌++◌, inl, inr, refl, sym, ap, subst, ◌∙◌}
+use Rattle.std.proofs.Common.{◌≡◌, ◌≢◌, ◌||◌, ◌⊎◌, ℕ, Bool, true, false, if◌then◌else◌, Option, None, Some, List, [], ◌∷◌, ◌++◌, inl, inr, refl, sym, ap, subst, ◌∙◌}
 use Rattle.std.specs.List.{list_any}
 use Rattle.std.specs.Str.{bytes_eq}
 use Rattle.std.proofs.lemmas.Slice.Eq.{bytes_eq-Decides}
@@ -62,11 +62,12 @@ changed_keeps name key f (c ∷ more) keeps h =
 
 changed_revokes : (name key : List ℕ) (table : Table) (c : ClassState) → class_named name table ≡ Some c → is_revoked key (change name (with_revoked key) table) ≡ true
 changed_revokes name key [] c named = cc
-changed_revokes name key (d ∷ more) c named = one (is_named name d) named
+changed_revokes name key (d ∷ more) c named = one (is_named name d) named (changed_revokes name key more c)
   where
-    one : (t : Bool) → (if t then Some d else class_named name more) ≡ Some c → list_any (is_revoked_in key) ((if t then with_revoked key d else d) ∷ change name (with_revoked key) more) ≡ true
-    one true h = or_first _ _ (now_revoked key d)
-    one false h = or_second _ _ (changed_revokes name key more c h)
+    one : (t : Bool) → (if t then Some d else class_named name more) ≡ Some c → (class_named name more ≡ Some c → is_revoked key (change name (with_revoked key) more) ≡ true)
+        → list_any (is_revoked_in key) ((if t then with_revoked key d else d) ∷ change name (with_revoked key) more) ≡ true
+    one true h rest = or_first _ _ (now_revoked key d)
+    one false h rest = or_second _ _ (rest h)
 
 -- ---- by a message
 

@@ -1,5 +1,5 @@
 -- What a parent tells of a class, by what was replied.
-use Rattle.std.proofs.Common.{◌≡◌, ◌&&◌, ◌||◌, ◌×◌, ℕ, Bool, true, false, if◌then◌else◌, Option, None, Some, List, [], ◌∷◌, inl, inr, refl, sym, ap, subst, ◌∙◌}
+use Rattle.std.proofs.Common.{◌≡◌, ◌&&◌, ◌||◌, ℕ, Bool, true, false, if◌then◌else◌, Option, None, Some, List, [], ◌∷◌, inl, inr, refl, sym, ap, subst, ◌∙◌}
 use Rattle.std.specs.Prelude.{find}
 use Rattle.std.specs.List.{AllByRecursion, list_any}
 use Rattle.std.specs.Str.{bytes_eq}
@@ -101,14 +101,14 @@ find_without (held ∷ more) key other once =
 
 none_put : (certs : List IssuedFields) (issued : IssuedFields) (k : List ℕ) → has_key k issued ≡ false → list_any (has_key k) certs ≡ false → list_any (has_key k) (put certs issued) ≡ false
 none_put [] issued k h none = or_none (has_key k issued) false h refl
-none_put (held ∷ more) issued k h none = one (has_key (key_of issued) held)
+none_put (held ∷ more) issued k h none = one (has_key (key_of issued) held) (none_put more issued k h two.1)
   where
     two : (has_key k held ≡ false) × (list_any (has_key k) more ≡ false)
     two = neither (has_key k held) (list_any (has_key k) more) none
 
-    one : (t : Bool) → list_any (has_key k) (if t then issued ∷ more else held ∷ put more issued) ≡ false
-    one true = or_none (has_key k issued) (list_any (has_key k) more) h two.1
-    one false = or_none (has_key k held) (list_any (has_key k) (put more issued)) two.0 (none_put more issued k h two.1)
+    one : (t : Bool) → list_any (has_key k) (put more issued) ≡ false → list_any (has_key k) (if t then issued ∷ more else held ∷ put more issued) ≡ false
+    one true rest = or_none (has_key k issued) (list_any (has_key k) more) h two.1
+    one false rest = or_none (has_key k held) (list_any (has_key k) (put more issued)) two.0 rest
 
 once_put : (certs : List IssuedFields) (issued : IssuedFields) → AreOnce certs → AreOnce (put certs issued)
 once_put [] issued once = (refl, tt)
@@ -120,22 +120,22 @@ once_put (held ∷ more) issued once =
 
 none_without : (certs : List IssuedFields) (key k : List ℕ) → list_any (has_key k) certs ≡ false → list_any (has_key k) (without certs key) ≡ false
 none_without [] key k none = refl
-none_without (held ∷ more) key k none = one (has_key key held)
+none_without (held ∷ more) key k none = one (has_key key held) (none_without more key k two.1)
   where
     two : (has_key k held ≡ false) × (list_any (has_key k) more ≡ false)
     two = neither (has_key k held) (list_any (has_key k) more) none
 
-    one : (t : Bool) → list_any (has_key k) (if t then more else held ∷ without more key) ≡ false
-    one true = two.1
-    one false = or_none (has_key k held) (list_any (has_key k) (without more key)) two.0 (none_without more key k two.1)
+    one : (t : Bool) → list_any (has_key k) (without more key) ≡ false → list_any (has_key k) (if t then more else held ∷ without more key) ≡ false
+    one true rest = two.1
+    one false rest = or_none (has_key k held) (list_any (has_key k) (without more key)) two.0 rest
 
 once_without : (certs : List IssuedFields) (key : List ℕ) → AreOnce certs → AreOnce (without certs key)
 once_without [] key once = tt
-once_without (held ∷ more) key once = one (has_key key held)
+once_without (held ∷ more) key once = one (has_key key held) (once_without more key once.1)
   where
-    one : (t : Bool) → AreOnce (if t then more else held ∷ without more key)
-    one true = once.1
-    one false = (none_without more key (key_of held) once.0, once_without more key once.1)
+    one : (t : Bool) → AreOnce (without more key) → AreOnce (if t then more else held ∷ without more key)
+    one true rest = once.1
+    one false rest = (none_without more key (key_of held) once.0, rest)
 
 -- ---- classes by their names
 
@@ -152,11 +152,11 @@ once_changed name f (c ∷ more) keeps once = (one (is_named name c), once_chang
 
 named_holds : (P : ClassState → Type 0) (name : List ℕ) (table : Table) (c : ClassState) → AllByRecursion P table → class_named name table ≡ Some c → P c
 named_holds P name [] c all named = cc
-named_holds P name (d ∷ more) c all named = one (is_named name d) named
+named_holds P name (d ∷ more) c all named = one (is_named name d) named (named_holds P name more c all.1)
   where
-    one : (t : Bool) → (if t then Some d else class_named name more) ≡ Some c → P c
-    one true h = let e : d ≡ c = cc in subst P e all.0
-    one false h = named_holds P name more c all.1 h
+    one : (t : Bool) → (if t then Some d else class_named name more) ≡ Some c → (class_named name more ≡ Some c → P c) → P c
+    one true h rest = let e : d ≡ c = cc in subst P e all.0
+    one false h rest = rest h
 
 pub named_name : (name : List ℕ) (table : Table) (c : ClassState) → class_named name table ≡ Some c → c.class_name ≡ name
 named_name name [] c named = cc
@@ -179,14 +179,14 @@ same_name name f d false keeps = refl
 was_named : (name n : List ℕ) (f : ClassState → ClassState) (table : Table) (after : ClassState) → ((c : ClassState) → (f c).class_name ≡ c.class_name) → class_named name (change n f table) ≡ Some after → WasNamed name n f table after
 was_named name n f [] after keeps named = cc
 was_named name n f (d ∷ more) after keeps named =
-    one (is_named name d) refl (subst (λ (t : Bool). (if t then Some changed else class_named name (change n f more)) ≡ Some after) (same_name name f d (is_named n d) keeps) named)
+    one (is_named name d) refl (subst (λ (t : Bool). (if t then Some changed else class_named name (change n f more)) ≡ Some after) (same_name name f d (is_named n d) keeps) named) (was_named name n f more after keeps)
   where
     changed : ClassState
     changed = if is_named n d then f d else d
 
-    one : (t : Bool) → is_named name d ≡ t → (if t then Some changed else class_named name (change n f more)) ≡ Some after → WasNamed name n f (d ∷ more) after
-    one true e h = record { c = d; named = rw e refl; is = cc }
-    one false e h = let w = was_named name n f more after keeps h in record { c = w.c; named = rw e w.named; is = w.is }
+    one : (t : Bool) → is_named name d ≡ t → (if t then Some changed else class_named name (change n f more)) ≡ Some after → (class_named name (change n f more) ≡ Some after → WasNamed name n f more after) → WasNamed name n f (d ∷ more) after
+    one true e h rest = record { c = d; named = rw e refl; is = cc }
+    one false e h rest = let w = rest h in record { c = w.c; named = rw e w.named; is = w.is }
 
 -- the class has its name, so it is the one that changes exactly where the names are equal
 changes : (name n : List ℕ) (table : Table) (c : ClassState) → class_named name table ≡ Some c → is_named n c ≡ bytes_eq n name
@@ -214,7 +214,7 @@ by_revoke revoked key c false once = refl
 abbrev pub Stands : Type 0
 Stands = List ℕ → List ℕ → Option IssuedFields
 
-behind : Payload → Stands → Stands
+abbrev behind : Payload → Stands → Stands
 behind payload stands name key = standing_behind name key payload (stands name key)
 
 told_left : (table : Table) (o : Outcome) (stands : Stands) → HasLeft table o → Tells table stands → Tells o.next (behind o.payload stands)

@@ -2,7 +2,6 @@
 
 ghost use Rattle.std.specs.Prelude.{◌≡◌, ◌≢◌, ◌↔◌, ◌<◌, ◌∷◌, [], length, map, position, slice_get, IfErr, IfOk, IfSome, IsErrOf, IsSome, IsTrue, OnErr, Some};
 ghost use Rattle.std.specs.List.{AllByRecursion};
-ghost use Rattle.rpki_base.specs.Scheme.{Relation};
 ghost use Rattle.rpki_signer.specs.Limits.{Keeps};
 ghost use Rattle.rpki_sigmsg.specs.declared.create_error.CreateError.TheVariants as create;
 ghost use Rattle.rpki_xml.specs.Lettered.{AreOctets};
@@ -278,14 +277,14 @@ impl Parent {
     }
 
     // What comes of a request to revoke the certificates of a key.
-    fn revoke<N: Issuer>(
+    fn revoke<P: Scheme, N: Issuer>(
         &mut self,
         request: RevocationRequest,
         issuer: &mut N,
     ) -> Result<Decision, OutOfMemory>
         requires { IsWritableKey request }
-        ensures ok { (scheme : Relation) → IfOk result (IsDecidedBy
-            (IsPayloadAnswer scheme self.old.table (payloads.Revoke request))
+        ensures ok { IfOk result (IsDecidedBy
+            (IsPayloadAnswer P.checks self.old.table (payloads.Revoke request))
             (with_issuer self.old (N.state issuer.old))
             (with_issuer self.new (N.state issuer.new))) }
         ensures err { OnErr result ((self.new ≡ self.old)
@@ -325,7 +324,7 @@ impl Parent {
         match message.into_payload() {
             Payload::List => Ok(Decision::Listed),
             Payload::Issue(request) => self.issue(request, verifier, issuer),
-            Payload::Revoke(request) => self.revoke(request, issuer),
+            Payload::Revoke(request) => self.revoke::<P, N>(request, issuer),
             _ => Ok(Decision::NotPerformed(Reason::UnknownType)),
         }
     }
