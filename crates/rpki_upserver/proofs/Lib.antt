@@ -6,3 +6,4 @@ pub mod Signed
 pub mod Sending
 pub mod Ended
 pub mod Answering
+pub mod Places

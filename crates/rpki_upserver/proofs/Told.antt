@@ -38,9 +38,9 @@ turned a b =
     elim (bytes_eq a b) as (λ t. bytes_eq a b ≡ t → t ≡ bytes_eq b a) [
       | true ↦ λ h. sym (are_same b a (sym (is_same a b h)))
       | false ↦ λ h. elim (bytes_eq b a) as (λ u. bytes_eq b a ≡ u → false ≡ u) [
-          | true ↦ λ k. absurd (clash (bytes_eq a b) (are_same a b (sym (is_same b a k))) h)
-          | false ↦ λ k. refl
-        ] refl
+        | true ↦ λ k. absurd (clash (bytes_eq a b) (are_same a b (sym (is_same b a k))) h)
+        | false ↦ λ k. refl
+      ] refl
     ] refl
 
 -- ---- one of two, and one of three
@@ -76,7 +76,7 @@ find_put : (certs : List IssuedFields) (issued : IssuedFields) (key : List ℕ) 
 find_put [] issued key = refl
 find_put (held ∷ more) issued key =
     elim (has_key (key_of issued) held) as (λ t. has_key (key_of issued) held ≡ t → find (has_key key) (if t then issued ∷ more else held ∷ put more issued)
-        ≡ (if has_key key issued then Some issued else (if has_key key held then Some held else find (has_key key) more))) [
+    ≡ (if has_key key issued then Some issued else (if has_key key held then Some held else find (has_key key) more))) [
       | true ↦ λ same. first_kept (has_key key issued) (has_key key held) (Some issued) (Some held) (find (has_key key) more)
           (λ other. ap (λ (k : List ℕ). bytes_eq k key) (is_same (key_of held) (key_of issued) same) ∙ other)
       | false ↦ λ other. ap (λ (w : Option IssuedFields). if has_key key held then Some held else w) (find_put more issued key)
@@ -88,7 +88,7 @@ find_without : (certs : List IssuedFields) (key other : List ℕ) → AreOnce ce
 find_without [] key other once = same_both (bytes_eq key other) None
 find_without (held ∷ more) key other once =
     elim (has_key key held) as (λ t. has_key key held ≡ t → find (has_key other) (if t then more else held ∷ without more key)
-        ≡ (if bytes_eq key other then None else (if has_key other held then Some held else find (has_key other) more))) [
+    ≡ (if bytes_eq key other then None else (if has_key other held then Some held else find (has_key other) more))) [
       | true ↦ λ same. taken (bytes_eq key other) (has_key other held) (Some held) (find (has_key other) more) None
           (λ is. none_found other more (subst (λ (k : List ℕ). list_any (has_key k) more ≡ false) (is_same (key_of held) key same ∙ is_same key other is) once.0))
           (λ not. ap (λ (k : List ℕ). bytes_eq k other) (is_same (key_of held) key same) ∙ not)

@@ -278,18 +278,17 @@ fn put(held: &mut Kept<Certified>, issued: IssuedCert) -> usize
 
 /// # Changes. All that takes memory comes before the issuer is called.
 impl Class {
-    /// Lets the issuer issue a certificate for these resources on the request, and keeps it. It answers the certificate's place; whatever
-    /// the error, the class is as before.
+    /// Lets the issuer issue a certificate on the request, for these resources, and keeps it. It answers its place. Whatever the error, the
+    /// class is as before.
     pub(crate) fn issue<N: Issuer>(
         &mut self,
         alloc: Global,
-        request: IssuanceRequest,
+        request: &IssuanceRequest,
         set: &ResourceSet,
         issuer: &mut N,
     ) -> Result<usize, IssuerError>
-        requires named { request.class_name ≡ self.old.class_name }
-        requires limit { IsWritableLimit request.limit }
-        ensures ok { IfOk result (IsIssuedAt self.old request set.now (N.state issuer.old)
+        requires { IsWritableLimit request.now.limit }
+        ensures ok { IfOk result (IsIssuedAt self.old request.now set.now (N.state issuer.old)
             (N.state issuer.new) self.new) }
         ensures err { IfErr result (IssuerFails (N.state issuer.old) (N.state issuer.new)) }
         ensures err_class { OnErr result (self.new ≡ self.old) }
@@ -299,9 +298,9 @@ impl Class {
         let key = request.csr().public_key().key_identifier();
         let uri = self.uri_of(alloc, key)?;
         let _uri = uri.as_str();
+        let limit = request.limit().clone(alloc)?;
         make_room_for(&mut self.issued, alloc, key)?;
-        let (_name, limit, csr) = request.unpack();
-        let cert = issuer.issue(alloc, &self.name, &csr, set, self.not_after)?;
+        let cert = issuer.issue(alloc, &self.name, request.csr(), set, self.not_after)?;
         Ok(put(&mut self.issued, IssuedCert::new(uri, limit, cert)))
     }
 

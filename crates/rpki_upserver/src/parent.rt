@@ -242,13 +242,13 @@ impl Parent {
     // What comes of a request for a certificate.
     fn issue<P: Scheme, V: Verifier<P>, N: Issuer>(
         &mut self,
-        request: IssuanceRequest,
+        request: &IssuanceRequest,
         verifier: &V,
         issuer: &mut N,
     ) -> Result<Decision, OutOfMemory>
-        requires { IsWritableRequest request }
+        requires { IsWritableRequest request.now }
         ensures ok { IfOk result (IsDecidedBy
-            (IsPayloadAnswer P.checks self.old.table (payloads.Issue request))
+            (IsPayloadAnswer P.checks self.old.table (payloads.Issue request.now))
             (with_issuer self.old (N.state issuer.old))
             (with_issuer self.new (N.state issuer.new))) }
         ensures err { OnErr result ((self.new ≡ self.old)
@@ -257,7 +257,7 @@ impl Parent {
         let Some(place) = place_named(&self.classes, request.class_name()) else {
             return Ok(Decision::NotPerformed(Reason::NoClass));
         };
-        if let Some(reason) = self.refusal(place, &request, verifier) {
+        if let Some(reason) = self.refusal(place, request, verifier) {
             return Ok(Decision::NotPerformed(reason));
         }
         let class = &mut self.classes[place];
@@ -279,12 +279,12 @@ impl Parent {
     // What comes of a request to revoke the certificates of a key.
     fn revoke<P: Scheme, N: Issuer>(
         &mut self,
-        request: RevocationRequest,
+        request: &RevocationRequest,
         issuer: &mut N,
     ) -> Result<Decision, OutOfMemory>
-        requires { IsWritableKey request }
+        requires { IsWritableKey request.now }
         ensures ok { IfOk result (IsDecidedBy
-            (IsPayloadAnswer P.checks self.old.table (payloads.Revoke request))
+            (IsPayloadAnswer P.checks self.old.table (payloads.Revoke request.now))
             (with_issuer self.old (N.state issuer.old))
             (with_issuer self.new (N.state issuer.new))) }
         ensures err { OnErr result ((self.new ≡ self.old)
@@ -297,8 +297,9 @@ impl Parent {
         let Some(at) = class.place_of(request.key()) else {
             return Ok(Decision::NotPerformed(Reason::NoKeyToRevoke));
         };
+        let revoked = request.clone(self.alloc)?;
         match class.revoke(self.alloc, at, request.key(), issuer) {
-            Ok(()) => Ok(Decision::Revoked(request)),
+            Ok(()) => Ok(Decision::Revoked(revoked)),
             Err(IssuerError::Failed) => Ok(Decision::NotPerformed(Reason::ServerError)),
             Err(IssuerError::OutOfMemory) => Err(OutOfMemory),
         }
@@ -307,21 +308,21 @@ impl Parent {
     // What comes of a message.
     fn decide<P: Scheme, V: Verifier<P>, N: Issuer>(
         &mut self,
-        message: Message,
+        message: &Message,
         verifier: &V,
         issuer: &mut N,
     ) -> Result<Decision, OutOfMemory>
-        requires { IsWritable message }
-        ensures ok { IfOk result (IsDecidedBy (IsResponse P.checks self.old message)
+        requires { IsWritable message.now }
+        ensures ok { IfOk result (IsDecidedBy (IsResponse P.checks self.old message.now)
             (with_issuer self.old (N.state issuer.old))
             (with_issuer self.new (N.state issuer.new))) }
         ensures err { OnErr result ((self.new ≡ self.old)
             × Leaves (N.state issuer.old) (N.state issuer.new)) }
     {
-        if !self.is_from_child(&message) {
+        if !self.is_from_child(message) {
             return Ok(Decision::NotPerformed(Reason::ServerError));
         }
-        match message.into_payload() {
+        match message.payload() {
             Payload::List => Ok(Decision::Listed),
             Payload::Issue(request) => self.issue(request, verifier, issuer),
             Payload::Revoke(request) => self.revoke::<P, N>(request, issuer),
@@ -435,7 +436,7 @@ impl Parent {
             Ok(message) => message,
             Err(error) => return Err(refused(error)),
         };
-        let decision = self.decide(message, verifier, issuer)?;
+        let decision = self.decide(&message, verifier, issuer)?;
         Ok(self.send(&decision, when, signer, key)?)
     }
 }
