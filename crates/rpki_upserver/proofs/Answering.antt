@@ -42,7 +42,7 @@ line_elsewhere scheme when one other before octets text after id keyring (inl h)
   payload = h.payload;
   decided = h.decided;
   signed = h.signed;
-  receivable = receivable_elsewhere scheme _ h.signed _ when one other id keyring h.receivable;
+  receivable = receivable_elsewhere scheme kinds.Provisioning h.signed (received.Provisioning (reply before.parent h.payload)) when one other id keyring h.receivable;
   written = h.written;
 })
 line_elsewhere scheme when one other before octets text after id keyring (inr turned) = inr turned
