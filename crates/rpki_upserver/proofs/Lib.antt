@@ -7,3 +7,5 @@ pub mod Sending
 pub mod Ended
 pub mod Answering
 pub mod Places
+pub mod Keeping
+pub mod Changing
