@@ -9,3 +9,5 @@ pub mod Answering
 pub mod Places
 pub mod Keeping
 pub mod Changing
+pub mod Tables
+pub mod Deciding

@@ -11,7 +11,7 @@ use Rattle.rpki_updown.specs.Entitlements.{IssuedFields}
 use Rattle.rpki_upserver.specs.Kept.{HasRoom, KeptItems}
 use Rattle.rpki_upserver.specs.Table.{ClassState, Table, class_named, has_key, is_named, key_of, put, without}
 
-no_place : (i : ℕ) → i < 0 → ⊥
+pub no_place : (i : ℕ) → i < 0 → ⊥
 no_place i h = omega (arith, h)
 
 -- the first that passes a test stands here
@@ -19,10 +19,10 @@ abbrev pub IsFirst : {X : Type 0} → (X → Bool) → List X → ℕ → X → 
 IsFirst test xs i d = (i < length xs) × (test (get_or xs i d) ≡ true) × ((k : ℕ) → k < i → test (get_or xs k d) ≡ false)
 
 -- behind the first item
-behind_first : {X : Type 0} (test : X → Bool) (x : X) (xs : List X) (i : ℕ) (d : X) → IsFirst test (x ∷ xs) (suc i) d → IsFirst test xs i d
+pub behind_first : {X : Type 0} (test : X → Bool) (x : X) (xs : List X) (i : ℕ) (d : X) → IsFirst test (x ∷ xs) (suc i) d → IsFirst test xs i d
 behind_first test x xs i d h = (omega (arith, h.0), h.1, λ k below. h.2 (suc k) (omega (arith, below)))
 
-first_fails : {X : Type 0} (test : X → Bool) (x : X) (xs : List X) (i : ℕ) (d : X) → IsFirst test (x ∷ xs) (suc i) d → test x ≡ false
+pub first_fails : {X : Type 0} (test : X → Bool) (x : X) (xs : List X) (i : ℕ) (d : X) → IsFirst test (x ∷ xs) (suc i) d → test x ≡ false
 first_fails test x xs i d h = h.2 0 (omega arith)
 
 -- ---- whether there is a place
@@ -39,7 +39,7 @@ none_unfound test (x ∷ xs) e = one (test x) e (none_unfound test xs)
     one true h rest = cc
     one false h rest = rest h
 
-unplaced_unfound : {X : Type 0} (test : X → Bool) (xs : List X) → position test xs ≡ None → find test xs ≡ None
+pub unplaced_unfound : {X : Type 0} (test : X → Bool) (xs : List X) → position test xs ≡ None → find test xs ≡ None
 unplaced_unfound test xs e =
     elim (nat_lt (position_or_len test xs) (length xs)) as (λ t. nat_lt (position_or_len test xs) (length xs) ≡ t → (if t then Some (position_or_len test xs) else None) ≡ None → find test xs ≡ None) [
       | true ↦ λ lt h. let c : Some (position_or_len test xs) ≡ None = h in cc
