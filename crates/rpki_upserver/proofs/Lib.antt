@@ -7,3 +7,7 @@ pub mod Sending
 pub mod Ended
 pub mod Answering
 pub mod Places
+pub mod Keeping
+pub mod Changing
+pub mod Tables
+pub mod Deciding

@@ -123,7 +123,12 @@ fn are_writable(classes: &[Class]) -> bool
         ↔ AllByRecursion (λ c. AreOctets c.class_name) classes.now }
     ensures classes { IsTrue result → AreWritable classes.now }
 {
-    classes.iter().all(|class| class.is_writable())
+    for class in classes {
+        if !class.is_writable() {
+            return false;
+        }
+    }
+    true
 }
 
 /// # Making
