@@ -11,3 +11,5 @@ pub mod Keeping
 pub mod Changing
 pub mod Tables
 pub mod Deciding
+pub mod Decoded
+pub mod Toys
