@@ -25,12 +25,15 @@ module _ (before now : ClassState) (items : List IssuedFields) (place : ℕ) (ke
   taken_out view at are = are ∙ sym (without_placed before.issued_certs key place (ap (λ (c : ClassState). position (has_key key) c.issued_certs) view ∙ at))
 
   pub sound_without : before ≡ now → position (has_key key) now.issued_certs ≡ Some place → items ≡ take place before.issued_certs ++ drop (suc place) before.issued_certs → IsKept before → IsKept (with_certs before items)
-  sound_without view at are h = (h.0, record {
-    set_is = h.1.set_is;
-    until = h.1.until;
-    signing_is = h.1.signing_is;
-    issued_are = subst (λ (l : List IssuedFields). AllByRecursion IsWritableIssued l) (sym (taken_out view at are)) (all_without IsWritableIssued before.issued_certs key h.1.issued_are);
-  })
+  sound_without view at are h = (
+    h.0,
+    record {
+      set_is = h.1.set_is;
+      until = h.1.until;
+      signing_is = h.1.signing_is;
+      issued_are = subst (λ (l : List IssuedFields). AllByRecursion IsWritableIssued l) (sym (taken_out view at are)) (all_without IsWritableIssued before.issued_certs key h.1.issued_are);
+    },
+  )
 
   pub revoked_so : (kept revoked : List (List ℕ)) → before ≡ now → position (has_key key) now.issued_certs ≡ Some place → items ≡ take place before.issued_certs ++ drop (suc place) before.issued_certs → kept ≡ before.revoked → revoked ≡ kept ++ key ∷ []
       → record before { issued_certs = items; revoked = revoked } ≡ with_revoked key now
@@ -60,12 +63,15 @@ issued_writable uri text limit lent asked cert issued are same lawful copied len
     })
 
 pub sound_put : (before now : ClassState) (kept items : List IssuedFields) (issued : IssuedFields) → before ≡ now → kept ≡ before.issued_certs → items ≡ put kept issued → IsWritableIssued issued → IsKept before → IsKept (with_certs before items)
-sound_put before now kept items issued view same are new h = (h.0, record {
-  set_is = h.1.set_is;
-  until = h.1.until;
-  signing_is = h.1.signing_is;
-  issued_are = subst (λ (l : List IssuedFields). AllByRecursion IsWritableIssued l) (sym (are ∙ ap (λ (l : List IssuedFields). put l issued) same)) (all_put IsWritableIssued before.issued_certs issued h.1.issued_are new);
-})
+sound_put before now kept items issued view same are new h = (
+  h.0,
+  record {
+    set_is = h.1.set_is;
+    until = h.1.until;
+    signing_is = h.1.signing_is;
+    issued_are = subst (λ (l : List IssuedFields). AllByRecursion IsWritableIssued l) (sym (are ∙ ap (λ (l : List IssuedFields). put l issued) same)) (all_put IsWritableIssued before.issued_certs issued h.1.issued_are new);
+  },
+)
 
 pub writable_put : (before now : ClassState) (kept items : List IssuedFields) (issued : IssuedFields) → before ≡ now → kept ≡ before.issued_certs → items ≡ put kept issued → IsWritableIssued issued → IsWritableClass (entitled now)
     → IsWritableClass (entitled (with_certs before items))

@@ -87,13 +87,15 @@ same_set (x ∷ more) (suc i) c new lt is new_is = ap (λ (l : Table). x ∷ l) 
 -- a parent keeps what holds of it where a class changes that keeps its name and what holds of it
 pub parent_set : (me child : List ℕ) (table : Table) (place : ℕ) (c new : ClassState) → place < length table → c ≡ get_or table place c → new.class_name ≡ c.class_name → (IsWritableClass (entitled c) → IsWritableClass (entitled new))
     → IsParent me child table × AreWritable table → IsParent me child (set table place new) × AreWritable (set table place new)
-parent_set me child table place c new lt is same writable h =
-    (record {
-      me_is = h.0.me_is;
-      child_is = h.0.child_is;
-      distinct = distinct_set table place new c lt (same ∙ ap (λ (x : ClassState). x.class_name) is) h.0.distinct;
-      names = all_set (λ x. AreOctets x.class_name) table place new h.0.names (subst AreOctets (sym same) (all_at (λ x. AreOctets x.class_name) table place c c lt is h.0.names));
-    }, all_set (λ x. IsWritableClass (entitled x)) table place new h.1 (writable (all_at (λ x. IsWritableClass (entitled x)) table place c c lt is h.1)))
+parent_set me child table place c new lt is same writable h = (
+  record {
+    me_is = h.0.me_is;
+    child_is = h.0.child_is;
+    distinct = distinct_set table place new c lt (same ∙ ap (λ (x : ClassState). x.class_name) is) h.0.distinct;
+    names = all_set (λ x. AreOctets x.class_name) table place new h.0.names (subst AreOctets (sym same) (all_at (λ x. AreOctets x.class_name) table place c c lt is h.0.names));
+  },
+  all_set (λ x. IsWritableClass (entitled x)) table place new h.1 (writable (all_at (λ x. IsWritableClass (entitled x)) table place c c lt is h.1)),
+)
 
 -- ---- distinct names, one class behind the other
 
@@ -106,15 +108,17 @@ module _ (all rest : Table) (c : ClassState) (name : List ℕ) (o : Option ℕ) 
   named_again same at some = subst (λ (n : List ℕ). list_any (is_named n) (take (length rest - 1) (drop 1 rest)) ≡ true) same ((some_placed (is_named name) (take (length rest - 1) (drop 1 rest)) o at).0 some)
 
   pub two_alike : (AreDistinct rest ↔ AreDistinct all) → 1 ≤ length rest → c ≡ get_or rest 0 c → name ≡ c.class_name → o ≡ position (is_named name) (take (length rest - 1) (drop 1 rest)) → is_some o ≡ true → IsTrue false ↔ AreDistinct all
-  two_alike so_far some is same at is_there =
-      (λ h. let e : false ≡ true = h in cc,
-      λ distinct. let first = (subst AreDistinct (parts rest c some is) (so_far.1 distinct)).0 in
-      let e : true ≡ false = sym (named_again same at is_there) ∙ first in cc)
+  two_alike so_far some is same at is_there = (
+    λ h. let e : false ≡ true = h in cc,
+    λ distinct. let first = (subst AreDistinct (parts rest c some is) (so_far.1 distinct)).0 in
+        let e : true ≡ false = sym (named_again same at is_there) ∙ first in cc,
+  )
 
   pub still_distinct : (AreDistinct rest ↔ AreDistinct all) → 1 ≤ length rest → c ≡ get_or rest 0 c → name ≡ c.class_name → o ≡ position (is_named name) (take (length rest - 1) (drop 1 rest)) → is_some o ≡ false → AreDistinct (take (length rest - 1) (drop 1 rest)) ↔ AreDistinct all
-  still_distinct so_far some is same at none =
-      (λ distinct. so_far.0 (subst AreDistinct (sym (parts rest c some is)) (unnamed_first, distinct)),
-      λ distinct. (subst AreDistinct (parts rest c some is) (so_far.1 distinct)).1)
+  still_distinct so_far some is same at none = (
+    λ distinct. so_far.0 (subst AreDistinct (sym (parts rest c some is)) (unnamed_first, distinct)),
+    λ distinct. (subst AreDistinct (parts rest c some is) (so_far.1 distinct)).1,
+  )
     where
       unnamed_first : list_any (is_named c.class_name) (take (length rest - 1) (drop 1 rest)) ≡ false
       unnamed_first = subst (λ (n : List ℕ). list_any (is_named n) (take (length rest - 1) (drop 1 rest)) ≡ false) same (without_some o at none)
