@@ -11,3 +11,4 @@ pub mod Keeping
 pub mod Changing
 pub mod Tables
 pub mod Deciding
+pub mod Issuing
