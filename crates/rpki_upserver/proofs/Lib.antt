@@ -12,3 +12,4 @@ pub mod Changing
 pub mod Tables
 pub mod Deciding
 pub mod Issuing
+pub mod Saying

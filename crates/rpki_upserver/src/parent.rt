@@ -16,7 +16,7 @@ ghost use Rattle.rpki_upserver.specs.Answering.{IsAnswered, IsRefused, IsSigned,
 ghost use Rattle.rpki_upserver.specs.Decision.{CanBeSaid, IsDecidedBy, IsFirstReason, IsPayloadOf};
 ghost use Rattle.rpki_upserver.specs.Issuer.{Leaves};
 ghost use Rattle.rpki_upserver.specs.Response.{IsFromChild, IsPayloadAnswer, IsResponse};
-ghost use Rattle.rpki_upserver.specs.Table.{ClassState, IsParent, entitled, new_parent};
+ghost use Rattle.rpki_upserver.specs.Table.{AreWritable, ClassState, IsParent, entitled, new_parent};
 ghost use Rattle.rpki_upserver.specs.declared.parent.AnswerError.TheVariants as answers;
 
 use crate::class::Class;
@@ -127,7 +127,8 @@ impl Parent {
 
     /// The classes, in their order.
     pub fn classes(&self) -> &[Class]
-        ensures { result.now ≡ self.now.table }
+        ensures table { result.now ≡ self.now.table }
+        ensures writable { AreWritable self.now.table }
     {
         &self.classes
     }
@@ -287,7 +288,10 @@ impl Parent {
             return Ok(Decision::NotPerformed(Reason::ServerError));
         }
         match message.payload() {
-            Payload::List => Ok(Decision::Listed),
+            Payload::List => {
+                let _classes = self.classes();
+                Ok(Decision::Listed)
+            }
             Payload::Issue(request) => self.issue(request, verifier, issuer),
             Payload::Revoke(request) => self.revoke::<P, N>(request, issuer),
             _ => Ok(Decision::NotPerformed(Reason::UnknownType)),
