@@ -13,3 +13,5 @@ pub mod Tables
 pub mod Deciding
 pub mod Decoded
 pub mod Toys
+pub mod Issuing
+pub mod Saying

@@ -16,7 +16,7 @@ use Rattle.rpki_upserver.proofs.Outcomes.{HasCome, HasIssued, HasLeft, HasRevoke
 
 -- ---- tests
 
-clash : (b : Bool) → b ≡ true → b ≡ false → ⊥
+pub clash : (b : Bool) → b ≡ true → b ≡ false → ⊥
 clash b h k = let e : true ≡ false = sym h ∙ k in cc
 
 or_none : (a b : Bool) → a ≡ false → b ≡ false → (a || b) ≡ false

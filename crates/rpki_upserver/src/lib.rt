@@ -19,10 +19,12 @@ mod decision;
 mod issuer;
 mod kept;
 mod law;
+mod limits;
 mod parent;
 mod preparing;
 mod serving;
 mod signing;
+mod table;
 mod toy_issuer;
 mod writable;
 

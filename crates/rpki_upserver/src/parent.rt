@@ -1,10 +1,8 @@
 //! A parent.
 
-ghost use Rattle.std.specs.Prelude.{◌≡◌, ◌≢◌, ◌↔◌, ◌<◌, ◌∷◌, [], length, map, position, slice_get, IfErr, IfOk, IfSome, IsErrOf, IsSome, IsTrue, OnErr, Some};
-ghost use Rattle.std.specs.List.{AllByRecursion};
+ghost use Rattle.std.specs.Prelude.{◌≡◌, ◌≢◌, ◌↔◌, ◌<◌, ◌∷◌, [], length, map, slice_get, IfErr, IfOk, IfSome, IsErrOf, IsSome, IsTrue, OnErr, Some};
 ghost use Rattle.rpki_signer.specs.Limits.{Keeps};
 ghost use Rattle.rpki_sigmsg.specs.declared.create_error.CreateError.TheVariants as create;
-ghost use Rattle.rpki_xml.specs.Lettered.{AreOctets};
 ghost use Rattle.rpki_provisioning.specs.Writable.{IsWritable, IsWritableKey, IsWritableRequest};
 ghost use Rattle.rpki_provisioning.specs.declared.payload.Payload.{Payload as Said};
 ghost use Rattle.rpki_provisioning.specs.declared.payload.Payload.TheVariants as payloads;
@@ -18,13 +16,15 @@ ghost use Rattle.rpki_upserver.specs.Answering.{IsAnswered, IsRefused, IsSigned,
 ghost use Rattle.rpki_upserver.specs.Decision.{CanBeSaid, IsDecidedBy, IsFirstReason, IsPayloadOf};
 ghost use Rattle.rpki_upserver.specs.Issuer.{Leaves};
 ghost use Rattle.rpki_upserver.specs.Response.{IsFromChild, IsPayloadAnswer, IsResponse};
-ghost use Rattle.rpki_upserver.specs.Table.{AreDistinct, AreWritable, ClassState, IsParent, entitled, is_named, new_parent};
+ghost use Rattle.rpki_upserver.specs.Table.{AreWritable, ClassState, IsParent, entitled, new_parent};
 ghost use Rattle.rpki_upserver.specs.declared.parent.AnswerError.TheVariants as answers;
 
 use crate::class::Class;
 use crate::decision::{Decision, Reason};
 use crate::issuer::{Issuer, IssuerError};
+use crate::limits::limited;
 use crate::signing::signed;
+use crate::table::{are_distinct, are_writable, is_used, place_named};
 use crate::writable::is_handle;
 use rpki_base::{PublicKey, Scheme, Time, Verifier};
 use rpki_ca::{Kind, ReceiveError, Received, receive};
@@ -35,7 +35,7 @@ use rpki_signer::Signer;
 use rpki_text::{RecipientHandle, SenderHandle};
 use rpki_updown::{
     Error, IssuanceRequest, ResourceClassEntitlements, ResourceClassListResponse,
-    ResourceClassName, RevocationRequest, RevocationResponse,
+    RevocationRequest, RevocationResponse,
 };
 use rpki_xml::XmlError;
 use std::alloc::Global;
@@ -95,42 +95,6 @@ impl Model for Parent {
         × AreWritable p.classes.items };
 }
 
-// The place of the first class of this name.
-fn place_named(classes: &[Class], name: &ResourceClassName) -> Option<usize>
-    ensures place { result ≡ position (is_named name.now) classes.now }
-    ensures within { IfSome result (λ place. place < length classes.now) }
-{
-    classes.iter().position(|class| class.name() == name)
-}
-
-// Whether no two classes have one name.
-fn are_distinct(classes: &[Class]) -> bool
-    ensures { IsTrue result ↔ AreDistinct classes.now }
-{
-    let mut rest = classes;
-    while let [class, more @ ..] = rest {
-        if place_named(more, class.name()).is_some() {
-            return false;
-        }
-        rest = more;
-    }
-    true
-}
-
-// Whether each class can be told so that it is read again.
-fn are_writable(classes: &[Class]) -> bool
-    ensures names { IsTrue result
-        ↔ AllByRecursion (λ c. AreOctets c.class_name) classes.now }
-    ensures classes { IsTrue result → AreWritable classes.now }
-{
-    for class in classes {
-        if !class.is_writable() {
-            return false;
-        }
-    }
-    true
-}
-
 /// # Making
 impl Parent {
     /// A parent that calls itself `me`, and whose child calls itself `child` and has this key. None exactly where two classes have one
@@ -163,7 +127,8 @@ impl Parent {
 
     /// The classes, in their order.
     pub fn classes(&self) -> &[Class]
-        ensures { result.now ≡ self.now.table }
+        ensures table { result.now ≡ self.now.table }
+        ensures writable { AreWritable self.now.table }
     {
         &self.classes
     }
@@ -235,10 +200,7 @@ impl Parent {
         if request.csr().verify_signature::<P, V>(verifier).is_err() {
             return Some(Reason::BadRequest);
         }
-        let is_revoked = self.classes.iter().any(|class| class.has_revoked(key));
-        let is_elsewhere = self.classes.iter().any(|other| other.name() != class.name()
-            && other.has_issued(key));
-        if is_revoked || is_elsewhere {
+        if is_used(&self.classes, request.class_name(), key) {
             return Some(Reason::UsedKey);
         }
         None
@@ -266,10 +228,8 @@ impl Parent {
             return Ok(Decision::NotPerformed(reason));
         }
         let class = &mut self.classes[place];
-        let set = match request.limit().apply_to(self.alloc, class.resource_set()) {
-            Ok(set) => set,
-            Err(Error::OutOfMemory) => return Err(OutOfMemory),
-            Err(_) => return Ok(Decision::NotPerformed(Reason::NoResources)),
+        let Some(set) = limited(self.alloc, request.limit(), class.resource_set())? else {
+            return Ok(Decision::NotPerformed(Reason::NoResources));
         };
         match class.issue(self.alloc, request, &set, issuer) {
             Ok(at) => Ok(Decision::Issued {
@@ -328,7 +288,10 @@ impl Parent {
             return Ok(Decision::NotPerformed(Reason::ServerError));
         }
         match message.payload() {
-            Payload::List => Ok(Decision::Listed),
+            Payload::List => {
+                let _classes = self.classes();
+                Ok(Decision::Listed)
+            }
             Payload::Issue(request) => self.issue(request, verifier, issuer),
             Payload::Revoke(request) => self.revoke::<P, N>(request, issuer),
             _ => Ok(Decision::NotPerformed(Reason::UnknownType)),

@@ -2,7 +2,7 @@ use Rattle.std.proofs.Common.{take}
 use Rattle.std.specs.List.{AllByRecursion}
 use Rattle.rpki_xml.specs.Lettered.{AreOctets}
 use Rattle.rpki_upserver.specs.Table.{AreWritable}
-use Rattle.rpki_upserver.proofs.parent.are_writable.Given as goal
+use Rattle.rpki_upserver.proofs.table.are_writable.Given as goal
 
 abbrev pub invariant-loop-class : goal.invariant-loop-class
 invariant-loop-class l = record {

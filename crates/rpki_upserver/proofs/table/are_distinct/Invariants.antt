@@ -1,6 +1,6 @@
 use Rattle.std.proofs.Common.{◌↔◌, length}
 use Rattle.rpki_upserver.specs.Table.{AreDistinct}
-use Rattle.rpki_upserver.proofs.parent.are_distinct.Given as goal
+use Rattle.rpki_upserver.proofs.table.are_distinct.Given as goal
 
 abbrev pub invariant-loop-rest : goal.invariant-loop-rest
 invariant-loop-rest l = AreDistinct l.rest ↔ AreDistinct l.classes
