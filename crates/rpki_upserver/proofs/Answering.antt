@@ -106,6 +106,10 @@ cant_send scheme when signer before octets after e u other = record {
   cause = signing_cause when signer (received.Provisioning (reply before.parent u.payload)) e (u.cause (not_memory e other)) other;
 }
 
+-- an issuer that did nothing
+pub same_issuer : (issuer : IssuerState) → Leaves issuer issuer
+same_issuer issuer = record { made = refl; gone = refl; faults = omega arith }
+
 -- ---- the first lines
 
 module _ {I : Type 0} (scheme : Relation) (when : ℤ) (signer : SignerSeen I) (start : ParentAndIssuer) (messages : List (List ℕ)) where

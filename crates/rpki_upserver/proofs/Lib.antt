@@ -15,3 +15,5 @@ pub mod Decoded
 pub mod Toys
 pub mod Issuing
 pub mod Saying
+pub mod Mapped
+pub mod Words
