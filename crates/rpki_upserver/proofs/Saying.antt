@@ -1,5 +1,5 @@
 -- What comes of a message, and how it is said.
-use Rattle.std.proofs.Common.{◌≡◌, ◌≢◌, ◌<◌, ℕ, Bool, true, false, Option, None, Some, List, [], ◌∷◌, map, get_or, inl, inr, refl, sym, ap, subst, ◌∙◌}
+use Rattle.std.proofs.Common.{◌≡◌, ◌≢◌, ◌<◌, ℕ, ℤ, Bool, true, false, Option, None, Some, List, [], ◌∷◌, map, get_or, inl, inr, refl, sym, ap, subst, ◌∙◌}
 use Rattle.std.specs.Prelude.{slice_get}
 use Rattle.std.specs.List.{AllByRecursion}
 use Rattle.std.proofs.lemmas.Option.{slice_get-get_or, slice_get_within}
@@ -13,7 +13,12 @@ use Rattle.rpki_provisioning.specs.declared.payload.Payload.TheVariants as paylo
 use Rattle.rpki_upserver.specs.declared.decision.Decision.{Decision}
 use Rattle.rpki_upserver.specs.declared.decision.Decision.TheVariants as decisions
 use Rattle.rpki_upserver.specs.declared.decision.Reason.TheVariants as reasons
-use Rattle.rpki_upserver.specs.Answering.{reply, with_issuer}
+use Rattle.rpki_provisioning.specs.Cms.{CmsFields}
+use Rattle.rpki_ca.specs.Acceptance.{Accepted}
+use Rattle.rpki_ca.specs.Seen.{SignerSeen}
+use Rattle.rpki_ca.specs.declared.receiving.Kind.TheVariants as kinds
+use Rattle.rpki_ca.specs.declared.receiving.Received.TheVariants as received
+use Rattle.rpki_upserver.specs.Answering.{IsAnswered, IsDecided, IsSigned, reply, with_issuer}
 use Rattle.rpki_upserver.specs.Decision.{CanBeSaid, IsDecidedBy, IsIssuance, IsPayloadOf}
 use Rattle.rpki_upserver.specs.Issuer.{IssuerState}
 use Rattle.rpki_upserver.specs.Response.{IsFromChild, IsPayloadAnswer, IsResponse, Outcome, refusal}
@@ -74,3 +79,20 @@ issued_told table class_place place c response payload at told h =
     let there : get_or table class_place c ≡ h.c = cc in
     let same : c ≡ h.c = at ∙ there in
     ap (λ (i : IssuanceFields). payloads.IssueResponse i) (told h.issued (ap (λ (x : ClassState). slice_get x.issued_certs place) same ∙ h.at) ∙ ap (λ (x : ClassState). issuance (entitled x) h.issued) same) ∙ sym h.is
+
+-- ---- what is answered
+
+-- the octets were accepted, and this was decided
+pub decided_so : {scheme : Relation} {octets : List ℕ} {when : ℤ} (before after : ParentState) (m : MessageFields) (issuer next : IssuerState) (d : Decision) → Accepted scheme kinds.Provisioning octets (before.child_key ∷ []) when (received.Provisioning m)
+    → (h : IsDecidedBy (IsResponse scheme before m) (with_issuer before issuer) (with_issuer after next) d) → IsDecided scheme octets when (with_issuer before issuer) (with_issuer after next) h.payload
+decided_so before after m issuer next d accepted h = record { message = m; accepted = accepted; next = after.table; response = h.response; behind = h.behind }
+
+pub answered_so : {I : Type 0} (scheme : Relation) (octets : List ℕ) (when : ℤ) (signer : SignerSeen I) (before after : ParentState) (m : MessageFields) (issuer next : IssuerState) (d : Decision) (c : CmsFields)
+    → Accepted scheme kinds.Provisioning octets (before.child_key ∷ []) when (received.Provisioning m)
+    → IsDecidedBy (IsResponse scheme before m) (with_issuer before issuer) (with_issuer after next) d
+    → ((payload : Payload) → IsPayloadOf after.table d payload → IsSigned scheme when signer (reply after payload) c) → IsAnswered scheme octets when (with_issuer before issuer) (with_issuer after next) signer c
+answered_so scheme octets when signer before after m issuer next d c accepted h signed = record {
+  payload = h.payload;
+  decided = decided_so before after m issuer next d accepted h;
+  signed = subst (λ (x : MessageFields). IsSigned scheme when signer x c) (ap (λ (p : ParentState). reply p h.payload) h.behind) (signed h.payload h.said);
+}
