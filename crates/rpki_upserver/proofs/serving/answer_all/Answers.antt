@@ -1,4 +1,4 @@
-use Rattle.std.proofs.Common.{◌≡◌, ◌+◌, ◌<◌, ◌∷◌, ◌++◌, ◌∙◌, ℕ, List, [], arith, get_or, inl, length, map, refl, subst, sym}
+use Rattle.std.proofs.Common.{rules, ◌≡◌, ◌+◌, ◌<◌, ◌∷◌, ◌++◌, ◌∙◌, ℕ, List, [], arith, get_or, inl, length, map, refl, subst, sym}
 use Rattle.std.proofs.lemmas.List.{append-nil}
 use Rattle.std.specs.Io.KnownBytes.{Appends}
 use Rattle.rpki_signer.proofs.States.{keeps_same, keeps_then}
@@ -16,9 +16,9 @@ use Rattle.rpki_upserver.proofs.serving.answer_all.Goals as goal
 
 pub loop-octets-init : goal.loop-octets-init
 loop-octets-init g c = record {
-  steady = ?;
+  steady = refl;
   keeps = keeps_same (g.S.Signer.state c.args.signer.now);
-  texts = ([], refl, ?);
+  texts = ([], refl, search rules);
 }
 
 pub returns-in_err-line-clause-answered : goal.returns-in_err-line-clause-answered

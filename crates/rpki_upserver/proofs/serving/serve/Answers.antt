@@ -33,7 +33,7 @@ returns-in-Ok-clause-ends g c = λ when key are.
     let two = g.N.Issuer.state c.serve_lines.new.issuer in
     let terms = c.in-Ok-Some.terms in
     let run = run_of terms.when terms.child c.args.signing.now one two signer in
-    let ends = subst (λ (l : List (List ℕ)). EndsServed g.P.Scheme.checks run l c.serve_lines.result.0 sink) c.new.ensures c.serve_lines.ensures.ends in
+    let ends = subst (λ (l : List (List ℕ)). EndsServed g.P.Scheme.checks run l c.serve_lines.result.0 sink) c.new-lines.ensures c.serve_lines.ensures.ends in
     ends_by g.P.Scheme.checks c.args.signing.now one two signer c.serve_lines.result.0 source sink c.args.words.now terms.when when terms.child key (rw c.in-Ok-Some.field-0-is at c.in-Ok-Some.ensures.some) are (inr (record {
       steady = c.in-Ok.ensures.steady;
       whole = c.in-Ok.ensures.end;
