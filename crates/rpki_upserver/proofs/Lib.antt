@@ -13,3 +13,4 @@ pub mod Tables
 pub mod Deciding
 pub mod Issuing
 pub mod Saying
+pub mod Words

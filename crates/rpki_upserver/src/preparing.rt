@@ -1,15 +1,14 @@
 //! What the program begins with: the lines of its input, and its parent.
 
-ghost use Rattle.std.specs.Prelude.{◌≡◌, ◌≢◌, IfErr, IfOk, IfSome, IsNone, Some, map};
+ghost use Rattle.std.specs.Prelude.{◌≡◌, IfOk, IfSome, IsNone, Some, map};
 ghost use Rattle.rpki_provisioning.specs.Writable.{IsCertificate};
 ghost use Rattle.rpki_sets.specs.Kinds.{blocks_of};
-ghost use Rattle.rpki_ca.specs.declared.refusals.Refusal.TheVariants as refusals;
 ghost use Rattle.rpki_upserver.specs.Running.{AreNoWords, AreNotSent, AreSent, AreWords, IsFirstClass, IsFirstParent, IsFirstSet};
 
 use crate::class::Class;
 use crate::parent::Parent;
 use rpki_base::{PublicKey, Time};
-use rpki_ca::{Lines, Refusal, Words, spelled_octets};
+use rpki_ca::{Lines, Words, spelled_octets};
 use rpki_common::OutOfMemory;
 use rpki_sets::{AsBlocks, Blocks, Ipv4Blocks, Ipv6Blocks, Numbers, ResourceSet};
 use rpki_text::uri::Rsync;
@@ -23,22 +22,21 @@ pub(crate) struct Terms {
     pub(crate) child: PublicKey,
 }
 
-/// What the two words ask for. `Usage` exactly where they don't.
-pub(crate) fn terms_of(alloc: Global, words: &Words) -> Result<Terms, Refusal>
-    ensures ok { IfOk result (λ terms. AreWords words.now terms.when terms.child) }
-    ensures err { IfErr result (λ e. e ≢ refusals.OutOfMemory
-        → (e ≡ refusals.Usage) × AreNoWords words.now) }
+/// What the two words ask for; None exactly where they aren't of the form.
+pub(crate) fn terms_of(alloc: Global, words: &Words) -> Result<Option<Terms>, OutOfMemory>
+    ensures some { IfOk result (λ o. IfSome o (λ terms. AreWords words.now terms.when terms.child)) }
+    ensures none { IfOk result (λ o. IsNone o → AreNoWords words.now) }
 {
     if words.len() != 2 {
-        return Err(Refusal::Usage);
+        return Ok(None);
     }
     let Some(when) = words.moment(0) else {
-        return Err(Refusal::Usage);
+        return Ok(None);
     };
-    let Some(child) = words.key(alloc, 1)? else {
-        return Err(Refusal::Usage);
-    };
-    Ok(Terms { when, child })
+    match words.key(alloc, 1)? {
+        Some(child) => Ok(Some(Terms { when, child })),
+        None => Ok(None),
+    }
 }
 
 /// The octets that the lines spell; None where some line spells none.

@@ -211,8 +211,9 @@ pub fn serve<P: Scheme, I: Source, O: Sink, V: Verifier<P>, N: Issuer, S: Signer
     ensures keeps { Keeps (S.state signer.old) (S.state signer.new) }
 {
     let Terms { when, child } = match terms_of(alloc, words) {
-        Ok(terms) => terms,
-        Err(refusal) => return refuse(output, refusal),
+        Ok(Some(terms)) => terms,
+        Ok(None) => return refuse(output, Refusal::Usage),
+        Err(_) => return refuse(output, Refusal::OutOfMemory),
     };
     match read_input(alloc, input) {
         Ok(octets) => {
