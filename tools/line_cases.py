@@ -20,12 +20,13 @@ import re
 import sys
 
 from messages import CALLS, QUERY, broken, drawn_serial, message, numbered
+from parent_talks import Talk, program_rows, rows_of_classes
 from stored import write
 
 ROOT = pathlib.Path(__file__).resolve().parent.parent
 CRATE = ROOT / "crates" / "line_cases"
 MESSAGE = (ROOT / "examples" / "query-list.hex").read_text().strip()
-PROGRAMS = "guard", "arch", "pub"
+PROGRAMS = "guard", "arch", "pub", "up", "parent"
 
 MOMENT = 1700000000
 KEY = "3022300d06092a864886f70d010101050003110000000000000000010000000000000000"
@@ -258,7 +259,41 @@ def server_rows():
         yield row(name, ["x"], ["Usage"], wrong, 2)
 
 
-ROWS = {"guard": guard_rows, "arch": archive_rows, "pub": server_rows}
+def parent_rows():
+    """Messages of a child, and what its parent answers; each call of a signer fails."""
+    words = str(MOMENT), KEY
+    for name, behind, sent, answers, status in program_rows():
+        yield case(f"up-{name}", f"up{behind}", words, lines(*sent), status, lines(*answers))
+    talk = Talk().list()
+    ask, told = talk.sent[0], talk.answers[0]
+
+    def row(name, field, status, *answers, words=words):
+        return case(f"up-{name}", "up", words, field, status, lines(*answers))
+
+    yield row("in-upper-case", lines(ask.upper()), 0, told, words=(str(MOMENT), KEY.upper()))
+    yield row("no-line-feed-at-the-end", ask.encode(), 0, told)
+    yield row("octets-behind-a-message", lines(ask + "00"), 0, told)
+    yield row("empty-line", lines("", ask), 0, "CmsDecode", told)
+    yield row("no-input", b"", 0)
+    yield row("another-key", lines(ask), 0, "Validation 6", words=(str(MOMENT), OTHER_KEY))
+    yield row("another-protocol", lines(MESSAGE), 0, "XmlError")
+    for name, field in ("odd-digits", ask[:-1]), ("blank", ask + " "), ("return", ask + "\r"):
+        yield row(name, lines(ask, field), 3, "Hex")
+    yield row("hex-before-moment", lines("x"), 3, "Hex", words=("299", KEY))
+    for moment, status in ("0", 8), ("299", 8), ("300", 0), ("253402300499", 0), ("253402300500", 8):
+        yield row(f"moment-{moment}", b"", status, *(["Moment"] if status else []), words=(moment, KEY))
+    for name, wrong in (("no-words", ()), ("no-key", words[:1]), ("two-keys", (*words, KEY)), ("no-moment", ("00", KEY)),
+            ("bad-key", (words[0], KEY + "00")), ("swapped", words[::-1])):
+        yield row(name, lines("x"), 2, "Usage", words=wrong)
+
+
+def class_rows():
+    """The same of a parent of several classes, with what its issuer did."""
+    for name, behind, sent, answers, status in rows_of_classes():
+        yield case(f"parent-{name}", f"parent{behind}", (str(MOMENT), KEY), lines(*sent), status, lines(*answers))
+
+
+ROWS = {"guard": guard_rows, "arch": archive_rows, "pub": server_rows, "up": parent_rows, "parent": class_rows}
 
 
 def main():

@@ -1,15 +1,22 @@
 //! Runs the programs that answer line by line on stored cases, in memory, and says how many answers
 //! differ from the expected.
 //!
-//! A line of data/cases.txt is `NAME PROGRAM STATUS OUTPUT INPUT WORD..`: PROGRAM is `guard`, `arch` or `pub`,
-//! or `pub` and a number, where this call of the signer fails, counted from 0, the one that makes its key;
+//! A line of data/cases.txt is `NAME PROGRAM STATUS OUTPUT INPUT WORD..`: PROGRAM is `guard`, `arch`, `pub`, `up`
+//! or `parent`, and the last is no program, but a parent of several classes. Behind `pub` may stand the number of a
+//! call of the signer that fails, counted from 0, the one that makes its key; behind the last two `,s` and such
+//! a number, or `,i` and one of the issuer's signer.
 //! OUTPUT is what has to be written, and it and INPUT are octets as in other stored cases; `-` is an empty field.
 //! tools/line_cases.py writes the file; its expected answers come from a model that was written apart
 //! from this tree, or are stated in the script.
 #![tactic(auto)]
 
+mod parents;
 mod server;
+mod up;
 
+use crate::parents::run_parent;
+use crate::server::answers_alike;
+use crate::up::{Failing, out_of_memory, run_up};
 use rpki_archive::check;
 use rpki_base::PublicKeyFormat;
 use rpki_ca::{Status, Words};
@@ -17,10 +24,8 @@ use rpki_pubserver::serve;
 use rpki_replay::run_guard;
 use rpki_signer::{Signer, ToyScheme, ToySigner, ToyVerifier};
 use rpki_text::{MemorySink, MemorySource};
-use server::answers_alike;
 use std::alloc::Global;
-use std::io;
-use std::io::ErrorKind;
+use std::{io, str};
 use stored_cases::{Cases, invalid, octets_of, run};
 
 #[derive(Drop)]
@@ -29,10 +34,6 @@ struct Case {
     input: Vec<u8>,
     status: u8,
     output: Vec<u8>,
-}
-
-fn out_of_memory() -> io::Error {
-    io::Error::from(ErrorKind::OutOfMemory)
 }
 
 fn text_of(field: &str) -> &str {
@@ -44,7 +45,7 @@ fn push(alloc: Global, words: &mut Words, field: &str) -> io::Result<()> {
     let pushed = match field.strip_prefix('#') {
         Some(digits) => {
             let octets = octets_of(alloc, digits)?;
-            let Ok(word) = std::str::from_utf8(&octets) else {
+            let Ok(word) = str::from_utf8(&octets) else {
                 return Err(invalid());
             };
             words.push(word)
@@ -111,7 +112,18 @@ fn served(
     ))
 }
 
-// The same of a program whose name is `pub`, or this and the number of the call that fails.
+// What the parent ends with, where the call that the field names fails.
+fn answered_by_parent(
+    alloc: Global,
+    failing: &str,
+    case: &Case,
+    source: &mut MemorySource,
+    sink: &mut MemorySink,
+) -> io::Result<Status> {
+    run_up(alloc, &case.words, source, sink, &Failing::of(failing)?)
+}
+
+// The same of a program whose name begins with `pub` or `up`, with the call that fails behind it.
 fn served_by(
     alloc: Global,
     program: &str,
@@ -119,6 +131,9 @@ fn served_by(
     source: &mut MemorySource,
     sink: &mut MemorySink,
 ) -> io::Result<Status> {
+    if let Some(failing) = program.strip_prefix("up") {
+        return answered_by_parent(alloc, failing, case, source, sink);
+    }
     match program.strip_prefix("pub") {
         Some("") => served(alloc, &[], case, source, sink),
         Some(number) => match number.parse::<u64>() {
@@ -148,6 +163,15 @@ fn is_answered(alloc: Global, program: &str, case: &Case, piece: usize) -> io::R
     Ok(status == case.status && sink.written() == case.output.as_slice())
 }
 
+// Whether a parent of several classes does what is expected; its input is text.
+fn does_as_parent(alloc: Global, failing: &str, case: &Case) -> io::Result<bool> {
+    let Ok(input) = str::from_utf8(&case.input) else {
+        return Err(invalid());
+    };
+    let text = run_parent(alloc, &case.words, input, &Failing::of(failing)?)?;
+    Ok(text.as_bytes() == case.output.as_slice())
+}
+
 struct Runs;
 
 impl Cases for Runs {
@@ -158,6 +182,9 @@ impl Cases for Runs {
             return Err(invalid());
         };
         let case = case_of(alloc, line)?;
+        if let Some(failing) = program.strip_prefix("parent") {
+            return does_as_parent(alloc, failing, &case);
+        }
         if program == "pub" && case.status == 0 && !answers_alike(alloc, &case)? {
             return Ok(false);
         }

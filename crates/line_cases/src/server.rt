@@ -1,6 +1,7 @@
 //! The queries of a case, answered by the calls of a server one by one.
 
-use crate::{Case, out_of_memory, signer_of};
+use crate::up::out_of_memory;
+use crate::{Case, signer_of};
 use rpki_ca::{Lines, hexadecimal_line, spelled_octets};
 use rpki_pubserver::Server;
 use rpki_signer::{ToySigner, ToyVerifier};

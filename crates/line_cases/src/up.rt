@@ -1,0 +1,128 @@
+//! The parent's program, as `rpkiup` runs it, or with signers of which one call fails.
+
+ghost use Rattle.std.specs.Prelude.{IfOk};
+ghost use Rattle.rpki_provisioning.specs.Writable.{IsCertificate};
+
+use rpki_base::{PublicKeyFormat, Time, Validity};
+use rpki_ca::{Status, Words};
+use rpki_idcert::IdCert;
+use rpki_signer::{Signer, ToyScheme, ToySigner, ToyVerifier};
+use rpki_text::uri::Rsync;
+use rpki_text::{MemorySink, MemorySource};
+use rpki_updown::SigningCert;
+use rpki_upserver::{ToyIssuer, resource_certificate, serve};
+use std::alloc::Global;
+use std::io;
+use std::io::ErrorKind;
+use stored_cases::invalid;
+
+/// The error of want of memory.
+pub fn out_of_memory() -> io::Error {
+    io::Error::from(ErrorKind::OutOfMemory)
+}
+
+// A signer that has one key, number 0, and whose call of this number fails, if there is one; to make the key is call 0.
+fn signer_of(alloc: Global, seed: u64, failing: Option<u64>) -> io::Result<ToySigner> {
+    let mut calls = Vec::new(alloc);
+    if let Some(call) = failing {
+        calls.push(call).map_err(|_| out_of_memory())?;
+    }
+    let mut signer = ToySigner::new(alloc, seed, &calls).map_err(|_| out_of_memory())?;
+    match Signer::<ToyScheme>::create_key(&mut signer, alloc, PublicKeyFormat::Rsa) {
+        Ok(_) => Ok(signer),
+        Err(_) => Err(out_of_memory()),
+    }
+}
+
+// The certificate of the issuer's key: its own, always valid.
+fn signing_cert(alloc: Global, signer: &mut ToySigner) -> io::Result<SigningCert>
+    ensures { IfOk result (λ s. IsCertificate s.cert) }
+{
+    let (Some(first), Some(last), Ok(url)) = (
+        Time::new(0),
+        Time::new(253_402_300_799),
+        Rsync::from_str(alloc, "rsync://localhost/repo/ta.cer"),
+    ) else {
+        return Err(out_of_memory());
+    };
+    let validity = Validity::new(first, last);
+    let Ok(anchor) = IdCert::new_ta::<ToyScheme, ToySigner>(alloc, validity, &0, signer) else {
+        return Err(invalid());
+    };
+    match resource_certificate(alloc, &anchor) {
+        Ok(cert) => Ok(SigningCert::new(url, cert)),
+        Err(_) => Err(out_of_memory()),
+    }
+}
+
+/// Which call of a signer fails, counted from 0, by a field: that of the replies' signer in `,s7`, that
+/// of the issuer's in `,i7`, none where it is empty.
+#[derive(Drop)]
+pub struct Failing {
+    signer: Option<u64>,
+    issuer: Option<u64>,
+}
+
+impl Failing {
+    /// The calls that a field names.
+    pub fn of(field: &str) -> io::Result<Failing> {
+        if field.is_empty() {
+            return Ok(Failing {
+                signer: None,
+                issuer: None,
+            });
+        }
+        let of_signer = field.strip_prefix(",s");
+        let of_issuer = field.strip_prefix(",i");
+        let (Some(digits), is_signer) = (of_signer.or(of_issuer), of_signer.is_some()) else {
+            return Err(invalid());
+        };
+        let Ok(call) = digits.parse::<u64>() else {
+            return Err(invalid());
+        };
+        Ok(Failing {
+            signer: if is_signer { Some(call) } else { None },
+            issuer: if is_signer { None } else { Some(call) },
+        })
+    }
+}
+
+/// The signer of the replies, which has one key, number 0.
+pub fn first_signer(alloc: Global, failing: &Failing) -> io::Result<ToySigner> {
+    signer_of(alloc, 1, failing.signer)
+}
+
+/// The issuer, and the certificate of its key.
+pub fn first_issuer(alloc: Global, failing: &Failing) -> io::Result<(ToyIssuer, SigningCert)>
+    ensures { IfOk result (λ pair. IsCertificate pair.1.cert) }
+{
+    let mut signer = signer_of(alloc, 3, failing.issuer)?;
+    let signing = signing_cert(alloc, &mut signer)?;
+    match Time::new(0) {
+        Some(from) => Ok((ToyIssuer::new(alloc, signer, 0, from), signing)),
+        None => Err(invalid()),
+    }
+}
+
+/// What the program does with words and input.
+pub fn run_up(
+    alloc: Global,
+    words: &Words,
+    source: &mut MemorySource,
+    sink: &mut MemorySink,
+    failing: &Failing,
+) -> io::Result<Status> {
+    let mut signer = first_signer(alloc, failing)?;
+    let (mut issuer, signing) = first_issuer(alloc, failing)?;
+    Ok(serve(
+        alloc,
+        words,
+        source,
+        sink,
+        &ToyVerifier::new(),
+        &mut issuer,
+        &mut signer,
+        &0,
+        &signing,
+    ))
+}

@@ -1,0 +1,38 @@
+-- What the ends of a run of the parent come to.
+use Rattle.std.specs.Prelude.{◌≡◌, ◌⊎◌, ℕ, List}
+use Rattle.rpki_base.specs.Scheme.{Relation}
+use Rattle.rpki_sigmsg.specs.Making.{HasWindow}
+use Rattle.rpki_ca.specs.Creation.{CanSign}
+use Rattle.rpki_ca.specs.Lines.{WroteAll, lines_of}
+use Rattle.rpki_ca.specs.Seen.{Seen}
+use Rattle.rpki_upserver.specs.Answering.{with_issuer}
+use Rattle.rpki_upserver.specs.Running.{AreNotSent, AreSent, IsFirstParent, Run}
+use Rattle.rpki_upserver.specs.Serving.{AreAllAnswered, HasLongAnswer}
+use Rattle.rpki_upserver.specs.Table.{ParentState}
+
+-- All lines of the input are those of octets, and the answers to all of them were written, from the parent at first; the issuer did what
+-- they say, and nothing else.
+pub record AnswersAll {Id : Type 0} (scheme : Relation) (run : Run Id) (input : List ℕ)
+    (sink : Seen) : Type 0 where
+  pub messages : List (List ℕ)
+  pub are : AreSent (lines_of input) messages
+  pub parent : ParentState
+  pub first : IsFirstParent run.key run.signing parent
+  pub wrote : WroteAll (AreAllAnswered scheme run.when run.signer
+      (with_issuer parent run.issuer_before) run.issuer_after messages) sink
+
+-- The signer, whose identifiers are distinct, holds a fitting key, and it neither failed nor gave too many octets, nor that key for one
+-- use; and no reply has a text of more than 2^31 octets.
+pub record CanServe {Id : Type 0} (scheme : Relation) (run : Run Id) (input : List ℕ) : Type 0
+  where
+    pub signs : CanSign run.signer
+    pub short : (messages : List (List ℕ)) → AreSent (lines_of input) messages
+        → (parent : ParentState) → IsFirstParent run.key run.signing parent
+        → HasLongAnswer scheme run.when run.signer (with_issuer parent run.issuer_before) messages
+        → ⊥
+
+-- 0 or 12; or 3 where some line isn't hexadecimal, or 8 where the moment has no window
+abbrev pub EndsForCause : {Id : Type 0} → Run Id → List ℕ → ℕ → Type 0
+EndsForCause run input status =
+    ((status ≡ 0) ⊎ (status ≡ 12))
+    ⊎ (((status ≡ 3) × AreNotSent (lines_of input)) ⊎ ((status ≡ 8) × (HasWindow run.when → ⊥)))

@@ -1,0 +1,19 @@
+-- Lists that grow in two steps: room is made, which takes memory, and then an item is put there, which takes none.
+use Rattle.std.specs.Prelude.{◌≡◌, ◌≤◌, ◌⊎◌, true, ℕ, ◌-◌, Option, None, Some, List, [], vec_capacity, vec_len}
+use Rattle.std.specs.List.{list_any}
+use Rattle.std.specs.Global.{Vec}
+use Rattle.rpki_updown.specs.Entitlements.{IssuedFields}
+use Rattle.rpki_upserver.specs.Table.{has_key}
+
+pub record KeptItems (T : Type 0) : Type 0 where
+  pub items : List T
+  -- for how many more there is room
+  pub room : ℕ
+
+abbrev pub kept_items : {T : Type 0} → Option (Vec T) → KeptItems T
+kept_items None = record { items = []; room = 0 }
+kept_items (Some held) = record { items = held.items; room = vec_capacity held - vec_len held }
+
+-- a certificate of the key is there, or there is room for it
+abbrev pub HasRoom : KeptItems IssuedFields → List ℕ → Type 0
+HasRoom held key = (list_any (has_key key) held.items ≡ true) ⊎ (1 ≤ held.room)

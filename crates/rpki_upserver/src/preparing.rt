@@ -1,0 +1,136 @@
+//! What the program begins with: the lines of its input, and its parent.
+
+ghost use Rattle.std.specs.Prelude.{◌≡◌, IfOk, IfSome, IsNone, Some, map};
+ghost use Rattle.rpki_provisioning.specs.Writable.{IsCertificate};
+ghost use Rattle.rpki_sets.specs.Kinds.{blocks_of};
+ghost use Rattle.rpki_upserver.specs.Running.{AreNoWords, AreNotSent, AreSent, AreWords, IsFirstClass, IsFirstParent, IsFirstSet};
+
+use crate::class::Class;
+use crate::parent::Parent;
+use rpki_base::{PublicKey, Time};
+use rpki_ca::{Lines, Words, spelled_octets};
+use rpki_common::OutOfMemory;
+use rpki_sets::{AsBlocks, Blocks, Ipv4Blocks, Ipv6Blocks, Numbers, ResourceSet};
+use rpki_text::uri::Rsync;
+use rpki_text::{RecipientHandle, SenderHandle};
+use rpki_updown::{ResourceClassName, SigningCert};
+use std::alloc::Global;
+
+/// The moment and the child's key.
+pub(crate) struct Terms {
+    pub(crate) when: Time,
+    pub(crate) child: PublicKey,
+}
+
+/// What the two words ask for; None exactly where they aren't of the form.
+pub(crate) fn terms_of(alloc: Global, words: &Words) -> Result<Option<Terms>, OutOfMemory>
+    ensures some { IfOk result (λ o. IfSome o (λ terms.
+        AreWords words.now terms.when terms.child)) }
+    ensures none { IfOk result (λ o. IsNone o → AreNoWords words.now) }
+{
+    if words.len() != 2 {
+        return Ok(None);
+    }
+    let Some(when) = words.moment(0) else {
+        return Ok(None);
+    };
+    let Some(child) = words.key(alloc, 1)? else {
+        return Ok(None);
+    };
+    Ok(Some(Terms { when, child }))
+}
+
+/// The octets that the lines spell; None where some line spells none.
+pub(crate) fn messages_in(
+    alloc: Global,
+    lines: Lines<'_>,
+) -> Result<Option<Vec<Vec<u8>>>, OutOfMemory>
+    ensures some { IfOk result (λ o. IfSome o (λ messages.
+        AreSent lines.entry (map (λ m. m.items) messages.items))) }
+    ensures none { IfOk result (λ o. IsNone o → AreNotSent lines.entry) }
+{
+    let mut messages = Vec::new(alloc);
+    for line in lines {
+        match spelled_octets(alloc, line)? {
+            Some(octets) => messages.push(octets)?,
+            None => return Ok(None),
+        }
+    }
+    Ok(Some(messages))
+}
+
+// The set that a text means, which means one.
+fn blocks<N: Numbers>(alloc: Global, text: &str) -> Result<Blocks<N>, OutOfMemory>
+    ensures { IfOk result (λ blocks. blocks_of N.kind text.now ≡ Some blocks) }
+{
+    match Blocks::from_str(alloc, text) {
+        Ok(blocks) => Ok(blocks),
+        Err(_) => Err(OutOfMemory),
+    }
+}
+
+// The child's resources.
+fn resources(alloc: Global) -> Result<ResourceSet, OutOfMemory>
+    ensures { IfOk result IsFirstSet }
+{
+    let asn: AsBlocks = blocks(alloc, "1-10")?;
+    let ipv4: Ipv4Blocks = blocks(alloc, "10.0.0.0/8")?;
+    let ipv6: Ipv6Blocks = blocks(alloc, "2001:db8::/32")?;
+    Ok(ResourceSet::new(asn, ipv4, ipv6))
+}
+
+// The one class, or None where it isn't made.
+fn class(alloc: Global, signing: &SigningCert) -> Result<Option<Class>, OutOfMemory>
+    requires { IsCertificate signing.now.cert }
+    ensures { IfOk result (λ o. IfSome o (IsFirstClass signing.now)) }
+{
+    let name = ResourceClassName::default_name(alloc)?;
+    let set = resources(alloc)?;
+    let signing = signing.clone(alloc)?;
+    let (Some(until), Ok(base)) = (
+        Time::new(2_524_607_999),
+        Rsync::from_str(alloc, "rsync://localhost/repo/"),
+    ) else {
+        return Ok(None);
+    };
+    Ok(Class::new(name, set, until, base, signing))
+}
+
+// The parent, or None where it isn't made.
+fn made_parent(
+    alloc: Global,
+    child_key: PublicKey,
+    signing: &SigningCert,
+) -> Result<Option<Parent>, OutOfMemory>
+    requires { IsCertificate signing.now.cert }
+    ensures { IfOk result (λ o. IfSome o (IsFirstParent child_key signing.now)) }
+{
+    let Some(class) = class(alloc, signing)? else {
+        return Ok(None);
+    };
+    let mut classes = Vec::with_capacity(alloc, 1)?;
+    classes.push(class)?;
+    let (Ok(me), Ok(child)) = (
+        RecipientHandle::from_str(alloc, "Bob"),
+        SenderHandle::from_str(alloc, "Carol"),
+    ) else {
+        return Ok(None);
+    };
+    Ok(Parent::new(alloc, me, child, child_key, classes))
+}
+
+/// The program's parent: it calls itself `Bob`, its child is `Carol` with this key, and it has one class, `0`, in which nothing was
+/// issued.
+pub(crate) fn first_parent(
+    alloc: Global,
+    child_key: PublicKey,
+    signing: &SigningCert,
+) -> Result<Parent, OutOfMemory>
+    requires { IsCertificate signing.now.cert }
+    ensures { IfOk result (IsFirstParent child_key signing.now) }
+{
+    match made_parent(alloc, child_key, signing)? {
+        Some(parent) => Ok(parent),
+        None => Err(OutOfMemory),
+    }
+}

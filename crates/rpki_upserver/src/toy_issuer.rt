@@ -1,0 +1,315 @@
+//! An issuer of the toy scheme.
+
+ghost use Rattle.std.specs.Prelude.{◌≡◌, ◌≤◌, map, Decides, IfErr, IfOk, MatchResult, OnErr, OnOk};
+ghost use Rattle.sha1.specs.Sha1.{sha1};
+ghost use Rattle.rpki_der.specs.declared.mode.Mode.TheVariants.{Der};
+ghost use Rattle.rpki_der.specs.Takes.{BeginsAs, Decodes};
+ghost use Rattle.rpki_base.specs.RpkiSignatureAlgorithm.{spelled_x509};
+ghost use Rattle.rpki_base.specs.SignedData.{spelled_data};
+ghost use Rattle.rpki_cert.specs.Cert.{certificate};
+ghost use Rattle.rpki_provisioning.specs.Writable.{IsCertificate};
+ghost use Rattle.rpki_upserver.specs.Issuer.{IsIssued, IsRevoked, IssuerFails};
+ghost use Rattle.rpki_upserver.specs.ToyIssuer.{GaveKey, GivesNoKey, IsToyCertificate, IsToyIssue, IsToyRevocation, MakesNone};
+ghost use Rattle.rpki_upserver.specs.ToyIssuer.{with_gone, with_made};
+ghost use Rattle.rpki_signer.specs.declared.errors.MakeError.TheVariants as make;
+ghost use Rattle.rpki_upserver.specs.ToyIssuer.{after_fault, issuer_state, made_of, toy_issuer};
+ghost use Rattle.rpki_upserver.specs.declared.issuer.IssuerError.TheVariants as errors;
+
+use crate::issuer::{Issuer, IssuerError};
+use rpki_base::{KeyIdentifier, PublicKey, Time, ToyFault, Validity};
+use rpki_cert::{Cert, RpkiCaCsr};
+use rpki_common::OutOfMemory;
+use rpki_der::DecodeError;
+use rpki_idcert::IdCert;
+use rpki_sets::ResourceSet;
+use rpki_signer::{KeyError, MakeError, Signer, ToyScheme, ToySigner};
+use rpki_updown::{KeyElement, ResourceClassName};
+use std::alloc::Global;
+use std::marker::Model;
+
+/// A certificate that was issued.
+#[derive(Drop)]
+pub struct ToyMade {
+    /// In which class.
+    pub class_name: ResourceClassName,
+    /// For the key with which identifier.
+    pub key: KeyIdentifier,
+    /// For which resources.
+    pub resource_set: ResourceSet,
+    /// Until when.
+    pub not_after: Time,
+    /// The certificate.
+    pub cert: Cert,
+}
+
+/// An issuer whose certificates are signed by a toy signer, without security. They are end entity certificates of the BPKI, which have the
+/// outer form of resource certificates, and say nothing of resources.
+///
+/// In a clause it is the record of its signer, the identifier of its key, from when its certificates are valid, and what it issued and
+/// revoked and how often it failed, a count that stops at 2^64 - 1.
+#[derive(Drop)]
+pub struct ToyIssuer {
+    alloc: Global,
+    signer: ToySigner,
+    key: u64,
+    from: Time,
+    made: Vec<ToyMade>,
+    gone: Vec<KeyElement>,
+    faults: u64,
+}
+
+impl Model for ToyIssuer {
+    ghost use Rattle.std.specs.Prelude.{map};
+    ghost use Rattle.rpki_upserver.specs.ToyIssuer.{ToyIssuerState, made_of};
+
+    ghost Value = { ToyIssuerState };
+
+    ghost view = { λ i. record {
+      signer = i.signer;
+      key = i.key;
+      from = i.from;
+      issuer = record {
+        made = map made_of i.made.items;
+        gone = i.gone.items;
+        faults = i.faults;
+      };
+    } };
+}
+
+impl ToyIssuer {
+    /// An issuer that signs with the signer's key of this number, and whose certificates are valid from this moment. It has issued and
+    /// revoked nothing. It takes no memory; later growth takes it from `alloc`.
+    pub fn new(alloc: Global, signer: ToySigner, key: u64, from: Time) -> ToyIssuer
+        ensures { result ≡ toy_issuer signer key from }
+    {
+        ToyIssuer {
+            alloc,
+            signer,
+            key,
+            from,
+            made: Vec::new(alloc),
+            gone: Vec::new(alloc),
+            faults: 0,
+        }
+    }
+
+    /// What it issued, in order.
+    pub fn made(&self) -> &[ToyMade]
+        ensures { map made_of result.now ≡ self.now.issuer.made }
+    {
+        &self.made
+    }
+
+    /// The keys whose certificates it revoked, each with its class, in order.
+    pub fn gone(&self) -> &[KeyElement]
+        ensures { result.now ≡ self.now.issuer.gone }
+    {
+        &self.gone
+    }
+
+    /// How often it failed.
+    pub fn faults(&self) -> u64
+        ensures { result ≡ self.now.issuer.faults }
+    {
+        self.faults
+    }
+
+    // Counts a fault.
+    fn fail(&mut self) -> IssuerError
+        ensures answer { result ≡ errors.Failed }
+        ensures counted { self.new ≡ after_fault self.old }
+        ensures later { self.old.issuer.faults ≤ self.new.issuer.faults }
+    {
+        self.faults = self.faults.saturating_add(1);
+        IssuerError::Failed
+    }
+
+    // The signed certificate for the key of a request, until this time.
+    fn certificate(
+        &mut self,
+        alloc: Global,
+        csr: &RpkiCaCsr,
+        not_after: Time,
+    ) -> Result<Cert, IssuerError>
+        ensures ok { IfOk result (IsToyCertificate csr.now not_after self.old self.new) }
+        ensures err { IfErr result (MakesNone self.old self.new) }
+        ensures later { OnErr result (self.old.issuer.faults ≤ self.new.issuer.faults) }
+    {
+        let validity = Validity::new(self.from, not_after);
+        let made = IdCert::new_ee::<ToyScheme, ToySigner>(
+            alloc,
+            csr.public_key(),
+            validity,
+            &self.key,
+            &mut self.signer,
+        );
+        match made {
+            Ok(cert) => Ok(certificate_for(alloc, &cert, csr.public_key())?),
+            Err(error) => {
+                if is_memory(&error) {
+                    return Err(IssuerError::OutOfMemory);
+                }
+                Err(self.fail())
+            }
+        }
+    }
+
+    // Adds what was issued.
+    fn add_made(&mut self, made: ToyMade) -> Result<(), OutOfMemory>
+        ensures ok { OnOk result (self.new ≡ record self.old {
+          issuer = with_made (made_of made) self.old.issuer;
+        }) }
+        ensures err { OnErr result (self.new ≡ self.old) }
+    {
+        self.made.push(made)?;
+        Ok(())
+    }
+
+    // Adds what was revoked.
+    fn add_gone(&mut self, gone: KeyElement) -> Result<(), OutOfMemory>
+        ensures ok { OnOk result (self.new ≡ record self.old {
+          issuer = with_gone gone self.old.issuer;
+        }) }
+        ensures err { OnErr result (self.new ≡ self.old) }
+    {
+        self.gone.push(gone)?;
+        Ok(())
+    }
+
+    // Asks the signer for its key.
+    fn ask(&mut self, alloc: Global) -> Result<(), IssuerError>
+        ensures ok { OnOk result (GaveKey self.old self.new) }
+        ensures err { IfErr result (GivesNoKey self.old self.new) }
+        ensures later { OnErr result (self.old.issuer.faults ≤ self.new.issuer.faults) }
+    {
+        match Signer::<ToyScheme>::get_key_info(&mut self.signer, alloc, &self.key) {
+            Ok(_) => Ok(()),
+            Err(KeyError::OutOfMemory) => Err(IssuerError::OutOfMemory),
+            Err(KeyError::KeyNotFound) => Err(self.fail()),
+            Err(KeyError::Signer(_)) => Err(self.fail()),
+        }
+    }
+}
+
+// Whether memory ran out.
+fn is_memory(error: &MakeError<ToyFault>) -> bool
+    ensures { Decides result (error.now ≡ make.OutOfMemory) }
+{
+    match error {
+        MakeError::OutOfMemory => true,
+        _ => false,
+    }
+}
+
+// The resource certificate that a certificate for this key is read as. What is written of one that was made is read as one,
+// with the same key, so memory alone is wanting.
+fn certificate_for(alloc: Global, cert: &IdCert, key: &PublicKey) -> Result<Cert, OutOfMemory>
+    ensures decoded { IfOk result (BeginsAs (certificate Der) Der
+        (spelled_data spelled_x509 cert.now.signed)) }
+    ensures key { IfOk result (λ c. c.key ≡ key.now) }
+    ensures der { IfOk result IsCertificate }
+{
+    match resource_certificate(alloc, cert) {
+        Ok(cert) => {
+            if cert.subject_public_key_info() == key {
+                return Ok(cert);
+            }
+            Err(OutOfMemory)
+        }
+        Err(_) => Err(OutOfMemory),
+    }
+}
+
+// The entry of a certificate.
+fn entry(
+    alloc: Global,
+    class_name: &ResourceClassName,
+    csr: &RpkiCaCsr,
+    set: &ResourceSet,
+    not_after: Time,
+    cert: &Cert,
+) -> Result<ToyMade, OutOfMemory>
+    ensures { IfOk result (λ made. made_of made ≡ record {
+      class_name = class_name.now;
+      key = sha1 csr.now.tbs.key.bits;
+      resource_set = set.now;
+      not_after = not_after;
+      slice = cert.now.slice;
+    }) }
+{
+    Ok(ToyMade {
+        class_name: class_name.clone(alloc)?,
+        key: csr.public_key().key_identifier(),
+        resource_set: set.clone(alloc)?,
+        not_after,
+        cert: cert.clone(alloc)?,
+    })
+}
+
+// The resource certificate that the octets are.
+fn certificate_in(alloc: Global, octets: &[u8]) -> Result<Cert, DecodeError>
+    ensures decoded { Decodes (certificate Der) (λ c. c) Der octets.now result }
+    ensures der { IfOk result IsCertificate }
+{
+    Cert::decode(alloc, octets)
+}
+
+/// The resource certificate that the octets of an identity certificate are read as, of which it has the outer form (RFC 5280, 4.1;
+/// RFC 6487, 4).
+pub fn resource_certificate(alloc: Global, cert: &IdCert) -> Result<Cert, DecodeError>
+    ensures decoded { Decodes (certificate Der) (λ c. c) Der
+        (spelled_data spelled_x509 cert.now.signed) result }
+    ensures der { IfOk result IsCertificate }
+{
+    let octets = cert.to_bytes(alloc)?;
+    certificate_in(alloc, octets.as_slice())
+}
+
+impl Issuer for ToyIssuer {
+    ghost use Rattle.rpki_upserver.specs.ToyIssuer.{issuer_state};
+
+    ghost state = { issuer_state };
+
+    fn issue(
+        &mut self,
+        alloc: Global,
+        class_name: &ResourceClassName,
+        csr: &RpkiCaCsr,
+        set: &ResourceSet,
+        not_after: Time,
+    ) -> Result<Cert, IssuerError>
+        // What each issuer promises.
+        ensures issued { MatchResult result
+            (IsIssued class_name.now csr.now set.now not_after (issuer_state self.old)
+            (issuer_state self.new))
+            (IssuerFails (issuer_state self.old) (issuer_state self.new)) }
+
+        // Which answer, and what the issuer is then.
+        ensures exact { IsToyIssue class_name.now csr.now set.now not_after self.old self.new result }
+    {
+        let cert = self.certificate(alloc, csr, not_after)?;
+        let made = entry(alloc, class_name, csr, set, not_after, &cert)?;
+        self.add_made(made)?;
+        Ok(cert)
+    }
+
+    fn revoke(
+        &mut self,
+        class_name: &ResourceClassName,
+        key: KeyIdentifier,
+    ) -> Result<(), IssuerError>
+        // What each issuer promises.
+        ensures revoked { MatchResult result
+            (λ _. IsRevoked class_name.now key (issuer_state self.old) (issuer_state self.new))
+            (IssuerFails (issuer_state self.old) (issuer_state self.new)) }
+
+        // Which answer, and what the issuer is then.
+        ensures exact { IsToyRevocation class_name.now key self.old self.new result }
+    {
+        let alloc = self.alloc;
+        self.ask(alloc)?;
+        let gone = KeyElement::new(class_name.clone(alloc)?, key);
+        self.add_gone(gone)?;
+        Ok(())
+    }
+}

@@ -1,0 +1,157 @@
+//! The program: its words, standard input and standard output are handed to `rpki_upserver::serve`, with toy signers and a toy issuer.
+#![tactic(auto)]
+
+ghost use Rattle.std.specs.Prelude.{IfOk};
+ghost use Rattle.rpki_provisioning.specs.Writable.{IsCertificate};
+
+use command_line::{Own, own_text, words_of, write_text};
+use rpki_base::{PublicKeyFormat, Time, Validity};
+use rpki_ca::{Refusal, Status, Words, refuse};
+use rpki_idcert::IdCert;
+use rpki_signer::{Signer, ToyScheme, ToySigner, ToyVerifier};
+use rpki_text::uri::Rsync;
+use rpki_text::{Sink, Source, StdSink, StdSource};
+use rpki_updown::SigningCert;
+use rpki_upserver::{ToyIssuer, resource_certificate, serve};
+use std::alloc::Global;
+use std::process::ExitCode;
+
+const HELP: &[u8] = b"\
+rpkiup is a parent: it answers the provisioning messages of one child.
+
+    rpkiup MOMENT KEY < INPUT
+        Answers each line of the input by one line. MOMENT is in seconds since
+        1970, in decimal digits without leading zeros, up to 253402300799. KEY
+        is the child's public key in DER, in hexadecimal digits.
+        The signature scheme is a toy WITHOUT SECURITY: whoever knows the
+        public key can sign.
+        Example: rpkiup 1700000000 \\
+    3022300d06092a864886f70d010101050003110000000000000000010000000000000000 \\
+    < examples/up.txt
+
+    rpkiup --help
+    rpkiup --version
+
+A line of the input is a signed message (RFC 6492) in hexadecimal digits of
+either case. It is answered by a signed message, in hexadecimal digits of
+lower case, if all fourteen checks of `rpkica receive` hold at MOMENT under
+KEY, and else by what `rpkica receive provisioning` writes: CmsDecode,
+XmlError, CertSyntax, InvalidCsrSyntax, or Validation and a number.
+
+The parent calls itself Bob and its child Carol. It has one class, 0, in which
+the child has the AS numbers 1-10 and the addresses 10.0.0.0/8 and
+2001:db8::/32 until 2049-12-31T23:59:59Z. To `list` it answers with the class
+and the certificates that were issued, to `issue` with a certificate, to
+`revoke` with the key; or with an error:
+    1103  the message asks for nothing that a parent does
+    1201  a certificate is asked for in another class
+    1202  more is asked for than the child has in the class
+    1203  the certificate request isn't signed under its own key
+    1204  its key was revoked
+    1301  revocation is asked for in another class
+    1302  there is no certificate of the key
+    2001  sender or recipient is another, or the issuer failed
+A run begins with no certificates, and nothing is kept behind it. Its issuer is
+a toy too: what it issues has the form of a certificate, and says nothing of
+resources.
+
+The exit status is
+     0  all lines were answered
+     2  Usage         the words are not a moment and a key; nothing is read
+     3  Hex           a line isn't hexadecimal; none is answered
+     7  Signer        the signer failed
+     8  Moment        300 seconds before MOMENT it isn't 1970, or 300 seconds
+                      after it the year 9999 is over; no line is answered
+     9  TooLong       more than 67108864 octets of input, or a reply is longer
+                      than 2147483648 octets
+    10  ReadFault     standard input failed
+    11                standard output failed
+    12  OutOfMemory   memory ran out; lines may have been answered before
+Example: rpkiup --help; echo $?
+";
+
+const VERSION: &[u8] = b"rpkiup 0.1.0\n";
+
+// A signer of the toy scheme, and the identifier of its one key.
+fn signer_of(alloc: Global, seed: u64) -> Result<(ToySigner, u64), Refusal> {
+    let mut signer = ToySigner::new(alloc, seed, &[])?;
+    match Signer::<ToyScheme>::create_key(&mut signer, alloc, PublicKeyFormat::Rsa) {
+        Ok(key) => Ok((signer, key)),
+        Err(_) => Err(Refusal::OutOfMemory),
+    }
+}
+
+// The certificate of the key under which certificates are issued: its own, always valid.
+fn signing_cert(alloc: Global, signer: &mut ToySigner, key: u64) -> Result<SigningCert, Refusal>
+    ensures { IfOk result (λ s. IsCertificate s.cert) }
+{
+    let (Some(first), Some(last), Ok(url)) = (
+        Time::new(0),
+        Time::new(253_402_300_799),
+        Rsync::from_str(alloc, "rsync://localhost/repo/ta.cer"),
+    ) else {
+        return Err(Refusal::OutOfMemory);
+    };
+    let validity = Validity::new(first, last);
+    let Ok(anchor) = IdCert::new_ta::<ToyScheme, ToySigner>(alloc, validity, &key, signer) else {
+        return Err(Refusal::OutOfMemory);
+    };
+    match resource_certificate(alloc, &anchor) {
+        Ok(cert) => Ok(SigningCert::new(url, cert)),
+        Err(_) => Err(Refusal::OutOfMemory),
+    }
+}
+
+// The issuer, and the certificate of its key.
+fn issuer_of(alloc: Global) -> Result<(ToyIssuer, SigningCert), Refusal>
+    ensures { IfOk result (λ pair. IsCertificate pair.1.cert) }
+{
+    let (mut signer, key) = signer_of(alloc, 3)?;
+    let signing = signing_cert(alloc, &mut signer, key)?;
+    match Time::new(0) {
+        Some(from) => Ok((ToyIssuer::new(alloc, signer, key, from), signing)),
+        None => Err(Refusal::OutOfMemory),
+    }
+}
+
+fn run<I: Source, O: Sink>(
+    alloc: Global,
+    words: &Words,
+    input: &mut I,
+    output: &mut O,
+) -> Result<Status, Refusal> {
+    let (mut signer, key) = signer_of(alloc, 1)?;
+    let (mut issuer, signing) = issuer_of(alloc)?;
+    let verifier = ToyVerifier::new();
+    Ok(serve(
+        alloc,
+        words,
+        input,
+        output,
+        &verifier,
+        &mut issuer,
+        &mut signer,
+        &key,
+        &signing,
+    ))
+}
+
+fn main(rt: HostRuntime) -> ExitCode {
+    let mut input = StdSource::new(rt.stdin());
+    let mut output = StdSink::new(rt.stdout());
+    let own = Own {
+        help: HELP,
+        version: VERSION,
+    };
+    let Status(status) = match words_of(&rt) {
+        Err(refusal) => refuse(&mut output, refusal),
+        Ok(words) => match own_text(&words, own) {
+            Some(text) => write_text(&mut output, text),
+            None => match run(rt.alloc(), &words, &mut input, &mut output) {
+                Ok(status) => status,
+                Err(refusal) => refuse(&mut output, refusal),
+            },
+        },
+    };
+    ExitCode::from(status)
+}

@@ -1,0 +1,113 @@
+"""Messages of the child and what a parent answers to them by its model, for tools/line_cases.py: each row of the tables and what stays
+behind it, calls of the signers that fail, and several classes. A row is its name, what stands behind the program's name, the lines and the
+answers to them, and the status.
+"""
+
+from messages import CALLS, key_identifier
+from parent import BOB, CAROL, Child, Class, Parent, request_of, standard_class
+from provisioning_cases import asked, key as key_element, status as status_element
+
+RUNS = {
+    b"10.0.0.0/9": (0x0A000000, 0x0A7FFFFF), b"11.0.0.0/8": (0x0B000000, 0x0BFFFFFF), b"10.0.0.0/7": (0x0A000000, 0x0BFFFFFF),
+    b"1-10": (1, 10), b"0-10": (0, 10), b"5": (5, 5), b"2001:db8::/33": (0x20010DB8 << 96, (0x20010DB8 << 96 | 1 << 95) - 1),
+    b"2001:db9::/32": (0x20010DB9 << 96, (0x20010DBA << 96) - 1)}
+
+
+class Talk:
+    """A talk of a child with a parent."""
+
+    def __init__(self, **options):
+        self.child, self.parent, self.sent, self.answers = Child(), Parent(**options), [], []
+
+    def ask(self, kind, *inside, decide, **parties):
+        self.sent.append(self.child.send(kind, *inside, **parties))
+        decided = self.parent.refused(2001) if parties else decide()
+        self.answers.append(self.parent.reply(*decided))
+        return self
+
+    def list(self, **parties):
+        return self.ask(b"list", decide=self.parent.answer_list, **parties)
+
+    def issue(self, label=b"0", key=0, spoilt=False, **limit):
+        sets = {kind: [RUNS[text]] if text else [] for kind, text in limit.items()}
+        return self.ask(b"issue", asked(request_of(key, spoilt=spoilt), class_name=label, **limit),
+            decide=lambda: self.parent.answer_issue(label, key, limit, sets, not spoilt))
+
+    def revoke(self, label=b"0", key=0):
+        identifier = key_identifier(1, key)
+        return self.ask(b"revoke", key_element(identifier, label), decide=lambda: self.parent.answer_revoke(label, identifier))
+
+    def other(self, kind, *inside):
+        return self.ask(kind, *inside, decide=lambda: self.parent.refused(1103))
+
+
+def talks():
+    """With the program's parent."""
+    yield "list", Talk().list()
+    for name, parties in (("sender", dict(sender=BOB)), ("recipient", dict(recipient=CAROL)),
+            ("sender-in-lower-case", dict(sender=b"carol"))):
+        yield f"another-{name}", Talk().list(**parties).list()
+    yield "issue-limit-and-revoke-twice", Talk().issue(ipv4=b"10.0.0.0/9").issue(ipv4=b"11.0.0.0/8").revoke().revoke()
+    yield "another-class", Talk().issue(b"1").revoke(b"1")
+    yield "request-of-another-key", Talk().issue(spoilt=True).issue(spoilt=True, ipv4=b"11.0.0.0/8").list()
+    yield "certificates-in-their-places", (Talk().issue(asn=b"5").issue(key=1).issue(ipv6=b"2001:db8::/33").list()
+        .revoke(key=1).issue(key=1).list())
+    yield "limits", (Talk().issue(asn=b"0-10").issue(ipv4=b"10.0.0.0/7").issue(ipv6=b"2001:db9::/32")
+        .issue(asn=b"5", ipv4=b"10.0.0.0/9", ipv6=b"2001:db8::/33").issue(asn=b"", ipv4=b"", ipv6=b""))
+    yield "answers-in-place-of-questions", (Talk().other(b"list_response")
+        .other(b"revoke_response", key_element(key_identifier(1, 0), b"0")).other(b"error_response", status_element(b"1201")))
+
+
+def classes():
+    """Two classes as the program's, and an empty one."""
+    return [standard_class(b"0"), standard_class(b"1"), Class(b"2", dict(asn=b"", ipv4=b"", ipv6=b""), dict(asn=[], ipv4=[], ipv6=[]))]
+
+
+def of_classes(**options):
+    return Talk(classes=classes(), **options)
+
+
+def talks_of_classes():
+    """With a parent of several classes."""
+    yield "classes-in-order", of_classes().list()
+    yield "no-resources", of_classes().issue(b"2").issue(b"2", spoilt=True)
+    yield "keys-of-other-classes", (of_classes().issue(b"0", ipv4=b"10.0.0.0/9").issue(b"1", ipv4=b"11.0.0.0/8").issue(b"1", key=1)
+        .revoke(b"1").revoke(b"0").issue(b"1").issue(b"0", ipv4=b"11.0.0.0/8").list())
+
+
+def program_rows():
+    for name, talk in talks():
+        yield name, "", talk.sent, talk.answers, 0
+    # The calls behind the first one, of each reply: sign_one_off, get_key_info, sign, rand, get_key_info, sign.
+    for call in range(1, CALLS + 2):
+        talk = Talk().issue().list() if call > CALLS else Talk().issue()
+        yield f"replies-call-{call}-failing", f",s{call}", talk.sent, [*talk.answers[:(call - 1) // CALLS], "Signer"], 7
+    # Behind those for its own certificate, of an issuer: rand, get_key_info and sign for a certificate, and get_key_info to revoke.
+    for call in 3, 6:
+        talk = Talk(failing_issuer=(call,)).issue(ipv4=b"10.0.0.0/9").revoke().list()
+        yield f"issuer-call-{call}-failing", f",i{call}", talk.sent, talk.answers, 0
+
+
+def done(parent):
+    """What the issuer did."""
+    for label, identifier, resources in parent.made:
+        yield f"made {label.decode()} {identifier.hex().upper()} {resources} 2524607999"
+    for label, identifier in parent.gone:
+        yield f"gone {label.decode()} {identifier.hex().upper()}"
+    yield f"faults {parent.faults}"
+
+
+def rows_of_classes():
+    """The answers, and then what the issuer did."""
+    def row(name, behind, talk):
+        return name, behind, talk.sent, [*talk.answers, *done(talk.parent)], 0
+
+    for name, talk in talks_of_classes():
+        yield row(name, "", talk)
+    # A reply that couldn't be made was decided: what it was to say is done.
+    for call in 1, 4, 6:
+        yield row(f"replies-call-{call}-failing", f",s{call}", of_classes(failing=(call,)).issue().list())
+    yield row("revocation-unsent", f",s{CALLS + 1}", of_classes(failing=(CALLS + 1,)).issue().revoke().revoke())
+    for call in 3, 4, 5:
+        yield row(f"issuer-call-{call}-failing", f",i{call}", of_classes(failing_issuer=(call,)).issue(b"1").list())
+    yield row("revocation-failing", ",i6", of_classes(failing_issuer=(6,)).issue(b"1").revoke(b"1").list())
