@@ -14,3 +14,5 @@ pub mod Deciding
 pub mod Issuing
 pub mod Saying
 pub mod Words
+pub mod Outer
+pub mod Toy

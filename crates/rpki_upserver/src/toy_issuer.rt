@@ -1,20 +1,23 @@
 //! An issuer of the toy scheme.
 
-ghost use Rattle.std.specs.Prelude.{◌≡◌, map, IfErr, IfOk, MatchResult};
+ghost use Rattle.std.specs.Prelude.{◌≡◌, ◌≢◌, map, IfErr, IfOk, MatchResult, OnOk};
 ghost use Rattle.rpki_der.specs.declared.mode.Mode.TheVariants.{Der};
 ghost use Rattle.rpki_der.specs.Takes.{Decodes};
 ghost use Rattle.rpki_base.specs.RpkiSignatureAlgorithm.{spelled_x509};
-ghost use Rattle.rpki_base.specs.SignedData.{spelled_data};
+ghost use Rattle.rpki_base.specs.SignedData.{CanBeSpelled, spelled_data};
 ghost use Rattle.rpki_cert.specs.Cert.{certificate};
 ghost use Rattle.rpki_provisioning.specs.Writable.{IsCertificate};
+ghost use Rattle.rpki_signer.specs.declared.errors.KeyError.TheVariants as keys;
+ghost use Rattle.rpki_signer.specs.declared.errors.MakeError.TheVariants as make;
 ghost use Rattle.rpki_upserver.specs.Issuer.{IsIssued, IsRevoked, IssuerFails};
 ghost use Rattle.rpki_upserver.specs.ToyIssuer.{IsToyCertificate, IsToyIssue, IsToyRevocation, MakesNone};
 ghost use Rattle.rpki_upserver.specs.ToyIssuer.{after_fault, issuer_state, made_of, toy_issuer};
 ghost use Rattle.rpki_upserver.specs.declared.issuer.IssuerError.TheVariants as errors;
 
 use crate::issuer::{Issuer, IssuerError};
-use rpki_base::{KeyIdentifier, Time, Validity};
+use rpki_base::{KeyIdentifier, Time, ToyFault, Validity};
 use rpki_cert::{Cert, RpkiCaCsr};
+use rpki_common::OutOfMemory;
 use rpki_der::DecodeError;
 use rpki_idcert::IdCert;
 use rpki_sets::ResourceSet;
@@ -114,6 +117,7 @@ impl ToyIssuer {
     fn fail(&mut self) -> IssuerError
         ensures answer { result ≡ errors.Failed }
         ensures counted { self.new ≡ after_fault self.old }
+        ensures fails { IssuerFails (issuer_state self.old) (issuer_state self.new) errors.Failed }
     {
         self.faults = self.faults.saturating_add(1);
         IssuerError::Failed
@@ -142,9 +146,31 @@ impl ToyIssuer {
                 // What is written of a certificate that was made is read as one.
                 Err(_) => Err(IssuerError::OutOfMemory),
             },
-            Err(MakeError::OutOfMemory) => Err(IssuerError::OutOfMemory),
-            Err(_) => Err(self.fail()),
+            Err(error) => {
+                unless_memory(error)?;
+                Err(self.fail())
+            }
         }
+    }
+}
+
+// Passes on want of memory.
+fn unless_memory(error: MakeError<ToyFault>) -> Result<(), OutOfMemory>
+    ensures { OnOk result (error ≢ make.OutOfMemory) }
+{
+    match error {
+        MakeError::OutOfMemory => Err(OutOfMemory),
+        _ => Ok(()),
+    }
+}
+
+// The same where a key isn't given.
+fn unless_key_memory(error: KeyError<ToyFault>) -> Result<(), OutOfMemory>
+    ensures { OnOk result (error ≢ keys.OutOfMemory) }
+{
+    match error {
+        KeyError::OutOfMemory => Err(OutOfMemory),
+        _ => Ok(()),
     }
 }
 
@@ -154,6 +180,7 @@ pub fn resource_certificate(alloc: Global, cert: &IdCert) -> Result<Cert, Decode
     ensures decoded { Decodes (certificate Der) (λ c. c) Der
         (spelled_data spelled_x509 cert.now.signed) result }
     ensures der { IfOk result IsCertificate }
+    ensures spelled { OnOk result (CanBeSpelled spelled_x509 cert.now.signed) }
 {
     let octets = cert.to_bytes(alloc)?;
     Cert::decode(alloc, octets.as_slice())
@@ -211,8 +238,10 @@ impl Issuer for ToyIssuer {
         let alloc = self.alloc;
         match Signer::<ToyScheme>::get_key_info(&mut self.signer, alloc, &self.key) {
             Ok(_) => {}
-            Err(KeyError::OutOfMemory) => return Err(IssuerError::OutOfMemory),
-            Err(_) => return Err(self.fail()),
+            Err(error) => {
+                unless_key_memory(error)?;
+                return Err(self.fail());
+            }
         }
         let gone = KeyElement::new(class_name.clone(alloc)?, key);
         match self.gone.push(gone) {
