@@ -236,6 +236,9 @@ def server_rows():
         done, error("object_already_present", one), listed(("f0.txt", b"0")))
     yield served("in-order-of-uris", [query(publish("b", b"1")), query(publish("a", b"2"), publish("aa", b"3")), ask],
         done, done, listed(("a", b"2"), ("aa", b"3"), ("b", b"1")))
+    sizes = [(f"{size}.roa", bytes(size)) for size in (127, 128, 256, 65536)]
+    yield served("sizes", [query(*(publish(*each) for each in sizes)), ask, query(*(withdraw(*each) for each in sizes)), ask],
+        done, listed(*sorted(sizes)), done, "")
     yield served("old-digest", [query(one), query(publish("f1.txt", b"b", b"b")), query(withdraw("f1.txt", b"b")), ask],
         done, error("no_object_matching_hash", publish("f1.txt", b"b", b"b")),
         error("no_object_matching_hash", withdraw("f1.txt", b"b")), listed(("f1.txt", b"a")))

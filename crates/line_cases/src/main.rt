@@ -11,9 +11,11 @@
 #![tactic(auto)]
 
 mod parents;
+mod server;
 mod up;
 
 use crate::parents::run_parent;
+use crate::server::answers_alike;
 use crate::up::{Failing, out_of_memory, run_up};
 use rpki_archive::check;
 use rpki_base::PublicKeyFormat;
@@ -78,6 +80,17 @@ fn case_of(alloc: Global, line: &str) -> io::Result<Case> {
     })
 }
 
+// The signer of the replies, of which the listed calls fail, and the identifier of its one key.
+fn signer_of(alloc: Global, failing: &[u64]) -> io::Result<(ToySigner, u64)> {
+    let Ok(mut signer) = ToySigner::new(alloc, 1, failing) else {
+        return Err(out_of_memory());
+    };
+    match Signer::<ToyScheme>::create_key(&mut signer, alloc, PublicKeyFormat::Rsa) {
+        Ok(key) => Ok((signer, key)),
+        Err(_) => Err(invalid()),
+    }
+}
+
 // What the publication server ends with, where the listed calls of its signer fail.
 fn served(
     alloc: Global,
@@ -86,12 +99,7 @@ fn served(
     source: &mut MemorySource,
     sink: &mut MemorySink,
 ) -> io::Result<Status> {
-    let Ok(mut signer) = ToySigner::new(alloc, 1, failing) else {
-        return Err(out_of_memory());
-    };
-    let Ok(key) = Signer::<ToyScheme>::create_key(&mut signer, alloc, PublicKeyFormat::Rsa) else {
-        return Err(invalid());
-    };
+    let (mut signer, key) = signer_of(alloc, failing)?;
     let verifier = ToyVerifier::new();
     Ok(serve(
         alloc,
@@ -167,7 +175,8 @@ fn does_as_parent(alloc: Global, failing: &str, case: &Case) -> io::Result<bool>
 struct Runs;
 
 impl Cases for Runs {
-    // Whether the case is answered as expected, whole and an octet at a time.
+    // Whether the case is answered as expected, whole and an octet at a time; and by the calls of a
+    // server, where it is one whose queries are all answered.
     fn holds(&self, alloc: Global, line: &str) -> io::Result<bool> {
         let Some(program) = line.split_whitespace().nth(1) else {
             return Err(invalid());
@@ -175,6 +184,9 @@ impl Cases for Runs {
         let case = case_of(alloc, line)?;
         if let Some(failing) = program.strip_prefix("parent") {
             return does_as_parent(alloc, failing, &case);
+        }
+        if program == "pub" && case.status == 0 && !answers_alike(alloc, &case)? {
+            return Ok(false);
         }
         Ok(is_answered(alloc, program, &case, 1 << 20)? && is_answered(alloc, program, &case, 1)?)
     }

@@ -8,8 +8,10 @@ pub mod Ordered
 pub mod Lying
 pub mod Writable
 pub mod Asked
+pub mod Answered
 pub mod Signed
 pub mod Replying
 pub mod Sending
 pub mod Replied
 pub mod Ended
+pub mod Words

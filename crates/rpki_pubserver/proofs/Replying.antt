@@ -1,5 +1,5 @@
 -- Replies to lines, one behind the other.
-use Rattle.std.proofs.Common.{◌≡◌, ◌≢◌, ◌<◌, ◌^◌, ℕ, ℤ, List, [], ◌∷◌, length, get_or, take, Some, sym, ap, subst, ◌∙◌, arith}
+use Rattle.std.proofs.Common.{◌≡◌, ◌≢◌, ◌<◌, ◌^◌, ℕ, ℤ, List, [], ◌∷◌, length, get_or, take, Some, refl, sym, ap, subst, ◌∙◌, arith}
 use Rattle.std.specs.Prelude.{slice_get}
 use Rattle.std.proofs.lemmas.Option.{slice_get-get_or}
 use Rattle.hex.specs.Hex.{encode_lower}
@@ -33,7 +33,7 @@ replied_elsewhere scheme when one other server octets text next id keyring h = r
   reply = h.reply;
   is = h.is;
   signed = h.signed;
-  receivable = receivable_elsewhere scheme _ h.signed _ when one other id keyring h.receivable;
+  receivable = receivable_elsewhere scheme kinds.Publication h.signed (received.Publication h.reply.message) when one other id keyring h.receivable;
   written = h.written;
   behind = h.behind;
 }

@@ -25,6 +25,10 @@ get_behind (y ∷ xs) zero (suc k) x d lt = refl
 get_behind (y ∷ xs) (suc i) zero x d lt = absurd (omega (arith, lt))
 get_behind (y ∷ xs) (suc i) (suc k) x d lt = get_behind xs i k x d (omega (arith, lt))
 
+pub length_mapped : {X Y : Type 0} (f : X → Y) (xs : List X) → length (map f xs) ≡ length xs
+length_mapped f [] = refl
+length_mapped f (x ∷ xs) = ap (λ (n : ℕ). suc n) (length_mapped f xs)
+
 pub get_mapped : {X Y : Type 0} (f : X → Y) (xs : List X) (i : ℕ) (x : X) (d : Y) → i < length xs → x ≡ get_or xs i x → get_or (map f xs) i d ≡ f x
 get_mapped f [] i x d lt at = absurd (omega (arith, lt))
 get_mapped f (y ∷ xs) zero x d lt at = ap f (sym at)

@@ -2,7 +2,7 @@
 use Rattle.std.specs.Prelude.{◌≡◌, ℕ, Some, Ok, Err, List, slice_get}
 use Rattle.rpki_publication.specs.declared.publish_delta_element.PublishDeltaElement.{PublishDeltaElement}
 use Rattle.rpki_pubserver.specs.declared.changes.Refused as held
-use Rattle.rpki_pubserver.specs.Changes.{Refused, after_all}
+use Rattle.rpki_pubserver.specs.Changes.{after_all}
 use Rattle.rpki_pubserver.specs.Store.{Store}
 
 -- it is the first that isn't made

@@ -1,11 +1,10 @@
 //! What the program reads: words and input.
 
-ghost use Rattle.std.specs.Prelude.{◌≡◌, ◌≢◌, IfErr, IfOk, IfSome, IsNone, List, Some, map, slice_get, ℕ};
-ghost use Rattle.rpki_ca.specs.declared.refusals.Refusal.TheVariants as refusals;
+ghost use Rattle.std.specs.Prelude.{◌≡◌, IfOk, IfSome, IsNone, List, Some, map, slice_get, ℕ};
 ghost use Rattle.rpki_pubserver.specs.Running.{AreNoWords, AreNotSent, AreSent, AreWords, IsBase};
 
 use rpki_base::{PublicKey, Time};
-use rpki_ca::{Lines, Refusal, Words, spelled_octets};
+use rpki_ca::{Lines, Words, spelled_octets};
 use rpki_common::OutOfMemory;
 use rpki_text::uri;
 use std::alloc::Global;
@@ -40,29 +39,29 @@ fn base_at(alloc: Global, words: &Words, index: usize) -> Result<Option<uri::Rsy
     }
 }
 
-/// What the three words ask for. `Usage` exactly where they don't.
-pub(crate) fn terms_of(alloc: Global, words: &Words) -> Result<Terms, Refusal>
-    ensures ok { IfOk result (λ terms. AreWords words.now terms.when terms.base terms.publisher) }
-    ensures err { IfErr result (λ e. e ≢ refusals.OutOfMemory
-        → (e ≡ refusals.Usage) × AreNoWords words.now) }
+/// What the three words ask for; None exactly where they aren't of the form.
+pub(crate) fn terms_of(alloc: Global, words: &Words) -> Result<Option<Terms>, OutOfMemory>
+    ensures some { IfOk result (λ o. IfSome o (λ terms.
+        AreWords words.now terms.when terms.base terms.publisher)) }
+    ensures none { IfOk result (λ o. IsNone o → AreNoWords words.now) }
 {
     if words.len() != 3 {
-        return Err(Refusal::Usage);
+        return Ok(None);
     }
     let Some(when) = words.moment(0) else {
-        return Err(Refusal::Usage);
+        return Ok(None);
     };
     let Some(base) = base_at(alloc, words, 1)? else {
-        return Err(Refusal::Usage);
+        return Ok(None);
     };
     let Some(publisher) = words.key(alloc, 2)? else {
-        return Err(Refusal::Usage);
+        return Ok(None);
     };
-    Ok(Terms {
+    Ok(Some(Terms {
         when,
         base,
         publisher,
-    })
+    }))
 }
 
 /// The octets that the lines spell; None where some line spells none.

@@ -146,8 +146,9 @@ pub fn serve<P: Scheme, I: Source, O: Sink, V: Verifier<P>, S: Signer<P>>(
         base,
         publisher,
     } = match terms_of(alloc, words) {
-        Ok(terms) => terms,
-        Err(refusal) => return refuse(output, refusal),
+        Ok(Some(terms)) => terms,
+        Ok(None) => return refuse(output, Refusal::Usage),
+        Err(_) => return refuse(output, Refusal::OutOfMemory),
     };
     let Some(mut server) = Server::new(alloc, base, publisher) else {
         return refuse(output, Refusal::Usage);

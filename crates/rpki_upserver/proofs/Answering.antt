@@ -1,5 +1,5 @@
 -- Answers to lines, one behind the other.
-use Rattle.std.proofs.Common.{◌≡◌, ◌≢◌, ◌<◌, ◌≤◌, ◌^◌, ◌⊎◌, ℕ, ℤ, Err, List, [], ◌∷◌, ◌++◌, length, get_or, map, take, suc, zero, Some, inl, inr, refl, sym, ap, subst, ◌∙◌, arith}
+use Rattle.std.proofs.Common.{◌≡◌, ◌≢◌, ◌<◌, ◌≤◌, ◌^◌, ◌⊎◌, ℕ, ℤ, Err, List, [], ◌∷◌, ◌++◌, length, get_or, take, Some, inl, inr, refl, sym, ap, subst, ◌∙◌, arith}
 use Rattle.std.specs.Prelude.{slice_get}
 use Rattle.std.proofs.lemmas.List.{take_all}
 use Rattle.std.proofs.lemmas.Option.{slice_get-get_or}
@@ -55,17 +55,6 @@ all_elsewhere scheme when one other start (m ∷ messages) [] last id keyring h 
 all_elsewhere scheme when one other start (m ∷ messages) (text ∷ texts) last id keyring h =
     (h.0, line_elsewhere scheme when one other start m text h.0 id keyring h.1, all_elsewhere scheme when one other h.0 messages texts last id keyring h.2)
 
--- ---- octets as lists
-
-pub length_mapped : {X Y : Type 0} (f : X → Y) (xs : List X) → length (map f xs) ≡ length xs
-length_mapped f [] = refl
-length_mapped f (x ∷ xs) = ap (λ (n : ℕ). suc n) (length_mapped f xs)
-
-pub get_mapped : {X Y : Type 0} (f : X → Y) (xs : List X) (i : ℕ) (x : X) (d : Y) → i < length xs → x ≡ get_or xs i x → get_or (map f xs) i d ≡ f x
-get_mapped f [] i x d lt at = absurd (omega (arith, lt))
-get_mapped f (y ∷ xs) zero x d lt at = ap f (sym at)
-get_mapped f (y ∷ xs) (suc i) x d lt at = get_mapped f xs i x d (omega (arith, lt)) at
-
 -- ---- one line
 
 -- what is signed is written in hexadecimal
@@ -117,10 +106,9 @@ cant_send scheme when signer before octets after e u other = record {
   cause = signing_cause when signer (received.Provisioning (reply before.parent u.payload)) e (u.cause (not_memory e other)) other;
 }
 
--- ---- nothing was done
-
-pub leaves_same : (s : IssuerState) → Leaves s s
-leaves_same s = record { made = refl; gone = refl; faults = omega arith }
+-- an issuer that did nothing
+pub same_issuer : (issuer : IssuerState) → Leaves issuer issuer
+same_issuer issuer = record { made = refl; gone = refl; faults = omega arith }
 
 -- ---- the first lines
 

@@ -68,12 +68,24 @@ module _ (scheme : Relation) (table : Table) (request : IssuanceRequestFields) w
 
     issue_done : (before after : IssuerState) (next : Table) (new : ClassState) (at : ℕ) → IsAllowed → IsContained request.limit c.resource_set → (i : IsIssuedAt c request (limited_set request.limit c.resource_set) before after new at)
         → next ≡ change request.class_name (with_issued (published c request i.cert)) table → IssueComes (comes_as (payloads.IssueResponse (issuance (entitled c) (published c request i.cert))) next before after)
-    issue_done before after next new at a contained i next_is = by_class (Some c) _ named (inr (a.some, inl (a.proven, inr (a.unused, inl (contained, inr (record {
-      cert = i.cert;
-      issued = subst (λ (n : List ℕ). IsIssued n request.csr (limited_set request.limit c.resource_set) c.not_after before after i.cert) (named_name request.class_name table c named) i.issued;
-      payload = refl;
-      next = next_is;
-    }))))))
+    issue_done before after next new at a contained i next_is = by_class (Some c) _ named (inr (
+      a.some,
+      inl (
+        a.proven,
+        inr (
+          a.unused,
+          inl (
+            contained,
+            inr (record {
+              cert = i.cert;
+              issued = subst (λ (n : List ℕ). IsIssued n request.csr (limited_set request.limit c.resource_set) c.not_after before after i.cert) (named_name request.class_name table c named) i.issued;
+              payload = refl;
+              next = next_is;
+            }),
+          ),
+        ),
+      ),
+    ))
 
 -- ---- what is told of a certificate can be written
 

@@ -11,8 +11,9 @@ pub mod Keeping
 pub mod Changing
 pub mod Tables
 pub mod Deciding
+pub mod Decoded
+pub mod Toys
 pub mod Issuing
 pub mod Saying
+pub mod Mapped
 pub mod Words
-pub mod Outer
-pub mod Toy

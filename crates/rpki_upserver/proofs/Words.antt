@@ -12,13 +12,14 @@ use Rattle.rpki_upserver.specs.Running.{AreWords, EndsServed, run_of}
 same_key : (one other : KeyFields) → Some one ≡ Some other → one ≡ other
 same_key one other e = cc
 
-module _ {I : Type 0} (scheme : Relation) (signing : SigningFields) (issuer next : IssuerState) (signer : SignerSeen I) (status : ℕ) (source sink : Seen) where
-  -- how it ends by the words, by whatever they are said to name
-  abbrev pub EndsBy : ℤ → KeyFields → Type 0
-  EndsBy when key = EndsRun (λ octets. EndsServed scheme (run_of when key signing issuer next signer) (lines_of octets) status sink) status source sink
+-- how it ends by the words, by whatever they are said to name
+abbrev EndsBy : {I : Type 0} → Relation → SigningFields → IssuerState → IssuerState → SignerSeen I → ℕ → Seen → Seen → ℤ → KeyFields → Type 0
+EndsBy scheme signing one other signer status source sink when key = EndsRun (λ octets. EndsServed scheme (run_of when key signing one other signer) (lines_of octets) status sink) status source sink
 
-  pub ends_by : (words : List (List ℕ)) (when other : ℤ) (key other_key : KeyFields) → AreWords words when key → AreWords words other other_key → EndsBy when key → EndsBy other other_key
-  ends_by words when other key other_key a b ends =
-      let moment : when ≡ other = one_moment_at words 0 when other a.moment b.moment in
-      let keys : key ≡ other_key = same_key key other_key (sym a.key_is ∙ b.key_is) in
-      subst (λ (w : ℤ). EndsBy w other_key) moment (subst (λ (k : KeyFields). EndsBy when k) keys ends)
+pub ends_by : {I : Type 0} (scheme : Relation) (signing : SigningFields) (one two : IssuerState) (signer : SignerSeen I) (status : ℕ) (source sink : Seen) (words : List (List ℕ)) (when other : ℤ) (key other_key : KeyFields)
+    → AreWords words when key → AreWords words other other_key → EndsBy scheme signing one two signer status source sink when key → EndsBy scheme signing one two signer status source sink other other_key
+ends_by scheme signing one two signer status source sink words when other key other_key a b ends =
+    let moment : when ≡ other = one_moment_at words 0 when other a.moment b.moment in
+    let keys : key ≡ other_key = same_key key other_key (sym a.key_is ∙ b.key_is) in
+    subst (λ (w : ℤ). EndsBy scheme signing one two signer status source sink w other_key) moment
+    (subst (λ (k : KeyFields). EndsBy scheme signing one two signer status source sink when k) keys ends)

@@ -21,6 +21,7 @@ use Rattle.rpki_signer.specs.declared.errors.MakeError.{MakeError}
 use Rattle.rpki_signer.specs.declared.errors.MakeError.TheVariants as make
 use Rattle.rpki_text.specs.Counts.{count_after}
 use Rattle.rpki_updown.specs.Entitlements.{CaRequest}
+use Rattle.rpki_updown.specs.KeyElement.{KeyElementFields}
 use Rattle.rpki_provisioning.specs.Writable.{IsCertificate}
 use Rattle.rpki_upserver.specs.declared.issuer.IssuerError.{IssuerError}
 use Rattle.rpki_upserver.specs.declared.issuer.IssuerError.TheVariants as errors
@@ -107,7 +108,7 @@ pub record IsToyIssued (name : List ℕ) (csr : CaRequest) (set : Resources) (no
       resource_set = set;
       not_after = not_after;
       slice = cert.slice;
-    }) before.issuer;
+    }) between.issuer;
   }
 
 abbrev pub IsToyIssue : List ℕ → CaRequest → Resources → ℤ → ToyIssuerState → ToyIssuerState
@@ -116,27 +117,37 @@ IsToyIssue name csr set not_after before after (Ok cert) =
     IsToyIssued name csr set not_after before after cert
 IsToyIssue name csr set not_after before after (Err error) = MakesNone before after error
 
--- its signer didn't give the key, for another reason than want of memory
+-- the entry of a key that is revoked is added
+abbrev pub with_gone : KeyElementFields → IssuerState → IssuerState
+with_gone key i = record i { gone = i.gone ++ key ∷ [] }
+
+-- its signer gave the key
+pub record GaveKey (before after : ToyIssuerState) : Type 0 where
+  pub given : KeyFields
+  pub asked : IsToyKey before.key before.signer after.signer (Ok given)
+  pub rest : DidNothing before after
+
+-- it didn't, for another reason than want of memory
 pub record GaveNoKey (before after : ToyIssuerState) : Type 0 where
   pub error : KeyError ToyFault
   pub other : error ≢ keys.OutOfMemory
   pub asked : IsToyKey before.key before.signer after.signer (Err error)
   pub is : after ≡ record (after_fault before) { signer = after.signer }
 
--- it gave the key, and the entry of the key that is revoked is added
+-- Failed exactly where its signer doesn't give its key, for another reason than want of memory
+abbrev pub GivesNoKey : ToyIssuerState → ToyIssuerState → IssuerError → Type 0
+GivesNoKey before after errors.Failed = GaveNoKey before after
+GivesNoKey before after errors.OutOfMemory = DidNothing before after
+
+-- `revoke`: the key was given, and the entry of the key that is revoked is added
 pub record IsToyRevoked (name key : List ℕ) (before after : ToyIssuerState) : Type 0 where
-  pub given : KeyFields
-  pub asked : IsToyKey before.key before.signer after.signer (Ok given)
-  pub is : after ≡ record before {
-    signer = after.signer;
-    issuer = record before.issuer {
-      gone = before.issuer.gone ++ record { class_name = name; key = key } ∷ [];
-    };
+  pub between : ToyIssuerState
+  pub given : GaveKey before between
+  pub is : after ≡ record between {
+    issuer = with_gone (record { class_name = name; key = key }) between.issuer;
   }
 
--- `revoke`: Failed exactly where its signer doesn't give its key, for another reason than want of memory
 abbrev pub IsToyRevocation : List ℕ → List ℕ → ToyIssuerState → ToyIssuerState
     → Result (Unit {0}) IssuerError → Type 0
 IsToyRevocation name key before after (Ok done) = IsToyRevoked name key before after
-IsToyRevocation name key before after (Err errors.Failed) = GaveNoKey before after
-IsToyRevocation name key before after (Err errors.OutOfMemory) = DidNothing before after
+IsToyRevocation name key before after (Err error) = GivesNoKey before after error

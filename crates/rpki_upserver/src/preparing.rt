@@ -24,7 +24,8 @@ pub(crate) struct Terms {
 
 /// What the two words ask for; None exactly where they aren't of the form.
 pub(crate) fn terms_of(alloc: Global, words: &Words) -> Result<Option<Terms>, OutOfMemory>
-    ensures some { IfOk result (λ o. IfSome o (λ terms. AreWords words.now terms.when terms.child)) }
+    ensures some { IfOk result (λ o. IfSome o (λ terms.
+        AreWords words.now terms.when terms.child)) }
     ensures none { IfOk result (λ o. IsNone o → AreNoWords words.now) }
 {
     if words.len() != 2 {
@@ -33,10 +34,10 @@ pub(crate) fn terms_of(alloc: Global, words: &Words) -> Result<Option<Terms>, Ou
     let Some(when) = words.moment(0) else {
         return Ok(None);
     };
-    match words.key(alloc, 1)? {
-        Some(child) => Ok(Some(Terms { when, child })),
-        None => Ok(None),
-    }
+    let Some(child) = words.key(alloc, 1)? else {
+        return Ok(None);
+    };
+    Ok(Some(Terms { when, child }))
 }
 
 /// The octets that the lines spell; None where some line spells none.

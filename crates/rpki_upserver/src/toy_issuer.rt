@@ -1,21 +1,22 @@
 //! An issuer of the toy scheme.
 
-ghost use Rattle.std.specs.Prelude.{◌≡◌, ◌≢◌, map, IfErr, IfOk, MatchResult, OnOk};
+ghost use Rattle.std.specs.Prelude.{◌≡◌, ◌≤◌, map, Decides, IfErr, IfOk, MatchResult, OnErr, OnOk};
+ghost use Rattle.sha1.specs.Sha1.{sha1};
 ghost use Rattle.rpki_der.specs.declared.mode.Mode.TheVariants.{Der};
-ghost use Rattle.rpki_der.specs.Takes.{Decodes};
+ghost use Rattle.rpki_der.specs.Takes.{BeginsAs, Decodes};
 ghost use Rattle.rpki_base.specs.RpkiSignatureAlgorithm.{spelled_x509};
-ghost use Rattle.rpki_base.specs.SignedData.{CanBeSpelled, spelled_data};
+ghost use Rattle.rpki_base.specs.SignedData.{spelled_data};
 ghost use Rattle.rpki_cert.specs.Cert.{certificate};
 ghost use Rattle.rpki_provisioning.specs.Writable.{IsCertificate};
-ghost use Rattle.rpki_signer.specs.declared.errors.KeyError.TheVariants as keys;
-ghost use Rattle.rpki_signer.specs.declared.errors.MakeError.TheVariants as make;
 ghost use Rattle.rpki_upserver.specs.Issuer.{IsIssued, IsRevoked, IssuerFails};
-ghost use Rattle.rpki_upserver.specs.ToyIssuer.{IsToyCertificate, IsToyIssue, IsToyRevocation, MakesNone};
+ghost use Rattle.rpki_upserver.specs.ToyIssuer.{GaveKey, GivesNoKey, IsToyCertificate, IsToyIssue, IsToyRevocation, MakesNone};
+ghost use Rattle.rpki_upserver.specs.ToyIssuer.{with_gone, with_made};
+ghost use Rattle.rpki_signer.specs.declared.errors.MakeError.TheVariants as make;
 ghost use Rattle.rpki_upserver.specs.ToyIssuer.{after_fault, issuer_state, made_of, toy_issuer};
 ghost use Rattle.rpki_upserver.specs.declared.issuer.IssuerError.TheVariants as errors;
 
 use crate::issuer::{Issuer, IssuerError};
-use rpki_base::{KeyIdentifier, Time, ToyFault, Validity};
+use rpki_base::{KeyIdentifier, PublicKey, Time, ToyFault, Validity};
 use rpki_cert::{Cert, RpkiCaCsr};
 use rpki_common::OutOfMemory;
 use rpki_der::DecodeError;
@@ -117,7 +118,7 @@ impl ToyIssuer {
     fn fail(&mut self) -> IssuerError
         ensures answer { result ≡ errors.Failed }
         ensures counted { self.new ≡ after_fault self.old }
-        ensures fails { IssuerFails (issuer_state self.old) (issuer_state self.new) errors.Failed }
+        ensures later { self.old.issuer.faults ≤ self.new.issuer.faults }
     {
         self.faults = self.faults.saturating_add(1);
         IssuerError::Failed
@@ -132,46 +133,125 @@ impl ToyIssuer {
     ) -> Result<Cert, IssuerError>
         ensures ok { IfOk result (IsToyCertificate csr.now not_after self.old self.new) }
         ensures err { IfErr result (MakesNone self.old self.new) }
+        ensures later { OnErr result (self.old.issuer.faults ≤ self.new.issuer.faults) }
     {
         let validity = Validity::new(self.from, not_after);
-        match IdCert::new_ee::<ToyScheme, ToySigner>(
+        let made = IdCert::new_ee::<ToyScheme, ToySigner>(
             alloc,
             csr.public_key(),
             validity,
             &self.key,
             &mut self.signer,
-        ) {
-            Ok(cert) => match resource_certificate(alloc, &cert) {
-                Ok(cert) => Ok(cert),
-                // What is written of a certificate that was made is read as one.
-                Err(_) => Err(IssuerError::OutOfMemory),
-            },
+        );
+        match made {
+            Ok(cert) => Ok(certificate_for(alloc, &cert, csr.public_key())?),
             Err(error) => {
-                unless_memory(error)?;
+                if is_memory(&error) {
+                    return Err(IssuerError::OutOfMemory);
+                }
                 Err(self.fail())
             }
         }
     }
-}
 
-// Passes on want of memory.
-fn unless_memory(error: MakeError<ToyFault>) -> Result<(), OutOfMemory>
-    ensures { OnOk result (error ≢ make.OutOfMemory) }
-{
-    match error {
-        MakeError::OutOfMemory => Err(OutOfMemory),
-        _ => Ok(()),
+    // Adds what was issued.
+    fn add_made(&mut self, made: ToyMade) -> Result<(), OutOfMemory>
+        ensures ok { OnOk result (self.new ≡ record self.old {
+          issuer = with_made (made_of made) self.old.issuer;
+        }) }
+        ensures err { OnErr result (self.new ≡ self.old) }
+    {
+        self.made.push(made)?;
+        Ok(())
+    }
+
+    // Adds what was revoked.
+    fn add_gone(&mut self, gone: KeyElement) -> Result<(), OutOfMemory>
+        ensures ok { OnOk result (self.new ≡ record self.old {
+          issuer = with_gone gone self.old.issuer;
+        }) }
+        ensures err { OnErr result (self.new ≡ self.old) }
+    {
+        self.gone.push(gone)?;
+        Ok(())
+    }
+
+    // Asks the signer for its key.
+    fn ask(&mut self, alloc: Global) -> Result<(), IssuerError>
+        ensures ok { OnOk result (GaveKey self.old self.new) }
+        ensures err { IfErr result (GivesNoKey self.old self.new) }
+        ensures later { OnErr result (self.old.issuer.faults ≤ self.new.issuer.faults) }
+    {
+        match Signer::<ToyScheme>::get_key_info(&mut self.signer, alloc, &self.key) {
+            Ok(_) => Ok(()),
+            Err(KeyError::OutOfMemory) => Err(IssuerError::OutOfMemory),
+            Err(KeyError::KeyNotFound) => Err(self.fail()),
+            Err(KeyError::Signer(_)) => Err(self.fail()),
+        }
     }
 }
 
-// The same where a key isn't given.
-fn unless_key_memory(error: KeyError<ToyFault>) -> Result<(), OutOfMemory>
-    ensures { OnOk result (error ≢ keys.OutOfMemory) }
+// Whether memory ran out.
+fn is_memory(error: &MakeError<ToyFault>) -> bool
+    ensures { Decides result (error.now ≡ make.OutOfMemory) }
 {
     match error {
-        KeyError::OutOfMemory => Err(OutOfMemory),
-        _ => Ok(()),
+        MakeError::OutOfMemory => true,
+        _ => false,
     }
+}
+
+// The resource certificate that a certificate for this key is read as. What is written of one that was made is read as one,
+// with the same key, so memory alone is wanting.
+fn certificate_for(alloc: Global, cert: &IdCert, key: &PublicKey) -> Result<Cert, OutOfMemory>
+    ensures decoded { IfOk result (BeginsAs (certificate Der) Der
+        (spelled_data spelled_x509 cert.now.signed)) }
+    ensures key { IfOk result (λ c. c.key ≡ key.now) }
+    ensures der { IfOk result IsCertificate }
+{
+    match resource_certificate(alloc, cert) {
+        Ok(cert) => {
+            if cert.subject_public_key_info() == key {
+                return Ok(cert);
+            }
+            Err(OutOfMemory)
+        }
+        Err(_) => Err(OutOfMemory),
+    }
+}
+
+// The entry of a certificate.
+fn entry(
+    alloc: Global,
+    class_name: &ResourceClassName,
+    csr: &RpkiCaCsr,
+    set: &ResourceSet,
+    not_after: Time,
+    cert: &Cert,
+) -> Result<ToyMade, OutOfMemory>
+    ensures { IfOk result (λ made. made_of made ≡ record {
+      class_name = class_name.now;
+      key = sha1 csr.now.tbs.key.bits;
+      resource_set = set.now;
+      not_after = not_after;
+      slice = cert.now.slice;
+    }) }
+{
+    Ok(ToyMade {
+        class_name: class_name.clone(alloc)?,
+        key: csr.public_key().key_identifier(),
+        resource_set: set.clone(alloc)?,
+        not_after,
+        cert: cert.clone(alloc)?,
+    })
+}
+
+// The resource certificate that the octets are.
+fn certificate_in(alloc: Global, octets: &[u8]) -> Result<Cert, DecodeError>
+    ensures decoded { Decodes (certificate Der) (λ c. c) Der octets.now result }
+    ensures der { IfOk result IsCertificate }
+{
+    Cert::decode(alloc, octets)
 }
 
 /// The resource certificate that the octets of an identity certificate are read as, of which it has the outer form (RFC 5280, 4.1;
@@ -180,10 +260,9 @@ pub fn resource_certificate(alloc: Global, cert: &IdCert) -> Result<Cert, Decode
     ensures decoded { Decodes (certificate Der) (λ c. c) Der
         (spelled_data spelled_x509 cert.now.signed) result }
     ensures der { IfOk result IsCertificate }
-    ensures spelled { OnOk result (CanBeSpelled spelled_x509 cert.now.signed) }
 {
     let octets = cert.to_bytes(alloc)?;
-    Cert::decode(alloc, octets.as_slice())
+    certificate_in(alloc, octets.as_slice())
 }
 
 impl Issuer for ToyIssuer {
@@ -209,17 +288,9 @@ impl Issuer for ToyIssuer {
         ensures exact { IsToyIssue class_name.now csr.now set.now not_after self.old self.new result }
     {
         let cert = self.certificate(alloc, csr, not_after)?;
-        let made = ToyMade {
-            class_name: class_name.clone(alloc)?,
-            key: csr.public_key().key_identifier(),
-            resource_set: set.clone(alloc)?,
-            not_after,
-            cert: cert.clone(alloc)?,
-        };
-        match self.made.push(made) {
-            Ok(()) => Ok(cert),
-            Err(_) => Err(IssuerError::OutOfMemory),
-        }
+        let made = entry(alloc, class_name, csr, set, not_after, &cert)?;
+        self.add_made(made)?;
+        Ok(cert)
     }
 
     fn revoke(
@@ -236,17 +307,9 @@ impl Issuer for ToyIssuer {
         ensures exact { IsToyRevocation class_name.now key self.old self.new result }
     {
         let alloc = self.alloc;
-        match Signer::<ToyScheme>::get_key_info(&mut self.signer, alloc, &self.key) {
-            Ok(_) => {}
-            Err(error) => {
-                unless_key_memory(error)?;
-                return Err(self.fail());
-            }
-        }
+        self.ask(alloc)?;
         let gone = KeyElement::new(class_name.clone(alloc)?, key);
-        match self.gone.push(gone) {
-            Ok(()) => Ok(()),
-            Err(_) => Err(IssuerError::OutOfMemory),
-        }
+        self.add_gone(gone)?;
+        Ok(())
     }
 }

@@ -1,4 +1,4 @@
-use Rattle.std.proofs.Common.{◌≡◌, ◌+◌, ◌<◌, ◌∷◌, ◌++◌, ◌∙◌, ℕ, List, [], arith, rules, get_or, inl, length, map, refl, subst, sym}
+use Rattle.std.proofs.Common.{rules, ◌≡◌, ◌+◌, ◌<◌, ◌∷◌, ◌++◌, ◌∙◌, ℕ, List, [], arith, get_or, inl, length, map, refl, subst, sym}
 use Rattle.std.proofs.lemmas.List.{append-nil}
 use Rattle.std.specs.Io.KnownBytes.{Appends}
 use Rattle.rpki_signer.proofs.States.{keeps_same, keeps_then}
@@ -8,13 +8,18 @@ use Rattle.rpki_ca.specs.Sending.{MayStop}
 use Rattle.rpki_ca.specs.declared.lines.Stop.TheVariants.{Refused, WriteFault}
 use Rattle.rpki_ca.proofs.Outputs.{one_more_written, part_of_more}
 use Rattle.rpki_ca.proofs.Stepping.{one_more_so, stopped_so}
-use Rattle.rpki_upserver.specs.Answering.{ParentAndIssuer, with_issuer}
+use Rattle.rpki_upserver.specs.Answering.{with_issuer}
 use Rattle.rpki_upserver.specs.Serving.{AreAllAnswered, AreFirstAnswered, FailsLine, HasLongAnswer, IsLeft, IsLineAnswered}
-use Rattle.rpki_upserver.proofs.Answering.{all_answered, all_elsewhere, first_answered, get_mapped, leaves_same, left_at, length_mapped, line_elsewhere, may_refuse}
+use Rattle.rpki_upserver.proofs.Answering.{all_answered, all_elsewhere, first_answered, left_at, line_elsewhere, may_refuse, same_issuer}
+use Rattle.rpki_upserver.proofs.Mapped.{get_mapped, length_mapped}
 use Rattle.rpki_upserver.proofs.serving.answer_all.Goals as goal
 
 pub loop-octets-init : goal.loop-octets-init
-loop-octets-init g c = record { steady = refl; keeps = keeps_same (g.S.Signer.state c.args.signer.now); texts = ([], refl, search rules) }
+loop-octets-init g c = record {
+  steady = refl;
+  keeps = keeps_same (g.S.Signer.state c.args.signer.now);
+  texts = ([], refl, search rules);
+}
 
 pub returns-in_err-line-clause-answered : goal.returns-in_err-line-clause-answered
 returns-in_err-line-clause-answered g c =
@@ -23,23 +28,27 @@ returns-in_err-line-clause-answered g c =
     let first = g.S.Signer.state c.args.signer.now in
     let before = g.S.Signer.state c.loop-octets.signer in
     let after = g.S.Signer.state c.answer_line.new.signer in
-    let signer = seen_signer c.args.key.now first after in
-    let start : ParentAndIssuer = with_issuer c.args.parent.now (g.N.Issuer.state c.args.issuer.now) in
-    let last : ParentAndIssuer = with_issuer c.loop-octets.parent (g.N.Issuer.state c.loop-octets.issuer) in
-    let next : ParentAndIssuer = with_issuer c.answer_line.new.parent (g.N.Issuer.state c.answer_line.new.issuer) in
+    let start = with_issuer c.args.parent.now (g.N.Issuer.state c.args.issuer.now) in
+    let last = with_issuer c.loop-octets.parent (g.N.Issuer.state c.loop-octets.issuer) in
+    let next = with_issuer c.answer_line.new.parent (g.N.Issuer.state c.answer_line.new.issuer) in
     let all = length_mapped (λ m. m.items) c.args.messages.now in
     let test = c.loop-octets-test.true in
     let lt : i < length ms = omega (arith, all, test) in
     let octets : List ℕ = c.octets-item.result.items in
     let at : octets ≡ get_or ms i octets = sym (get_mapped (λ m. m.items) c.args.messages.now i c.octets-item.result octets test c.octets-item.is) in
     let so_far = c.loop-octets.invariant.texts in
+    let signer = seen_signer c.args.key.now first after in
     let are = all_elsewhere g.P.Scheme.checks c.args.when (seen_signer c.args.key.now first first) signer start _ so_far.0 last refl refl so_far.1 in
     let may = may_refuse g.P.Scheme.checks c.args.when c.args.key.now first before after start ms i so_far.0 last next octets c.in_err-line.field-0.0 c.requires c.loop-octets.invariant.keeps lt at are
     (λ other. subst (λ (o : List ℕ). FailsLine g.P.Scheme.checks c.args.when (seen_signer c.args.key.now before after) last o next c.in_err-line.field-0.0) c.deref.ensures.value (c.in_err-line.ensures.err other)) in
-    let left = left_at g.P.Scheme.checks c.args.when signer start ms i octets last next lt at (subst (λ (o : List ℕ). IsLeft g.P.Scheme.checks c.args.when last o next) c.deref.ensures.value c.in_err-line.ensures.left) in
+    let behind = left_at g.P.Scheme.checks c.args.when signer start ms i octets last next lt at (subst (λ (o : List ℕ). IsLeft g.P.Scheme.checks c.args.when last o next) c.deref.ensures.value c.in_err-line.ensures.left) in
     stopped_so (AreAllAnswered g.P.Scheme.checks c.args.when signer start next.issuer ms) (AreFirstAnswered g.P.Scheme.checks c.args.when signer start next.issuer ms) (MayStop signer (HasLongAnswer g.P.Scheme.checks c.args.when signer start ms))
     c.from_residual.result (Refused c.in_err-line.field-0.0) (seen g.O.Sink.written g.O.Sink.faults c.args.output.now c.loop-octets.output) c.from_residual.ensures.1
-    (record { texts = so_far.0; are = first_answered g.P.Scheme.checks c.args.when signer start ms i so_far.0 last next.issuer (omega (arith, lt)) are left; may = may; whole = so_far.2; steady = c.loop-octets.invariant.steady })
+    (record { texts = so_far.0; are = first_answered g.P.Scheme.checks c.args.when signer start ms i so_far.0 last next.issuer (omega (arith, lt)) are behind; may = may; whole = so_far.2; steady = c.loop-octets.invariant.steady })
+
+pub returns-in_err-line-clause-keeps : goal.returns-in_err-line-clause-keeps
+returns-in_err-line-clause-keeps g c =
+    keeps_then (g.S.Signer.state c.args.signer.now) (g.S.Signer.state c.loop-octets.signer) (g.S.Signer.state c.answer_line.new.signer) c.loop-octets.invariant.keeps c.answer_line.ensures.keeps
 
 pub returns-in_err-write_all-clause-answered : goal.returns-in_err-write_all-clause-answered
 returns-in_err-write_all-clause-answered g c =
@@ -48,27 +57,27 @@ returns-in_err-write_all-clause-answered g c =
     let first = g.S.Signer.state c.args.signer.now in
     let before = g.S.Signer.state c.loop-octets.signer in
     let after = g.S.Signer.state c.answer_line.new.signer in
-    let signer = seen_signer c.args.key.now first after in
-    let start : ParentAndIssuer = with_issuer c.args.parent.now (g.N.Issuer.state c.args.issuer.now) in
-    let last : ParentAndIssuer = with_issuer c.loop-octets.parent (g.N.Issuer.state c.loop-octets.issuer) in
-    let next : ParentAndIssuer = with_issuer c.answer_line.new.parent (g.N.Issuer.state c.answer_line.new.issuer) in
-    let step = IsLineAnswered g.P.Scheme.checks c.args.when signer in
+    let start = with_issuer c.args.parent.now (g.N.Issuer.state c.args.issuer.now) in
+    let last = with_issuer c.loop-octets.parent (g.N.Issuer.state c.loop-octets.issuer) in
+    let next = with_issuer c.answer_line.new.parent (g.N.Issuer.state c.answer_line.new.issuer) in
     let all = length_mapped (λ m. m.items) c.args.messages.now in
     let test = c.loop-octets-test.true in
     let lt : i < length ms = omega (arith, all, test) in
     let octets : List ℕ = c.octets-item.result.items in
     let at : octets ≡ get_or ms i octets = sym (get_mapped (λ m. m.items) c.args.messages.now i c.octets-item.result octets test c.octets-item.is) in
     let so_far = c.loop-octets.invariant.texts in
+    let signer = seen_signer c.args.key.now first after in
+    let step = IsLineAnswered g.P.Scheme.checks c.args.when signer in
     let are = all_elsewhere g.P.Scheme.checks c.args.when (seen_signer c.args.key.now first first) signer start _ so_far.0 last refl refl so_far.1 in
     let said = c.in_ok-line.ensures.ok in
-    let answered = line_elsewhere g.P.Scheme.checks c.args.when (seen_signer c.args.key.now before after) signer last octets said.0 next refl (sym c.loop-octets.invariant.keeps.keyring)
+    let replied = line_elsewhere g.P.Scheme.checks c.args.when (seen_signer c.args.key.now before after) signer last octets said.0 next refl (sym c.loop-octets.invariant.keeps.keyring)
     (subst (λ (o : List ℕ). IsLineAnswered g.P.Scheme.checks c.args.when (seen_signer c.args.key.now before after) last o said.0 next) c.deref.ensures.value said.1) in
-    let more = one_more_so step start ms i so_far.0 last next octets said.0 lt at are answered in
+    let more = one_more_so step start ms i so_far.0 last next octets said.0 lt at are replied in
     let part = part_of_more g.O.Sink.written g.O.Sink.faults c.args.output.now c.loop-octets.output c.write_all.new.sink so_far.0 said.0 c.deref-in-loop-octets.result.now (c.deref-in-loop-octets.ensures.value ∙ said.2) so_far.2 c.loop-octets.invariant.steady
     c.in_err-write_all.ensures.err c.in_err-write_all.ensures.cause.failed in
     stopped_so (AreAllAnswered g.P.Scheme.checks c.args.when signer start next.issuer ms) (AreFirstAnswered g.P.Scheme.checks c.args.when signer start next.issuer ms) (MayStop signer (HasLongAnswer g.P.Scheme.checks c.args.when signer start ms))
     c.from_residual-in_err-write_all.result WriteFault (seen g.O.Sink.written g.O.Sink.faults c.args.output.now c.write_all.new.sink) c.from_residual-in_err-write_all.ensures.1
-    (inl (record { texts = so_far.0 ++ said.0 ∷ []; are = first_answered g.P.Scheme.checks c.args.when signer start ms (i + 1) (so_far.0 ++ said.0 ∷ []) next next.issuer (omega (arith, lt)) more (inl (leaves_same next.issuer)); part = part.0; failed = part.1 }))
+    (inl (record { texts = so_far.0 ++ said.0 ∷ []; are = first_answered g.P.Scheme.checks c.args.when signer start ms (i + 1) (so_far.0 ++ said.0 ∷ []) next next.issuer (omega (arith, lt)) more (inl (same_issuer next.issuer)); part = part.0; failed = part.1 }))
 
 pub loop-octets-preserved : goal.loop-octets-preserved
 loop-octets-preserved g c =
@@ -77,20 +86,20 @@ loop-octets-preserved g c =
     let first = g.S.Signer.state c.args.signer.now in
     let before = g.S.Signer.state c.loop-octets.signer in
     let after = g.S.Signer.state c.answer_line.new.signer in
-    let signer = seen_signer c.args.key.now first first in
-    let start : ParentAndIssuer = with_issuer c.args.parent.now (g.N.Issuer.state c.args.issuer.now) in
-    let last : ParentAndIssuer = with_issuer c.loop-octets.parent (g.N.Issuer.state c.loop-octets.issuer) in
-    let next : ParentAndIssuer = with_issuer c.answer_line.new.parent (g.N.Issuer.state c.answer_line.new.issuer) in
+    let start = with_issuer c.args.parent.now (g.N.Issuer.state c.args.issuer.now) in
+    let last = with_issuer c.loop-octets.parent (g.N.Issuer.state c.loop-octets.issuer) in
+    let next = with_issuer c.answer_line.new.parent (g.N.Issuer.state c.answer_line.new.issuer) in
     let all = length_mapped (λ m. m.items) c.args.messages.now in
     let test = c.loop-octets-test.true in
     let lt : i < length ms = omega (arith, all, test) in
     let octets : List ℕ = c.octets-item.result.items in
     let at : octets ≡ get_or ms i octets = sym (get_mapped (λ m. m.items) c.args.messages.now i c.octets-item.result octets test c.octets-item.is) in
     let so_far = c.loop-octets.invariant.texts in
+    let signer = seen_signer c.args.key.now first first in
     let said = c.in_ok-line.ensures.ok in
-    let answered = line_elsewhere g.P.Scheme.checks c.args.when (seen_signer c.args.key.now before after) signer last octets said.0 next refl (sym c.loop-octets.invariant.keeps.keyring)
+    let replied = line_elsewhere g.P.Scheme.checks c.args.when (seen_signer c.args.key.now before after) signer last octets said.0 next refl (sym c.loop-octets.invariant.keeps.keyring)
     (subst (λ (o : List ℕ). IsLineAnswered g.P.Scheme.checks c.args.when (seen_signer c.args.key.now before after) last o said.0 next) c.deref.ensures.value said.1) in
-    let more = one_more_so (IsLineAnswered g.P.Scheme.checks c.args.when signer) start ms i so_far.0 last next octets said.0 lt at so_far.1 answered in
+    let more = one_more_so (IsLineAnswered g.P.Scheme.checks c.args.when signer) start ms i so_far.0 last next octets said.0 lt at so_far.1 replied in
     let written = one_more_written g.O.Sink.written g.O.Sink.faults c.args.output.now c.loop-octets.output c.write_all.new.sink so_far.0 said.0 c.deref-in-loop-octets.result.now (c.deref-in-loop-octets.ensures.value ∙ said.2) so_far.2 c.loop-octets.invariant.steady
     c.in_ok-write_all.ensures.ok c.in_ok-write_all.ensures.kept in
     record { steady = written.1; keeps = keeps_then first before after c.loop-octets.invariant.keeps c.answer_line.ensures.keeps; texts = (so_far.0 ++ said.0 ∷ [], more, written.0) }
@@ -102,8 +111,8 @@ returns-clause-answered g c =
     let first = g.S.Signer.state c.args.signer.now in
     let after = g.S.Signer.state c.loop-octets.signer in
     let signer = seen_signer c.args.key.now first after in
-    let start : ParentAndIssuer = with_issuer c.args.parent.now (g.N.Issuer.state c.args.issuer.now) in
-    let last : ParentAndIssuer = with_issuer c.loop-octets.parent (g.N.Issuer.state c.loop-octets.issuer) in
+    let start = with_issuer c.args.parent.now (g.N.Issuer.state c.args.issuer.now) in
+    let last = with_issuer c.loop-octets.parent (g.N.Issuer.state c.loop-octets.issuer) in
     let all = length_mapped (λ m. m.items) c.args.messages.now in
     let test = c.loop-octets-test.false in
     let so_far = c.loop-octets.invariant.texts in

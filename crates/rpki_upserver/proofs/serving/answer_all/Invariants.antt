@@ -14,6 +14,6 @@ invariant-loop-octets g l = record {
   keeps : Keeps (g.S.Signer.state l.initial.signer) (g.S.Signer.state l.signer);
   texts : (texts : List (List ℕ))
       × AreSteps (IsLineAnswered g.P.Scheme.checks l.when (seen_signer l.key (g.S.Signer.state l.initial.signer) (g.S.Signer.state l.initial.signer))) (with_issuer l.initial.parent (g.N.Issuer.state l.initial.issuer))
-          (take l.octets-index (map (λ m. m.items) l.messages)) texts (with_issuer l.parent (g.N.Issuer.state l.issuer))
+      (take l.octets-index (map (λ m. m.items) l.messages)) texts (with_issuer l.parent (g.N.Issuer.state l.issuer))
       × Appends (g.O.Sink.written l.initial.output) (g.O.Sink.written l.output) (answer_lines texts);
 }

@@ -1,4 +1,4 @@
-use Rattle.std.proofs.Common.{ℕ, List, inr, refl, subst}
+use Rattle.std.proofs.Common.{◌≡◌, ℕ, List, inr, refl, subst}
 use Rattle.rpki_ca.specs.Lines.{lines_of}
 use Rattle.rpki_ca.specs.Seen.{seen, seen_signer}
 use Rattle.rpki_ca.proofs.Ended.{ends_read}
@@ -7,22 +7,7 @@ use Rattle.rpki_upserver.proofs.Words.{ends_by}
 use Rattle.rpki_upserver.proofs.serving.serve.Goals as goal
 
 pub returns-in-Ok-None-clause-ends : goal.returns-in-Ok-None-clause-ends
-returns-in-Ok-None-clause-ends g c = λ when child are. absurd ((rw c.in-Ok-None.field-0-is at c.in-Ok-None.ensures.none) refl when child are)
-
-pub returns-in-Ok-clause-ends : goal.returns-in-Ok-clause-ends
-returns-in-Ok-clause-ends g c = λ when child are.
-    let sink = seen g.O.Sink.written g.O.Sink.faults c.args.output.now c.serve_lines.new.output in
-    let source = seen g.I.Source.rest g.I.Source.faults c.args.input.now c.read_input.new.input in
-    let signer = seen_signer c.args.key.now (g.S.Signer.state c.args.signer.now) (g.S.Signer.state c.serve_lines.new.signer) in
-    let terms = c.in-Ok-Some.terms in
-    let run = run_of terms.when terms.child c.args.signing.now (g.N.Issuer.state c.args.issuer.now) (g.N.Issuer.state c.serve_lines.new.issuer) signer in
-    let ends = subst (λ (l : List (List ℕ)). EndsServed g.P.Scheme.checks run l c.serve_lines.result.0 sink) c.new-lines.ensures c.serve_lines.ensures.ends in
-    ends_by g.P.Scheme.checks c.args.signing.now (g.N.Issuer.state c.args.issuer.now) (g.N.Issuer.state c.serve_lines.new.issuer) signer c.serve_lines.result.0 source sink c.args.words.now terms.when when terms.child child
-    (rw c.in-Ok-Some.field-0-is at c.in-Ok-Some.ensures.some) are (inr (record {
-      steady = c.in-Ok.ensures.steady;
-      whole = c.in-Ok.ensures.end;
-      ends = ends_read (λ octets. EndsServed g.P.Scheme.checks run (lines_of octets) c.serve_lines.result.0 sink) (g.I.Source.rest c.args.input.now) c.in-Ok.octets.items c.deref.result.now c.deref.ensures.value c.in-Ok.ensures.ok ends;
-    }))
+returns-in-Ok-None-clause-ends g c = λ when key are. absurd ((rw c.in-Ok-None.field-0-is at c.in-Ok-None.ensures.none) refl when key are)
 
 pub returns-in-Ok-clause-usage : goal.returns-in-Ok-clause-usage
 returns-in-Ok-clause-usage g c = λ none. absurd (none c.in-Ok-Some.terms.when c.in-Ok-Some.terms.child (rw c.in-Ok-Some.field-0-is at c.in-Ok-Some.ensures.some))
@@ -38,3 +23,19 @@ returns-in-Err-read_input-clause-usage g c = λ none. absurd (none c.in-Ok-Some.
 
 pub returns-in-Err-read_input-clause-unread : goal.returns-in-Err-read_input-clause-unread
 returns-in-Err-read_input-clause-unread g c = λ none. absurd (none c.in-Ok-Some.terms.when c.in-Ok-Some.terms.child (rw c.in-Ok-Some.field-0-is at c.in-Ok-Some.ensures.some))
+
+pub returns-in-Ok-clause-ends : goal.returns-in-Ok-clause-ends
+returns-in-Ok-clause-ends g c = λ when key are.
+    let sink = seen g.O.Sink.written g.O.Sink.faults c.args.output.now c.serve_lines.new.output in
+    let source = seen g.I.Source.rest g.I.Source.faults c.args.input.now c.read_input.new.input in
+    let signer = seen_signer c.args.key.now (g.S.Signer.state c.args.signer.now) (g.S.Signer.state c.serve_lines.new.signer) in
+    let one = g.N.Issuer.state c.args.issuer.now in
+    let two = g.N.Issuer.state c.serve_lines.new.issuer in
+    let terms = c.in-Ok-Some.terms in
+    let run = run_of terms.when terms.child c.args.signing.now one two signer in
+    let ends = subst (λ (l : List (List ℕ)). EndsServed g.P.Scheme.checks run l c.serve_lines.result.0 sink) c.new-lines.ensures c.serve_lines.ensures.ends in
+    ends_by g.P.Scheme.checks c.args.signing.now one two signer c.serve_lines.result.0 source sink c.args.words.now terms.when when terms.child key (rw c.in-Ok-Some.field-0-is at c.in-Ok-Some.ensures.some) are (inr (record {
+      steady = c.in-Ok.ensures.steady;
+      whole = c.in-Ok.ensures.end;
+      ends = ends_read (λ octets. EndsServed g.P.Scheme.checks run (lines_of octets) c.serve_lines.result.0 sink) (g.I.Source.rest c.args.input.now) c.in-Ok.octets.items c.deref.result.now c.deref.ensures.value c.in-Ok.ensures.ok ends;
+    }))

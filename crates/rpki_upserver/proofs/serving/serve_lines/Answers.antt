@@ -1,8 +1,8 @@
-use Rattle.std.proofs.Common.{inl, List, map, subst, sym, ℕ}
+use Rattle.std.proofs.Common.{List, inl, map, subst, sym, ℕ}
 use Rattle.rpki_ca.specs.Seen.{seen_signer}
 use Rattle.rpki_ca.specs.Sending.{MayStop}
 use Rattle.rpki_ca.proofs.Outputs.{ends_lines}
-use Rattle.rpki_upserver.specs.Answering.{ParentAndIssuer, with_issuer}
+use Rattle.rpki_upserver.specs.Answering.{with_issuer}
 use Rattle.rpki_upserver.specs.Running.{AreSent}
 use Rattle.rpki_upserver.specs.Serving.{AreAllAnswered, AreFirstAnswered, HasLongAnswer}
 use Rattle.rpki_upserver.proofs.serving.serve_lines.Goals as goal
@@ -11,8 +11,8 @@ pub returns-clause-ends : goal.returns-clause-ends
 returns-clause-ends g c =
     let ms : List (List ℕ) = map (λ m. m.items) c.deref.result.now in
     let signer = seen_signer c.args.key.now (g.S.Signer.state c.args.signer.now) (g.S.Signer.state c.answer_all-answered.new.signer) in
-    let start : ParentAndIssuer = with_issuer c.in-Ok.parent (g.N.Issuer.state c.args.issuer.now) in
     let issuer = g.N.Issuer.state c.answer_all-answered.new.issuer in
+    let start = with_issuer c.in-Ok.parent (g.N.Issuer.state c.args.issuer.now) in
     inl (record {
       messages = ms;
       are = subst (λ l. AreSent c.args.lines (map (λ m. m.items) l)) (sym c.deref.ensures.value) (rw c.in-Ok-Some.field-0-is at c.in-Ok-Some.ensures.some);

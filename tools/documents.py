@@ -1,0 +1,488 @@
+#!/usr/bin/env python3
+"""Says whether README.md, CONTRIBUTING.md and docs/ speak of what is there.
+
+    tools/documents.py
+
+Asked is, and what is not so is printed:
+
+- that each name in backquotes stands in the tree: a path leads to a file; `A::b` is a function or a variant of a type A; an option is one
+  of the program or script that it stands behind; any other name is a word of the sources (comments left out), of a script or of a file's
+  name, or one of ELSEWHERE below, with where it comes from. Words in capitals stand for something, and so do single letters.
+- that what README's table of promises and the table of laws in docs/READING.md name as clauses are functions, types or clauses of the
+  crate of that row;
+- that the definitions that are listed behind the name of a crate's specs/ are files there, and that the head of each specs/Lib.antt names
+  each file of its folder;
+- that the commands, and the statuses with their lines, are those of rpki_ca, and in the help of rpkica; that the examples which a help
+  names are there;
+- that docs/ARCHITECTURE.md has each crate of crates.txt, and says of none that it stands on a crate which it doesn't use; that the crates
+  that are trusted are those that are used;
+- that a number that NUMBERS below knows is what is counted, and that a number in front of what figures.py counts is one of its counts;
+- that no line but of a table, a link or a block of code has more than 140 characters, and no name in backquotes goes over a line's end.
+
+The first column of docs/DIFFERENCES.md speaks of the Rust crate, and is left out; tools/quotations.py looks at blocks of code. The exit
+status is 0 where all is so, else 1."""
+
+import pathlib
+import re
+import sys
+
+from figures import all_figures, sum_of
+from sources import CRATES, TOP, Tree, crates_in_order, definitions
+
+MOST = 140
+DOCUMENTS = [TOP / "README.md", TOP / "CONTRIBUTING.md", *sorted((TOP / "docs").glob("*.md"))]
+FENCE = re.compile(r"^ *```.*?^ *```$", re.MULTILINE | re.DOTALL)
+SPAN = re.compile(r"`([^`\n]+)`")
+NAME = re.compile(r"[A-Za-z_][\w']*")
+PATH = re.compile(r"(?:[\w.-]+/)+[\w.-]*|[\w-]+\.(?:rt|antt|py|md|txt|hex|xml|edit|sh|c)\b")
+OF_TYPE = re.compile(r"([A-Za-z_]\w*(?:::[A-Za-z_]\w*)*)::([A-Za-z_]\w*)")
+
+# Names that are not the tree's, and where they come from.
+ELSEWHERE = {
+    "OpenSSL prints": "eContent notBefore notAfter Nov GMT X509v3 Authority Subject lastUpdate nextUpdate signerInfos signedAttrs "
+    "subjectKeyIdentifier messageDigest signingTime certificates crls cont d",
+    "the standards": "sid cA thisUpdate",
+    "programs": "openssl cms asn1parse xxd rt ci",
+    "the toolchain": "rattle kit logic dac8208d650f15bf Lts antt goal Goals Given",
+    "the surroundings": "RT_JOBS LD_PRELOAD malloc ipaddress",
+    "the Rust crate": "bcder chrono rpki crypto compat validate_ta validate_ee BufRead IntoSource src/ca/ "
+    "src/crypto/signer.rs",
+    "examples of texts": "cars roa",
+}
+BEYOND = {name: place for place, names in ELSEWHERE.items() for name in names.split()}
+
+# What `rt` is told.
+RT = {
+    "ci": {"--anew"},
+    "check": {"--jobs", "--only", "--start"},
+    "try": {"--test"},
+    "run": set(),
+    "must-fail": set(),
+    "plant": set(),
+    "fmt": set(),
+    "tidy": set(),
+    "doc": set(),
+    "lemma": set(),
+    "version": set(),
+}
+# Parts of paths that stand for something.
+STANDS_FOR = {"x", "X", "f", "T", "Y", "name", "NAME", "out", ".."}
+
+WORDS = {word: number for number, word in enumerate("no one two three four five six seven eight nine ten eleven twelve".split())}
+WORDS |= {"thirteen": 13, "fourteen": 14, "twenty": 20}
+
+
+def number_of(text):
+    return WORDS[text.lower()] if text.lower() in WORDS else int(text.replace(",", ""))
+
+
+# ---- what is counted
+
+
+def octets_of(name):
+    return bytes.fromhex((TOP / "examples" / name).read_text(encoding="ascii").strip())
+
+
+def values_in(octets):
+    """How many values there are in DER, and where the last one begins and ends."""
+    count, place, last = 0, 0, (0, 0)
+    while place < len(octets):
+        start, constructed, length, place = place, octets[place] & 0x20, octets[place + 1], place + 2
+        if length > 127:
+            size = length - 128
+            length = int.from_bytes(octets[place : place + size], "big")
+            place += size
+        count, last = count + 1, (start, place + length - 1)
+        place += 0 if constructed else length
+    return count, *last
+
+
+def source(crate, name):
+    return (CRATES / crate / "src" / name).read_text(encoding="utf-8")
+
+
+def variants(tree, crate, name):
+    return tree.exports(crate)[(name,)].variants
+
+
+def refusals():
+    """The status of each refusal."""
+    return {name: int(number) for name, number in re.findall(r"Refusal::(\w+)(?:\(_\))? => (\d+),", source("rpki_ca", "refusals.rt"))}
+
+
+def checks_in_help():
+    return re.findall(r"^ {4,5}(\d+)  \S", source("rpkica", "main.rt").partition("The checks of receive")[2], re.MULTILINE)
+
+
+def counts(tree):
+    count, first, last = values_in(octets_of("query-list.hex"))
+    ee = re.search(r"^ee_checks [^=]*=(.*?)\[\]", (CRATES / "rpki_idcert/specs/Checks.antt").read_text(encoding="utf-8"), re.M | re.S)
+    made = re.findall(r"pub fn err_\d+", source("rpki_updown", "not_performed_response.rt"))
+    return {
+        "values": [count],
+        "signature": [first, last],
+        "checks": [len(checks_in_help())],
+        "end entity": [ee[1].count("∷")],
+        "setup": [len(variants(tree, "rpki_ca", "SetupKind"))],
+        "kinds": [len(variants(tree, "rpki_updown", "PayloadType"))],
+        "refused": [len(made)],
+        "status 7": [sum(status == 7 for status in refusals().values())],
+        "programs": [sum((TOP / name).is_file() and name.startswith("rpki") and name != "rpkica" for name in crates_in_order())],
+    }
+
+
+# A pattern, whose groups are numbers, and what is counted.
+NUMBERS = [
+    (r"(\w+) values\. At depth|the message's (\w+) values|last of the (\w+) values", "values"),
+    (r"in the octets (\d+) to (\d+), counted from 0", "signature"),
+    (r"\b(\w+) checks(?: of each|, whether| that fails| fails?\b| under|;)|[Tt]he (fourteen) checks", "checks"),
+    (r"the (\w+) checks of `validate_ee_at`", "end entity"),
+    (r"[Tt]he (\w+) setup messages|(\w+) of the four messages|one of (\w+) messages and a moment|[Tt]he (\w+) messages by\b", "setup"),
+    (r"exactly where it is one of (\w+), and what", "kinds"),
+    (r"`new`, and (\w+) calls that may want memory", "refused"),
+    (r"\*\*(\w+) refusals share status 7\*\*", "status 7"),
+    (r"(\w+) further programs", "programs"),
+]
+# Words behind a number that figures.py counts, and which of its counts the number may be.
+COUNTED = re.compile(
+    r"\b(\d[\d,]*|" + "|".join(WORDS) + r") (crates|wrong bodies|stored cases|tests|lines of (?:code|definitions|proofs))\b(?! of a time)"
+)
+
+
+# ---- names
+
+
+class Names:
+    def __init__(self):
+        self.tree = Tree()
+        self.words = set(BEYOND) | set(crates_in_order()) | {used for all_used in crates_in_order().values() for used in all_used}
+        self.of_crate = {}
+        self.functions = {}  # of each name of a type: the names of its functions, variants and fields
+        for name in self.tree.crates:
+            self.add_crate(name)
+        for file in [*TOP.glob("tools/*"), *TOP.glob("bench/*"), TOP / ".ci" / "run", *(TOP / name for name in ("rpkica", "rpkiguard"))]:
+            if file.is_file():
+                self.words |= set(NAME.findall(file.read_text(encoding="utf-8", errors="replace")))
+        for file in TOP.rglob("*"):
+            if not {".git", "out", "__pycache__"} & set(file.relative_to(TOP).parts):
+                self.words |= set(NAME.findall(file.name))
+
+    def add_crate(self, name):
+        folder, found = CRATES / name, set()
+        for file in [file for part in ("src", "specs", "proofs") for file in (folder / part).rglob("*.*t")]:
+            text = file.read_text(encoding="utf-8")
+            text = re.sub(r"//[^\n]*" if file.suffix == ".rt" else r"--[^\n]*", "", text)
+            self.words |= set(NAME.findall(text))
+        for module in self.tree.crates[name].modules.values():
+            for item in module.items:
+                self.add_item(item, found)
+            found |= set(module.names)
+        for implementation in self.tree.crates[name].implementations:
+            target = implementation.target.head[-1]
+            self.functions.setdefault(target, set()).update(function.name for function in implementation.functions)
+        for file in (folder / "specs").rglob("*.antt"):
+            found |= {definition.name for definition in definitions(file, name)[1]}
+        found |= {path[-1] for path in self.tree.exports(name)}
+        self.of_crate[name] = found
+
+    def add_item(self, item, found):
+        found.add(item.name)
+        found.update(item.variants)
+        inside = [item] if item.kind == "fn" else item.functions
+        for function in inside:
+            found.add(function.name)
+            found.update(clause.name for clause in function.clauses)
+            if function.name == "eq":
+                found.add("==")
+        if any("PartialEq" in attribute for attribute in item.attributes):
+            found.add("==")
+        if item.kind == "impl" and item.trait is not None:
+            found.add(item.trait.head[-1])
+        of_type = self.functions.setdefault(item.name, set())
+        of_type.update(item.variants, item.fields, item.ghosts, (function.name for function in item.functions))
+        if item.kind == "alias":
+            self.functions[item.name] = self.functions.setdefault(item.target.head[-1], set())
+
+
+class Looker:
+    def __init__(self):
+        self.names = Names()
+        self.wrong = []
+
+    def say(self, document, line, what):
+        self.wrong.append(f"{document.relative_to(TOP)}:{line}: {what}")
+
+    # ---- a document
+
+    def document(self, document):
+        text = document.read_text(encoding="utf-8")
+        blocks = set()
+        for match in FENCE.finditer(text):
+            first = text.count("\n", 0, match.start()) + 1
+            blocks.update(range(first, first + match[0].count("\n") + 1))
+        crate = None
+        for number, line in enumerate(text.splitlines(), 1):
+            self.paths(document, number, line)
+            if number in blocks:
+                continue
+            is_row = line.startswith("|")
+            if len(line) > MOST and not is_row and not line.startswith(("<!--", "- [", "[")):
+                self.say(document, number, f"the line has {len(line)} characters")
+            if line.count("`") % 2:
+                self.say(document, number, "a name in backquotes goes over the end of the line")
+            asked = line
+            if document.name == "DIFFERENCES.md" and is_row:
+                asked = line.split("|", 2)[2]
+            for span in SPAN.findall(asked):
+                self.span(document, number, span)
+            if is_row:
+                crate = self.row(document, number, line, crate)
+        self.lists(document, text)
+        self.numbers(document, text)
+
+    def paths(self, document, number, line):
+        """What leads to a file of the tree has to be there."""
+        for path in re.findall(r"(?<![\w/.-])(?:\./)?((?:crates|tools|docs|examples|bench|\.ci)/[\w./-]*\w)", line):
+            if not (TOP / path).exists() and not set(re.split(r"[/.]", path)) & STANDS_FOR:
+                self.say(document, number, f"{path} is not there")
+        for path in re.findall(r"\]\(([^)#]+)\)", line):
+            if "://" not in path and not (document.parent / path).exists():
+                self.say(document, number, f"{path} is not there")
+
+    def row(self, document, number, line, crate):
+        """The names of clauses in a row of the table of promises, or of that of laws."""
+        cells = [cell.strip() for cell in re.split(r"(?<!\\)\|", line)[1:-1]]
+        if len(cells) != 3:
+            return crate
+        if document.name == "README.md":
+            crate = cells[0] if cells[0] in self.names.of_crate else crate if cells[0] == "" else None
+            crates = [crate, *re.findall(r"\((rpki_\w+)\)", cells[2])] if crate else []
+            asked = cells[2] if crate else ""
+        else:
+            crates = re.findall(r"\b(rpki_\w+)", cells[0] + cells[1])
+            asked = cells[1] if crates and document.name == "READING.md" else ""
+        for span in SPAN.findall(asked):
+            if span.startswith("_"):
+                continue
+            name = re.sub(r"\(.*", "", span).split("::")[-1].split(" ")[0]
+            if not any(name in self.names.of_crate.get(one, ()) for one in crates):
+                self.say(document, number, f"`{span}` is no function, type or clause of {' or '.join(crates)}")
+        return crate
+
+    def span(self, document, number, span):
+        """A name in backquotes."""
+        if span.startswith(("<", "-->", "'", '"', "&", "_", "..")) or "://" in span or span in BEYOND:
+            return
+        words = span.split()
+        if words[0] == "rt" and len(words) > 1:
+            self.options(document, number, span, RT.get(words[1]), words[2:])
+            return
+        if words[0].removeprefix("./").startswith(("tools/", "rpki")) and len(words) > 1:
+            self.command(document, number, span, words)
+            return
+        if words[0].startswith("--"):
+            known = set().union(*RT.values()) | set(re.findall(r"--[a-z]+", self.scripts()))
+            self.options(document, number, span, known, words)
+            return
+        if PATH.fullmatch(span.rstrip("/")) or PATH.fullmatch(span):
+            self.path(document, number, span)
+            return
+        for owner, name in OF_TYPE.findall(span):
+            owner = owner.split("::")[-1]
+            here = self.names.functions.get(owner)
+            if here is not None and name not in here and name not in self.names.functions:
+                self.say(document, number, f"`{span}`: {owner} has no {name}")
+            elif owner in self.names.of_crate and name not in self.names.of_crate[owner]:
+                self.say(document, number, f"`{span}`: {owner} has no {name}")
+            elif here is None and owner not in self.names.words:
+                self.say(document, number, f"`{span}`: there is no {owner}")
+        for name in NAME.findall(span):
+            if name not in self.names.words and len(name) > 1 and not name.isupper():
+                self.say(document, number, f"`{span}`: {name} stands nowhere")
+
+    def scripts(self):
+        files = [*TOP.glob("tools/*.py"), *TOP.glob("bench/*.py"), *CRATES.glob("*/src/main.rt"), CRATES / "command_line/src/lib.rt"]
+        return "\n".join(file.read_text(encoding="utf-8") for file in files)
+
+    def options(self, document, number, span, known, words):
+        if known is None:
+            self.say(document, number, f"`{span}`: rt has no such command")
+            return
+        for word in words:
+            if word.startswith("--") and word not in known:
+                self.say(document, number, f"`{span}`: there is no option {word}")
+
+    def command(self, document, number, span, words):
+        """A program or script of the tree, with its words."""
+        file = TOP / words[0].removeprefix("./")
+        name = file.name
+        if not file.exists():
+            self.say(document, number, f"`{span}`: {words[0]} is not there")
+            return
+        files = [file]
+        if not file.suffix:
+            files = [source for crate in (name, "command_line", "rpki_ca") for source in (CRATES / crate / "src").glob("*.rt")]
+        text = "\n".join(source.read_text(encoding="utf-8") for source in files)
+        for word in words[1:]:
+            if re.fullmatch(r"--[a-z]+|[a-z_]+", word) and word not in re.findall(r"--[a-z]+|[a-z_]+", text):
+                self.say(document, number, f"`{span}`: {name} doesn't know {word}")
+
+    def path(self, document, number, span):
+        parts = span.rstrip("/").split("/")
+        stems = {part.split(".")[0] for part in parts}
+        if stems & STANDS_FOR or (TOP / span).exists():
+            return
+        if any((TOP / folder / span).exists() for folder in ("tools", "bench", "docs", "examples", "crates")):
+            return
+        if any(True for folder in ("", "src", "specs", "proofs") for _ in CRATES.glob(str(pathlib.PurePath("*", folder, span)))):
+            return
+        if parts[0] in self.names.of_crate and (CRATES / span).exists():
+            return
+        self.say(document, number, f"`{span}` is not there")
+
+    def lists(self, document, text):
+        """Definitions that are listed behind a crate's name, or behind its specs/."""
+        flat = re.sub(r"\s+", " ", text)
+        for crate, names in re.findall(r"`crates/(\w+)/specs/` \(([^)]*)\)", flat):
+            self.files(document, crate, names)
+
+    def files(self, document, crate, names):
+        for name in re.findall(r"\b[A-Z]\w+", names):
+            if not list((CRATES / crate / "specs").rglob(f"{name}.antt")):
+                self.say(document, 0, f"{crate} has no specs/{name}.antt")
+
+    def numbers(self, document, text):
+        flat = re.sub(r"(?<=\S)\n(?=\S)", " ", text)
+        known = counts(self.names.tree)
+        for pattern, what in NUMBERS:
+            for match in re.finditer(pattern, flat):
+                given = [number_of(group) for group in match.groups() if group and (group.lower() in WORDS or group[0].isdigit())]
+                if given and given != known[what]:
+                    self.say(document, line_of(text, match[0]), f"{match[0]!r}: counted are {known[what]}")
+        figures = all_figures()
+        for match in COUNTED.finditer(flat):
+            number, what = number_of(match[1]), match[2]
+            if number > 2 and number not in allowed(figures, what):
+                self.say(document, line_of(text, match[0]), f"{match[0]!r} is no count of tools/figures.py")
+
+
+def line_of(text, part):
+    place = text.find(part.split("\n")[0].split(" ")[0])
+    words = part.split()
+    for number, line in enumerate(text.splitlines(), 1):
+        if all(word in line for word in words[:2]):
+            return number
+    return text.count("\n", 0, place) + 1
+
+
+def allowed(figures, what):
+    """The numbers that may stand in front of what is counted: of a crate, of the library, of the others, of all."""
+    library = [found for crate, found in figures.items() if crate.startswith("rpki_")]
+    sums = [*figures.values(), sum_of(figures.values()), sum_of(library), sum_of([f for f in figures.values() if f not in library])]
+    if what == "crates":
+        return {len(figures), len(library), len(figures) - len(library)}
+    field = {"wrong bodies": "wrong", "stored cases": "cases", "tests": "tests", "lines of code": "src", "lines of definitions": "specs"}
+    return {getattr(found, field.get(what, "proofs")) for found in sums}
+
+
+# ---- tables
+
+
+def statuses(looker):
+    """README's table of statuses, and the help of rpkica."""
+    readme = TOP / "README.md"
+    rows = re.findall(r"^\| (\d+) \| `([A-Z]\w+)[^`]*` \|", readme.read_text(encoding="utf-8"), re.MULTILINE)
+    told = {name: int(status) for status, name in rows}
+    here = refusals()
+    for name in sorted(set(told) | set(here)):
+        if told.get(name) != here.get(name):
+            looker.say(readme, 0, f"status of {name}: {told.get(name)} in the table, {here.get(name)} in rpki_ca")
+    program = source("rpkica", "main.rt")
+    for name, status in here.items():
+        if not re.search(rf"^ *{status}  (?:[\w, ]*\b)?{name}\b|^        (?:[\w, ]*\b)?{name}\b", program, re.MULTILINE):
+            looker.say(readme, 0, f"the help of rpkica doesn't have {status} {name}")
+    checks = re.findall(r"^\| (\d+) \| .* \| (?:inspection|verification) \|", readme.read_text(encoding="utf-8"), re.MULTILINE)
+    if checks != checks_in_help():
+        looker.say(readme, 0, "the checks are not numbered as in the help of rpkica")
+
+
+def commands(looker):
+    """README's table of words has each command, and no other."""
+    readme = TOP / "README.md"
+    table = readme.read_text(encoding="utf-8").partition("| Words | Input |")[2].partition("\n\n")[0]
+    told = set(re.findall(r"^\| `(\w+)", table, re.MULTILINE))
+    here = set(re.findall(r'^verb_word \S+ = codes "(\w+)"', (CRATES / "rpki_ca/specs/Command.antt").read_text(encoding="utf-8"), re.M))
+    for name in sorted(told ^ here):
+        looker.say(readme, 0, f"{name} is a row of the table of words, or a command, and not the other")
+
+
+def helps(looker):
+    """What the programs' help names: examples that are there, and refusals under their statuses."""
+    known = refusals()
+    for file in sorted(CRATES.glob("*/src/main.rt")):
+        text = file.read_text(encoding="utf-8").partition("const HELP")[2].partition('";')[0]
+        for path in re.findall(r"\bexamples/[\w.-]*\w", text):
+            if not (TOP / path).exists():
+                looker.say(file, 0, f"{path} is not there")
+        for status, names in re.findall(r"^ +(\d+)  ([A-Z]\w+(?:, [A-Z]\w+)*)", text.partition("exit status is")[2], re.MULTILINE):
+            for name in names.split(", "):
+                if name in known and known[name] != int(status):
+                    looker.say(file, 0, f"the help says {status} {name}, and rpki_ca {known[name]}")
+
+
+def crates(looker):
+    """The table of crates in docs/ARCHITECTURE.md, and README's list of what is trusted."""
+    document = TOP / "docs" / "ARCHITECTURE.md"
+    uses, named, last = crates_in_order(), set(), []
+    for number, line in enumerate(document.read_text(encoding="utf-8").splitlines(), 1):
+        cells = [cell.strip() for cell in line.split("|")[1:-1]]
+        if len(cells) != 3 or cells[0] in ("Crate", "---"):
+            continue
+        last = re.split(r", ", cells[0]) if cells[0] else last
+        named |= set(last)
+        for name in re.findall(r"\w+", re.sub(r"\bor\b|\bits tests on\b", "", cells[2])):
+            if name not in uses:
+                looker.say(document, number, f"there is no crate {name}")
+            elif not any(name in uses.get(crate, ()) for crate in last):
+                looker.say(document, number, f"{' and '.join(last)} doesn't use {name}")
+    for name in sorted(set(uses) ^ named):
+        looker.say(document, 0, f"{name} is no row of the table, or no crate")
+    readme = TOP / "README.md"
+    text = readme.read_text(encoding="utf-8")
+    trusted = re.search(r"those of the crates (.*?)\), the C library", text, re.DOTALL)
+    listed = set(SPAN.findall(trusted[1])) if trusted else set()
+    used = {name for all_used in uses.values() for name in all_used if name not in uses}
+    for name in sorted(listed ^ used):
+        looker.say(readme, line_of(text, "those of the crates"), f"{name} is trusted, or used, and not the other")
+
+
+def definition_files(looker):
+    """The head of each specs/Lib.antt names each file of its folder."""
+    for file in sorted(CRATES.glob("*/specs/Lib.antt")):
+        text = file.read_text(encoding="utf-8")
+        said = set(re.findall(r"\w+", " ".join(re.findall(r"^--(.*)", text, re.MULTILINE))))
+        modules = set(re.findall(r"^pub mod (\w+)", text, re.MULTILINE))
+        there = {other.stem for other in file.parent.glob("*.antt")} - {"Lib"}
+        for name in sorted(modules ^ there):
+            looker.say(file, 0, f"{name} is a module or a file, and not the other")
+        for name in sorted(modules - said) if "all of these" not in text else []:
+            looker.say(file, 1, f"the lines at the head don't name {name}")
+
+
+def main():
+    looker = Looker()
+    for document in DOCUMENTS:
+        looker.document(document)
+    statuses(looker)
+    commands(looker)
+    helps(looker)
+    crates(looker)
+    definition_files(looker)
+    for line in looker.wrong:
+        print(line)
+    print(f"{len(DOCUMENTS)} documents, {len(looker.wrong)} wrong")
+    return 1 if looker.wrong else 0
+
+
+if __name__ == "__main__":
+    sys.exit(main())
