@@ -12,6 +12,7 @@ pub mod Changing
 pub mod Tables
 pub mod Deciding
 pub mod Decoded
+pub mod Outer
 pub mod Toys
 pub mod Issuing
 pub mod Saying

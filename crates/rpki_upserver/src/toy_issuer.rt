@@ -3,9 +3,9 @@
 ghost use Rattle.std.specs.Prelude.{◌≡◌, ◌≤◌, map, Decides, IfErr, IfOk, MatchResult, OnErr, OnOk};
 ghost use Rattle.sha1.specs.Sha1.{sha1};
 ghost use Rattle.rpki_der.specs.declared.mode.Mode.TheVariants.{Der};
-ghost use Rattle.rpki_der.specs.Takes.{BeginsAs, Decodes};
+ghost use Rattle.rpki_der.specs.Takes.{Decodes};
 ghost use Rattle.rpki_base.specs.RpkiSignatureAlgorithm.{spelled_x509};
-ghost use Rattle.rpki_base.specs.SignedData.{spelled_data};
+ghost use Rattle.rpki_base.specs.SignedData.{CanBeSpelled, spelled_data};
 ghost use Rattle.rpki_cert.specs.Cert.{certificate};
 ghost use Rattle.rpki_provisioning.specs.Writable.{IsCertificate};
 ghost use Rattle.rpki_upserver.specs.Issuer.{IsIssued, IsRevoked, IssuerFails};
@@ -16,7 +16,7 @@ ghost use Rattle.rpki_upserver.specs.ToyIssuer.{after_fault, issuer_state, made_
 ghost use Rattle.rpki_upserver.specs.declared.issuer.IssuerError.TheVariants as errors;
 
 use crate::issuer::{Issuer, IssuerError};
-use rpki_base::{KeyIdentifier, PublicKey, Time, ToyFault, Validity};
+use rpki_base::{KeyIdentifier, Time, ToyFault, Validity};
 use rpki_cert::{Cert, RpkiCaCsr};
 use rpki_common::OutOfMemory;
 use rpki_der::DecodeError;
@@ -144,7 +144,11 @@ impl ToyIssuer {
             &mut self.signer,
         );
         match made {
-            Ok(cert) => Ok(certificate_for(alloc, &cert, csr.public_key())?),
+            Ok(cert) => match resource_certificate(alloc, &cert) {
+                Ok(cert) => Ok(cert),
+                // What is written of a certificate that was made is read as one, so memory alone is wanting.
+                Err(_) => Err(IssuerError::OutOfMemory),
+            },
             Err(error) => {
                 if is_memory(&error) {
                     return Err(IssuerError::OutOfMemory);
@@ -201,25 +205,6 @@ fn is_memory(error: &MakeError<ToyFault>) -> bool
     }
 }
 
-// The resource certificate that a certificate for this key is read as. What is written of one that was made is read as one,
-// with the same key, so memory alone is wanting.
-fn certificate_for(alloc: Global, cert: &IdCert, key: &PublicKey) -> Result<Cert, OutOfMemory>
-    ensures decoded { IfOk result (BeginsAs (certificate Der) Der
-        (spelled_data spelled_x509 cert.now.signed)) }
-    ensures key { IfOk result (λ c. c.key ≡ key.now) }
-    ensures der { IfOk result IsCertificate }
-{
-    match resource_certificate(alloc, cert) {
-        Ok(cert) => {
-            if cert.subject_public_key_info() == key {
-                return Ok(cert);
-            }
-            Err(OutOfMemory)
-        }
-        Err(_) => Err(OutOfMemory),
-    }
-}
-
 // The entry of a certificate.
 fn entry(
     alloc: Global,
@@ -260,6 +245,7 @@ pub fn resource_certificate(alloc: Global, cert: &IdCert) -> Result<Cert, Decode
     ensures decoded { Decodes (certificate Der) (λ c. c) Der
         (spelled_data spelled_x509 cert.now.signed) result }
     ensures der { IfOk result IsCertificate }
+    ensures spelled { OnOk result (CanBeSpelled spelled_x509 cert.now.signed) }
 {
     let octets = cert.to_bytes(alloc)?;
     certificate_in(alloc, octets.as_slice())
