@@ -1,5 +1,5 @@
 -- An identity certificate and a resource certificate that one value is read as have one key.
-use Rattle.std.proofs.Common.{◌≡◌, ℕ, Bool, true, false, if◌then◌else◌, Option, None, Some, List, [], sym, ap, subst, ◌∙◌}
+use Rattle.std.proofs.Common.{◌≡◌, ℕ, Bool, true, false, if◌then◌else◌, Option, None, Some, List, [], refl, sym, ap, subst, ◌∙◌}
 use Rattle.std.proofs.lemmas.List.{append-nil}
 use Rattle.rpki_common.specs.Chaining.{◌>>=◌}
 use Rattle.rpki_der.specs.declared.mode.Mode.{Mode}
@@ -20,7 +20,12 @@ use Rattle.rpki_idcert.specs.IdCert.{CertificateFields, identity_certificate}
 use Rattle.rpki_idcert.specs.Making.{IsReadAgain}
 use Rattle.rpki_idcert.specs.TbsIdCert.{TbsFields, tbs_certificate as tbs_identity}
 use Rattle.rpki_cert.specs.Cert.{CertFields, certificate, tbs_certificate, unread_extensions, what_is_signed}
-use Rattle.rpki_message.proofs.Attributes.{then_some}
+
+-- what is read in steps was read at the first of them
+then_some : {X Y : Type 0} (o : Option X) (f : X → Option Y) (y : Y) → (o >>= f) ≡ Some y → (x : X) × (o ≡ Some x) × (f x ≡ Some y)
+unfolding ◌>>=◌
+then_some None f y e = cc
+then_some (Some x) f y e = (x, refl, e)
 
 -- both go on from one value
 step : {X Y Z R : Type 0} (o : Option X) (f : X → Option Y) (g : X → Option Z) (y : Y) (z : Z) → (o >>= f) ≡ Some y → (o >>= g) ≡ Some z → ((x : X) → f x ≡ Some y → g x ≡ Some z → R) → R
