@@ -1,7 +1,8 @@
 -- An identity certificate and a resource certificate that one value is read as have one key.
-use Rattle.std.proofs.Common.{◌≡◌, ℕ, Bool, true, false, if◌then◌else◌, Option, None, Some, List, [], refl, sym, ap, subst, ◌∙◌}
+use Rattle.std.proofs.Common.{◌≡◌, ℕ, Bool, true, false, if◌then◌else◌, Option, None, Some, List, [], sym, ap, subst, ◌∙◌}
 use Rattle.std.proofs.lemmas.List.{append-nil}
 use Rattle.rpki_common.specs.Chaining.{◌>>=◌}
+use Rattle.rpki_common.proofs.Bounds.{bound}
 use Rattle.rpki_der.specs.declared.mode.Mode.{Mode}
 use Rattle.rpki_der.specs.declared.mode.Mode.TheVariants.{Der}
 use Rattle.rpki_der.specs.Takes.{BeginsAs}
@@ -20,12 +21,6 @@ use Rattle.rpki_idcert.specs.IdCert.{CertificateFields, identity_certificate}
 use Rattle.rpki_idcert.specs.Making.{IsReadAgain}
 use Rattle.rpki_idcert.specs.TbsIdCert.{TbsFields, tbs_certificate as tbs_identity}
 use Rattle.rpki_cert.specs.Cert.{CertFields, certificate, tbs_certificate, unread_extensions, what_is_signed}
-
--- what is read in steps was read at the first of them
-then_some : {X Y : Type 0} (o : Option X) (f : X → Option Y) (y : Y) → (o >>= f) ≡ Some y → (x : X) × (o ≡ Some x) × (f x ≡ Some y)
-unfolding ◌>>=◌
-then_some None f y e = cc
-then_some (Some x) f y e = (x, refl, e)
 
 -- both go on from one value
 step : {X Y Z R : Type 0} (o : Option X) (f : X → Option Y) (g : X → Option Z) (y : Y) (z : Z) → (o >>= f) ≡ Some y → (o >>= g) ≡ Some z → ((x : X) → f x ≡ Some y → g x ≡ Some z → R) → R
@@ -61,13 +56,13 @@ first_both : {X Y A B : Type 0} (a : Value → Option A) (b : Value → Option B
 unfolding first ◌>>=◌
 first_both a b f g End x y h k = cc
 first_both {A = A} {B = B} a b f g (v ▸ vs) x y h k =
-    let s = then_some (a v >>= λ p. Some (p, vs)) f x h in
-    let t = then_some (b v >>= λ q. Some (q, vs)) g y k in
-    let c = then_some (a v) (λ p. Some (p, vs)) s.0 s.1 in
-    let d = then_some (b v) (λ q. Some (q, vs)) t.0 t.1 in
-    let e : (c.0, vs) ≡ s.0 = cc in
-    let i : (d.0, vs) ≡ t.0 = cc in
-    record { v = v; rest = vs; p = c.0; q = d.0; first_is = c.1; second_is = d.1; one = ap f e ∙ s.2; other = ap g i ∙ t.2 }
+    let s = bound (a v >>= λ p. Some (p, vs)) f x h in
+    let t = bound (b v >>= λ q. Some (q, vs)) g y k in
+    let c = bound (a v) (λ p. Some (p, vs)) s.x s.found in
+    let d = bound (b v) (λ q. Some (q, vs)) t.x t.found in
+    let e : (c.x, vs) ≡ s.x = cc in
+    let i : (d.x, vs) ≡ t.x = cc in
+    record { v = v; rest = vs; p = c.x; q = d.x; first_is = c.found; second_is = d.found; one = ap f e ∙ s.then'; other = ap g i ∙ t.then' }
 
 done_is : {X : Type 0} (x y : X) (vs : Values) → done x vs ≡ Some y → x ≡ y
 unfolding done
@@ -79,32 +74,32 @@ unfolding tbs_identity tbs_certificate
 tbs_alike mode v t k h j =
     let a = within_both sequence _ _ v t k h j in
     step _ _ _ t k a.one a.other (λ version p q. step _ _ _ t k p q (λ serial p q. step _ _ _ t k p q (λ algorithm p q. step _ _ _ t k p q (λ issuer p q. step _ _ _ t k p q (λ validity p q. step _ _ _ t k p q (λ subject p q. step _ _ _ t k p q (λ key p q.
-    let known = then_some (first (wrapped (context 3) (extension_list mode)) key.1) _ t p in
-    let unread = then_some (first (wrapped (context 3) (unread_extensions mode)) key.1) _ k q in
-    sym (done_is key.0 k unread.0.1 unread.2) ∙ ap (λ (f : TbsFields). f.key) (done_is _ t known.0.1 known.2))))))))
+    let known = bound (first (wrapped (context 3) (extension_list mode)) key.1) _ t p in
+    let unread = bound (first (wrapped (context 3) (unread_extensions mode)) key.1) _ k q in
+    sym (done_is key.0 k unread.x.1 unread.then') ∙ ap (λ (f : TbsFields). f.key) (done_is _ t known.x.1 known.then'))))))))
 
 held_with : (mode : Mode) (v : Value) (p : List ℕ × TbsFields) → with_octets (tbs_identity mode) v ≡ Some p → tbs_identity mode v ≡ Some p.1
 unfolding with_octets
 held_with mode v p h =
-    let s = then_some (tbs_identity mode v) _ p h in
-    let e : Some (spelling v, s.0) ≡ Some p = s.2 in
-    let f : (spelling v, s.0) ≡ p = cc in
-    s.1 ∙ ap (λ (q : List ℕ × TbsFields). Some q.1) f
+    let s = bound (tbs_identity mode v) _ p h in
+    let e : Some (spelling v, s.x) ≡ Some p = s.then' in
+    let f : (spelling v, s.x) ≡ p = cc in
+    s.found ∙ ap (λ (q : List ℕ × TbsFields). Some q.1) f
 
 one_key : (mode : Mode) (v : Value) (i : CertificateFields) (c : CertFields) → identity_certificate mode v ≡ Some i → certificate mode v ≡ Some c → c.key ≡ i.tbs.key
 unfolding identity_certificate certificate signed_value signed_as
 one_key mode v i c h j =
-    let kept = then_some (signed_as (tbs_certificate mode) what_is_signed (whole_of x509_algorithm) mode v) _ c j in
-    let a = within_both sequence _ _ v i kept.0 h kept.1 in
-    let b = first_both (with_octets (tbs_identity mode)) (tbs_certificate mode) _ _ a.inner i kept.0 a.one a.other in
-    let o = then_some (signature_in (whole_of x509_algorithm) mode b.rest) _ i b.one in
-    let s = then_some (signature_in (whole_of x509_algorithm) mode b.rest) _ kept.0 b.other in
+    let kept = bound (signed_as (tbs_certificate mode) what_is_signed (whole_of x509_algorithm) mode v) _ c j in
+    let a = within_both sequence _ _ v i kept.x h kept.found in
+    let b = first_both (with_octets (tbs_identity mode)) (tbs_certificate mode) _ _ a.inner i kept.x a.one a.other in
+    let o = bound (signature_in (whole_of x509_algorithm) mode b.rest) _ i b.one in
+    let s = bound (signature_in (whole_of x509_algorithm) mode b.rest) _ kept.x b.other in
     let w = held_with mode b.v b.p b.first_is in
-    let e : Some (signed_fields b.p o.0) ≡ Some i = o.2 in
-    let f : Some b.q ≡ Some kept.0 = s.2 in
+    let e : Some (signed_fields b.p o.x) ≡ Some i = o.then' in
+    let f : Some b.q ≡ Some kept.x = s.then' in
     let tbs : b.p.1 ≡ i.tbs = cc in
-    let key : b.q ≡ kept.0 = cc in
-    let held : kept.0 ≡ c.key = cc in
+    let key : b.q ≡ kept.x = cc in
+    let held : kept.x ≡ c.key = cc in
     sym held ∙ sym key ∙ tbs_alike mode b.v b.p.1 b.q w b.second_is ∙ ap (λ (f : TbsFields). f.key) tbs
 
 pub same_key : (i : CertificateFields) (c : CertFields) → IsReadAgain Der i → CanBeSpelled spelled_x509 i.signed → BeginsAs (certificate Der) Der (spelled_data spelled_x509 i.signed) c → c.key ≡ i.tbs.key

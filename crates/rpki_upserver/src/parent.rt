@@ -289,6 +289,7 @@ impl Parent {
         }
         match message.payload() {
             Payload::List => {
+                // What stands in the table can be written.
                 let _classes = self.classes();
                 Ok(Decision::Listed)
             }
