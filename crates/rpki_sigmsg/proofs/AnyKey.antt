@@ -134,7 +134,7 @@ each_only : {X : Type 0} (P Q : X → Type 0) → ((x : X) → P x → Q x) → 
 each_only P Q h [] a = tt
 each_only P Q h (x ∷ xs) a = (h x a.0, each_only P Q h xs a.1)
 
-backwards : (s t : Relation) (m : MessageFields) (keys : List KeyFields) → SameAnswersUnder s t m keys → SameAnswersUnder t s m keys
+pub backwards : (s t : Relation) (m : MessageFields) (keys : List KeyFields) → SameAnswersUnder s t m keys → SameAnswersUnder t s m keys
 backwards s t m keys w = each_only (SameAnswers s t m) (SameAnswers t s m) (λ k same. same_back s t m k same) keys w
 
 pub unbelieved_too : (s t : Relation) (m : MessageFields) (keys : List KeyFields) (when : ℤ) → SameAnswersUnder s t m keys → IsUnbelieved s m keys when → IsUnbelieved t m keys when

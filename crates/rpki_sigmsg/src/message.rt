@@ -199,6 +199,20 @@ impl SignedMessage {
         self.signer
     }
 
+    /// The octets that the signature covers: the signed attributes in DER, in a SET (RFC 5652, 5.4).
+    pub fn covered(&self) -> &Bytes
+        ensures { result.now ≡ self.now.covered }
+    {
+        &self.covered
+    }
+
+    /// The signature over these octets, and its algorithm.
+    pub fn signature(&self) -> &Signature<RpkiSignatureAlgorithm>
+        ensures { result.now ≡ self.now.signature }
+    {
+        &self.signature
+    }
+
     /// The certificate of the signer's key.
     pub fn ee_cert(&self) -> &IdCert
         ensures { result.now ≡ self.now.certificate }
