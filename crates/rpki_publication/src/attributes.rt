@@ -7,11 +7,12 @@ ghost use Rattle.rpki_publication.specs.ReportErrorCode.{code_of_text};
 ghost use Rattle.rpki_text.specs.Hash.{digest_of_text};
 ghost use Rattle.rpki_text.specs.Uri.{rsync};
 ghost use Rattle.rpki_xml.specs.Answers.{Gives, Matches};
-ghost use Rattle.rpki_xml.specs.Tables.{optional_by};
+ghost use Rattle.rpki_xml.specs.Tables.{optional, optional_by};
 
+use crate::empty_values::EmptyValues;
 use crate::report_error_code::{ReportErrorCode, code_of};
 use rpki_common::Text;
-use rpki_message::{tag_in, uri_of};
+use rpki_message::uri_of;
 use rpki_text::{Hash, uri};
 use rpki_xml::{ElementRef, Mismatch, XmlError};
 use std::alloc::Global;
@@ -55,6 +56,16 @@ impl Model for ReplyAttributes {
     } };
 }
 
+// The tag of an element, where it has one.
+fn tag_in(alloc: Global, empty: &EmptyValues, e: &ElementRef<'_>) -> Result<Option<Text>, XmlError>
+    ensures { Gives (optional (codes "tag") e.now.head) (λ tag. tag) result }
+{
+    match e.optional("tag")? {
+        None => Ok(None),
+        Some(tag) => Ok(Some(empty.text_of(alloc, tag)?)),
+    }
+}
+
 // The rsync URI of an element, where it has one.
 fn uri_in(alloc: Global, e: &ElementRef<'_>) -> Result<Option<uri::Rsync>, XmlError>
     ensures { Gives (optional_by (uri_of_text rsync) (codes "uri") e.now.head) (λ u. u) result }
@@ -94,12 +105,13 @@ fn code_in(e: &ElementRef<'_>) -> Result<Option<ReportErrorCode>, Mismatch>
 /// The attributes of an element in a query.
 pub(crate) fn query_attributes_in(
     alloc: Global,
+    empty: &EmptyValues,
     e: &ElementRef<'_>,
 ) -> Result<QueryAttributes, XmlError>
     ensures { Gives (query_attributes_in e.now.head) (λ a. a) result }
 {
     e.only(&["tag", "uri", "hash"])?;
-    let tag = tag_in(alloc, e)?;
+    let tag = tag_in(alloc, empty, e)?;
     let uri = uri_in(alloc, e)?;
     let hash = hash_in(e)?;
     Ok(QueryAttributes { tag, uri, hash })
@@ -108,6 +120,7 @@ pub(crate) fn query_attributes_in(
 /// The attributes of an element in a reply.
 pub(crate) fn reply_attributes_in(
     alloc: Global,
+    empty: &EmptyValues,
     e: &ElementRef<'_>,
 ) -> Result<ReplyAttributes, XmlError>
     ensures { Gives (reply_attributes_in e.now.head) (λ a. a) result }
@@ -115,7 +128,7 @@ pub(crate) fn reply_attributes_in(
     e.only(&["hash", "uri", "tag", "error_code"])?;
     let hash = hash_in(e)?;
     let uri = uri_in(alloc, e)?;
-    let tag = tag_in(alloc, e)?;
+    let tag = tag_in(alloc, empty, e)?;
     let error_code = code_in(e)?;
     Ok(ReplyAttributes {
         hash,

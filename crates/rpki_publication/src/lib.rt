@@ -13,6 +13,7 @@
 mod attributes;
 mod cms;
 mod details;
+mod empty_values;
 mod error;
 mod error_reply;
 mod hash_tag;

@@ -11,6 +11,7 @@ ghost use Rattle.rpki_xml.specs.Tables.{each_of};
 
 use crate::attributes::{query_attributes_in, reply_attributes_in};
 use crate::details::details_in;
+use crate::empty_values::EmptyValues;
 use crate::error_reply::ErrorReply;
 use crate::list_element::ListElement;
 use crate::list_reply::ListReply;
@@ -25,7 +26,7 @@ use crate::report_error::ReportError;
 use crate::update::Update;
 use crate::withdraw::Withdraw;
 use rpki_common::Text;
-use rpki_message::{base64_of, handed_out};
+use rpki_message::handed_out;
 use rpki_text::{Base64, Hash, uri};
 use rpki_xml::{Children, ElementRef, Mismatch, XmlError, require};
 use std::alloc::Global;
@@ -38,6 +39,15 @@ fn there<T>(found: Option<T>) -> Result<T, Mismatch>
         None => Err(Mismatch),
         Some(x) => Ok(x),
     }
+}
+
+// How many elements there are. A list that is made for so many never grows.
+fn count_of(children: Children<'_>) -> usize {
+    let mut count = 0usize;
+    for _child in children {
+        count = count.saturating_add(1);
+    }
+    count
 }
 
 // ---- elements of a query
@@ -58,163 +68,204 @@ fn published(
     }
 }
 
-fn publish_in(alloc: Global, e: &ElementRef<'_>) -> Result<PublishDeltaElement, XmlError>
+fn publish_in(
+    alloc: Global,
+    empty: &EmptyValues,
+    e: &ElementRef<'_>,
+) -> Result<PublishDeltaElement, XmlError>
     ensures { Gives (publish_in e.now) (λ c. c) result }
 {
     require(e.is_named("publish"))?;
     require(e.is_childless())?;
-    let a = query_attributes_in(alloc, e)?;
+    let a = query_attributes_in(alloc, empty, e)?;
     let uri = there(a.uri)?;
-    let content = base64_of(alloc, e.text())?;
+    let content = empty.content_of(alloc, e.text())?;
     Ok(published(a.tag, uri, content, a.hash))
 }
 
-fn withdraw_in(alloc: Global, e: &ElementRef<'_>) -> Result<PublishDeltaElement, XmlError>
+fn withdraw_in(
+    alloc: Global,
+    empty: &EmptyValues,
+    e: &ElementRef<'_>,
+) -> Result<PublishDeltaElement, XmlError>
     ensures { Gives (withdraw_in e.now) (λ c. c) result }
 {
     require(e.is_named("withdraw"))?;
     require(e.is_empty())?;
-    let a = query_attributes_in(alloc, e)?;
+    let a = query_attributes_in(alloc, empty, e)?;
     let uri = there(a.uri)?;
     let hash = there(a.hash)?;
     let withdraw = Withdraw::new(handed_out(a.tag), uri, hash);
     Ok(PublishDeltaElement::Withdraw(withdraw))
 }
 
-fn change_in(alloc: Global, e: &ElementRef<'_>) -> Result<PublishDeltaElement, XmlError>
+fn change_in(
+    alloc: Global,
+    empty: &EmptyValues,
+    e: &ElementRef<'_>,
+) -> Result<PublishDeltaElement, XmlError>
     ensures { Gives (change_in e.now) (λ c. c) result }
 {
     if e.is_named("publish") {
-        return publish_in(alloc, e);
+        return publish_in(alloc, empty, e);
     }
-    withdraw_in(alloc, e)
+    withdraw_in(alloc, empty, e)
 }
 
-fn list_query_in(alloc: Global, e: &ElementRef<'_>) -> Result<(), XmlError>
+fn list_query_in(alloc: Global, empty: &EmptyValues, e: &ElementRef<'_>) -> Result<(), XmlError>
     ensures { Gives (list_query_in e.now) (λ _. tt) result }
 {
     require(e.is_named("list"))?;
     require(e.is_empty())?;
-    let _query_attributes = query_attributes_in(alloc, e)?;
+    let _query_attributes = query_attributes_in(alloc, empty, e)?;
     Ok(())
 }
 
 /// An element of a query.
-pub(crate) fn query_pdu_in(alloc: Global, e: &ElementRef<'_>) -> Result<QueryPdu, XmlError>
+pub(crate) fn query_pdu_in(
+    alloc: Global,
+    empty: &EmptyValues,
+    e: &ElementRef<'_>,
+) -> Result<QueryPdu, XmlError>
     ensures { Gives (query_pdu_in e.now) (λ pdu. pdu) result }
 {
     if e.is_named("list") {
-        list_query_in(alloc, e)?;
+        list_query_in(alloc, empty, e)?;
         return Ok(QueryPdu::List);
     }
-    Ok(QueryPdu::PublishDeltaElement(change_in(alloc, e)?))
+    Ok(QueryPdu::PublishDeltaElement(change_in(alloc, empty, e)?))
 }
 
-fn changes_in(alloc: Global, children: Children<'_>) -> Result<Vec<PublishDeltaElement>, XmlError>
-    ensures { Gives (each_of change_in children.entry) (λ v. v.items) result }
+fn changes_in(
+    alloc: Global,
+    empty: &EmptyValues,
+    root: &ElementRef<'_>,
+) -> Result<Vec<PublishDeltaElement>, XmlError>
+    ensures { Gives (each_of change_in root.now.children) (λ v. v.items) result }
 {
-    let mut children = children;
-    let mut changes = Vec::new(alloc);
+    let mut changes = Vec::with_capacity(alloc, count_of(root.children()))?;
+    let mut children = root.children();
     'elements: while let Some(e) = children.next() {
-        let change = change_in(alloc, &e)?;
+        let change = change_in(alloc, empty, &e)?;
         changes.push(change)?;
     }
     Ok(changes)
 }
 
-fn query_in(alloc: Global, children: Children<'_>) -> Result<Query, XmlError>
-    ensures { Gives (query_in children.entry) (λ q. q) result }
+fn query_in(alloc: Global, empty: &EmptyValues, root: &ElementRef<'_>) -> Result<Query, XmlError>
+    ensures { Gives (query_in root.now.children) (λ q. q) result }
 {
-    if children.is_first_named("list") {
-        let e = children.the_one()?;
-        list_query_in(alloc, &e)?;
+    if root.children().is_first_named("list") {
+        let e = root.children().the_one()?;
+        list_query_in(alloc, empty, &e)?;
         return Ok(Query::List);
     }
-    let changes = changes_in(alloc, children)?;
+    let changes = changes_in(alloc, empty, root)?;
     Ok(Query::Delta(PublishDelta::of(changes)))
 }
 
 // ---- elements of a reply
 
-fn list_element_in(alloc: Global, e: &ElementRef<'_>) -> Result<ListElement, XmlError>
+fn list_element_in(
+    alloc: Global,
+    empty: &EmptyValues,
+    e: &ElementRef<'_>,
+) -> Result<ListElement, XmlError>
     ensures { Gives (list_element_in e.now) (λ x. x) result }
 {
     require(e.is_named("list"))?;
     require(e.is_empty())?;
-    let a = reply_attributes_in(alloc, e)?;
+    let a = reply_attributes_in(alloc, empty, e)?;
     let uri = there(a.uri)?;
     let hash = there(a.hash)?;
     Ok(ListElement::new(uri, hash))
 }
 
-fn success_in(alloc: Global, e: &ElementRef<'_>) -> Result<(), XmlError>
+fn success_in(alloc: Global, empty: &EmptyValues, e: &ElementRef<'_>) -> Result<(), XmlError>
     ensures { Gives (success_in e.now) (λ _. tt) result }
 {
     require(e.is_named("success"))?;
     require(e.is_empty())?;
-    let _attributes = reply_attributes_in(alloc, e)?;
+    let _attributes = reply_attributes_in(alloc, empty, e)?;
     Ok(())
 }
 
-fn report_error_in(alloc: Global, e: &ElementRef<'_>) -> Result<ReportError, XmlError>
+fn report_error_in(
+    alloc: Global,
+    empty: &EmptyValues,
+    e: &ElementRef<'_>,
+) -> Result<ReportError, XmlError>
     ensures { Gives (report_error_in e.now) (λ r. r) result }
 {
     require(e.is_named("report_error"))?;
     require(e.is_textless())?;
-    let a = reply_attributes_in(alloc, e)?;
+    let a = reply_attributes_in(alloc, empty, e)?;
     let code = there(a.error_code)?;
-    let details = details_in(alloc, e.children())?;
+    let details = details_in(alloc, empty, e.children())?;
     Ok(ReportError::of(code, a.tag, details.error_text, details.failed_pdu))
 }
 
-fn objects_in(alloc: Global, children: Children<'_>) -> Result<Vec<ListElement>, XmlError>
-    ensures { Gives (each_of list_element_in children.entry) (λ v. v.items) result }
+fn objects_in(
+    alloc: Global,
+    empty: &EmptyValues,
+    root: &ElementRef<'_>,
+) -> Result<Vec<ListElement>, XmlError>
+    ensures { Gives (each_of list_element_in root.now.children) (λ v. v.items) result }
 {
-    let mut children = children;
-    let mut objects = Vec::new(alloc);
+    let mut objects = Vec::with_capacity(alloc, count_of(root.children()))?;
+    let mut children = root.children();
     'elements: while let Some(e) = children.next() {
-        let object = list_element_in(alloc, &e)?;
+        let object = list_element_in(alloc, empty, &e)?;
         objects.push(object)?;
     }
     Ok(objects)
 }
 
-fn errors_in(alloc: Global, children: Children<'_>) -> Result<Vec<ReportError>, XmlError>
-    ensures { Gives (each_of report_error_in children.entry) (λ v. v.items) result }
+fn errors_in(
+    alloc: Global,
+    empty: &EmptyValues,
+    root: &ElementRef<'_>,
+) -> Result<Vec<ReportError>, XmlError>
+    ensures { Gives (each_of report_error_in root.now.children) (λ v. v.items) result }
 {
-    let mut children = children;
-    let mut errors = Vec::new(alloc);
+    let mut errors = Vec::with_capacity(alloc, count_of(root.children()))?;
+    let mut children = root.children();
     'elements: while let Some(e) = children.next() {
-        let error = report_error_in(alloc, &e)?;
+        let error = report_error_in(alloc, empty, &e)?;
         errors.push(error)?;
     }
     Ok(errors)
 }
 
-fn reply_in(alloc: Global, children: Children<'_>) -> Result<Reply, XmlError>
-    ensures { Gives (reply_in children.entry) (λ r. r) result }
+fn reply_in(alloc: Global, empty: &EmptyValues, root: &ElementRef<'_>) -> Result<Reply, XmlError>
+    ensures { Gives (reply_in root.now.children) (λ r. r) result }
 {
-    if children.is_first_named("success") {
-        let pdu = children.the_one()?;
-        success_in(alloc, &pdu)?;
+    if root.children().is_first_named("success") {
+        let pdu = root.children().the_one()?;
+        success_in(alloc, empty, &pdu)?;
         return Ok(Reply::Success);
     }
-    if children.is_first_named("report_error") {
-        let errors = errors_in(alloc, children)?;
+    if root.children().is_first_named("report_error") {
+        let errors = errors_in(alloc, empty, root)?;
         return Ok(Reply::ErrorReply(ErrorReply::of(errors)));
     }
-    let objects = objects_in(alloc, children)?;
+    let objects = objects_in(alloc, empty, root)?;
     Ok(Reply::List(ListReply::new(objects)))
 }
 
 // ---- messages
 
-fn body_in(alloc: Global, kind: &str, children: Children<'_>) -> Result<Message, XmlError>
-    ensures { Gives (body_in kind.now children.entry) (λ m. m) result }
+fn body_in(
+    alloc: Global,
+    empty: &EmptyValues,
+    kind: &str,
+    root: &ElementRef<'_>,
+) -> Result<Message, XmlError>
+    ensures { Gives (body_in kind.now root.now.children) (λ m. m) result }
 {
     match kind {
-        "query" => Ok(Message::Query(query_in(alloc, children)?)),
-        "reply" => Ok(Message::Reply(reply_in(alloc, children)?)),
+        "query" => Ok(Message::Query(query_in(alloc, empty, root)?)),
+        "reply" => Ok(Message::Reply(reply_in(alloc, empty, root)?)),
         _ => Err(XmlError::Malformed),
     }
 }
@@ -235,5 +286,6 @@ pub(crate) fn message_in(alloc: Global, root: &ElementRef<'_>) -> Result<Message
     ensures { Gives (message_of root.now) (λ m. m) result }
 {
     let kind = type_in(root)?;
-    body_in(alloc, kind, root.children())
+    let empty = EmptyValues::new(alloc)?;
+    body_in(alloc, &empty, kind, root)
 }

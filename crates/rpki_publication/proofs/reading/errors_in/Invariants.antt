@@ -5,4 +5,4 @@ use Rattle.rpki_publication.specs.ReportError.{report_error_in}
 use Rattle.rpki_publication.proofs.reading.errors_in.Given as goal
 
 abbrev pub invariant-elements : goal.invariant-elements
-invariant-elements l = with_front l.errors.items (each_of report_error_in l.children) ≡ each_of report_error_in l.fn.children
+invariant-elements l = with_front l.errors.items (each_of report_error_in l.children) ≡ each_of report_error_in l.fn.root.children

@@ -5,4 +5,4 @@ use Rattle.rpki_publication.specs.ListReply.{list_element_in}
 use Rattle.rpki_publication.proofs.reading.objects_in.Given as goal
 
 abbrev pub invariant-elements : goal.invariant-elements
-invariant-elements l = with_front l.objects.items (each_of list_element_in l.children) ≡ each_of list_element_in l.fn.children
+invariant-elements l = with_front l.objects.items (each_of list_element_in l.children) ≡ each_of list_element_in l.fn.root.children
