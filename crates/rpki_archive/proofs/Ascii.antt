@@ -11,6 +11,7 @@ use Rattle.std.proofs.lemmas.List.Elements.{All-weaker}
 use Rattle.hex.specs.Hex.{decode_of, is_hex_digit}
 use Rattle.hex.proofs.HexLemmas.{decode_of-ok}
 use Rattle.rpki_common.specs.Chaining.{◌>>=◌}
+use Rattle.rpki_common.proofs.Truths.{both}
 use Rattle.rpki_der.specs.Whole.{whole_of}
 use Rattle.rpki_der.specs.declared.mode.Mode.TheVariants.{Der}
 use Rattle.hex.specs.declared.error.FromHexError.{FromHexError}
@@ -19,11 +20,6 @@ use Rattle.rpki_ca.specs.declared.receiving.Kind.{Kind}
 use Rattle.rpki_ca.specs.declared.receiving.Kind.TheVariants.{Publication, Provisioning}
 use Rattle.rpki_ca.specs.Command.{kind_word}
 use Rattle.rpki_ca.specs.Words.{IsMoment, key_of}
-
-both : (a b : Bool) → (a && b) ≡ true → (a ≡ true) × (b ≡ true)
-both true true e = (refl, refl)
-both true false e = cc
-both false b e = cc
 
 ascii_from : (octets : List ℕ) → list_all (λ octet. nat_lt octet 128) octets ≡ true → IsAscii octets
 ascii_from [] e = IsAscii-nil

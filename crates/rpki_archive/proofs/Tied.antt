@@ -4,11 +4,9 @@ use Rattle.rpki_base.specs.Checks.{first_failure, failing}
 use Rattle.rpki_base.specs.PublicKey.{KeyFields}
 use Rattle.rpki_base.specs.Scheme.{Relation}
 use Rattle.rpki_base.specs.declared.validation.ValidationError.{ValidationError}
-use Rattle.rpki_der.specs.declared.mode.Mode.TheVariants.{Ber}
-use Rattle.rpki_der.proofs.Decoding.{decoded_ok}
 use Rattle.rpki_sigmsg.specs.Beginning.{BeginsSigned, HoldsContent}
 use Rattle.rpki_sigmsg.specs.Checks.{AreChecks, AreOutcomes, IsAmong, IsBelieved, checks, kind_of, ranked}
-use Rattle.rpki_sigmsg.specs.Message.{MessageFields, signed_message}
+use Rattle.rpki_sigmsg.specs.Message.{MessageFields}
 use Rattle.rpki_sigmsg.proofs.AnyKey.{at_one}
 use Rattle.std.specs.List.{AllByRecursion}
 use Rattle.rpki_ca.specs.Acceptance.{ReadsAs}
@@ -23,10 +21,11 @@ use Rattle.rpki_ca.specs.declared.refusals.Refusal.{Refusal}
 use Rattle.rpki_ca.specs.declared.refusals.Refusal.TheVariants as refusals
 use Rattle.rpki_ca.proofs.Commands.{is_command}
 use Rattle.rpki_ca.proofs.Ended.{lines_end, on_input, on_input_or_12, wrote_all}
-use Rattle.rpki_ca.proofs.Laws.{one_answer_to_words}
+use Rattle.rpki_ca.proofs.Laws.{one_answer_to_words, one_signed}
 use Rattle.rpki_ca.proofs.Reasons.{no_reason, reason}
 use Rattle.rpki_archive.specs.Checking.{AreAllExplanations, AreAllVerdicts, EndsTask}
-use Rattle.rpki_archive.specs.Explanation.{IsExplanation, IsSaidOfSpelled, digit_of}
+use Rattle.rpki_archive.specs.Explanation.{IsExplanation, IsSaidOfSpelled}
+use Rattle.rpki_ca.specs.Lines.{digit_of}
 use Rattle.rpki_archive.specs.Lines.{IsLine}
 use Rattle.rpki_archive.specs.Ties.{BringsMessage, TellsSame}
 use Rattle.rpki_archive.specs.Verdict.{Entry, IsLineAnswer, command_words}
@@ -52,15 +51,6 @@ one_verdict scheme line one other p q =
     ]
 
 -- ---- the digits and the verdict
-
-abbrev some_signed : MessageFields → Option MessageFields
-some_signed m = Some m
-
-one_signed : (octets : List ℕ) (m n : MessageFields) → BeginsSigned octets m → BeginsSigned octets n → m ≡ n
-one_signed octets m n p q = same (sym (decoded_ok (signed_message Ber) Ber octets m p) ∙ decoded_ok (signed_message Ber) Ber octets n q)
-  where
-    same : some_signed m ≡ some_signed n → m ≡ n
-    same e = cc
 
 -- the only key of a list
 only_key : (key held : KeyFields) → IsAmong (key ∷ []) held → held ≡ key

@@ -1,5 +1,5 @@
 -- The explanation of a message in an archive: all fourteen checks.
-use Rattle.std.specs.Prelude.{◌≡◌, ℕ, ℤ, Bool, true, false, Option, None, Some, List, [], ◌∷◌, codes, map, ⊤}
+use Rattle.std.specs.Prelude.{◌≡◌, ℕ, ℤ, Bool, Option, None, Some, List, [], ◌∷◌, codes, map, ⊤}
 use Rattle.rpki_base.specs.PublicKey.{KeyFields}
 use Rattle.rpki_base.specs.Scheme.{Relation}
 use Rattle.rpki_sigmsg.specs.Beginning.{BeginsSigned}
@@ -8,13 +8,9 @@ use Rattle.rpki_sigmsg.specs.Message.{MessageFields}
 use Rattle.rpki_ca.specs.Acceptance.{HoldsNoSigned}
 use Rattle.rpki_ca.specs.Command.{IsReceive, IsNoCommand}
 use Rattle.rpki_ca.specs.Hexadecimal.{hexadecimal}
+use Rattle.rpki_ca.specs.Lines.{digit_of}
 use Rattle.rpki_ca.specs.declared.receiving.Kind.{Kind}
 use Rattle.rpki_archive.specs.Verdict.{Entry, command_words}
-
--- a digit for each check, 1 where it holds
-abbrev pub digit_of : Bool → ℕ
-digit_of true = 49
-digit_of false = 48
 
 -- the octets begin with a signed message, and these are the digits of its fourteen checks
 pub record AreDigits (scheme : Relation) (octets : List ℕ) (key : KeyFields) (when : ℤ)

@@ -1,7 +1,8 @@
 //! The explanation of a line.
 
 ghost use Rattle.std.specs.Prelude.{◌≡◌, ◌≢◌, ◌∷◌, ◌++◌, [], IfErr, IfOk, List, map, string_bytes, ℕ};
-ghost use Rattle.rpki_archive.specs.Explanation.{IsExplanation, digit_of};
+ghost use Rattle.rpki_archive.specs.Explanation.{IsExplanation};
+ghost use Rattle.rpki_ca.specs.Lines.{digit_of};
 ghost use Rattle.rpki_archive.specs.Lines.{IsLine};
 ghost use Rattle.rpki_ca.specs.Refusal.{name_of};
 

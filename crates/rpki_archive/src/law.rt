@@ -2,7 +2,8 @@
 
 ghost use Rattle.std.specs.Prelude.{◌≡◌, ◌⊎◌, ◌^◌, ◌≤◌, ℕ, Bool, List, Result, Some, length, map};
 ghost use Rattle.rpki_archive.specs.Checking.{AreAllExplanations, AreAllVerdicts, EndsTask};
-ghost use Rattle.rpki_archive.specs.Explanation.{IsExplanation, digit_of};
+ghost use Rattle.rpki_archive.specs.Explanation.{IsExplanation};
+ghost use Rattle.rpki_ca.specs.Lines.{digit_of};
 ghost use Rattle.rpki_archive.specs.Lines.{IsLine};
 ghost use Rattle.rpki_archive.specs.Ties.{BringsMessage, TellsSame};
 ghost use Rattle.rpki_archive.specs.Verdict.{IsLineAnswer};

@@ -191,13 +191,13 @@ stands_at [] i l = absurd (omega (arith, l))
 stands_at (w ∷ ws) zero l = record { word = w; parts = refl; stands = refl }
 stands_at (w ∷ ws) (suc i) l = let r = stands_at ws i (omega (arith, l)) in record { word = r.word; parts = r.parts; stands = r.stands }
 
--- the words from the fourth up to an index spell these keys: what spells the rest then spells all, and all spells some rest
-pub record SpellSoFar (words : List (List ℕ)) (i : ℕ) (keys : List KeyFields) : Type 0 where
-  pub rest : (all : List KeyFields) → AreKeys (drop 3 words) all → (more : List KeyFields) × AreKeys (drop i words) more
-  pub whole : (more : List KeyFields) → AreKeys (drop i words) more → AreKeys (drop 3 words) (keys ++ more)
+-- the words from one index up to another spell these keys: what spells the rest then spells all, and all spells some rest
+pub record SpellSoFar (words : List (List ℕ)) (from i : ℕ) (keys : List KeyFields) : Type 0 where
+  pub rest : (all : List KeyFields) → AreKeys (drop from words) all → (more : List KeyFields) × AreKeys (drop i words) more
+  pub whole : (more : List KeyFields) → AreKeys (drop i words) more → AreKeys (drop from words) (keys ++ more)
 
-pub none_so_far : (words : List (List ℕ)) → SpellSoFar words 3 []
-none_so_far words = record { rest = λ all a. (all, a); whole = λ more a. a }
+pub none_so_far : (words : List (List ℕ)) (from : ℕ) → SpellSoFar words from from []
+none_so_far words from = record { rest = λ all a. (all, a); whole = λ more a. a }
 
 behind_one : (word : List ℕ) (words : List (List ℕ)) (all : List KeyFields) → AreKeys (word ∷ words) all → (more : List KeyFields) × AreKeys words more
 behind_one word words [] e = cc
@@ -210,19 +210,19 @@ spelled_at : (words : List (List ℕ)) (i : ℕ) (s : StandsAt words i) (key : O
 unfolding ◌>>=◌
 spelled_at words i s key e = sym (rw s.stands at e)
 
-pub one_more : (words : List (List ℕ)) (i : ℕ) (keys : List KeyFields) (key : KeyFields) → i < length words → Some key ≡ key_at words i → SpellSoFar words i keys → SpellSoFar words (i + 1) (keys ++ key ∷ [])
-one_more words i keys key l e sofar =
+pub one_more : (words : List (List ℕ)) (from i : ℕ) (keys : List KeyFields) (key : KeyFields) → i < length words → Some key ≡ key_at words i → SpellSoFar words from i keys → SpellSoFar words from (i + 1) (keys ++ key ∷ [])
+one_more words from i keys key l e sofar =
     let s = stands_at words i l in
     let next : suc i ≡ i + 1 = omega arith in
-    subst (λ (n : ℕ). SpellSoFar words n (keys ++ key ∷ [])) next (record {
+    subst (λ (n : ℕ). SpellSoFar words from n (keys ++ key ∷ [])) next (record {
       rest = λ all a. let m = sofar.rest all a in behind_one s.word (drop (suc i) words) m.0 (subst (λ (ws : List (List ℕ)). AreKeys ws m.0) s.parts m.1);
       whole = λ more a.
-          subst (AreKeys (drop 3 words)) (sym (append_assoc keys (key ∷ []) more))
+          subst (AreKeys (drop from words)) (sym (append_assoc keys (key ∷ []) more))
           (sofar.whole (key ∷ more) (subst (λ (ws : List (List ℕ)). AreKeys ws (key ∷ more)) (sym s.parts) (in_front s.word (drop (suc i) words) key more (spelled_at words i s (Some key) e) a)));
     })
 
-pub no_key_here : (words : List (List ℕ)) (i : ℕ) (keys : List KeyFields) → i < length words → None ≡ key_at words i → SpellSoFar words i keys → (all : List KeyFields) → AreKeys (drop 3 words) all → ⊥
-no_key_here words i keys l e sofar all a =
+pub no_key_here : (words : List (List ℕ)) (from i : ℕ) (keys : List KeyFields) → i < length words → None ≡ key_at words i → SpellSoFar words from i keys → (all : List KeyFields) → AreKeys (drop from words) all → ⊥
+no_key_here words from i keys l e sofar all a =
     let s = stands_at words i l in
     let m = sofar.rest all a in
     none s.word (drop (suc i) words) m.0 (spelled_at words i s None e) (subst (λ (ws : List (List ℕ)). AreKeys ws m.0) s.parts m.1)
@@ -240,8 +240,8 @@ no_key_here words i keys l e sofar all a =
         unlike : None ≡ some_key k → ⊥
         unlike k = cc
 
-pub all_spelled : (words : List (List ℕ)) (i : ℕ) (keys : List KeyFields) → length words ≤ i → SpellSoFar words i keys → AreKeys (drop 3 words) keys
-all_spelled words i keys l sofar = subst (AreKeys (drop 3 words)) (append-nil keys) (sofar.whole [] (ap (map key_of) (drop_of_length-le words l)))
+pub all_spelled : (words : List (List ℕ)) (from i : ℕ) (keys : List KeyFields) → length words ≤ i → SpellSoFar words from i keys → AreKeys (drop from words) keys
+all_spelled words from i keys l sofar = subst (AreKeys (drop from words)) (append-nil keys) (sofar.whole [] (ap (map key_of) (drop_of_length-le words l)))
 
 -- ---- `receive`
 

@@ -56,7 +56,7 @@ use Rattle.rpki_ca.proofs.Reasons.{reason, no_reason, one_reason}
 abbrev some_signed : MessageFields → Option MessageFields
 some_signed m = Some m
 
-one_signed : (octets : List ℕ) (m n : MessageFields) → BeginsSigned octets m → BeginsSigned octets n → m ≡ n
+pub one_signed : (octets : List ℕ) (m n : MessageFields) → BeginsSigned octets m → BeginsSigned octets n → m ≡ n
 one_signed octets m n p q = same (sym (decoded_ok (signed_message Ber) Ber octets m p) ∙ decoded_ok (signed_message Ber) Ber octets n q)
   where
     same : some_signed m ≡ some_signed n → m ≡ n

@@ -15,3 +15,6 @@ pub mod Asked
 pub mod Ended
 pub mod Stepping
 pub mod Sending
+pub mod Keys
+pub mod SentLines
+pub mod Serving

@@ -1,7 +1,8 @@
--- Said in contracts, and to be believed: Refusal, Hexadecimal, Words, Command, Acceptance, Seen, Creation, Setup, Summary, Answer, Lines, Steps, Sending.
+-- Said in contracts, and to be believed: Refusal, Hexadecimal, Words, Keys, Command, Acceptance, Seen, Creation, Setup, Summary, Answer, Lines, Steps, Sending, Sent.
 pub mod Refusal
 pub mod Hexadecimal
 pub mod Words
+pub mod Keys
 pub mod Command
 pub mod Acceptance
 pub mod Seen
@@ -12,3 +13,4 @@ pub mod Answer
 pub mod Lines
 pub mod Steps
 pub mod Sending
+pub mod Sent

@@ -1,6 +1,6 @@
 -- Lines: an input cut into them, a line cut into words, and what a program writes that answers line
 -- by line.
-use Rattle.std.specs.Prelude.{◌≡◌, ◌==◌, ◌≤◌, ◌^◌, ◌⊎◌, ℕ, List, [], ◌∷◌, ◌++◌, Result, Ok, Err, IfSome, length}
+use Rattle.std.specs.Prelude.{◌≡◌, ◌==◌, ◌≤◌, ◌^◌, ◌⊎◌, ℕ, Bool, true, false, List, [], ◌∷◌, ◌++◌, Result, Ok, Err, IfSome, length}
 use Rattle.std.specs.List.{slice_split, flat_map}
 use Rattle.std.specs.Io.KnownBytes.{Appends, IsAtEnd}
 use Rattle.rpki_text.specs.Sink.{AppendsPart}
@@ -39,6 +39,11 @@ words_of line = pieces_of 32 line
 -- the answers, each on a line of its own
 abbrev pub answer_lines : List (List ℕ) → List ℕ
 answer_lines answers = flat_map (λ answer. answer ++ 10 ∷ []) answers
+
+-- an answer to a question as a digit, 1 for yes
+abbrev pub digit_of : Bool → ℕ
+digit_of true = 49
+digit_of false = 48
 
 -- The output is written whole, with the status; or a part of it, and the status is 11, where the
 -- sink's count rose.

@@ -126,8 +126,9 @@ impl Words {
         }
     }
 
-    // The kind that the word at `index` names.
-    fn kind(&self, index: usize) -> Option<Kind>
+    /// The protocol that the word at `index` names, `publication` or `provisioning`. None exactly where
+    /// no such word is there.
+    pub fn kind(&self, index: usize) -> Option<Kind>
         ensures { result ≡ kind_at self.now index }
     {
         match self.get(index) {
@@ -166,15 +167,21 @@ impl Words {
         self.len() >= 4 && self.len() <= 11
     }
 
-    // The keys that the words from the fourth on spell, if each spells one.
-    fn keys(&self, alloc: Global) -> Result<Option<Vec<PublicKey>>, OutOfMemory>
-        ensures some { IfOk result (λ o. IfSome o (λ keys. AreKeys (drop 3 self.now) keys.items)) }
+    /// The public keys that the words from `index` on spell, each as [`Words::key`] has it. None exactly
+    /// where one of them spells none.
+    pub fn keys_from(
+        &self,
+        alloc: Global,
+        index: usize,
+    ) -> Result<Option<Vec<PublicKey>>, OutOfMemory>
+        ensures some { IfOk result (λ o.
+            IfSome o (λ keys. AreKeys (drop index self.now) keys.items)) }
         ensures none { IfOk result (λ o. IsNone o →
-            (keys : List KeyFields) → AreKeys (drop 3 self.now) keys → ⊥) }
+            (keys : List KeyFields) → AreKeys (drop index self.now) keys → ⊥) }
     {
         let mut keys = Vec::new(alloc);
-        for index in 3..self.len() {
-            match self.key(alloc, index)? {
+        for place in index..self.len() {
+            match self.key(alloc, place)? {
                 Some(key) => keys.push(key)?,
                 None => return Ok(None),
             }
@@ -197,7 +204,7 @@ impl Words {
         let Some(when) = self.moment(2) else {
             return Ok(None);
         };
-        match self.keys(alloc)? {
+        match self.keys_from(alloc, 3)? {
             Some(keys) => Ok(Some(Command::Receive {
                 kind,
                 when,

@@ -40,8 +40,10 @@ impl<E: Drop> From<CreateError<E>> for Refusal {
     }
 }
 
-// The message of this kind that the input reads as.
-fn message_in(alloc: Global, kind: Kind, input: &[u8]) -> Result<Received, ReceiveError>
+/// The message of the kind that the whole input is, a document of XML.
+///
+/// XmlError, CertSyntax and InvalidCsrSyntax come as in [`crate::receive_any`] of a content.
+pub fn message_in(alloc: Global, kind: Kind, input: &[u8]) -> Result<Received, ReceiveError>
     ensures ok { IfOk result (λ m. ReadsAs kind input.now m) }
     ensures writable { IfOk result IsWritable }
     ensures err { IfErr result (λ e. refusal_of e ≢ Refusal.OutOfMemory

@@ -47,8 +47,9 @@ fn digits(input: &[u8]) -> &[u8]
     }
 }
 
-/// The octets that the input spells. The input is gone then.
-pub(crate) fn input_octets(alloc: Global, input: Vec<u8>) -> Result<Vec<u8>, Refusal>
+/// The octets that an input spells, two hexadecimal digits of either case an octet, and a line feed
+/// behind them or none. Hex exactly where it is no such input. The input is gone then.
+pub fn input_octets(alloc: Global, input: Vec<u8>) -> Result<Vec<u8>, Refusal>
     ensures ok { IfOk result (λ v. hexadecimal input.items ≡ Some v.items) }
     ensures err { IfErr result (λ e. e ≢ Refusal.OutOfMemory
         → (e ≡ Refusal.Hex) × (hexadecimal input.items ≡ None)) }

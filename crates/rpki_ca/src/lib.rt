@@ -15,7 +15,8 @@
 //!   it, and writes how many there are of each kind and the digest of the signed message.
 //!
 //! For programs that answer line by line it has [`Lines`], into which [`read_input`] input is cut, the
-//! words of a line, [`hexadecimal_line`], and [`finish_lines`], which says why such a program ends.
+//! words of a line, the [`messages_in`] lines, [`hexadecimal_line`], and [`finish_lines`], which says
+//! why such a program ends.
 //!
 //! What is accepted stands in specs/Acceptance.antt, what is created in specs/Creation.antt, what is
 //! made in specs/Summary.antt, and what is answered to words and input in specs/Answer.antt.
@@ -34,16 +35,19 @@ mod receive_line;
 mod receiving;
 mod refusals;
 mod running;
+mod sent;
 mod setup_line;
 mod setup_message;
 mod words;
 
 pub use command::Command;
-pub use hexadecimal::hexadecimal_line;
+pub use create_line::message_in;
+pub use hexadecimal::{hexadecimal_line, input_octets};
 pub use law::{
     accepted_moments_are_one_span, more_keys_accept, one_answer, one_answer_to_words,
     receipts_ask_three_questions, rewritten_is_received_alike,
 };
+pub use line::line_of;
 pub use lines::{Lines, Stop, finish_lines, spelled_key, spelled_octets, split_word};
 pub use reading::read_input;
 pub use receiving::{
@@ -51,5 +55,6 @@ pub use receiving::{
 };
 pub use refusals::Refusal;
 pub use running::{Status, refuse, run};
+pub use sent::messages_in;
 pub use setup_message::SetupKind;
 pub use words::Words;

@@ -1,4 +1,4 @@
-//! Lines.
+//! A line that is written.
 
 ghost use Rattle.std.specs.Prelude.{◌≡◌, ◌++◌, ◌∷◌, [], IfOk};
 
@@ -6,7 +6,7 @@ use rpki_common::OutOfMemory;
 use std::alloc::Global;
 
 /// The octets, and a line feed.
-pub(crate) fn line_of(alloc: Global, text: &[u8]) -> Result<Vec<u8>, OutOfMemory>
+pub fn line_of(alloc: Global, text: &[u8]) -> Result<Vec<u8>, OutOfMemory>
     ensures { IfOk result (λ line. line.items ≡ text.now ++ 10 ∷ []) }
 {
     let mut line = Vec::with_capacity(alloc, text.len().saturating_add(1))?;

@@ -1,4 +1,3 @@
-pub mod Keys
 pub mod Standing
 pub mod Mapped
 pub mod Texts

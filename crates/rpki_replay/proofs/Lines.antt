@@ -10,10 +10,11 @@ use Rattle.rpki_base.specs.PublicKey.{KeyFields}
 use Rattle.rpki_ca.specs.Lines.{lines_of, pieces_of, without_empty_end, answer_lines, words_of}
 use Rattle.rpki_ca.proofs.Cutting.{IsOneLine, written_read}
 use Rattle.rpki_replay.specs.declared.peers.Peer.{Peer}
-use Rattle.rpki_replay.specs.State.{IsPeer, IsState, AreDistinct, same_key, last_of}
+use Rattle.rpki_replay.specs.State.{IsPeer, IsState, AreDistinct, last_of}
+use Rattle.rpki_ca.specs.Keys.{same_key}
 use Rattle.rpki_replay.specs.StateText.{IsStateText, ends_line, peer_line}
 use Rattle.rpki_replay.specs.Messages.{Opens, dash}
-use Rattle.rpki_replay.proofs.Keys.{same_key-sym}
+use Rattle.rpki_ca.proofs.Keys.{same_key-sym}
 use Rattle.rpki_replay.proofs.Standing.{distinct_push, no_time}
 use Rattle.rpki_replay.proofs.Texts.{line_words, one_line, one_peer, key_word, time_word}
 

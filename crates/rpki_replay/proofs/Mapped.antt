@@ -11,7 +11,7 @@ use Rattle.std.proofs.lemmas.Slice.Eq.{bytes_eq-Decides}
 use Rattle.rpki_base.specs.declared.algorithm.PublicKeyFormat.{PublicKeyFormat}
 use Rattle.rpki_base.specs.declared.algorithm.PublicKeyFormat.TheVariants.{Rsa, EcdsaP256}
 use Rattle.rpki_base.specs.PublicKey.{KeyFields}
-use Rattle.rpki_replay.specs.State.{same_format, same_key}
+use Rattle.rpki_ca.specs.Keys.{same_format, same_key}
 use Rattle.rpki_replay.specs.Places.{place_of_bits, place_among, place_at}
 
 apart : (bs cs ks : List ℕ) → bytes_eq bs cs ≡ false → is_eq (slice_cmp nat_cmp bs ks) ≡ true → is_eq (slice_cmp nat_cmp cs ks) ≡ false

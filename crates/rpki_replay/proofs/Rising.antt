@@ -11,11 +11,12 @@ use Rattle.rpki_sigmsg.specs.Message.{MessageFields}
 use Rattle.rpki_replay.specs.declared.peers.Peer.{Peer}
 use Rattle.rpki_replay.specs.declared.guard.GuardError.{GuardError}
 use Rattle.rpki_replay.specs.declared.guard.GuardError.TheVariants.{Replayed}
-use Rattle.rpki_replay.specs.State.{last_of, put, same_key, IsPeer}
+use Rattle.rpki_replay.specs.State.{last_of, put, IsPeer}
+use Rattle.rpki_ca.specs.Keys.{same_key}
 use Rattle.rpki_replay.specs.StateText.{IsStateText, peer_line}
 use Rattle.rpki_replay.specs.Admission.{IsAdmission, answer_behind, judged, state_behind}
 use Rattle.rpki_replay.specs.History.{AreMade, Call, IsLater, Rise, times_under, times_with}
-use Rattle.rpki_replay.proofs.Keys.{key_is, key_itself}
+use Rattle.rpki_ca.proofs.Keys.{key_is, key_itself}
 use Rattle.rpki_replay.proofs.Lines.{state_lines}
 use Rattle.rpki_replay.proofs.Texts.{one_peer}
 

@@ -4,9 +4,10 @@ use Rattle.std.proofs.lemmas.Option.{none-some, same_Some}
 use Rattle.rpki_base.specs.PublicKey.{KeyFields}
 use Rattle.rpki_replay.specs.declared.peers.Peer.{Peer}
 use Rattle.rpki_replay.specs.declared.places.Places as held
-use Rattle.rpki_replay.specs.State.{same_key, last_of, put, AreDistinct}
+use Rattle.rpki_replay.specs.State.{last_of, put, AreDistinct}
+use Rattle.rpki_ca.specs.Keys.{same_key}
 use Rattle.rpki_replay.specs.Places.{place_from, place_at, AreTold}
-use Rattle.rpki_replay.proofs.Keys.{key_is, key_itself, same_key-sym}
+use Rattle.rpki_ca.proofs.Keys.{key_is, key_itself, same_key-sym}
 
 -- a place is one of the list's
 pub within : (n : ℕ) (peers : List Peer) (key : KeyFields) (place : ℕ) → place_from n peers key ≡ Some place → (n ≤ place) × (place < n + length peers)

@@ -6,7 +6,7 @@ use Rattle.rpki_sigmsg.specs.Message.{MessageFields}
 use Rattle.rpki_replay.specs.declared.peers.Peer.{Peer}
 use Rattle.rpki_replay.specs.declared.guard.GuardError.{GuardError}
 use Rattle.rpki_replay.specs.Admission.{IsAdmission, state_behind}
-use Rattle.rpki_replay.specs.State.{same_key}
+use Rattle.rpki_ca.specs.Keys.{same_key}
 
 -- a call: the peer's key, the message, the moment, and what was answered
 pub record Call : Type 0 where

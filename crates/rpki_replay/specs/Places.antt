@@ -10,7 +10,7 @@ use Rattle.rpki_base.specs.declared.algorithm.PublicKeyFormat.{PublicKeyFormat}
 use Rattle.rpki_base.specs.declared.algorithm.PublicKeyFormat.TheVariants.{Rsa, EcdsaP256}
 use Rattle.rpki_replay.specs.declared.peers.Peer.{Peer}
 use Rattle.rpki_replay.specs.declared.places.Places as held
-use Rattle.rpki_replay.specs.State.{same_key}
+use Rattle.rpki_ca.specs.Keys.{same_key}
 
 -- the place that the octets have
 abbrev pub place_of_bits : List ℕ → BTreeMap (Vec ℕ) ℕ → Option ℕ

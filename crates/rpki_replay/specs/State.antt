@@ -1,21 +1,11 @@
 -- The state of a guard: for each key under which a message was admitted, the signing time of the last one.
-use Rattle.std.specs.Prelude.{◌≡◌, ◌&&◌, ℤ, Bool, true, false, bytes_eq, if◌then◌else◌, Option, None, Some, List, [], ◌∷◌}
+use Rattle.std.specs.Prelude.{◌≡◌, ℤ, if◌then◌else◌, Option, None, Some, List, [], ◌∷◌}
 use Rattle.std.specs.List.{AllByRecursion}
 use Rattle.hex.specs.Hex.{IsBytes}
 use Rattle.rpki_base.specs.Civil.{IsMoment}
-use Rattle.rpki_base.specs.declared.algorithm.PublicKeyFormat.{PublicKeyFormat}
-use Rattle.rpki_base.specs.declared.algorithm.PublicKeyFormat.TheVariants.{Rsa, EcdsaP256}
 use Rattle.rpki_base.specs.PublicKey.{KeyFields, CanBeSpelled, spelled_key}
+use Rattle.rpki_ca.specs.Keys.{same_key}
 use Rattle.rpki_replay.specs.declared.peers.Peer.{Peer}
-
--- two keys are the same: they have one format, and the same octets as their bits
-abbrev pub same_format : PublicKeyFormat → PublicKeyFormat → Bool
-same_format Rsa Rsa = true
-same_format EcdsaP256 EcdsaP256 = true
-same_format one other = false
-
-abbrev pub same_key : KeyFields → KeyFields → Bool
-same_key one other = same_format one.format other.format && bytes_eq one.bits other.bits
 
 -- the time that is held for a key
 abbrev pub last_of : List Peer → KeyFields → Option ℤ

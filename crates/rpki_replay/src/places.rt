@@ -3,7 +3,7 @@
 ghost use Rattle.std.specs.Prelude.{◌≡◌, if◌then◌else◌, None, OnErr, OnOk, Some};
 ghost use Rattle.rpki_base.specs.PublicKey.{KeyFields};
 ghost use Rattle.rpki_replay.specs.Places.{place_at};
-ghost use Rattle.rpki_replay.specs.State.{same_key};
+ghost use Rattle.rpki_ca.specs.Keys.{same_key};
 
 use rpki_base::{PublicKey, PublicKeyFormat};
 use rpki_common::OutOfMemory;

@@ -8,7 +8,8 @@ use Rattle.rpki_der.specs.declared.error.DecodeError.TheVariants.{Malformed}
 use Rattle.rpki_der.specs.declared.mode.Mode.TheVariants.{Ber}
 use Rattle.rpki_sigmsg.specs.Beginning.{BeginsSigned}
 use Rattle.rpki_sigmsg.specs.Message.{signed_message}
-use Rattle.rpki_archive.specs.Explanation.{IsExplanation, digit_of}
+use Rattle.rpki_archive.specs.Explanation.{IsExplanation}
+use Rattle.rpki_ca.specs.Lines.{digit_of}
 use Rattle.rpki_archive.proofs.Judging.{explained_first, same_keys, explained_none, explained_refusal, if_err_same}
 use Rattle.rpki_archive.proofs.explanations.checks_of.Goals as goal
 

@@ -1,5 +1,5 @@
 use Rattle.std.proofs.Common.{◌≡◌, map, string_bytes, take}
-use Rattle.rpki_archive.specs.Explanation.{digit_of}
+use Rattle.rpki_ca.specs.Lines.{digit_of}
 use Rattle.rpki_archive.proofs.explanations.digits_line.Given as goal
 
 abbrev pub invariant-loop-holds : goal.invariant-loop-holds

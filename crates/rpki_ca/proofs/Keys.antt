@@ -4,7 +4,8 @@ use Rattle.std.proofs.lemmas.Slice.Eq.{bytes_eq-Decides}
 use Rattle.rpki_base.specs.declared.algorithm.PublicKeyFormat.{PublicKeyFormat}
 use Rattle.rpki_base.specs.declared.algorithm.PublicKeyFormat.TheVariants.{Rsa, EcdsaP256}
 use Rattle.rpki_base.specs.PublicKey.{KeyFields}
-use Rattle.rpki_replay.specs.State.{same_format, same_key}
+use Rattle.rpki_ca.specs.Keys.{same_format, same_key}
+use Rattle.rpki_common.proofs.Truths.{both}
 
 format_same : (a b : PublicKeyFormat) → same_format a b ≡ true → a ≡ b
 format_same Rsa Rsa e = refl
@@ -15,11 +16,6 @@ format_same EcdsaP256 EcdsaP256 e = refl
 format_itself : (a : PublicKeyFormat) → same_format a a ≡ true
 format_itself Rsa = refl
 format_itself EcdsaP256 = refl
-
-both : (a b : Bool) → (a && b) ≡ true → (a ≡ true) × (b ≡ true)
-both true true e = (refl, refl)
-both true false e = cc
-both false b e = cc
 
 -- keys that the test finds the same are one key
 pub key_is : (a b : KeyFields) → same_key a b ≡ true → a ≡ b
