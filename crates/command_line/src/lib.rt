@@ -1,12 +1,15 @@
-//! What the programs of this repository share at their edge: the words behind a program's name, and the
-//! texts that a program writes of itself.
+//! What the programs of this repository share at their edge: the words behind a program's name, the texts
+//! that a program writes of itself, and a toy signer with a key.
 #![tactic(auto)]
 
 ghost use Rattle.rpki_ca.specs.Lines.{EndsWith};
 ghost use Rattle.rpki_ca.specs.Seen.{seen};
 
+use rpki_base::PublicKeyFormat;
 use rpki_ca::{Refusal, Status, Words};
+use rpki_signer::{CallError, Signer, ToyScheme, ToySigner};
 use rpki_text::{Sink, write_all};
+use std::alloc::Global;
 use std::env;
 use std::io::ErrorKind;
 use std::rt::Env;
@@ -55,5 +58,16 @@ pub fn write_text<O: Sink>(output: &mut O, text: &[u8]) -> Status
     match write_all(output, text) {
         Ok(()) => Status(0),
         Err(_) => Status(11),
+    }
+}
+
+/// A signer of the toy scheme, which makes its keys from the seed, and the identifier of its one key.
+/// `Signer` where the signer makes none.
+pub fn signer_of(alloc: Global, seed: u64) -> Result<(ToySigner, u64), Refusal> {
+    let mut signer = ToySigner::new(alloc, seed, &[])?;
+    match Signer::<ToyScheme>::create_key(&mut signer, alloc, PublicKeyFormat::Rsa) {
+        Ok(key) => Ok((signer, key)),
+        Err(CallError::Signer(_)) => Err(Refusal::Signer),
+        Err(CallError::OutOfMemory) => Err(Refusal::OutOfMemory),
     }
 }

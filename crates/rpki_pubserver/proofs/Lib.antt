@@ -11,7 +11,6 @@ pub mod Asked
 pub mod Answered
 pub mod Signed
 pub mod Replying
-pub mod Sending
 pub mod Replied
 pub mod Ended
 pub mod Words

@@ -1,7 +1,5 @@
 -- Replies to lines, one behind the other.
-use Rattle.std.proofs.Common.{◌≡◌, ◌≢◌, ◌<◌, ◌^◌, ℕ, ℤ, List, [], ◌∷◌, length, get_or, take, Some, refl, sym, ap, subst, ◌∙◌, arith}
-use Rattle.std.specs.Prelude.{slice_get}
-use Rattle.std.proofs.lemmas.Option.{slice_get-get_or}
+use Rattle.std.proofs.Common.{◌≡◌, ◌≢◌, ◌<◌, ◌^◌, ℕ, ℤ, List, length, get_or, take, refl, sym, subst}
 use Rattle.hex.specs.Hex.{encode_lower}
 use Rattle.rpki_base.specs.Scheme.{Relation}
 use Rattle.rpki_signer.specs.Limits.{Keeps}
@@ -21,7 +19,7 @@ use Rattle.rpki_ca.specs.Seen.{SignerSeen, seen_signer}
 use Rattle.rpki_ca.specs.Sending.{MayStop}
 use Rattle.rpki_ca.specs.Steps.{AreSteps}
 use Rattle.rpki_ca.proofs.Sending.{may_stop, not_memory, receivable_elsewhere, signing_cause}
-use Rattle.rpki_ca.proofs.Stepping.{counted}
+use Rattle.rpki_ca.proofs.Serving.{steps_alike, stopped_at}
 use Rattle.rpki_pubserver.specs.Server.{FailsReply, IsAnswered, ServerFields}
 use Rattle.rpki_pubserver.specs.Serving.{FailsLine, HasLongAnswer, IsReplied}
 
@@ -40,11 +38,8 @@ replied_elsewhere scheme when one other server octets text next id keyring h = r
 
 pub all_elsewhere : {I : Type 0} (scheme : Relation) (when : ℤ) (one other : SignerSeen I) (server : ServerFields) (messages texts : List (List ℕ)) (last : ServerFields) → other.id ≡ one.id → other.before.keyring ≡ one.before.keyring
     → AreSteps (IsReplied scheme when one) server messages texts last → AreSteps (IsReplied scheme when other) server messages texts last
-all_elsewhere scheme when one other server [] [] last id keyring h = h
-all_elsewhere scheme when one other server [] (text ∷ texts) last id keyring h = absurd h
-all_elsewhere scheme when one other server (m ∷ messages) [] last id keyring h = absurd h
-all_elsewhere scheme when one other server (m ∷ messages) (text ∷ texts) last id keyring h =
-    (h.0, replied_elsewhere scheme when one other server m text h.0 id keyring h.1, all_elsewhere scheme when one other h.0 messages texts last id keyring h.2)
+all_elsewhere scheme when one other server messages texts last id keyring =
+    steps_alike (IsReplied scheme when one) (IsReplied scheme when other) (λ state octets text next. replied_elsewhere scheme when one other state octets text next id keyring) server messages texts last
 
 -- what is signed is written in hexadecimal
 pub replied_so : {I : Type 0} (scheme : Relation) (when : ℤ) (signer : SignerSeen I) (server : ServerFields) (octets : List ℕ) (c : CmsFields) (next : ServerFields) (signed : List ℕ) → IsAnswered scheme server octets when signer c next
@@ -72,13 +67,13 @@ module _ {I : Type 0} (scheme : Relation) (when : ℤ) (id : I) (first before af
   has_long : (i : ℕ) (texts : List (List ℕ)) (last : ServerFields) (octets : List ℕ) (r : Refusal) → i < length messages → octets ≡ get_or messages i octets → AreSteps (IsReplied scheme when (seen_signer id first after)) server (take i messages) texts last
       → (f : FailsLine scheme when (seen_signer id before after) last octets r) → 2 ^ 31 < length (text_of f.reply.message) → HasLongAnswer scheme when (seen_signer id first after) server messages
   has_long i texts last octets r lt at are f long =
-      let count : length texts ≡ i = counted (IsReplied scheme when (seen_signer id first after)) server messages i texts last (omega (arith, lt)) are in
+      let before = stopped_at (IsReplied scheme when (seen_signer id first after)) server messages i texts last octets lt at are in
       record {
         texts = texts;
         last = last;
-        replied = subst (λ (n : ℕ). AreSteps (IsReplied scheme when (seen_signer id first after)) server (take n messages) texts last) (sym count) are;
+        replied = before.0;
         octets = octets;
-        stands = subst (λ (n : ℕ). slice_get messages n ≡ Some octets) (sym count) (slice_get-get_or messages i octets lt ∙ ap (λ (y : List ℕ). Some y) (sym at));
+        stands = before.1;
         long = record { reply = f.reply; is = f.is; long = long };
       }
 

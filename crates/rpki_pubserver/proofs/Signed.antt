@@ -1,44 +1,15 @@
--- Messages that are signed, and why one isn't.
-use Rattle.std.proofs.Common.{◌≡◌, ◌≢◌, ◌≤ℤ◌, ◌⊎◌, ℕ, ℤ, Result, Ok, Err, IfOk, IfErr, List, ◌++◌, refl}
-use Rattle.std.specs.Prelude.{IsErrOf, MatchResult}
-use Rattle.rpki_base.specs.PublicKey.{KeyFields}
+-- A signed message holds the message.
+use Rattle.std.proofs.Common.{◌≡◌, ℤ, Result, Ok, Err, IfOk}
 use Rattle.rpki_base.specs.Scheme.{Relation}
-use Rattle.rpki_der.specs.declared.mode.Mode.{Mode}
-use Rattle.rpki_der.specs.Takes.{BeginsAs}
-use Rattle.rpki_signer.specs.Signer.{Holds}
 use Rattle.rpki_sigmsg.specs.declared.create_error.CreateError.{CreateError}
-use Rattle.rpki_sigmsg.specs.declared.create_error.CreateError.TheVariants as create
-use Rattle.rpki_sigmsg.specs.Checks.{IsBelieved}
-use Rattle.rpki_sigmsg.specs.Making.{window, HasWindow, IsCreated, CreateFails}
-use Rattle.rpki_sigmsg.specs.Message.{signed_message}
-use Rattle.rpki_sigmsg.specs.Spelling.{rewritten, CanBeSpelled}
 use Rattle.rpki_publication.specs.Cms.{CmsFields}
 use Rattle.rpki_publication.specs.declared.message.Message.{Message}
-use Rattle.rpki_publication.specs.Message.{IsWritable, text_of}
 use Rattle.rpki_ca.specs.declared.receiving.Received.TheVariants as received
 use Rattle.rpki_ca.specs.Seen.{SignerSeen}
-use Rattle.rpki_ca.specs.Sending.{FailsToSign}
-use Rattle.rpki_ca.proofs.Creating.{TellsText}
-use Rattle.rpki_ca.proofs.Sending.{fails_to_sign, signed_as}
+use Rattle.rpki_ca.specs.Sending.{IsSignedAs}
 use Rattle.rpki_pubserver.specs.Server.{IsSigned}
 
--- by what `PublicationCms::create` says of its answer
-module _ {I E : Type 0} (scheme : Relation) (when : ℤ) (signer : SignerSeen I) (message : Message) where
-  abbrev pub IsCreatedOrFails : Result CmsFields (CreateError E) → Type 0
-  IsCreatedOrFails r =
-      MatchResult r (λ c. IsCreated scheme (text_of message) when signer.id signer.before signer.after c.signed) (CreateFails (text_of message) when signer.id signer.before signer.after)
-
-  pub signed_so : (r : Result CmsFields (CreateError E)) → IsWritable message → IsCreatedOrFails r → IfOk r (λ c. c.message ≡ message)
-      → IfOk r (λ c. (key : KeyFields) → Holds signer.before.keyring signer.id key → (moment : ℤ) → (window when).not_before ≤ℤ moment → moment ≤ℤ (window when).not_after → IsBelieved scheme c.signed key moment)
-      → IfOk r (λ c. (mode : Mode) (rest : List ℕ) → CanBeSpelled c.signed → BeginsAs (signed_message mode) mode (rewritten c.signed ++ rest) c.signed)
-      → TellsText (received.Publication message) when r → IfOk r (IsSigned scheme when signer message)
-  signed_so (Ok c) writable created same believed again tells = record {
-    message_is = same;
-    signed = signed_as scheme (received.Publication message) when signer (Ok c) c c.signed refl writable created believed again tells;
-  }
-  signed_so (Err e) writable created same believed again tells = tt
-
-  pub fails_so : (r : Result CmsFields (CreateError E)) → IsCreatedOrFails r → ((HasWindow when → ⊥) → IsErrOf r create.Moment ⊎ IsErrOf r create.OutOfMemory) → TellsText (received.Publication message) when r
-      → IfErr r (λ e. e ≢ create.OutOfMemory → FailsToSign when signer (received.Publication message) e)
-  fails_so (Ok c) cause moment tells = tt
-  fails_so (Err e) cause moment tells = fails_to_sign (received.Publication message) when signer e cause moment tells
+pub holds_so : {I E : Type 0} (scheme : Relation) (when : ℤ) (signer : SignerSeen I) (message : Message) (r : Result CmsFields (CreateError E)) → IfOk r (λ c. c.message ≡ message) → IfOk r (λ c. IsSignedAs scheme when signer (received.Publication message) c.signed)
+    → IfOk r (IsSigned scheme when signer message)
+holds_so scheme when signer message (Ok c) same signed = record { message_is = same; signed = signed }
+holds_so scheme when signer message (Err e) same signed = tt

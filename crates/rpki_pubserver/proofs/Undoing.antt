@@ -1,5 +1,5 @@
 -- Changes that are undone.
-use Rattle.std.proofs.Common.{◌≡◌, ◌+◌, ◌<◌, ◌≤◌, ℕ, zero, suc, Bool, true, false, Option, None, Some, List, [], ◌∷◌, ◌++◌, length, get_or, map, set, take, refl, sym, ap, subst, ◌∙◌, arith}
+use Rattle.std.proofs.Common.{◌≡◌, ◌+◌, ◌<◌, ◌≤◌, ℕ, zero, suc, Bool, true, false, Option, None, Some, List, [], ◌∷◌, ◌++◌, length, get_or, set, take, refl, sym, ap, subst, ◌∙◌, arith}
 use Rattle.std.specs.List.{list_any}
 use Rattle.std.specs.Map.{keys_of, lookup}
 use Rattle.std.specs.Str.{bytes_eq}
@@ -24,15 +24,6 @@ get_behind (y ∷ xs) zero zero x d lt = absurd (omega (arith, lt))
 get_behind (y ∷ xs) zero (suc k) x d lt = refl
 get_behind (y ∷ xs) (suc i) zero x d lt = absurd (omega (arith, lt))
 get_behind (y ∷ xs) (suc i) (suc k) x d lt = get_behind xs i k x d (omega (arith, lt))
-
-pub length_mapped : {X Y : Type 0} (f : X → Y) (xs : List X) → length (map f xs) ≡ length xs
-length_mapped f [] = refl
-length_mapped f (x ∷ xs) = ap (λ (n : ℕ). suc n) (length_mapped f xs)
-
-pub get_mapped : {X Y : Type 0} (f : X → Y) (xs : List X) (i : ℕ) (x : X) (d : Y) → i < length xs → x ≡ get_or xs i x → get_or (map f xs) i d ≡ f x
-get_mapped f [] i x d lt at = absurd (omega (arith, lt))
-get_mapped f (y ∷ xs) zero x d lt at = ap f (sym at)
-get_mapped f (y ∷ xs) (suc i) x d lt at = get_mapped f xs i x d (omega (arith, lt)) at
 
 -- ---- one place
 

@@ -1,4 +1,5 @@
--- What becomes of a store by the changes of a query (RFC 8181, 2.2), and why a change isn't made (2.5).
+-- What becomes of a store by the changes of a query (RFC 8181, 2.2), and why a change isn't made
+-- (2.5).
 use Rattle.std.specs.Prelude.{ℕ, if◌then◌else◌, Option, None, Some, Result, Ok, Err, List, [], ◌∷◌, nat_eq}
 use Rattle.std.specs.List.{starts_with}
 use Rattle.std.specs.Str.{bytes_eq}
@@ -22,7 +23,8 @@ tag_of (change.Withdraw w) = w.tag
 
 -- ---- one change
 
--- why an object isn't replaced or withdrawn that has to have this digest, where these octets are there
+-- why an object isn't replaced or withdrawn that has to have this digest, where these octets are
+-- there
 abbrev pub code_by_hash : List ℕ → Option (List ℕ) → Option ReportErrorCode
 code_by_hash hash None = Some code.NoObjectPresent
 code_by_hash hash (Some octets) =

@@ -5,7 +5,7 @@ use Rattle.rpki_sigmsg.specs.Making.{HasWindow}
 use Rattle.rpki_ca.specs.Creation.{CanSign}
 use Rattle.rpki_ca.specs.Lines.{WroteAll, lines_of}
 use Rattle.rpki_ca.specs.Seen.{Seen, SignerSeen}
-use Rattle.rpki_pubserver.specs.Running.{AreNotSent, AreSent}
+use Rattle.rpki_ca.specs.Sent.{AreNotSent, AreSent}
 use Rattle.rpki_pubserver.specs.Server.{ServerFields}
 use Rattle.rpki_pubserver.specs.Serving.{AreAllReplied, HasLongAnswer}
 
@@ -16,8 +16,8 @@ pub record RepliesAll {Id : Type 0} (scheme : Relation) (when : ℤ) (signer : S
   pub are : AreSent (lines_of input) messages
   pub wrote : WroteAll (AreAllReplied scheme when signer server messages) sink
 
--- The signer, whose identifiers are distinct, holds a fitting key, and it neither failed nor gave too many
--- octets, nor that key for one use; and no reply has a text of more than 2^31 octets.
+-- The signer, whose identifiers are distinct, holds a fitting key, and it neither failed nor gave
+-- too many octets, nor that key for one use; and no reply has a text of more than 2^31 octets.
 pub record CanServe {Id : Type 0} (scheme : Relation) (when : ℤ) (signer : SignerSeen Id)
     (server : ServerFields) (input : List ℕ) : Type 0 where
   pub signs : CanSign signer

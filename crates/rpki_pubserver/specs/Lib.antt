@@ -1,4 +1,5 @@
--- Said in contracts, and to be believed: Store, Changes, Messages, Replies, Server, Serving, Running, Ends. Means: Places, Refusals, Asking.
+-- Said in contracts, and to be believed: Store, Changes, Messages, Replies, Server, Serving,
+-- Running, Ends. Means: Places, Refusals, Asking.
 pub mod Store
 pub mod Changes
 pub mod Messages

@@ -1,7 +1,5 @@
 -- What the publication server's program does with words and input.
-use Rattle.std.specs.Prelude.{◌≡◌, ◌⊎◌, ℕ, ℤ, true, None, Some, Err, List, [], length, map, slice_get}
-use Rattle.std.specs.Result.{result_ok}
-use Rattle.hex.specs.Hex.{decode_of}
+use Rattle.std.specs.Prelude.{◌≡◌, ◌⊎◌, ℕ, ℤ, true, None, Some, Err, List, [], length, slice_get}
 use Rattle.rpki_base.specs.PublicKey.{KeyFields}
 use Rattle.rpki_base.specs.Scheme.{Relation}
 use Rattle.rpki_text.specs.Uri.{rsync, fault_of, names_directory, path_of}
@@ -10,8 +8,9 @@ use Rattle.rpki_ca.specs.Answer.{Ends}
 use Rattle.rpki_ca.specs.Lines.{EndsLines}
 use Rattle.rpki_ca.specs.Seen.{Seen, SignerSeen}
 use Rattle.rpki_ca.specs.Sending.{MayStop}
+use Rattle.rpki_ca.specs.Sent.{AreNotSent, AreSent, EndsMoment}
 use Rattle.rpki_ca.specs.Words.{IsMomentAt, key_at}
-use Rattle.rpki_ca.specs.declared.refusals.Refusal.TheVariants.{Hex, Moment, OutOfMemory}
+use Rattle.rpki_ca.specs.declared.refusals.Refusal.TheVariants.{Hex, OutOfMemory}
 use Rattle.rpki_pubserver.specs.Server.{ServerFields}
 use Rattle.rpki_pubserver.specs.Serving.{AreAllReplied, AreFirstReplied, HasLongAnswer}
 
@@ -41,16 +40,8 @@ new_server base publisher = record { base = base; publisher = publisher; store =
 
 -- ---- lines
 
--- each line is the hexadecimal of these octets, in digits of either case
-abbrev pub AreSent : List (List ℕ) → List (List ℕ) → Type 0
-AreSent lines messages = map (λ line. result_ok (decode_of line)) lines ≡ map Some messages
-
--- some line is that of none
-abbrev pub AreNotSent : List (List ℕ) → Type 0
-AreNotSent lines = (messages : List (List ℕ)) → AreSent lines messages → ⊥
-
--- How it ends where each line is that of octets: they are answered one behind the other; or the moment
--- has no window.
+-- How it ends where each line is that of octets, and the moment has a window: they are answered one
+-- behind the other.
 pub record EndsAnswered {Id : Type 0} (scheme : Relation) (when : ℤ) (signer : SignerSeen Id)
     (server : ServerFields) (lines : List (List ℕ)) (status : ℕ) (sink : Seen) : Type 0 where
   pub messages : List (List ℕ)
@@ -60,13 +51,7 @@ pub record EndsAnswered {Id : Type 0} (scheme : Relation) (when : ℤ) (signer :
       (AreFirstReplied scheme when signer server messages)
       (MayStop signer (HasLongAnswer scheme when signer server messages)) status sink
 
-pub record EndsMoment (when : ℤ) (lines : List (List ℕ)) (status : ℕ) (sink : Seen) : Type 0 where
-  pub messages : List (List ℕ)
-  pub are : AreSent lines messages
-  pub none : HasWindow when → ⊥
-  pub ends : Ends (Err Moment) status sink
-
--- or some line is that of none; or memory ran out
+-- or the moment has none; or some line is that of no octets; or memory ran out
 abbrev pub EndsServed : {Id : Type 0} → Relation → ℤ → SignerSeen Id → ServerFields
     → List (List ℕ) → ℕ → Seen → Type 0
 EndsServed scheme when signer server lines status sink =

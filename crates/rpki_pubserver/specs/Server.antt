@@ -17,8 +17,8 @@ use Rattle.rpki_ca.specs.Sending.{IsSignedAs, FailsToSign}
 use Rattle.rpki_pubserver.specs.Store.{Store}
 use Rattle.rpki_pubserver.specs.Replies.{Reply, reply_to}
 
--- the text of the base, under which objects may lie; the key under which queries are believed; and the
--- objects
+-- the text of the base, under which objects may lie; the key under which queries are believed; and
+-- the objects
 pub record ServerFields : Type 0 where
   pub base : List ℕ
   pub publisher : KeyFields

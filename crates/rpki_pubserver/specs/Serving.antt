@@ -12,9 +12,9 @@ use Rattle.rpki_ca.specs.Steps.{AreSteps, AreAllSteps, AreFirstSteps}
 use Rattle.rpki_pubserver.specs.Replies.{Reply}
 use Rattle.rpki_pubserver.specs.Server.{HasLongReply, IsReply, ServerFields, with_store}
 
--- The text is the hexadecimal of octets, of which the reply to these octets is received: it is accepted as its
--- normal form, under every list of keys that holds the issuing key, at each second from 300 before the moment
--- to 300 after it.
+-- The text is the hexadecimal of octets, of which the reply to these octets is received: it is
+-- accepted as its normal form, under every list of keys that holds the issuing key, at each second
+-- from 300 before the moment to 300 after it.
 pub record IsReplied {Id : Type 0} (scheme : Relation) (when : ℤ) (signer : SignerSeen Id)
     (server : ServerFields) (octets text : List ℕ) (next : ServerFields) : Type 0 where
   pub reply : Reply

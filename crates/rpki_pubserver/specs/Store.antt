@@ -22,8 +22,8 @@ IsStore store = IsStrictlySortedBy (slice_cmp nat_cmp) (keys_of store)
 abbrev pub octets_at : Store → List ℕ → Option (List ℕ)
 octets_at store uri = lookup (bytes_eq uri) store
 
--- the store with these octets at a URI: in the place of those that are there, or in a new pair at its
--- place in the order
+-- the store with these octets at a URI: in the place of those that are there, or in a new pair at
+-- its place in the order
 abbrev pub put : Store → List ℕ → List ℕ → Store
 put store uri octets = insert_entry (slice_cmp nat_cmp) store uri octets
 

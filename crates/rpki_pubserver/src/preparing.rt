@@ -1,10 +1,10 @@
-//! What the program reads: words and input.
+//! What the program's words ask for.
 
-ghost use Rattle.std.specs.Prelude.{◌≡◌, IfOk, IfSome, IsNone, List, Some, map, slice_get, ℕ};
-ghost use Rattle.rpki_pubserver.specs.Running.{AreNoWords, AreNotSent, AreSent, AreWords, IsBase};
+ghost use Rattle.std.specs.Prelude.{◌≡◌, IfOk, IfSome, IsNone, List, Some, slice_get, ℕ};
+ghost use Rattle.rpki_pubserver.specs.Running.{AreNoWords, AreWords, IsBase};
 
 use rpki_base::{PublicKey, Time};
-use rpki_ca::{Lines, Words, spelled_octets};
+use rpki_ca::Words;
 use rpki_common::OutOfMemory;
 use rpki_text::uri;
 use std::alloc::Global;
@@ -62,23 +62,4 @@ pub(crate) fn terms_of(alloc: Global, words: &Words) -> Result<Option<Terms>, Ou
         base,
         publisher,
     }))
-}
-
-/// The octets that the lines spell; None where some line spells none.
-pub(crate) fn messages_in(
-    alloc: Global,
-    lines: Lines<'_>,
-) -> Result<Option<Vec<Vec<u8>>>, OutOfMemory>
-    ensures some { IfOk result (λ o. IfSome o (λ messages.
-        AreSent lines.entry (map (λ m. m.items) messages.items))) }
-    ensures none { IfOk result (λ o. IsNone o → AreNotSent lines.entry) }
-{
-    let mut messages = Vec::new(alloc);
-    for line in lines {
-        match spelled_octets(alloc, line)? {
-            Some(octets) => messages.push(octets)?,
-            None => return Ok(None),
-        }
-    }
-    Ok(Some(messages))
 }

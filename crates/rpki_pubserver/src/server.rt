@@ -1,6 +1,6 @@
 //! The server.
 
-ghost use Rattle.std.specs.Prelude.{◌≡◌, ◌≢◌, ◌↔◌, IfErr, IfOk, IfSome, IsSome, Ok, OnErr, OnOk, length, true};
+ghost use Rattle.std.specs.Prelude.{◌≡◌, ◌≢◌, ◌↔◌, IfErr, IfOk, IfSome, IsSome, OnErr, OnOk, length, true};
 ghost use Rattle.std.specs.List.{AllByRecursion};
 ghost use Rattle.std.specs.Option.{option_map};
 ghost use Rattle.rpki_text.specs.Uri.{names_directory, path_of, rsync};
@@ -11,8 +11,7 @@ ghost use Rattle.rpki_sigmsg.specs.declared.create_error.CreateError.TheVariants
 ghost use Rattle.rpki_ca.specs.declared.receiving.Received.TheVariants as received;
 ghost use Rattle.rpki_ca.specs.Seen.{seen_signer};
 ghost use Rattle.rpki_ca.specs.Sending.{FailsToSign};
-ghost use Rattle.rpki_pubserver.specs.Changes.{after_all};
-ghost use Rattle.rpki_pubserver.specs.Replies.{reply_to_changes};
+ghost use Rattle.rpki_pubserver.specs.Replies.{reply_to_delta};
 ghost use Rattle.rpki_pubserver.specs.Running.{new_server};
 ghost use Rattle.rpki_pubserver.specs.Server.{FailsReply, IsAnswered, IsSigned, with_store};
 ghost use Rattle.rpki_pubserver.specs.Store.{listed, octets_at};
@@ -166,14 +165,13 @@ impl Server {
         requires { AllByRecursion IsWritableChange delta.now }
         ensures signed { IfOk result (IsSigned P.checks when
             (seen_signer key.now (S.state signer.old) (S.state signer.new))
-            (reply_to_changes self.old.store
-            (after_all self.old.base (Ok self.old.store) delta.now)).message) }
+            (reply_to_delta self.old.base self.old.store delta.now).message) }
         ensures fails { IfErr result (λ e. e ≢ create.OutOfMemory → FailsToSign when
             (seen_signer key.now (S.state signer.old) (S.state signer.new))
-            (received.Publication (reply_to_changes self.old.store
-            (after_all self.old.base (Ok self.old.store) delta.now)).message) e) }
-        ensures changed { OnOk result (self.new ≡ with_store self.old (reply_to_changes
-            self.old.store (after_all self.old.base (Ok self.old.store) delta.now)).next) }
+            (received.Publication
+            (reply_to_delta self.old.base self.old.store delta.now).message) e) }
+        ensures changed { OnOk result (self.new ≡ with_store self.old
+            (reply_to_delta self.old.base self.old.store delta.now).next) }
         ensures unchanged { OnErr result (self.new ≡ self.old) }
         ensures keeps { Keeps (S.state signer.old) (S.state signer.new) }
     {
@@ -193,14 +191,13 @@ impl Server {
         requires { AllByRecursion IsWritableChange delta.now }
         ensures signed { IfOk result (IsSigned P.checks when
             (seen_signer key.now (S.state signer.old) (S.state signer.new))
-            (reply_to_changes self.old.store
-            (after_all self.old.base (Ok self.old.store) delta.now)).message) }
+            (reply_to_delta self.old.base self.old.store delta.now).message) }
         ensures fails { IfErr result (λ e. e ≢ create.OutOfMemory → FailsToSign when
             (seen_signer key.now (S.state signer.old) (S.state signer.new))
-            (received.Publication (reply_to_changes self.old.store
-            (after_all self.old.base (Ok self.old.store) delta.now)).message) e) }
-        ensures changed { OnOk result (self.new ≡ with_store self.old (reply_to_changes
-            self.old.store (after_all self.old.base (Ok self.old.store) delta.now)).next) }
+            (received.Publication
+            (reply_to_delta self.old.base self.old.store delta.now).message) e) }
+        ensures changed { OnOk result (self.new ≡ with_store self.old
+            (reply_to_delta self.old.base self.old.store delta.now).next) }
         ensures unchanged { OnErr result (self.new ≡ self.old) }
         ensures keeps { Keeps (S.state signer.old) (S.state signer.new) }
     {

@@ -12,11 +12,12 @@ ghost use Rattle.rpki_ca.specs.declared.refusals.Refusal.TheVariants as refusals
 ghost use Rattle.rpki_pubserver.specs.Running.{AreNoWords, AreWords, EndsServed, new_server};
 ghost use Rattle.rpki_pubserver.specs.Serving.{AreAllReplied, AreFirstReplied, FailsLine, HasLongAnswer, IsReplied};
 
-use crate::preparing::{Terms, messages_in, terms_of};
+use crate::preparing::{Terms, terms_of};
 use crate::server::Server;
 use rpki_base::{Scheme, Time, Verifier};
 use rpki_ca::{
-    Lines, Refusal, Status, Stop, Words, finish_lines, hexadecimal_line, read_input, refuse,
+    Lines, Refusal, Status, Stop, Words, finish_lines, hexadecimal_line, messages_in, read_input,
+    refuse,
 };
 use rpki_sigmsg::Window;
 use rpki_signer::Signer;
@@ -59,12 +60,15 @@ fn answer_all<P: Scheme, O: Sink, V: Verifier<P>, S: Signer<P>>(
 ) -> Result<(), Stop>
     requires { HasWindow when }
     ensures answered { Answered
-        (AreAllReplied P.checks when (seen_signer key.now (S.state signer.old) (S.state signer.new))
+        (AreAllReplied P.checks when
+        (seen_signer key.now (S.state signer.old) (S.state signer.new))
         server.old (map (λ m. m.items) messages.now))
-        (AreFirstReplied P.checks when (seen_signer key.now (S.state signer.old) (S.state signer.new))
+        (AreFirstReplied P.checks when
+        (seen_signer key.now (S.state signer.old) (S.state signer.new))
         server.old (map (λ m. m.items) messages.now))
         (MayStop (seen_signer key.now (S.state signer.old) (S.state signer.new))
-        (HasLongAnswer P.checks when (seen_signer key.now (S.state signer.old) (S.state signer.new))
+        (HasLongAnswer P.checks when
+        (seen_signer key.now (S.state signer.old) (S.state signer.new))
         server.old (map (λ m. m.items) messages.now)))
         result (seen O.written O.faults output.old output.new) }
     ensures keeps { Keeps (S.state signer.old) (S.state signer.new) }
@@ -88,8 +92,8 @@ fn serve_lines<P: Scheme, O: Sink, V: Verifier<P>, S: Signer<P>>(
     key: &S::KeyId,
 ) -> Status
     ensures ends { EndsServed P.checks when
-        (seen_signer key.now (S.state signer.old) (S.state signer.new)) server.old lines.entry result.0
-        (seen O.written O.faults output.old output.new) }
+        (seen_signer key.now (S.state signer.old) (S.state signer.new)) server.old lines.entry
+        result.0 (seen O.written O.faults output.old output.new) }
     ensures keeps { Keeps (S.state signer.old) (S.state signer.new) }
 {
     let messages = match messages_in(alloc, lines) {
@@ -129,7 +133,8 @@ pub fn serve<P: Scheme, I: Source, O: Sink, V: Verifier<P>, S: Signer<P>>(
     ensures unread { AreNoWords words.now → input.new ≡ input.old }
     ensures unasked { AreNoWords words.now → signer.new ≡ signer.old }
 
-    // Where the source isn't read whole, that is what is answered; and where it is, the queries are.
+    // Where the source isn't read whole, that is what is answered; and where it is, the queries
+    // are.
     ensures ends { (when : ℤ) (base : List ℕ) (publisher : KeyFields)
         → AreWords words.now when base publisher
         → EndsRun (λ octets. EndsServed P.checks when

@@ -1,14 +1,11 @@
 -- Answers to lines, one behind the other.
-use Rattle.std.proofs.Common.{◌≡◌, ◌≢◌, ◌<◌, ◌≤◌, ◌^◌, ◌⊎◌, ℕ, ℤ, Err, List, [], ◌∷◌, ◌++◌, length, get_or, take, Some, inl, inr, refl, sym, ap, subst, ◌∙◌, arith}
-use Rattle.std.specs.Prelude.{slice_get}
+use Rattle.std.proofs.Common.{◌≡◌, ◌≢◌, ◌<◌, ◌≤◌, ◌^◌, ◌⊎◌, ℕ, ℤ, Err, List, [], ◌∷◌, length, get_or, take, inl, inr, refl, sym, ap, subst, ◌∙◌, arith}
 use Rattle.std.proofs.lemmas.List.{take_all}
-use Rattle.std.proofs.lemmas.Option.{slice_get-get_or}
 use Rattle.hex.specs.Hex.{encode_lower}
 use Rattle.rpki_base.specs.Scheme.{Relation}
 use Rattle.rpki_signer.specs.Limits.{Keeps}
 use Rattle.rpki_signer.specs.Signer.{SignerState}
 use Rattle.rpki_sigmsg.specs.declared.create_error.CreateError.{CreateError}
-use Rattle.rpki_sigmsg.specs.declared.create_error.CreateError.TheVariants as create
 use Rattle.rpki_sigmsg.specs.Making.{HasWindow}
 use Rattle.rpki_sigmsg.specs.Spelling.{rewritten, CanBeSpelled}
 use Rattle.rpki_updown.specs.declared.error.Error.{Error}
@@ -22,13 +19,14 @@ use Rattle.rpki_ca.specs.declared.refusals.Refusal.{Refusal}
 use Rattle.rpki_ca.specs.declared.refusals.Refusal.TheVariants as refusals
 use Rattle.rpki_ca.specs.Acceptance.{of_provisioning, refusal_of}
 use Rattle.rpki_ca.specs.Answer.{IsReceiveAnswer}
-use Rattle.rpki_ca.specs.Creation.{IsReceivable, refusal_of_create}
+use Rattle.rpki_ca.specs.Creation.{refusal_of_create}
 use Rattle.rpki_ca.specs.Refusal.{name_of}
 use Rattle.rpki_ca.specs.Seen.{SignerSeen, seen_signer}
 use Rattle.rpki_ca.specs.Sending.{MayStop}
 use Rattle.rpki_ca.specs.Steps.{AreSteps}
 use Rattle.rpki_ca.proofs.Accepting.{refusal}
 use Rattle.rpki_ca.proofs.Sending.{may_stop, not_memory, receivable_elsewhere, signing_cause}
+use Rattle.rpki_ca.proofs.Serving.{next_stands, steps_alike, stopped_at}
 use Rattle.rpki_ca.proofs.Stepping.{counted}
 use Rattle.rpki_upserver.specs.Answering.{IsAnswered, IsUnsent, ParentAndIssuer, RefusesOctets, error_of, reply}
 use Rattle.rpki_upserver.specs.Issuer.{IssuerState, Leaves}
@@ -49,11 +47,8 @@ line_elsewhere scheme when one other before octets text after id keyring (inr tu
 
 pub all_elsewhere : {I : Type 0} (scheme : Relation) (when : ℤ) (one other : SignerSeen I) (start : ParentAndIssuer) (messages texts : List (List ℕ)) (last : ParentAndIssuer) → other.id ≡ one.id → other.before.keyring ≡ one.before.keyring
     → AreSteps (IsLineAnswered scheme when one) start messages texts last → AreSteps (IsLineAnswered scheme when other) start messages texts last
-all_elsewhere scheme when one other start [] [] last id keyring h = h
-all_elsewhere scheme when one other start [] (text ∷ texts) last id keyring h = absurd h
-all_elsewhere scheme when one other start (m ∷ messages) [] last id keyring h = absurd h
-all_elsewhere scheme when one other start (m ∷ messages) (text ∷ texts) last id keyring h =
-    (h.0, line_elsewhere scheme when one other start m text h.0 id keyring h.1, all_elsewhere scheme when one other h.0 messages texts last id keyring h.2)
+all_elsewhere scheme when one other start messages texts last id keyring =
+    steps_alike (IsLineAnswered scheme when one) (IsLineAnswered scheme when other) (λ before octets text after. line_elsewhere scheme when one other before octets text after id keyring) start messages texts last
 
 -- ---- one line
 
@@ -142,7 +137,7 @@ module _ {I : Type 0} (scheme : Relation) (when : ℤ) (signer : SignerSeen I) (
   left_at i octets last after lt at (inl undecided) = inl undecided.issuer
   left_at i octets last after lt at (inr decided) = inr (record {
     octets = octets;
-    stands = slice_get-get_or messages i octets lt ∙ ap (λ (y : List ℕ). Some y) (sym at);
+    stands = next_stands messages i octets lt at;
     parent = after.parent;
     payload = decided.0;
     decided = decided.1;
@@ -154,13 +149,13 @@ module _ {I : Type 0} (scheme : Relation) (when : ℤ) (id : I) (first before af
   has_long : (i : ℕ) (texts : List (List ℕ)) (last next : ParentAndIssuer) (octets : List ℕ) (r : Refusal) → i < length messages → octets ≡ get_or messages i octets → AreDone scheme when (seen_signer id first after) start messages i texts last
       → (f : FailsLine scheme when (seen_signer id before after) last octets next r) → 2 ^ 31 < length (text_of (reply last.parent f.payload)) → HasLongAnswer scheme when (seen_signer id first after) start messages
   has_long i texts last next octets r lt at are f long =
-      let count : length texts ≡ i = counted (IsLineAnswered scheme when (seen_signer id first after)) start messages i texts last (omega (arith, lt)) are in
+      let so_far = stopped_at (IsLineAnswered scheme when (seen_signer id first after)) start messages i texts last octets lt at are in
       record {
         texts = texts;
         last = last;
-        answered = subst (λ (n : ℕ). AreSteps (IsLineAnswered scheme when (seen_signer id first after)) start (take n messages) texts last) (sym count) are;
+        answered = so_far.0;
         octets = octets;
-        stands = subst (λ (n : ℕ). slice_get messages n ≡ Some octets) (sym count) (slice_get-get_or messages i octets lt ∙ ap (λ (y : List ℕ). Some y) (sym at));
+        stands = so_far.1;
         long = record { payload = f.payload; after = next; decided = f.decided; long = long };
       }
 

@@ -1,5 +1,5 @@
 -- Why the error 2001 is answered.
-use Rattle.std.proofs.Common.{◌≡◌, ◌⊎◌, ℕ, Option, None, Some, inl, inr, refl, sym, ap, ◌∙◌, arith}
+use Rattle.std.proofs.Common.{◌≡◌, ◌⊎◌, ℕ, Option, None, Some, inl, inr, sym, ap, ◌∙◌, arith}
 use Rattle.rpki_base.specs.Scheme.{Relation}
 use Rattle.rpki_common.specs.Causes.{Rose}
 use Rattle.rpki_updown.specs.Entitlements.{IssuanceRequestFields}

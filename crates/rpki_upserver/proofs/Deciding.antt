@@ -1,5 +1,5 @@
 -- What is decided, row by row.
-use Rattle.std.proofs.Common.{◌≡◌, ◌≢◌, ◌||◌, ◌<◌, ℕ, Bool, true, false, Option, None, Some, IsSome, List, length, get_or, set, inl, inr, refl, sym, ap, subst, ◌∙◌, arith}
+use Rattle.std.proofs.Common.{◌≡◌, ◌||◌, ◌<◌, ℕ, Bool, true, false, Option, None, Some, IsSome, List, length, get_or, set, inl, inr, refl, sym, ap, subst, ◌∙◌, arith}
 use Rattle.std.specs.Prelude.{is_some, position, slice_get}
 use Rattle.std.proofs.lemmas.Option.{slice_get-get_or}
 use Rattle.std.proofs.lemmas.List.Quantifiers.{position-Some}
@@ -18,7 +18,7 @@ use Rattle.rpki_upserver.specs.declared.decision.Reason.TheVariants as reasons
 use Rattle.rpki_upserver.specs.declared.issuer.IssuerError.TheVariants as errors
 use Rattle.rpki_upserver.specs.Answering.{with_issuer}
 use Rattle.rpki_upserver.specs.Decision.{IsDecidedBy, IsFirstReason, status_of}
-use Rattle.rpki_upserver.specs.Issuer.{IsRevoked, IssuerFails, IssuerState, Leaves}
+use Rattle.rpki_upserver.specs.Issuer.{IsRevoked, IssuerFails, IssuerState}
 use Rattle.rpki_upserver.specs.Response.{IsEmpty, IsPayloadAnswer, IsProven, IsRevokeAnswer, Outcome, refusal, requested_key}
 use Rattle.rpki_upserver.specs.Table.{AreDistinct, ClassState, ParentState, Table, change, class_named, is_issued_elsewhere, is_issued_in, is_named, is_revoked, with_revoked, with_table}
 use Rattle.rpki_upserver.proofs.Tables.{changed_at, named_at, same_set, unnamed}

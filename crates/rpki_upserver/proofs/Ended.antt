@@ -18,7 +18,7 @@ module _ {I : Type 0} (scheme : Relation) (run : Run I) where
       let start : ParentAndIssuer = with_issuer a.parent run.issuer_before in
       inl (lines_end (AreAllAnswered scheme run.when run.signer start run.issuer_after a.messages) (AreFirstAnswered scheme run.when run.signer start run.issuer_after a.messages) (MayStop run.signer (HasLongAnswer scheme run.when run.signer start a.messages)) status sink
       (λ r may. memory_stops run.signer (HasLongAnswer scheme run.when run.signer start a.messages) r can.signs (can.short a.messages a.are a.parent a.first) may) none a.ends)
-  served_end input status sink can none (inr (inl m)) = inr (inr (with_refusal refusals.Moment status sink none m.ends, m.none))
+  served_end input status sink can none (inr (inl m)) = inr (inr (with_refusal refusals.Moment status sink none m.0.ends, m.0.none))
   served_end input status sink can none (inr (inr (inl hex))) = inr (inl (with_refusal refusals.Hex status sink none hex.1, hex.0))
   served_end input status sink can none (inr (inr (inr memory))) = inl (inr (with_refusal refusals.OutOfMemory status sink none memory.0))
 

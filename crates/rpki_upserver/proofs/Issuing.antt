@@ -1,5 +1,5 @@
 -- What is decided on a request for a certificate, row by row.
-use Rattle.std.proofs.Common.{◌≡◌, ◌≢◌, ◌<◌, ℕ, Bool, true, false, Option, None, Some, IsSome, List, [], ◌∷◌, length, get_or, set, suc, zero, inl, inr, refl, sym, ap, subst, ◌∙◌, arith}
+use Rattle.std.proofs.Common.{◌≡◌, ◌<◌, ℕ, Option, None, Some, List, [], ◌∷◌, length, get_or, set, suc, zero, inl, inr, refl, sym, ap, subst, ◌∙◌, arith}
 use Rattle.std.specs.Prelude.{slice_get}
 use Rattle.std.specs.List.{AllByRecursion}
 use Rattle.std.proofs.lemmas.List.{get_or-set_same, length-set}
@@ -21,7 +21,6 @@ use Rattle.rpki_upserver.specs.Issuer.{IsIssued, IssuerFails, IssuerState}
 use Rattle.rpki_upserver.specs.Response.{IsEmpty, IsIssueAnswer, IsPayloadAnswer, IsProven, IsUsed, Outcome, Refuses, published, refusal, requested_key}
 use Rattle.rpki_upserver.specs.Table.{ClassState, ParentState, Table, change, class_named, entitled, with_issued}
 use Rattle.rpki_upserver.proofs.Deciding.{comes_as, not_performed, seen_from, with_class}
-use Rattle.rpki_upserver.proofs.Tables.{all_at}
 use Rattle.rpki_upserver.proofs.Told.{named_name}
 
 -- ---- the rows

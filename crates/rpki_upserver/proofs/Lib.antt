@@ -3,7 +3,6 @@ pub mod Revoked
 pub mod Causes
 pub mod Told
 pub mod Signed
-pub mod Sending
 pub mod Ended
 pub mod Answering
 pub mod Places
@@ -16,5 +15,4 @@ pub mod Outer
 pub mod Toys
 pub mod Issuing
 pub mod Saying
-pub mod Mapped
 pub mod Words

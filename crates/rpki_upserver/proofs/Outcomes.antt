@@ -1,5 +1,5 @@
 -- What comes of one message: nothing is issued and nothing revoked, or one certificate is issued, or one key revoked.
-use Rattle.std.proofs.Common.{◌≡◌, ◌⊎◌, ◌≤◌, ℕ, Option, None, Some, List, [], ◌∷◌, ◌++◌, inl, inr, refl, sym, ap, subst, ◌∙◌, arith}
+use Rattle.std.proofs.Common.{◌≡◌, ◌⊎◌, ℕ, Option, None, Some, List, [], ◌∷◌, ◌++◌, inl, inr, refl, sym, ap, subst, ◌∙◌, arith}
 use Rattle.rpki_base.specs.Scheme.{Relation}
 use Rattle.rpki_sets.specs.declared.run.Run.{Run}
 use Rattle.rpki_sets.specs.Runs.{Includes}
@@ -11,8 +11,8 @@ use Rattle.rpki_provisioning.specs.declared.payload.Payload.{Payload}
 use Rattle.rpki_provisioning.specs.declared.payload.Payload.TheVariants as payloads
 use Rattle.rpki_upserver.specs.History.{Adds, IsEntitled}
 use Rattle.rpki_upserver.specs.Issuer.{IssuerState, Leaves, Made}
-use Rattle.rpki_upserver.specs.Response.{Fails, IsIssueAnswer, IsPayloadAnswer, IsResponse, IsRevokeAnswer, IsUsed, Issues, Lists, Outcome, Refuses, Revokes, refusal, requested_key}
-use Rattle.rpki_upserver.specs.Table.{ClassState, ParentState, Table, class_named, is_issued_in}
+use Rattle.rpki_upserver.specs.Response.{Fails, IsIssueAnswer, IsPayloadAnswer, IsResponse, IsRevokeAnswer, IsUsed, Issues, Lists, Outcome, Refuses, Revokes, requested_key}
+use Rattle.rpki_upserver.specs.Table.{ClassState, ParentState, Table, class_named}
 
 -- it brings no certificate, and says of no key that it was revoked
 abbrev pub IsOther : Payload → Type 0

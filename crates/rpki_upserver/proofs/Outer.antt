@@ -13,7 +13,7 @@ use Rattle.rpki_der.specs.Identifier.{has_tag}
 use Rattle.rpki_der.specs.Tags.{context, sequence}
 use Rattle.rpki_der.specs.Value.{Constructed, End, Primitive, Value, Values, spelling, ◌▸◌}
 use Rattle.rpki_der.specs.Whole.{whole_of}
-use Rattle.rpki_base.specs.PublicKey.{KeyFields, public_key}
+use Rattle.rpki_base.specs.PublicKey.{KeyFields}
 use Rattle.rpki_base.specs.RpkiSignatureAlgorithm.{spelled_x509, x509_algorithm}
 use Rattle.rpki_base.specs.SignedData.{CanBeSpelled, signature_in, spelled_data, signed_as, signed_fields, signed_value}
 use Rattle.rpki_idcert.specs.Extensions.{extension_list}

@@ -1,17 +1,16 @@
 -- Keys that were revoked.
-use Rattle.std.proofs.Common.{◌≡◌, ◌≢◌, ◌||◌, ◌⊎◌, ℕ, Bool, true, false, if◌then◌else◌, Option, None, Some, List, [], ◌∷◌, ◌++◌, inl, inr, refl, sym, ap, subst, ◌∙◌}
+use Rattle.std.proofs.Common.{◌≡◌, ◌≢◌, ◌||◌, ◌⊎◌, ℕ, Bool, true, false, if◌then◌else◌, Some, List, [], ◌∷◌, ◌++◌, inl, inr, refl, sym, ap, subst, ◌∙◌}
 use Rattle.std.specs.List.{list_any}
 use Rattle.std.specs.Str.{bytes_eq}
 use Rattle.std.proofs.lemmas.Slice.Eq.{bytes_eq-Decides}
 use Rattle.rpki_base.specs.Scheme.{Relation}
 use Rattle.rpki_updown.specs.KeyElement.{KeyElementFields}
-use Rattle.rpki_provisioning.specs.declared.payload.Payload.{Payload}
 use Rattle.rpki_provisioning.specs.declared.payload.Payload.TheVariants as payloads
 use Rattle.rpki_upserver.specs.History.{Adds, AreMade, Call}
 use Rattle.rpki_upserver.specs.Issuer.{IssuerState, Made}
 use Rattle.rpki_upserver.specs.Response.{Outcome, published, requested_key}
 use Rattle.rpki_upserver.specs.Table.{ClassState, ParentState, Table, change, class_named, is_issued_elsewhere, is_named, is_revoked, is_revoked_in, with_issued, with_revoked, with_table}
-use Rattle.rpki_upserver.proofs.Outcomes.{HasCome, HasIssued, HasLeft, HasRevoked, IsOther, added_is, came, entry_of, left_adds_nothing, revoked_adds_nothing}
+use Rattle.rpki_upserver.proofs.Outcomes.{HasCome, IsOther, added_is, came, left_adds_nothing, revoked_adds_nothing}
 
 -- ---- one of two
 

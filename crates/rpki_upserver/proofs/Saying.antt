@@ -1,10 +1,10 @@
 -- What comes of a message, and how it is said.
-use Rattle.std.proofs.Common.{◌≡◌, ◌≢◌, ◌<◌, ℕ, ℤ, Bool, true, false, Option, None, Some, List, [], ◌∷◌, map, get_or, inl, inr, refl, sym, ap, subst, ◌∙◌}
+use Rattle.std.proofs.Common.{◌≡◌, ℕ, ℤ, Some, List, [], ◌∷◌, map, get_or, inl, inr, refl, sym, ap, subst, ◌∙◌}
 use Rattle.std.specs.Prelude.{slice_get}
 use Rattle.std.specs.List.{AllByRecursion}
 use Rattle.std.proofs.lemmas.Option.{slice_get-get_or, slice_get_within}
 use Rattle.rpki_base.specs.Scheme.{Relation}
-use Rattle.rpki_updown.specs.Entitlements.{ClassFields, IssuanceFields, IssuanceRequestFields, IssuedFields, issuance}
+use Rattle.rpki_updown.specs.Entitlements.{IssuanceFields, IssuanceRequestFields, IssuedFields, issuance}
 use Rattle.rpki_updown.specs.KeyElement.{KeyElementFields}
 use Rattle.rpki_provisioning.specs.Shape.{MessageFields}
 use Rattle.rpki_provisioning.specs.Writable.{IsWritable, IsWritableClass, IsWritablePayload}
@@ -19,9 +19,9 @@ use Rattle.rpki_ca.specs.Seen.{SignerSeen}
 use Rattle.rpki_ca.specs.declared.receiving.Kind.TheVariants as kinds
 use Rattle.rpki_ca.specs.declared.receiving.Received.TheVariants as received
 use Rattle.rpki_upserver.specs.Answering.{IsAnswered, IsDecided, IsSigned, reply, with_issuer}
-use Rattle.rpki_upserver.specs.Decision.{CanBeSaid, IsDecidedBy, IsIssuance, IsPayloadOf}
+use Rattle.rpki_upserver.specs.Decision.{IsDecidedBy, IsIssuance, IsPayloadOf}
 use Rattle.rpki_upserver.specs.Issuer.{IssuerState}
-use Rattle.rpki_upserver.specs.Response.{IsFromChild, IsPayloadAnswer, IsResponse, Outcome, refusal}
+use Rattle.rpki_upserver.specs.Response.{IsFromChild, IsPayloadAnswer, IsResponse, refusal}
 use Rattle.rpki_upserver.specs.Table.{AreWritable, ClassState, IsParent, ParentState, Table, entitled}
 use Rattle.rpki_upserver.proofs.Deciding.{comes_as, not_performed}
 

@@ -1,9 +1,7 @@
 -- What a toy issuer that answers with an error has done.
-use Rattle.std.proofs.Common.{◌≡◌, ◌≢◌, ◌≤◌, ◌∙◌, ℕ, List, Result, Ok, Err, MatchResult, sym, ap, subst, refl, arith}
+use Rattle.std.proofs.Common.{◌≡◌, ◌≤◌, ◌∙◌, ℕ, sym, ap, subst, arith}
 use Rattle.rpki_common.specs.Causes.{Rose}
-use Rattle.rpki_signer.specs.Limits.{MakeFails}
 use Rattle.rpki_signer.specs.ToySigner.{ToyState}
-use Rattle.rpki_text.specs.Counts.{count_after}
 use Rattle.rpki_upserver.specs.declared.issuer.IssuerError.{IssuerError}
 use Rattle.rpki_upserver.specs.declared.issuer.IssuerError.TheVariants as errors
 use Rattle.rpki_upserver.specs.Issuer.{IssuerFails, IssuerState, Leaves}

@@ -1,4 +1,5 @@
--- What a parent answers to octets: what it takes for a message of its child, what comes of it, and what is signed.
+-- What a parent answers to octets: what it takes for a message of its child, what comes of it, and
+-- what is signed.
 use Rattle.std.specs.Prelude.{◌≡◌, ◌≢◌, ◌<◌, ◌^◌, ℕ, ℤ, List, [], ◌∷◌, length}
 use Rattle.rpki_base.specs.PublicKey.{KeyFields}
 use Rattle.rpki_base.specs.Scheme.{Relation}
@@ -38,8 +39,8 @@ reply p payload = record { sender = p.me; recipient = p.child; payload = payload
 
 -- ---- what is decided
 
--- The octets are accepted under the child's key as a message, and the payload is what is answered to it. The table and the issuer are
--- then as the row says that decides, and handles and key stay.
+-- The octets are accepted under the child's key as a message, and the payload is what is answered
+-- to it. The table and the issuer are then as the row says that decides, and handles and key stay.
 pub record IsDecided (scheme : Relation) (octets : List ℕ) (when : ℤ)
     (before after : ParentAndIssuer) (payload : Payload) : Type 0 where
   pub message : MessageFields
@@ -85,7 +86,8 @@ error_of receipt.InvalidCsrSyntax = errors.InvalidCsrSyntax
 error_of (receipt.Validation failed) = errors.Validation failed
 error_of receipt.OutOfMemory = errors.OutOfMemory
 
--- the octets are no message that is accepted under the key, for this reason, which isn't want of memory
+-- the octets are no message that is accepted under the key, for this reason, which isn't want of
+-- memory
 pub record RefusesOctets (scheme : Relation) (octets : List ℕ) (key : KeyFields) (when : ℤ)
     (error : Error) : Type 0 where
   pub reason : ReceiveError

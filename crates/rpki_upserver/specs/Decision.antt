@@ -35,7 +35,8 @@ pub record IsIssuance (table : Table) (class_place place : ℕ) (payload : Paylo
   pub at : slice_get c.issued_certs place ≡ Some issued
   pub is : payload ≡ payloads.IssueResponse (issuance (entitled c) issued)
 
--- The issuer issued a certificate for these resources on the request, which is kept and stands at this place.
+-- The issuer issued a certificate for these resources on the request, which is kept and stands at
+-- this place.
 pub record IsIssuedAt (c : ClassState) (request : IssuanceRequestFields) (set : Resources)
     (before after : IssuerState) (next : ClassState) (place : ℕ) : Type 0 where
   pub cert : CertFields
@@ -59,7 +60,8 @@ pub record CanBeSaid (table : Table) (decision : Decision) : Type 0 where
   pub said : IsPayloadOf table decision payload
   pub writable : IsWritablePayload payload
 
--- What was decided, from parent and issuer to what they are behind it: this outcome comes, which says the decision.
+-- What was decided, from parent and issuer to what they are behind it: this outcome comes, which
+-- says the decision.
 pub record IsDecidedBy (comes : Outcome → Type 0) (before after : ParentAndIssuer)
     (decision : Decision) : Type 0 where
   pub payload : Payload

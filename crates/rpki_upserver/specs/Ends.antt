@@ -5,13 +5,14 @@ use Rattle.rpki_sigmsg.specs.Making.{HasWindow}
 use Rattle.rpki_ca.specs.Creation.{CanSign}
 use Rattle.rpki_ca.specs.Lines.{WroteAll, lines_of}
 use Rattle.rpki_ca.specs.Seen.{Seen}
+use Rattle.rpki_ca.specs.Sent.{AreNotSent, AreSent}
 use Rattle.rpki_upserver.specs.Answering.{with_issuer}
-use Rattle.rpki_upserver.specs.Running.{AreNotSent, AreSent, IsFirstParent, Run}
+use Rattle.rpki_upserver.specs.Running.{IsFirstParent, Run}
 use Rattle.rpki_upserver.specs.Serving.{AreAllAnswered, HasLongAnswer}
 use Rattle.rpki_upserver.specs.Table.{ParentState}
 
--- All lines of the input are those of octets, and the answers to all of them were written, from the parent at first; the issuer did what
--- they say, and nothing else.
+-- All lines of the input are those of octets, and the answers to all of them were written, from the
+-- parent at first; the issuer did what they say, and nothing else.
 pub record AnswersAll {Id : Type 0} (scheme : Relation) (run : Run Id) (input : List ℕ)
     (sink : Seen) : Type 0 where
   pub messages : List (List ℕ)
@@ -21,8 +22,8 @@ pub record AnswersAll {Id : Type 0} (scheme : Relation) (run : Run Id) (input : 
   pub wrote : WroteAll (AreAllAnswered scheme run.when run.signer
       (with_issuer parent run.issuer_before) run.issuer_after messages) sink
 
--- The signer, whose identifiers are distinct, holds a fitting key, and it neither failed nor gave too many octets, nor that key for one
--- use; and no reply has a text of more than 2^31 octets.
+-- The signer, whose identifiers are distinct, holds a fitting key, and it neither failed nor gave
+-- too many octets, nor that key for one use; and no reply has a text of more than 2^31 octets.
 pub record CanServe {Id : Type 0} (scheme : Relation) (run : Run Id) (input : List ℕ) : Type 0
   where
     pub signs : CanSign run.signer

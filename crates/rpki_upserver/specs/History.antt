@@ -1,5 +1,5 @@
 -- Many messages to a parent, one behind the other.
-use Rattle.std.specs.Prelude.{◌≡◌, ◌&&◌, ⊤, ℕ, ℤ, Bool, true, false, bytes_eq, if◌then◌else◌, Option, None, Some, List, [], ◌∷◌, ◌++◌, find}
+use Rattle.std.specs.Prelude.{◌≡◌, ◌&&◌, ⊤, ℕ, Bool, bytes_eq, if◌then◌else◌, Option, None, Some, List, [], ◌∷◌, ◌++◌, find}
 use Rattle.std.specs.List.{AllByRecursion}
 use Rattle.rpki_base.specs.Scheme.{Relation}
 use Rattle.rpki_sets.specs.Resources.{Resources}

@@ -1,5 +1,5 @@
 -- What an issuer of certificates has done, and what each of its calls does to that.
-use Rattle.std.specs.Prelude.{◌≡◌, ◌≤◌, ℕ, ℤ, List, [], ◌∷◌, ◌++◌, ⊤}
+use Rattle.std.specs.Prelude.{◌≡◌, ◌≤◌, ℕ, ℤ, List, [], ◌∷◌, ◌++◌}
 use Rattle.sha1.specs.Sha1.{sha1}
 use Rattle.rpki_common.specs.Causes.{Rose}
 use Rattle.rpki_cert.specs.Cert.{CertFields}
@@ -19,8 +19,8 @@ pub record Made : Type 0 where
   pub not_after : ℤ
   pub slice : List ℕ
 
--- The certificates that it issued and the keys whose certificates it revoked, each with its class, in
--- order; and how often it failed, a count that may stop at 2^64 - 1.
+-- The certificates that it issued and the keys whose certificates it revoked, each with its class,
+-- in order; and how often it failed, a count that may stop at 2^64 - 1.
 pub record IssuerState : Type 0 where
   pub made : List Made
   pub gone : List KeyElementFields

@@ -1,4 +1,5 @@
--- Lists that grow in two steps: room is made, which takes memory, and then an item is put there, which takes none.
+-- Lists that grow in two steps: room is made, which takes memory, and then an item is put there,
+-- which takes none.
 use Rattle.std.specs.Prelude.{◌≡◌, ◌≤◌, ◌⊎◌, true, ℕ, ◌-◌, Option, None, Some, List, [], vec_capacity, vec_len}
 use Rattle.std.specs.List.{list_any}
 use Rattle.std.specs.Global.{Vec}

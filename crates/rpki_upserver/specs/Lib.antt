@@ -1,5 +1,5 @@
--- Said in contracts, and to be believed: Issuer, Table, Response, Answering, Serving, Running, History, Ends, ToyIssuer. Means:
--- Kept, Decision.
+-- Said in contracts, and to be believed: Issuer, Table, Response, Answering, Serving, Running,
+-- History, Ends, ToyIssuer. Means: Kept, Decision.
 pub mod Issuer
 pub mod Table
 pub mod Response

@@ -1,5 +1,5 @@
 -- What a parent answers to a message of its child, row by row (RFC 6492, 3.3 to 3.6).
-use Rattle.std.specs.Prelude.{◌≡◌, ◌⊎◌, ◌||◌, ℕ, Bool, true, Option, None, Some, List, [], ◌∷◌, map}
+use Rattle.std.specs.Prelude.{◌≡◌, ◌⊎◌, ◌||◌, ℕ, true, Option, None, Some, List, [], map}
 use Rattle.sha1.specs.Sha1.{sha1}
 use Rattle.rpki_common.specs.Causes.{Rose}
 use Rattle.rpki_base.specs.Scheme.{Relation}
@@ -9,12 +9,12 @@ use Rattle.rpki_sets.specs.Resources.{Resources}
 use Rattle.rpki_updown.specs.Entitlements.{CaRequest, IssuanceRequestFields, IssuedFields, issuance}
 use Rattle.rpki_updown.specs.KeyElement.{KeyElementFields}
 use Rattle.rpki_updown.specs.NotPerformedResponse.{reason}
-use Rattle.rpki_updown.specs.RequestResourceLimit.{IsContained, LimitFields, limited_set}
+use Rattle.rpki_updown.specs.RequestResourceLimit.{IsContained, limited_set}
 use Rattle.rpki_provisioning.specs.Shape.{MessageFields}
 use Rattle.rpki_provisioning.specs.declared.payload.Payload.{Payload}
 use Rattle.rpki_provisioning.specs.declared.payload.Payload.TheVariants as payloads
 use Rattle.rpki_upserver.specs.Issuer.{IsIssued, IsRevoked, IssuerState, Leaves}
-use Rattle.rpki_upserver.specs.Table.{ClassState, ParentState, Table, change, class_named, entitled, has_key, is_issued_elsewhere, is_issued_in, is_revoked, place_of, with_issued, with_revoked}
+use Rattle.rpki_upserver.specs.Table.{ClassState, ParentState, Table, change, class_named, entitled, is_issued_elsewhere, is_issued_in, is_revoked, place_of, with_issued, with_revoked}
 
 -- what comes of a message: the payload of the reply, the table behind it, and the issuer's state
 -- before and after
@@ -24,7 +24,8 @@ pub record Outcome : Type 0 where
   pub before : IssuerState
   pub after : IssuerState
 
--- a row of a table: where its condition holds this comes, and where it doesn't the rows behind it decide
+-- a row of a table: where its condition holds this comes, and where it doesn't the rows behind it
+-- decide
 abbrev pub Row : Type 0 → Type 0 → Type 0 → Type 0
 Row condition here behind = (condition × here) ⊎ ((condition → ⊥) × behind)
 
@@ -87,9 +88,9 @@ published c request cert = record {
   cert = cert;
 }
 
--- The issuer issued a certificate for the key of the request in the class, for what the limit leaves of the child's resources, until
--- the time of the class. It is answered with, and stands in the class from now on, in the place of that of the same key if there was
--- one.
+-- The issuer issued a certificate for the key of the request in the class, for what the limit
+-- leaves of the child's resources, until the time of the class. It is answered with, and stands in
+-- the class from now on, in the place of that of the same key if there was one.
 pub record Issues (table : Table) (c : ClassState) (request : IssuanceRequestFields) (o : Outcome)
     : Type 0 where
   pub cert : CertFields

@@ -1,7 +1,5 @@
 -- What the parent's program does with words and input.
-use Rattle.std.specs.Prelude.{◌≡◌, ◌⊎◌, ◌∷◌, [], ℕ, ℤ, pos, Some, Err, List, codes, length, map}
-use Rattle.std.specs.Result.{result_ok}
-use Rattle.hex.specs.Hex.{decode_of}
+use Rattle.std.specs.Prelude.{◌≡◌, ◌⊎◌, ◌∷◌, [], ℕ, ℤ, pos, Some, Err, List, codes, length}
 use Rattle.rpki_base.specs.PublicKey.{KeyFields}
 use Rattle.rpki_base.specs.Scheme.{Relation}
 use Rattle.rpki_sets.specs.AsNumbers.{as_blocks}
@@ -14,8 +12,9 @@ use Rattle.rpki_ca.specs.Answer.{Ends}
 use Rattle.rpki_ca.specs.Lines.{EndsLines}
 use Rattle.rpki_ca.specs.Seen.{Seen, SignerSeen}
 use Rattle.rpki_ca.specs.Sending.{MayStop}
+use Rattle.rpki_ca.specs.Sent.{AreNotSent, AreSent, EndsMoment}
 use Rattle.rpki_ca.specs.Words.{IsMomentAt, key_at}
-use Rattle.rpki_ca.specs.declared.refusals.Refusal.TheVariants.{Hex, Moment, OutOfMemory}
+use Rattle.rpki_ca.specs.declared.refusals.Refusal.TheVariants.{Hex, OutOfMemory}
 use Rattle.rpki_upserver.specs.Answering.{with_issuer}
 use Rattle.rpki_upserver.specs.Issuer.{IssuerState}
 use Rattle.rpki_upserver.specs.Serving.{AreAllAnswered, AreFirstAnswered, HasLongAnswer}
@@ -55,16 +54,8 @@ pub record IsFirstParent (key : KeyFields) (signing : SigningFields) (p : Parent
 
 -- ---- lines
 
--- each line is the hexadecimal of these octets, in digits of either case
-abbrev pub AreSent : List (List ℕ) → List (List ℕ) → Type 0
-AreSent lines messages = map (λ line. result_ok (decode_of line)) lines ≡ map Some messages
-
--- some line is that of none
-abbrev pub AreNotSent : List (List ℕ) → Type 0
-AreNotSent lines = (messages : List (List ℕ)) → AreSent lines messages → ⊥
-
--- What a run has: moment, child's key, certificate of the issuing key, and the issuer and the signer of replies as it began and as it
--- ended.
+-- What a run has: moment, child's key, certificate of the issuing key, and the issuer and the
+-- signer of replies as it began and as it ended.
 pub record Run (Id : Type 0) : Type 0 where
   pub when : ℤ
   pub key : KeyFields
@@ -100,7 +91,8 @@ EndsFrom scheme run parent messages status sink = EndsLines
     (MayStop run.signer (HasLongAnswer scheme run.when run.signer
     (with_issuer parent run.issuer_before) messages)) status sink
 
--- How it ends where each line is that of octets: they are answered from the parent at first; or the moment has no window.
+-- How it ends where each line is that of octets, and the moment has a window: they are answered
+-- from the parent at first.
 pub record EndsAnswered {Id : Type 0} (scheme : Relation) (run : Run Id) (lines : List (List ℕ))
     (status : ℕ) (sink : Seen) : Type 0 where
   pub messages : List (List ℕ)
@@ -110,18 +102,10 @@ pub record EndsAnswered {Id : Type 0} (scheme : Relation) (run : Run Id) (lines 
   pub first : IsFirstParent run.key run.signing parent
   pub ends : EndsFrom scheme run parent messages status sink
 
-pub record EndsMoment {Id : Type 0} (run : Run Id) (lines : List (List ℕ)) (status : ℕ)
-    (sink : Seen) : Type 0 where
-  pub messages : List (List ℕ)
-  pub are : AreSent lines messages
-  pub none : HasWindow run.when → ⊥
-  pub ends : Ends (Err Moment) status sink
-  pub idle : IsIdle run
-
--- or some line is that of none; or memory ran out
+-- or the moment has none; or some line is that of no octets; or memory ran out
 abbrev pub EndsServed : {Id : Type 0} → Relation → Run Id → List (List ℕ) → ℕ → Seen → Type 0
 EndsServed scheme run lines status sink =
     EndsAnswered scheme run lines status sink
-    ⊎ (EndsMoment run lines status sink
+    ⊎ ((EndsMoment run.when lines status sink × IsIdle run)
     ⊎ ((AreNotSent lines × Ends (Err Hex) status sink × IsIdle run)
     ⊎ (Ends (Err OutOfMemory) status sink × IsIdle run)))

@@ -18,8 +18,9 @@ use Rattle.rpki_upserver.specs.Table.{ParentState}
 
 -- ---- one line
 
--- The octets are a message of the child, and the text is the hexadecimal of octets of which the reply to it is received: it is accepted
--- under every list of keys that holds the issuing key, at each second from 300 before the moment to 300 after it.
+-- The octets are a message of the child, and the text is the hexadecimal of octets of which the
+-- reply to it is received: it is accepted under every list of keys that holds the issuing key, at
+-- each second from 300 before the moment to 300 after it.
 pub record IsReplied {Id : Type 0} (scheme : Relation) (when : ℤ) (signer : SignerSeen Id)
     (before : ParentAndIssuer) (octets text : List ℕ) (after : ParentAndIssuer) : Type 0 where
   pub payload : Payload
@@ -29,7 +30,8 @@ pub record IsReplied {Id : Type 0} (scheme : Relation) (when : ℤ) (signer : Si
       (received.Provisioning (reply before.parent payload)) when signer
   pub written : text ≡ encode_lower signed
 
--- They are none, and the text is what `receive provisioning` writes of them under the child's key. Parent and issuer are as before.
+-- They are none, and the text is what `receive provisioning` writes of them under the child's key.
+-- Parent and issuer are as before.
 pub record IsTurnedAway (scheme : Relation) (when : ℤ) (before : ParentAndIssuer)
     (octets text : List ℕ) (after : ParentAndIssuer) : Type 0 where
   pub refusal : Refusal
@@ -47,8 +49,8 @@ IsLineAnswered scheme when signer before octets text after =
 
 -- ---- all lines
 
--- The texts are the answers to all lines, one behind the other, and nothing is behind them. What the issuer is then is this: it did what
--- they say, and nothing else.
+-- The texts are the answers to all lines, one behind the other, and nothing is behind them. What
+-- the issuer is then is this: it did what they say, and nothing else.
 pub record AreAllAnswered {Id : Type 0} (scheme : Relation) (when : ℤ) (signer : SignerSeen Id)
     (start : ParentAndIssuer) (issuer : IssuerState) (messages texts : List (List ℕ))
     (closing : List ℕ) : Type 0 where
@@ -65,7 +67,8 @@ pub record IsUnsentAt (scheme : Relation) (when : ℤ) (last : ParentAndIssuer)
   pub payload : Payload
   pub decided : IsDecided scheme octets when last (with_issuer parent issuer) payload
 
--- They are the answers to the first lines. The issuer did what they say, and besides at most what the next line asks for.
+-- They are the answers to the first lines. The issuer did what they say, and besides at most what
+-- the next line asks for.
 pub record AreFirstAnswered {Id : Type 0} (scheme : Relation) (when : ℤ) (signer : SignerSeen Id)
     (start : ParentAndIssuer) (issuer : IssuerState) (messages texts : List (List ℕ)) : Type 0
   where
@@ -92,7 +95,8 @@ pub record FailsLine {Id : Type 0} (scheme : Relation) (when : ℤ) (signer : Si
     : Type 0 where
   pub payload : Payload
   pub decided : IsDecided scheme octets when before after payload
-  pub cause : IsSigningCause when signer (received.Provisioning (reply before.parent payload)) refusal
+  pub cause : IsSigningCause when signer (received.Provisioning (reply before.parent payload))
+      refusal
 
 -- what was done of a line that isn't answered: nothing, or what its reply was to say
 abbrev pub IsLeft : Relation → ℤ → ParentAndIssuer → List ℕ → ParentAndIssuer → Type 0

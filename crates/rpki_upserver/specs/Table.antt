@@ -1,5 +1,5 @@
--- What a parent keeps of its child: in each resource class the child's resources, the certificates that were issued in it and are not
--- revoked, and the keys that were revoked (RFC 6492, 3.3.2).
+-- What a parent keeps of its child: in each resource class the child's resources, the certificates
+-- that were issued in it and are not revoked, and the keys that were revoked (RFC 6492, 3.3.2).
 use Rattle.std.specs.Prelude.{◌≡◌, ◌≤◌, ◌&&◌, ◌++◌, ◌∷◌, [], ℕ, ℤ, Bool, true, false, not, bytes_eq, if◌then◌else◌, Option, List, find, length, map, codes}
 use Rattle.std.specs.List.{AllByRecursion, list_any}
 use Rattle.hex.specs.Hex.{encode_upper}
@@ -8,14 +8,14 @@ use Rattle.rpki_base.specs.Civil.{IsMoment}
 use Rattle.rpki_base.specs.PublicKey.{KeyFields}
 use Rattle.rpki_sets.specs.Resources.{Resources}
 use Rattle.rpki_text.specs.Handle.{IsHandle}
-use Rattle.rpki_text.specs.Uri.{fault_of, joined, names_directory, path_of, rsync}
+use Rattle.rpki_text.specs.Uri.{joined, names_directory, path_of, rsync}
 use Rattle.rpki_updown.specs.Entitlements.{ClassFields, IssuedFields, SigningFields}
 use Rattle.rpki_provisioning.specs.Writable.{IsWritableClass, IsWritableIssued, IsWritableSet, IsWritableSigning}
 use Rattle.rpki_xml.specs.Lettered.{AreOctets}
 
--- A class: its name, the child's resources in it until when (seconds since 1970), the URI of the directory in which its certificates
--- are published, the certificate of the issuing key, the certificates that were issued in it, and the identifiers of the keys that
--- were revoked in it.
+-- A class: its name, the child's resources in it until when (seconds since 1970), the URI of the
+-- directory in which its certificates are published, the certificate of the issuing key, the
+-- certificates that were issued in it, and the identifiers of the keys that were revoked in it.
 pub record ClassState : Type 0 where
   pub class_name : List ℕ
   pub resource_set : Resources
@@ -153,7 +153,8 @@ new_parent me child key table = record { me = me; child = child; child_key = key
 abbrev pub with_table : Table → ParentState → ParentState
 with_table table p = record p { table = table }
 
--- both are handles, and the classes have distinct names, which can be written so that they are read again
+-- both are handles, and the classes have distinct names, which can be written so that they are read
+-- again
 pub record IsParent (me child : List ℕ) (table : Table) : Type 0 where
   pub me_is : IsHandle me
   pub child_is : IsHandle child

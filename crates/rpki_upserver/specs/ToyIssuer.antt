@@ -67,8 +67,8 @@ after_fault i = record i { issuer = record i.issuer { faults = count_after i.iss
 pub record DidNothing (before after : ToyIssuerState) : Type 0 where
   pub is : after ≡ record before { signer = after.signer }
 
--- The certificate is what the octets of the end entity certificate are read as that its signer makes for the key of the request, valid
--- until then. It has that key, and is one in DER.
+-- The certificate is what the octets of the end entity certificate are read as that its signer
+-- makes for the key of the request, valid until then. It has that key, and is one in DER.
 pub record IsToyCertificate (csr : CaRequest) (not_after : ℤ) (before after : ToyIssuerState)
     (cert : CertFields) : Type 0 where
   pub made : CertificateFields

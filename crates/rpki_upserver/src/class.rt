@@ -256,7 +256,8 @@ fn place_among(held: &Kept<Certified>, key: KeyIdentifier) -> Option<usize>
         .position(|issued| issued.key() == key)
 }
 
-// Puts a certificate in the place of that of the same key, or else last, where there is room. It answers the place.
+// Puts a certificate in the place of that of the same key, or else last, where there is room. It
+// answers the place.
 fn put(held: &mut Kept<Certified>, issued: IssuedCert) -> usize
     requires { HasRoom held.old (key_of issued) }
     ensures items { held.new.items ≡ put_in held.old.items issued }

@@ -134,7 +134,8 @@ impl Parent {
     }
 }
 
-// Of an error of receipt: want of memory, or a refusal, as the calls for signed messages of the protocol say it.
+// Of an error of receipt: want of memory, or a refusal, as the calls for signed messages of the
+// protocol say it.
 fn refused<E>(error: ReceiveError) -> AnswerError<E>
     ensures { result ≡ refused error }
 {
@@ -181,7 +182,8 @@ impl Parent {
         *message.sender() == self.child && *message.recipient() == self.me
     }
 
-    // Why no certificate is issued on a request for the class at this place, of which the limit isn't looked at.
+    // Why no certificate is issued on a request for the class at this place, of which the limit
+    // isn't looked at.
     fn refusal<P: Scheme, V: Verifier<P>>(
         &self,
         place: usize,
@@ -385,7 +387,8 @@ impl Parent {
         signer: &mut S,
         key: &S::KeyId,
     ) -> Result<ProvisioningCms, AnswerError<S::Error>>
-        // The reply says what comes of the message by the table's rows, and is received over its window.
+        // The reply says what comes of the message by the table's rows, and is received over its
+        // window.
         ensures answered { IfOk result (IsAnswered P.checks octets.now when
             (with_issuer self.old (N.state issuer.old)) (with_issuer self.new (N.state issuer.new))
             (seen_signer key.now (S.state signer.old) (S.state signer.new))) }
@@ -395,7 +398,8 @@ impl Parent {
             (with_issuer self.old (N.state issuer.old)) (with_issuer self.new (N.state issuer.new))
             (seen_signer key.now (S.state signer.old) (S.state signer.new))) }
 
-        // Octets that are refused leave all as it was, and nothing is signed before a reply is decided.
+        // Octets that are refused leave all as it was, and nothing is signed before a reply is
+        // decided.
         ensures refused { IfErr result (λ e. IsRefused e → (issuer.new ≡ issuer.old)
             × (signer.new ≡ signer.old)) }
         ensures unsigned { IsErrOf result answers.OutOfMemory → signer.new ≡ signer.old }

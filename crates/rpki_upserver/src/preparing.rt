@@ -1,14 +1,14 @@
-//! What the program begins with: the lines of its input, and its parent.
+//! What the program begins with: what its words ask for, and its parent.
 
-ghost use Rattle.std.specs.Prelude.{◌≡◌, IfOk, IfSome, IsNone, Some, map};
+ghost use Rattle.std.specs.Prelude.{◌≡◌, IfOk, IfSome, IsNone, Some};
 ghost use Rattle.rpki_provisioning.specs.Writable.{IsCertificate};
 ghost use Rattle.rpki_sets.specs.Kinds.{blocks_of};
-ghost use Rattle.rpki_upserver.specs.Running.{AreNoWords, AreNotSent, AreSent, AreWords, IsFirstClass, IsFirstParent, IsFirstSet};
+ghost use Rattle.rpki_upserver.specs.Running.{AreNoWords, AreWords, IsFirstClass, IsFirstParent, IsFirstSet};
 
 use crate::class::Class;
 use crate::parent::Parent;
 use rpki_base::{PublicKey, Time};
-use rpki_ca::{Lines, Words, spelled_octets};
+use rpki_ca::Words;
 use rpki_common::OutOfMemory;
 use rpki_sets::{AsBlocks, Blocks, Ipv4Blocks, Ipv6Blocks, Numbers, ResourceSet};
 use rpki_text::uri::Rsync;
@@ -38,25 +38,6 @@ pub(crate) fn terms_of(alloc: Global, words: &Words) -> Result<Option<Terms>, Ou
         return Ok(None);
     };
     Ok(Some(Terms { when, child }))
-}
-
-/// The octets that the lines spell; None where some line spells none.
-pub(crate) fn messages_in(
-    alloc: Global,
-    lines: Lines<'_>,
-) -> Result<Option<Vec<Vec<u8>>>, OutOfMemory>
-    ensures some { IfOk result (λ o. IfSome o (λ messages.
-        AreSent lines.entry (map (λ m. m.items) messages.items))) }
-    ensures none { IfOk result (λ o. IsNone o → AreNotSent lines.entry) }
-{
-    let mut messages = Vec::new(alloc);
-    for line in lines {
-        match spelled_octets(alloc, line)? {
-            Some(octets) => messages.push(octets)?,
-            None => return Ok(None),
-        }
-    }
-    Ok(Some(messages))
 }
 
 // The set that a text means, which means one.

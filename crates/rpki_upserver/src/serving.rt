@@ -20,11 +20,11 @@ ghost use Rattle.rpki_upserver.specs.Serving.{AreAllAnswered, AreFirstAnswered, 
 
 use crate::issuer::Issuer;
 use crate::parent::{AnswerError, Parent};
-use crate::preparing::{Terms, first_parent, messages_in, terms_of};
+use crate::preparing::{Terms, first_parent, terms_of};
 use rpki_base::{PublicKey, Scheme, Time, Verifier};
 use rpki_ca::{
-    Lines, ReceiveError, Refusal, Status, Stop, Words, finish_lines, hexadecimal_line, read_input,
-    refuse,
+    Lines, ReceiveError, Refusal, Status, Stop, Words, finish_lines, hexadecimal_line, messages_in,
+    read_input, refuse,
 };
 use rpki_common::OutOfMemory;
 use rpki_provisioning::ProvisioningCms;
@@ -122,7 +122,8 @@ fn answer_all<P: Scheme, O: Sink, V: Verifier<P>, N: Issuer, S: Signer<P>>(
     Ok(())
 }
 
-// Answers the lines from the parent at first, if all are of the form and replies can be signed at the moment.
+// Answers the lines from the parent at first, if all are of the form and replies can be signed at
+// the moment.
 fn serve_lines<P: Scheme, O: Sink, V: Verifier<P>, N: Issuer, S: Signer<P>>(
     alloc: Global,
     child_key: PublicKey,
@@ -198,7 +199,8 @@ pub fn serve<P: Scheme, I: Source, O: Sink, V: Verifier<P>, N: Issuer, S: Signer
     ensures unasked { AreNoWords words.now → (issuer.new ≡ issuer.old)
         × (signer.new ≡ signer.old) }
 
-    // Where the source isn't read whole, that is what is answered; and where it is, the messages are.
+    // Where the source isn't read whole, that is what is answered; and where it is, the messages
+    // are.
     ensures ends { (when : ℤ) (child : KeyFields) → AreWords words.now when child
         → EndsRun (λ octets. EndsServed P.checks
         (run_of when child signing.now (N.state issuer.old) (N.state issuer.new)

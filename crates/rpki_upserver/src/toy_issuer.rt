@@ -146,7 +146,8 @@ impl ToyIssuer {
         match made {
             Ok(cert) => match resource_certificate(alloc, &cert) {
                 Ok(cert) => Ok(cert),
-                // What is written of a certificate that was made is read as one, so memory alone is wanting.
+                // What is written of a certificate that was made is read as one, so memory alone is
+                // wanting.
                 Err(_) => Err(IssuerError::OutOfMemory),
             },
             Err(error) => {
@@ -271,7 +272,8 @@ impl Issuer for ToyIssuer {
             (IssuerFails (issuer_state self.old) (issuer_state self.new)) }
 
         // Which answer, and what the issuer is then.
-        ensures exact { IsToyIssue class_name.now csr.now set.now not_after self.old self.new result }
+        ensures exact { IsToyIssue class_name.now csr.now set.now not_after self.old self.new
+            result }
     {
         let cert = self.certificate(alloc, csr, not_after)?;
         let made = entry(alloc, class_name, csr, set, not_after, &cert)?;

@@ -1,13 +1,11 @@
-//! The program: its words, standard input and standard output are handed to `rpki_ca::run`.
+//! The program: its words, standard input and standard output, with the toy verifier and a toy signer with a key, are handed to
+//! `rpki_ca::run`.
 #![tactic(auto)]
 
-use rpki_base::PublicKeyFormat;
-use rpki_ca::{Refusal, Status, Words, refuse, run};
-use rpki_signer::{CallError, Signer, ToyScheme, ToySigner, ToyVerifier};
-use rpki_text::{Sink, Source, StdSink, StdSource, write_all};
-use std::alloc::Global;
-use std::env;
-use std::io::ErrorKind;
+use command_line::{Own, own_text, signer_of, words_of, write_text};
+use rpki_ca::{Status, refuse, run};
+use rpki_signer::ToyVerifier;
+use rpki_text::{StdSink, StdSource};
 use std::process::ExitCode;
 
 const HELP: &[u8] = b"\
@@ -104,76 +102,29 @@ Example: rpkica --help; echo $?
 
 const VERSION: &[u8] = b"rpkica 0.1.0\n";
 
-// The words behind the program's name.
-fn words_of<R: std::rt::Env + AllocGlobal>(rt: &R) -> Result<Words, Refusal> {
-    let mut words = Words::new(rt.alloc());
-    let all = match env::args(rt) {
-        Ok(all) => all,
-        Err(error) if error.kind() == ErrorKind::InvalidData => return Err(Refusal::Usage),
-        Err(_) => return Err(Refusal::OutOfMemory),
-    };
-    for word in all.skip(1) {
-        if words.push(word.as_str()).is_err() {
-            return Err(Refusal::OutOfMemory);
-        }
-    }
-    Ok(words)
-}
-
-// The text that the only word asks for, if it is one of the program's own.
-fn own_text(words: &Words) -> Option<&'static [u8]> {
-    if words.len() != 1 {
-        return None;
-    }
-    match words.get(0) {
-        Some("--help") => Some(HELP),
-        Some("--version") => Some(VERSION),
-        _ => None,
-    }
-}
-
-fn written<O: Sink>(output: &mut O, text: &[u8], status: u8) -> Status {
-    match write_all(output, text) {
-        Ok(()) => Status(status),
-        Err(_) => Status(11),
-    }
-}
-
-// The signer of the toy scheme, and the identifier of its one key.
-fn signer_of(alloc: Global) -> Result<(ToySigner, u64), Refusal> {
-    let Ok(mut signer) = ToySigner::new(alloc, 1, &[]) else {
-        return Err(Refusal::OutOfMemory);
-    };
-    match Signer::<ToyScheme>::create_key(&mut signer, alloc, PublicKeyFormat::Rsa) {
-        Ok(key) => Ok((signer, key)),
-        Err(CallError::Signer(_)) => Err(Refusal::Signer),
-        Err(CallError::OutOfMemory) => Err(Refusal::OutOfMemory),
-    }
-}
-
-fn run_signed<I: Source, O: Sink>(
-    alloc: Global,
-    words: &Words,
-    input: &mut I,
-    output: &mut O,
-) -> Status {
-    match signer_of(alloc) {
-        Ok((mut signer, key)) => {
-            let verifier = ToyVerifier::new();
-            run(alloc, words, input, output, &verifier, &mut signer, &key)
-        }
-        Err(refusal) => refuse(output, refusal),
-    }
-}
-
 fn main(rt: HostRuntime) -> ExitCode {
     let mut input = StdSource::new(rt.stdin());
     let mut output = StdSink::new(rt.stdout());
+    let own = Own {
+        help: HELP,
+        version: VERSION,
+    };
     let Status(status) = match words_of(&rt) {
         Err(refusal) => refuse(&mut output, refusal),
-        Ok(words) => match own_text(&words) {
-            Some(text) => written(&mut output, text, 0),
-            None => run_signed(rt.alloc(), &words, &mut input, &mut output),
+        Ok(words) => match own_text(&words, own) {
+            Some(text) => write_text(&mut output, text),
+            None => match signer_of(rt.alloc(), 1) {
+                Err(refusal) => refuse(&mut output, refusal),
+                Ok((mut signer, key)) => run(
+                    rt.alloc(),
+                    &words,
+                    &mut input,
+                    &mut output,
+                    &ToyVerifier::new(),
+                    &mut signer,
+                    &key,
+                ),
+            },
         },
     };
     ExitCode::from(status)

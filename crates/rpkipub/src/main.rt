@@ -2,13 +2,11 @@
 //! `rpki_pubserver::serve`.
 #![tactic(auto)]
 
-use command_line::{Own, own_text, words_of, write_text};
-use rpki_base::PublicKeyFormat;
-use rpki_ca::{Refusal, Status, refuse};
+use command_line::{Own, own_text, signer_of, words_of, write_text};
+use rpki_ca::{Status, refuse};
 use rpki_pubserver::serve;
-use rpki_signer::{CallError, Signer, ToyScheme, ToySigner, ToyVerifier};
+use rpki_signer::ToyVerifier;
 use rpki_text::{StdSink, StdSource};
-use std::alloc::Global;
 use std::process::ExitCode;
 
 const HELP: &[u8] = b"\
@@ -65,18 +63,6 @@ Example: rpkipub --help; echo $?
 
 const VERSION: &[u8] = b"rpkipub 0.1.0\n";
 
-// The signer of the toy scheme, and the identifier of its one key.
-fn signer_of(alloc: Global) -> Result<(ToySigner, u64), Refusal> {
-    let Ok(mut signer) = ToySigner::new(alloc, 1, &[]) else {
-        return Err(Refusal::OutOfMemory);
-    };
-    match Signer::<ToyScheme>::create_key(&mut signer, alloc, PublicKeyFormat::Rsa) {
-        Ok(key) => Ok((signer, key)),
-        Err(CallError::Signer(_)) => Err(Refusal::Signer),
-        Err(CallError::OutOfMemory) => Err(Refusal::OutOfMemory),
-    }
-}
-
 fn main(rt: HostRuntime) -> ExitCode {
     let mut input = StdSource::new(rt.stdin());
     let mut output = StdSink::new(rt.stdout());
@@ -88,7 +74,7 @@ fn main(rt: HostRuntime) -> ExitCode {
         Err(refusal) => refuse(&mut output, refusal),
         Ok(words) => match own_text(&words, own) {
             Some(text) => write_text(&mut output, text),
-            None => match signer_of(rt.alloc()) {
+            None => match signer_of(rt.alloc(), 1) {
                 Err(refusal) => refuse(&mut output, refusal),
                 Ok((mut signer, key)) => serve(
                     rt.alloc(),

@@ -4,11 +4,11 @@
 ghost use Rattle.std.specs.Prelude.{IfOk};
 ghost use Rattle.rpki_provisioning.specs.Writable.{IsCertificate};
 
-use command_line::{Own, own_text, words_of, write_text};
-use rpki_base::{PublicKeyFormat, Time, Validity};
+use command_line::{Own, own_text, signer_of, words_of, write_text};
+use rpki_base::{Time, Validity};
 use rpki_ca::{Refusal, Status, Words, refuse};
 use rpki_idcert::IdCert;
-use rpki_signer::{Signer, ToyScheme, ToySigner, ToyVerifier};
+use rpki_signer::{ToyScheme, ToySigner, ToyVerifier};
 use rpki_text::uri::Rsync;
 use rpki_text::{Sink, Source, StdSink, StdSource};
 use rpki_updown::SigningCert;
@@ -71,15 +71,6 @@ Example: rpkiup --help; echo $?
 ";
 
 const VERSION: &[u8] = b"rpkiup 0.1.0\n";
-
-// A signer of the toy scheme, and the identifier of its one key.
-fn signer_of(alloc: Global, seed: u64) -> Result<(ToySigner, u64), Refusal> {
-    let mut signer = ToySigner::new(alloc, seed, &[])?;
-    match Signer::<ToyScheme>::create_key(&mut signer, alloc, PublicKeyFormat::Rsa) {
-        Ok(key) => Ok((signer, key)),
-        Err(_) => Err(Refusal::OutOfMemory),
-    }
-}
 
 // The certificate of the key under which certificates are issued: its own, always valid.
 fn signing_cert(alloc: Global, signer: &mut ToySigner, key: u64) -> Result<SigningCert, Refusal>

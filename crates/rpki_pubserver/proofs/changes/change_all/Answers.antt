@@ -1,13 +1,13 @@
 use Rattle.std.proofs.Common.{◌≡◌, ◌∙◌, None, Some, Ok, Option, ap, arith, get_or, refl, sym, ℕ, List}
 use Rattle.std.specs.Map.{keys_of, lookup}
 use Rattle.std.specs.Str.{bytes_eq}
-use Rattle.std.proofs.lemmas.List.{length-set}
+use Rattle.std.proofs.lemmas.List.{get_or-map, length-set}
 use Rattle.std.proofs.lemmas.Option.{slice_get-get_or}
 use Rattle.rpki_pubserver.specs.Changes.{changed, uri_of}
 use Rattle.rpki_pubserver.specs.Places.{Places, live, object_of, with_object, with_octets}
 use Rattle.rpki_pubserver.proofs.Live.{octets_changed}
 use Rattle.rpki_pubserver.proofs.Making.{one_made, one_refused}
-use Rattle.rpki_pubserver.proofs.Undoing.{get_any, get_behind, get_mapped, have_still, same_keys, undone_made}
+use Rattle.rpki_pubserver.proofs.Undoing.{get_any, get_behind, have_still, same_keys, undone_made}
 use Rattle.rpki_pubserver.proofs.changes.change_all.Goals as goal
 
 pub returns-in-Some-clause-refused : goal.returns-in-Some-clause-refused
@@ -28,7 +28,7 @@ making-preserved c =
     let e = c.index-changes-place.result in
     let uri : c.as_str.result.now ≡ uri_of e = c.as_str.ensures.text ∙ c.uri_of.ensures in
     let object : get_or c.making.next i c.index-next-place.result ≡ object_of e =
-    get_any c.making.next i c.index-next-place.result None (omega (arith, lt, size)) ∙ so_far.rest i (omega arith) ∙ get_mapped object_of c.args.changes.now i e None lt c.index-changes-place.is in
+    get_any c.making.next i c.index-next-place.result None (omega (arith, lt, size)) ∙ so_far.rest i (omega arith) ∙ get_or-map object_of c.args.changes.now i e None lt ∙ ap object_of (sym c.index-changes-place.is) in
     let put : c.exchange.new.self ≡ with_object c.making.objects (uri_of e) (object_of e) =
     c.exchange.ensures.put ∙ ap (λ (u : List ℕ). with_object c.making.objects u (get_or c.making.next i c.index-next-place.result)) uri ∙ ap (λ (o : Option (List ℕ)). with_object c.making.objects (uri_of e) o) object in
     let next : live c.exchange.new.self ≡ changed (live c.making.objects) e =

@@ -1,5 +1,5 @@
-use Rattle.std.proofs.Common.{◌≡◌, ◌+◌, ◌<◌, ◌∷◌, ◌++◌, ◌∙◌, ℕ, List, [], arith, get_or, inl, length, map, refl, subst, sym}
-use Rattle.std.proofs.lemmas.List.{append-nil}
+use Rattle.std.proofs.Common.{◌≡◌, ◌+◌, ◌<◌, ◌∷◌, ◌++◌, ◌∙◌, ℕ, List, [], ap, arith, get_or, inl, length, map, refl, subst, sym}
+use Rattle.std.proofs.lemmas.List.{append-nil, get_or-map, length-map}
 use Rattle.std.specs.Io.KnownBytes.{Appends}
 use Rattle.rpki_signer.proofs.States.{keeps_then}
 use Rattle.rpki_ca.specs.Lines.{answer_lines}
@@ -10,7 +10,6 @@ use Rattle.rpki_ca.proofs.Outputs.{one_more_written, part_of_more}
 use Rattle.rpki_ca.proofs.Stepping.{all_so, first_so, one_more_so, stopped_so}
 use Rattle.rpki_pubserver.specs.Serving.{AreAllReplied, AreFirstReplied, FailsLine, HasLongAnswer, IsReplied}
 use Rattle.rpki_pubserver.proofs.Replying.{all_elsewhere, may_refuse, replied_elsewhere}
-use Rattle.rpki_pubserver.proofs.Undoing.{get_mapped, length_mapped}
 use Rattle.rpki_pubserver.proofs.serving.answer_all.Goals as goal
 
 pub returns-in_err-line-clause-answered : goal.returns-in_err-line-clause-answered
@@ -22,11 +21,11 @@ returns-in_err-line-clause-answered g c =
     let after = g.S.Signer.state c.answer_line.new.signer in
     let signer = seen_signer c.args.key.now first after in
     let step = IsReplied g.P.Scheme.checks c.args.when signer in
-    let all = length_mapped (λ m. m.items) c.args.messages.now in
+    let all = length-map c.args.messages.now (λ m. m.items) in
     let test = c.loop-octets-test.true in
     let lt : i < length ms = omega (arith, all, test) in
     let octets : List ℕ = c.octets-item.result.items in
-    let at : octets ≡ get_or ms i octets = sym (get_mapped (λ m. m.items) c.args.messages.now i c.octets-item.result octets test c.octets-item.is) in
+    let at : octets ≡ get_or ms i octets = ap (λ m. m.items) c.octets-item.is ∙ sym (get_or-map (λ m. m.items) c.args.messages.now i c.octets-item.result octets test) in
     let so_far = c.loop-octets.invariant.texts in
     let are = all_elsewhere g.P.Scheme.checks c.args.when (seen_signer c.args.key.now first first) signer c.args.server.now _ so_far.0 c.loop-octets.server refl refl so_far.1 in
     let may = may_refuse g.P.Scheme.checks c.args.when c.args.key.now first before after c.args.server.now ms i so_far.0 c.loop-octets.server octets c.in_err-line.field-0.0 c.requires c.loop-octets.invariant.keeps lt at are
@@ -44,11 +43,11 @@ returns-in_err-write_all-clause-answered g c =
     let after = g.S.Signer.state c.answer_line.new.signer in
     let signer = seen_signer c.args.key.now first after in
     let step = IsReplied g.P.Scheme.checks c.args.when signer in
-    let all = length_mapped (λ m. m.items) c.args.messages.now in
+    let all = length-map c.args.messages.now (λ m. m.items) in
     let test = c.loop-octets-test.true in
     let lt : i < length ms = omega (arith, all, test) in
     let octets : List ℕ = c.octets-item.result.items in
-    let at : octets ≡ get_or ms i octets = sym (get_mapped (λ m. m.items) c.args.messages.now i c.octets-item.result octets test c.octets-item.is) in
+    let at : octets ≡ get_or ms i octets = ap (λ m. m.items) c.octets-item.is ∙ sym (get_or-map (λ m. m.items) c.args.messages.now i c.octets-item.result octets test) in
     let so_far = c.loop-octets.invariant.texts in
     let are = all_elsewhere g.P.Scheme.checks c.args.when (seen_signer c.args.key.now first first) signer c.args.server.now _ so_far.0 c.loop-octets.server refl refl so_far.1 in
     let said = c.in_ok-line.ensures.ok in
@@ -69,11 +68,11 @@ loop-octets-preserved g c =
     let before = g.S.Signer.state c.loop-octets.signer in
     let after = g.S.Signer.state c.answer_line.new.signer in
     let signer = seen_signer c.args.key.now first first in
-    let all = length_mapped (λ m. m.items) c.args.messages.now in
+    let all = length-map c.args.messages.now (λ m. m.items) in
     let test = c.loop-octets-test.true in
     let lt : i < length ms = omega (arith, all, test) in
     let octets : List ℕ = c.octets-item.result.items in
-    let at : octets ≡ get_or ms i octets = sym (get_mapped (λ m. m.items) c.args.messages.now i c.octets-item.result octets test c.octets-item.is) in
+    let at : octets ≡ get_or ms i octets = ap (λ m. m.items) c.octets-item.is ∙ sym (get_or-map (λ m. m.items) c.args.messages.now i c.octets-item.result octets test) in
     let so_far = c.loop-octets.invariant.texts in
     let said = c.in_ok-line.ensures.ok in
     let replied = replied_elsewhere g.P.Scheme.checks c.args.when (seen_signer c.args.key.now before after) signer c.loop-octets.server octets said.0 c.answer_line.new.server refl (sym c.loop-octets.invariant.keeps.keyring)
@@ -90,7 +89,7 @@ returns-clause-answered g c =
     let first = g.S.Signer.state c.args.signer.now in
     let after = g.S.Signer.state c.loop-octets.signer in
     let signer = seen_signer c.args.key.now first after in
-    let all = length_mapped (λ m. m.items) c.args.messages.now in
+    let all = length-map c.args.messages.now (λ m. m.items) in
     let test = c.loop-octets-test.false in
     let so_far = c.loop-octets.invariant.texts in
     let are = all_elsewhere g.P.Scheme.checks c.args.when (seen_signer c.args.key.now first first) signer c.args.server.now _ so_far.0 c.loop-octets.server refl refl so_far.1 in

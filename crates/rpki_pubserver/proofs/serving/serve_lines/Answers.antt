@@ -1,8 +1,8 @@
 use Rattle.std.proofs.Common.{inl, List, map, subst, sym, ℕ}
 use Rattle.rpki_ca.specs.Seen.{seen_signer}
 use Rattle.rpki_ca.specs.Sending.{MayStop}
+use Rattle.rpki_ca.specs.Sent.{AreSent}
 use Rattle.rpki_ca.proofs.Outputs.{ends_lines}
-use Rattle.rpki_pubserver.specs.Running.{AreSent}
 use Rattle.rpki_pubserver.specs.Serving.{AreAllReplied, AreFirstReplied, HasLongAnswer}
 use Rattle.rpki_pubserver.proofs.serving.serve_lines.Goals as goal
 

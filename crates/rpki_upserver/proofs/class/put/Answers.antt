@@ -1,6 +1,5 @@
-use Rattle.std.proofs.Common.{◌≡◌, ◌<◌, ℕ, Some, IfSome, ap, length, subst}
+use Rattle.std.proofs.Common.{◌<◌, ℕ, IfSome, ap, length, subst}
 use Rattle.std.specs.declared.option.Option.{Option}
-use Rattle.rpki_updown.specs.Entitlements.{IssuedFields}
 use Rattle.rpki_upserver.proofs.Places.{got_found, got_last, put_found, put_unfound, room_left}
 use Rattle.rpki_upserver.proofs.class.put.Goals as goal
 

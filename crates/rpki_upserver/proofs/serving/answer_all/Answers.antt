@@ -1,5 +1,5 @@
-use Rattle.std.proofs.Common.{rules, ◌≡◌, ◌+◌, ◌<◌, ◌∷◌, ◌++◌, ◌∙◌, ℕ, List, [], arith, get_or, inl, length, map, refl, subst, sym}
-use Rattle.std.proofs.lemmas.List.{append-nil}
+use Rattle.std.proofs.Common.{rules, ◌≡◌, ◌+◌, ◌<◌, ◌∷◌, ◌++◌, ◌∙◌, ℕ, List, [], ap, arith, get_or, inl, length, map, refl, subst, sym}
+use Rattle.std.proofs.lemmas.List.{append-nil, get_or-map, length-map}
 use Rattle.std.specs.Io.KnownBytes.{Appends}
 use Rattle.rpki_signer.proofs.States.{keeps_same, keeps_then}
 use Rattle.rpki_ca.specs.Lines.{answer_lines}
@@ -11,7 +11,6 @@ use Rattle.rpki_ca.proofs.Stepping.{one_more_so, stopped_so}
 use Rattle.rpki_upserver.specs.Answering.{with_issuer}
 use Rattle.rpki_upserver.specs.Serving.{AreAllAnswered, AreFirstAnswered, FailsLine, HasLongAnswer, IsLeft, IsLineAnswered}
 use Rattle.rpki_upserver.proofs.Answering.{all_answered, all_elsewhere, first_answered, left_at, line_elsewhere, may_refuse, same_issuer}
-use Rattle.rpki_upserver.proofs.Mapped.{get_mapped, length_mapped}
 use Rattle.rpki_upserver.proofs.serving.answer_all.Goals as goal
 
 pub loop-octets-init : goal.loop-octets-init
@@ -31,11 +30,11 @@ returns-in_err-line-clause-answered g c =
     let start = with_issuer c.args.parent.now (g.N.Issuer.state c.args.issuer.now) in
     let last = with_issuer c.loop-octets.parent (g.N.Issuer.state c.loop-octets.issuer) in
     let next = with_issuer c.answer_line.new.parent (g.N.Issuer.state c.answer_line.new.issuer) in
-    let all = length_mapped (λ m. m.items) c.args.messages.now in
+    let all = length-map c.args.messages.now (λ m. m.items) in
     let test = c.loop-octets-test.true in
     let lt : i < length ms = omega (arith, all, test) in
     let octets : List ℕ = c.octets-item.result.items in
-    let at : octets ≡ get_or ms i octets = sym (get_mapped (λ m. m.items) c.args.messages.now i c.octets-item.result octets test c.octets-item.is) in
+    let at : octets ≡ get_or ms i octets = ap (λ m. m.items) c.octets-item.is ∙ sym (get_or-map (λ m. m.items) c.args.messages.now i c.octets-item.result octets test) in
     let so_far = c.loop-octets.invariant.texts in
     let signer = seen_signer c.args.key.now first after in
     let are = all_elsewhere g.P.Scheme.checks c.args.when (seen_signer c.args.key.now first first) signer start _ so_far.0 last refl refl so_far.1 in
@@ -60,11 +59,11 @@ returns-in_err-write_all-clause-answered g c =
     let start = with_issuer c.args.parent.now (g.N.Issuer.state c.args.issuer.now) in
     let last = with_issuer c.loop-octets.parent (g.N.Issuer.state c.loop-octets.issuer) in
     let next = with_issuer c.answer_line.new.parent (g.N.Issuer.state c.answer_line.new.issuer) in
-    let all = length_mapped (λ m. m.items) c.args.messages.now in
+    let all = length-map c.args.messages.now (λ m. m.items) in
     let test = c.loop-octets-test.true in
     let lt : i < length ms = omega (arith, all, test) in
     let octets : List ℕ = c.octets-item.result.items in
-    let at : octets ≡ get_or ms i octets = sym (get_mapped (λ m. m.items) c.args.messages.now i c.octets-item.result octets test c.octets-item.is) in
+    let at : octets ≡ get_or ms i octets = ap (λ m. m.items) c.octets-item.is ∙ sym (get_or-map (λ m. m.items) c.args.messages.now i c.octets-item.result octets test) in
     let so_far = c.loop-octets.invariant.texts in
     let signer = seen_signer c.args.key.now first after in
     let step = IsLineAnswered g.P.Scheme.checks c.args.when signer in
@@ -89,11 +88,11 @@ loop-octets-preserved g c =
     let start = with_issuer c.args.parent.now (g.N.Issuer.state c.args.issuer.now) in
     let last = with_issuer c.loop-octets.parent (g.N.Issuer.state c.loop-octets.issuer) in
     let next = with_issuer c.answer_line.new.parent (g.N.Issuer.state c.answer_line.new.issuer) in
-    let all = length_mapped (λ m. m.items) c.args.messages.now in
+    let all = length-map c.args.messages.now (λ m. m.items) in
     let test = c.loop-octets-test.true in
     let lt : i < length ms = omega (arith, all, test) in
     let octets : List ℕ = c.octets-item.result.items in
-    let at : octets ≡ get_or ms i octets = sym (get_mapped (λ m. m.items) c.args.messages.now i c.octets-item.result octets test c.octets-item.is) in
+    let at : octets ≡ get_or ms i octets = ap (λ m. m.items) c.octets-item.is ∙ sym (get_or-map (λ m. m.items) c.args.messages.now i c.octets-item.result octets test) in
     let so_far = c.loop-octets.invariant.texts in
     let signer = seen_signer c.args.key.now first first in
     let said = c.in_ok-line.ensures.ok in
@@ -113,7 +112,7 @@ returns-clause-answered g c =
     let signer = seen_signer c.args.key.now first after in
     let start = with_issuer c.args.parent.now (g.N.Issuer.state c.args.issuer.now) in
     let last = with_issuer c.loop-octets.parent (g.N.Issuer.state c.loop-octets.issuer) in
-    let all = length_mapped (λ m. m.items) c.args.messages.now in
+    let all = length-map c.args.messages.now (λ m. m.items) in
     let test = c.loop-octets-test.false in
     let so_far = c.loop-octets.invariant.texts in
     let are = all_elsewhere g.P.Scheme.checks c.args.when (seen_signer c.args.key.now first first) signer start _ so_far.0 last refl refl so_far.1 in

@@ -1,10 +1,8 @@
 use Rattle.std.proofs.Common.{◌∙◌, subst, sym}
 use Rattle.hex.specs.Hex.{encode_lower}
 use Rattle.rpki_sigmsg.specs.Spelling.{rewritten}
-use Rattle.rpki_ca.specs.Creation.{refusal_of_create}
 use Rattle.rpki_ca.specs.Seen.{seen_signer}
 use Rattle.rpki_ca.specs.declared.refusals.Refusal.{Refusal}
-use Rattle.rpki_ca.specs.declared.refusals.Refusal.TheVariants as refusals
 use Rattle.rpki_upserver.specs.Answering.{with_issuer}
 use Rattle.rpki_upserver.specs.Serving.{FailsLine}
 use Rattle.rpki_upserver.proofs.Answering.{cant_send, replied_so}

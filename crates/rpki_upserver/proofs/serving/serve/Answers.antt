@@ -1,4 +1,4 @@
-use Rattle.std.proofs.Common.{◌≡◌, ℕ, List, inr, refl, subst}
+use Rattle.std.proofs.Common.{ℕ, List, inr, refl, subst}
 use Rattle.rpki_ca.specs.Lines.{lines_of}
 use Rattle.rpki_ca.specs.Seen.{seen, seen_signer}
 use Rattle.rpki_ca.proofs.Ended.{ends_read}

@@ -1,9 +1,9 @@
 use Rattle.std.proofs.Common.{List, inl, map, subst, sym, ℕ}
 use Rattle.rpki_ca.specs.Seen.{seen_signer}
 use Rattle.rpki_ca.specs.Sending.{MayStop}
+use Rattle.rpki_ca.specs.Sent.{AreSent}
 use Rattle.rpki_ca.proofs.Outputs.{ends_lines}
 use Rattle.rpki_upserver.specs.Answering.{with_issuer}
-use Rattle.rpki_upserver.specs.Running.{AreSent}
 use Rattle.rpki_upserver.specs.Serving.{AreAllAnswered, AreFirstAnswered, HasLongAnswer}
 use Rattle.rpki_upserver.proofs.serving.serve_lines.Goals as goal
 

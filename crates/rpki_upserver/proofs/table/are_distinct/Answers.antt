@@ -1,5 +1,4 @@
-use Rattle.std.proofs.Common.{◌∙◌, ap, sym}
-use Rattle.std.specs.Prelude.{not}
+use Rattle.std.proofs.Common.{◌∙◌, sym}
 use Rattle.rpki_upserver.proofs.Tables.{still_distinct, two_alike}
 use Rattle.rpki_upserver.proofs.table.are_distinct.Goals as goal
 

@@ -1,4 +1,4 @@
-use Rattle.std.proofs.Common.{◌∙◌, ap, refl}
+use Rattle.std.proofs.Common.{ap, refl}
 use Rattle.std.specs.Prelude.{is_some}
 use Rattle.rpki_upserver.specs.Table.{with_revoked}
 use Rattle.rpki_upserver.proofs.Deciding.{IsSought, changed_so, left_so, no_class_to_revoke, no_key_to_revoke, not_revoked, not_there, revoked, there, within}
