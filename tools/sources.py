@@ -454,7 +454,15 @@ def struct(reader, module, line, public):
 
 def fields(inside, into):
     while not inside.at_end():
+        if inside.kind() == "ghost":
+            inside.take()
+            inside.took(",")
+            continue
         visibility(inside)
+        if inside.kind() == "ghost":
+            inside.take()
+            inside.took(",")
+            continue
         name = inside.take()
         inside.need(":")
         into[name] = inside.type()
