@@ -23,27 +23,54 @@ const PARENT_WRITTEN: &str =
 const REPOSITORY: &str =
     "<repository_response xmlns=\"http://www.hactrn.net/uris/rpki/rpki-setup/\" version=\"1\" publisher_handle=\"A/B\" service_uri=\"https://h/\" sia_base=\"rsync://h/m/\" rrdp_notification_uri=\"https://h/n.xml\" tag=\"\"><repository_bpki_ta/></repository_response>";
 
+// A function of its own, so that the request is let go at one place.
+fn child_text(alloc: Global, request: ChildRequest) -> Result<String, OutOfMemory> {
+    request.to_xml_string(alloc)
+}
+
+fn child_anew(alloc: Global) -> Result<String, Error> {
+    let request = ChildRequest::parse_slice(alloc, CHILD.as_bytes())?;
+    Ok(child_text(alloc, request)?)
+}
+
 #[test]
 fn a_child_request_is_written_anew(rt: HostRuntime) -> Result<(), Fail> {
-    let request = ChildRequest::parse_slice(rt.alloc(), CHILD.as_bytes())?;
-    assert_eq!(rt; request.to_xml_string(rt.alloc())?.as_str(), CHILD_WRITTEN);
+    let text = child_anew(rt.alloc())?;
+    assert_eq!(rt; text.as_str(), CHILD_WRITTEN);
     Ok(())
+}
+
+// A function of its own, so that the response is let go at one place.
+fn parent_text(alloc: Global, response: ParentResponse) -> Result<String, OutOfMemory> {
+    response.to_xml_string(alloc)
+}
+
+fn parent_anew(alloc: Global) -> Result<String, Error> {
+    let response = ParentResponse::parse_slice(alloc, PARENT.as_bytes())?;
+    Ok(parent_text(alloc, response)?)
 }
 
 #[test]
 fn the_last_certificate_of_a_parent_counts(rt: HostRuntime) -> Result<(), Fail> {
-    let response = ParentResponse::parse_slice(rt.alloc(), PARENT.as_bytes())?;
-    assert_eq!(rt;
-        response.to_xml_string(rt.alloc())?.as_str(),
-        PARENT_WRITTEN
-    );
+    let text = parent_anew(rt.alloc())?;
+    assert_eq!(rt; text.as_str(), PARENT_WRITTEN);
     Ok(())
+}
+
+// A function of its own, so that the response is let go at one place.
+fn repository_text(alloc: Global, response: RepositoryResponse) -> Result<String, OutOfMemory> {
+    response.to_xml_string(alloc)
+}
+
+fn repository_anew(alloc: Global) -> Result<String, Error> {
+    let response = RepositoryResponse::parse_slice(alloc, REPOSITORY.as_bytes())?;
+    Ok(repository_text(alloc, response)?)
 }
 
 #[test]
 fn a_repository_response_is_written_anew(rt: HostRuntime) -> Result<(), Fail> {
-    let response = RepositoryResponse::parse_slice(rt.alloc(), REPOSITORY.as_bytes())?;
-    assert_eq!(rt; response.to_xml_string(rt.alloc())?.as_str(), REPOSITORY);
+    let text = repository_anew(rt.alloc())?;
+    assert_eq!(rt; text.as_str(), REPOSITORY);
     Ok(())
 }
 
@@ -52,14 +79,14 @@ fn another_message_is_none(rt: HostRuntime) {
     assert!(rt; PublisherRequest::parse_slice(rt.alloc(), CHILD.as_bytes()).is_err());
 }
 
-fn info(alloc: Global) -> Result<RepoInfo, uri::Error> {
+fn resolved(alloc: Global) -> Result<uri::Rsync, uri::Error> {
     let base = uri::Rsync::from_str(alloc, "rsync://localhost/repo/")?;
-    Ok(RepoInfo::new(base, None))
+    RepoInfo::new(base, None).resolve(alloc, "ca", "f.cer")
 }
 
 #[test]
 fn a_file_is_resolved(rt: HostRuntime) -> Result<(), Fail> {
-    let file = info(rt.alloc())?.resolve(rt.alloc(), "ca", "f.cer")?;
+    let file = resolved(rt.alloc())?;
     assert_eq!(rt; file.as_str(), "rsync://localhost/repo/ca/f.cer");
     Ok(())
 }
@@ -68,6 +95,10 @@ fn request(alloc: Global) -> Result<ChildRequest, Error> {
     let octets = Base64::from_content(alloc, [0u8, 1, 2].as_slice())?;
     let name = Text::from_str(alloc, "a")?.into_rc_str();
     Ok(ChildRequest::new(octets, Handle::new(name)))
+}
+
+fn write_request(alloc: Global, sink: &mut MemorySink) -> Result<(), Error> {
+    request(alloc)?.write_xml(alloc, sink)
 }
 
 #[test]
@@ -81,7 +112,7 @@ fn a_fault_of_the_source_is_told(rt: HostRuntime) -> Result<(), Fail> {
 #[test]
 fn a_fault_of_the_sink_is_told(rt: HostRuntime) -> Result<(), Fail> {
     let mut sink = MemorySink::new(rt.alloc(), 1000, 7, [2u64].as_slice())?;
-    let result = request(rt.alloc())?.write_xml(rt.alloc(), &mut sink);
+    let result = write_request(rt.alloc(), &mut sink);
     assert!(rt; matches!(result, Err(Error::Write)));
     assert_eq!(rt; sink.written(), b"<child_request".as_slice());
     Ok(())

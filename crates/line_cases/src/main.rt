@@ -63,20 +63,34 @@ fn words_of(alloc: Global, line: &str) -> io::Result<Words> {
     Ok(words)
 }
 
+// The octets of a field.
+fn octets_in(alloc: Global, field: Option<&str>) -> io::Result<Vec<u8>> {
+    match field {
+        Some(field) => octets_of(alloc, text_of(field)),
+        None => Err(invalid()),
+    }
+}
+
+fn status_in(field: Option<&str>) -> io::Result<u8> {
+    let Some(field) = field else {
+        return Err(invalid());
+    };
+    match field.parse::<u8>() {
+        Ok(status) => Ok(status),
+        Err(_) => Err(invalid()),
+    }
+}
+
 fn case_of(alloc: Global, line: &str) -> io::Result<Case> {
-    let mut fields = line.split_whitespace().skip(2);
-    let (Some(status), Some(output), Some(input)) = (fields.next(), fields.next(), fields.next())
-    else {
-        return Err(invalid());
-    };
-    let Ok(status) = status.parse::<u8>() else {
-        return Err(invalid());
-    };
+    let status = status_in(line.split_whitespace().nth(2))?;
+    let words = words_of(alloc, line)?;
+    let input = octets_in(alloc, line.split_whitespace().nth(4))?;
+    let output = octets_in(alloc, line.split_whitespace().nth(3))?;
     Ok(Case {
-        words: words_of(alloc, line)?,
-        input: octets_of(alloc, text_of(input))?,
+        words,
+        input,
         status,
-        output: octets_of(alloc, text_of(output))?,
+        output,
     })
 }
 
@@ -144,51 +158,83 @@ fn served_by(
     }
 }
 
+// What the program ends with.
+fn ended(
+    alloc: Global,
+    program: &str,
+    case: &Case,
+    source: &mut MemorySource,
+    sink: &mut MemorySink,
+) -> io::Result<Status> {
+    let verifier = ToyVerifier::new();
+    match program {
+        "arch" => Ok(check(alloc, &case.words, source, sink, &verifier)),
+        "guard" => Ok(run_guard(alloc, &case.words, source, sink, &verifier)),
+        _ => served_by(alloc, program, case, source, sink),
+    }
+}
+
+// Whether the case is answered as expected from this source, where the sink takes `piece` octets a call.
+fn is_answered_from(
+    alloc: Global,
+    program: &str,
+    case: &Case,
+    source: &mut MemorySource,
+    piece: usize,
+) -> io::Result<bool> {
+    let Ok(mut sink) = MemorySink::new(alloc, 1 << 20, piece.max(1), &[]) else {
+        return Err(out_of_memory());
+    };
+    let Status(status) = ended(alloc, program, case, source, &mut sink)?;
+    Ok(status == case.status && sink.written() == case.output.as_slice())
+}
+
 // Whether the case is answered as expected where the source gives `piece` octets a call, and the
 // sink takes as many.
 fn is_answered(alloc: Global, program: &str, case: &Case, piece: usize) -> io::Result<bool> {
-    let piece = piece.max(1);
-    let (Ok(mut source), Ok(mut sink)) = (
-        MemorySource::new(alloc, &case.input, piece, &[]),
-        MemorySink::new(alloc, 1 << 20, piece, &[]),
-    ) else {
-        return Err(out_of_memory());
-    };
-    let verifier = ToyVerifier::new();
-    let Status(status) = match program {
-        "arch" => check(alloc, &case.words, &mut source, &mut sink, &verifier),
-        "guard" => run_guard(alloc, &case.words, &mut source, &mut sink, &verifier),
-        _ => served_by(alloc, program, case, &mut source, &mut sink)?,
-    };
-    Ok(status == case.status && sink.written() == case.output.as_slice())
+    match MemorySource::new(alloc, &case.input, piece.max(1), &[]) {
+        Ok(mut source) => is_answered_from(alloc, program, case, &mut source, piece),
+        Err(_) => Err(out_of_memory()),
+    }
+}
+
+// The input as text.
+fn text_in(case: &Case) -> io::Result<&str> {
+    match str::from_utf8(&case.input) {
+        Ok(text) => Ok(text),
+        Err(_) => Err(invalid()),
+    }
 }
 
 // Whether a parent of several classes does what is expected; its input is text.
 fn does_as_parent(alloc: Global, failing: &str, case: &Case) -> io::Result<bool> {
-    let Ok(input) = str::from_utf8(&case.input) else {
-        return Err(invalid());
-    };
-    let text = run_parent(alloc, &case.words, input, &Failing::of(failing)?)?;
+    let input = text_in(case)?;
+    let failing = Failing::of(failing)?;
+    let text = run_parent(alloc, &case.words, input, &failing)?;
     Ok(text.as_bytes() == case.output.as_slice())
+}
+
+// Whether the case is answered as expected, whole and an octet at a time; and by the calls of a
+// server, where it is one whose queries are all answered.
+fn holds_case(alloc: Global, program: &str, case: &Case) -> io::Result<bool> {
+    if let Some(failing) = program.strip_prefix("parent") {
+        return does_as_parent(alloc, failing, case);
+    }
+    if program == "pub" && case.status == 0 && !answers_alike(alloc, case)? {
+        return Ok(false);
+    }
+    Ok(is_answered(alloc, program, case, 1 << 20)? && is_answered(alloc, program, case, 1)?)
 }
 
 struct Runs;
 
 impl Cases for Runs {
-    // Whether the case is answered as expected, whole and an octet at a time; and by the calls of a
-    // server, where it is one whose queries are all answered.
     fn holds(&self, alloc: Global, line: &str) -> io::Result<bool> {
         let Some(program) = line.split_whitespace().nth(1) else {
             return Err(invalid());
         };
         let case = case_of(alloc, line)?;
-        if let Some(failing) = program.strip_prefix("parent") {
-            return does_as_parent(alloc, failing, &case);
-        }
-        if program == "pub" && case.status == 0 && !answers_alike(alloc, &case)? {
-            return Ok(false);
-        }
-        Ok(is_answered(alloc, program, &case, 1 << 20)? && is_answered(alloc, program, &case, 1)?)
+        holds_case(alloc, program, &case)
     }
 }
 

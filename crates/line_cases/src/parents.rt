@@ -2,16 +2,17 @@
 
 ghost use Rattle.rpki_provisioning.specs.Writable.{IsCertificate};
 
-use crate::up::{Failing, first_issuer, first_signer, out_of_memory};
-use rpki_base::{PublicKey, Time};
+use crate::up::{Failing, first_issuer, first_signer, out_of_memory, push};
+use rpki_base::{PublicKey, Time, ToyFault};
 use rpki_ca::Words;
 use rpki_common::OutOfMemory;
+use rpki_provisioning::ProvisioningCms;
 use rpki_sets::{AsBlocks, Ipv4Blocks, Ipv6Blocks, ResourceSet};
 use rpki_signer::{ToySigner, ToyVerifier};
 use rpki_text::uri::Rsync;
 use rpki_text::{RecipientHandle, SenderHandle};
 use rpki_updown::{ResourceClassName, SigningCert};
-use rpki_upserver::{AnswerError, Class, Parent, ToyIssuer};
+use rpki_upserver::{AnswerError, Class, Parent, ToyIssuer, ToyMade};
 use std::alloc::Global;
 use std::io;
 use stored_cases::{invalid, octets_of};
@@ -31,65 +32,151 @@ fn set_of(alloc: Global, asn: &str) -> io::Result<ResourceSet> {
     Ok(ResourceSet::new(asn, ipv4, ipv6))
 }
 
-fn class_of(alloc: Global, name: &str, asn: &str, signing: &SigningCert) -> io::Result<Class>
-    requires { IsCertificate signing.now.cert }
-{
-    let (Some(until), Ok(base), Ok(name), Ok(signing)) = (
-        Time::new(2_524_607_999),
-        Rsync::from_str(alloc, "rsync://localhost/repo/"),
-        ResourceClassName::from_str(alloc, name),
-        signing.clone(alloc),
-    ) else {
+// The name of a class, and the directory of its certificates.
+fn place_of(alloc: Global, name: &str) -> io::Result<(ResourceClassName, Rsync)> {
+    let Ok(name) = ResourceClassName::from_str(alloc, name) else {
         return Err(out_of_memory());
     };
-    let set = set_of(alloc, asn)?;
+    match Rsync::from_str(alloc, "rsync://localhost/repo/") {
+        Ok(base) => Ok((name, base)),
+        Err(_) => Err(out_of_memory()),
+    }
+}
+
+fn until() -> io::Result<Time> {
+    match Time::new(2_524_607_999) {
+        Some(until) => Ok(until),
+        None => Err(out_of_memory()),
+    }
+}
+
+// The class of this name and these resources, under this certificate.
+fn class_under(
+    name: (ResourceClassName, Rsync),
+    set: ResourceSet,
+    until: Time,
+    signing: SigningCert,
+) -> io::Result<Class>
+    requires { IsCertificate signing.cert }
+{
+    let (name, base) = name;
     match Class::new(name, set, until, base, signing) {
         Some(class) => Ok(class),
         None => Err(invalid()),
     }
 }
 
-// A parent of the classes `0`, `1` and `2`: the last one is empty.
-fn parent_of(alloc: Global, key: PublicKey, signing: &SigningCert) -> io::Result<Parent>
+fn class_of(alloc: Global, name: &str, asn: &str, signing: &SigningCert) -> io::Result<Class>
+    requires { IsCertificate signing.now.cert }
+{
+    let until = until()?;
+    let name = place_of(alloc, name)?;
+    let set = set_of(alloc, asn)?;
+    match signing.clone(alloc) {
+        Ok(signing) => class_under(name, set, until, signing),
+        Err(_) => Err(out_of_memory()),
+    }
+}
+
+// The classes `0`, `1` and `2`: the last one is empty.
+fn classes_of(alloc: Global, signing: &SigningCert) -> io::Result<Vec<Class>>
     requires { IsCertificate signing.now.cert }
 {
     let mut classes = Vec::new(alloc);
     for (name, asn) in [("0", "1-10"), ("1", "1-10"), ("2", "")] {
-        let class = class_of(alloc, name, asn, signing)?;
-        classes.push(class).map_err(|_| out_of_memory())?;
+        push(&mut classes, class_of(alloc, name, asn, signing)?)?;
     }
-    let (Ok(me), Ok(child)) = (
-        RecipientHandle::from_str(alloc, "Bob"),
-        SenderHandle::from_str(alloc, "Carol"),
-    ) else {
+    Ok(classes)
+}
+
+fn handles(alloc: Global) -> io::Result<(RecipientHandle, SenderHandle)> {
+    let Ok(me) = RecipientHandle::from_str(alloc, "Bob") else {
         return Err(out_of_memory());
     };
+    match SenderHandle::from_str(alloc, "Carol") {
+        Ok(child) => Ok((me, child)),
+        Err(_) => Err(out_of_memory()),
+    }
+}
+
+// The child's key, which the words name.
+fn key_of(alloc: Global, words: &Words) -> io::Result<PublicKey> {
+    match words.key(alloc, 1) {
+        Ok(Some(key)) => Ok(key),
+        _ => Err(invalid()),
+    }
+}
+
+// A parent of these classes.
+fn parent_with(alloc: Global, words: &Words, classes: Vec<Class>) -> io::Result<Parent> {
+    let (me, child) = handles(alloc)?;
+    let key = key_of(alloc, words)?;
     match Parent::new(alloc, me, child, key, classes) {
         Some(parent) => Ok(parent),
         None => Err(invalid()),
     }
 }
 
-// A line of what the issuer did.
-fn did(alloc: Global, done: &ToyIssuer) -> Result<String, OutOfMemory> {
-    let mut text = String::new(alloc);
+fn parent_of(alloc: Global, words: &Words, signing: &SigningCert) -> io::Result<Parent>
+    requires { IsCertificate signing.now.cert }
+{
+    parent_with(alloc, words, classes_of(alloc, signing)?)
+}
+
+// A line of a certificate that was issued.
+fn line_of_made(alloc: Global, made: &ToyMade) -> Result<String, OutOfMemory> {
+    let line = format!(in alloc;
+        "made {} {} {} {}\n",
+        made.class_name,
+        made.key,
+        made.resource_set,
+        made.not_after.seconds()
+    )?;
+    Ok(line)
+}
+
+// Adds lines of what was issued.
+fn add_made(alloc: Global, text: &mut String, done: &ToyIssuer) -> Result<(), OutOfMemory> {
     for made in done.made() {
-        let line = format!(in alloc;
-            "made {} {} {} {}\n",
-            made.class_name,
-            made.key,
-            made.resource_set,
-            made.not_after.seconds()
-        )?;
+        let line = line_of_made(alloc, made)?;
         text.push_str(line.as_str())?;
     }
+    Ok(())
+}
+
+// Adds lines of the keys whose certificates were revoked.
+fn add_gone(alloc: Global, text: &mut String, done: &ToyIssuer) -> Result<(), OutOfMemory> {
     for gone in done.gone() {
         let line = format!(in alloc; "gone {} {}\n", gone.class_name(), gone.key())?;
         text.push_str(line.as_str())?;
     }
+    Ok(())
+}
+
+// Adds lines of what the issuer did.
+fn add_did(alloc: Global, text: &mut String, done: &ToyIssuer) -> Result<(), OutOfMemory> {
+    add_made(alloc, text, done)?;
+    add_gone(alloc, text, done)?;
     let line = format!(in alloc; "faults {}\n", done.faults())?;
     text.push_str(line.as_str())?;
-    Ok(text)
+    Ok(())
+}
+
+// The reply in hexadecimal.
+fn digits_of(alloc: Global, cms: &ProvisioningCms) -> Result<String, OutOfMemory> {
+    let octets = cms.to_bytes(alloc)?;
+    hex::encode(alloc, octets.as_slice()).map_err(|_| OutOfMemory)
+}
+
+// Why nothing is sent.
+fn reason_of(alloc: Global, error: &AnswerError<ToyFault>) -> Result<String, OutOfMemory> {
+    match error {
+        AnswerError::Refused(error) => {
+            format!(in alloc; "Refused {error}").map_err(|_| OutOfMemory)
+        }
+        AnswerError::Unsent(error) => format!(in alloc; "Unsent {error}").map_err(|_| OutOfMemory),
+        AnswerError::OutOfMemory => Err(OutOfMemory),
+    }
 }
 
 // What a line is answered.
@@ -104,19 +191,67 @@ fn answered(
     let octets = octets_of(alloc, line)?;
     let verifier = ToyVerifier::new();
     let written = match parent.answer(&octets, when, &verifier, issuer, signer, &0) {
-        Ok(cms) => match cms.to_bytes(alloc) {
-            Ok(octets) => hex::encode(alloc, octets.as_slice()).map_err(|_| OutOfMemory),
-            Err(error) => Err(error),
-        },
-        Err(AnswerError::Refused(error)) => {
-            format!(in alloc; "Refused {error}").map_err(|_| OutOfMemory)
-        }
-        Err(AnswerError::Unsent(error)) => {
-            format!(in alloc; "Unsent {error}").map_err(|_| OutOfMemory)
-        }
-        Err(AnswerError::OutOfMemory) => Err(OutOfMemory),
+        Ok(cms) => digits_of(alloc, &cms),
+        Err(error) => reason_of(alloc, &error),
     };
     written.map_err(|_| out_of_memory())
+}
+
+// What the parent answers to each line.
+fn answers(
+    alloc: Global,
+    parent: &mut Parent,
+    input: &str,
+    when: Time,
+    issuer: &mut ToyIssuer,
+    signer: &mut ToySigner,
+) -> io::Result<String> {
+    let mut text = String::new(alloc);
+    for line in input.lines() {
+        let answer = answered(alloc, parent, line, when, issuer, signer)?;
+        text.push_str(answer.as_str()).map_err(|_| out_of_memory())?;
+        text.push_str("\n").map_err(|_| out_of_memory())?;
+    }
+    Ok(text)
+}
+
+// The moment of the answers, which the words name.
+fn moment_of(words: &Words) -> io::Result<Time> {
+    match words.moment(0) {
+        Some(when) => Ok(when),
+        None => Err(invalid()),
+    }
+}
+
+// What this parent answers to each line, and then what its issuer did.
+fn run_with(
+    alloc: Global,
+    words: &Words,
+    input: &str,
+    failing: &Failing,
+    parent: &mut Parent,
+    issuer: &mut ToyIssuer,
+) -> io::Result<String> {
+    let when = moment_of(words)?;
+    let mut signer = first_signer(alloc, failing)?;
+    let mut text = answers(alloc, parent, input, when, issuer, &mut signer)?;
+    add_did(alloc, &mut text, issuer).map_err(|_| out_of_memory())?;
+    Ok(text)
+}
+
+// What it does with this issuer, whose certificate this is.
+fn run_under(
+    alloc: Global,
+    words: &Words,
+    input: &str,
+    failing: &Failing,
+    issuer: &mut ToyIssuer,
+    signing: &SigningCert,
+) -> io::Result<String>
+    requires { IsCertificate signing.now.cert }
+{
+    let mut parent = parent_of(alloc, words, signing)?;
+    run_with(alloc, words, input, failing, &mut parent, issuer)
 }
 
 /// What the parent answers to each line, and then what its issuer did.
@@ -126,19 +261,6 @@ pub fn run_parent(
     input: &str,
     failing: &Failing,
 ) -> io::Result<String> {
-    let mut signer = first_signer(alloc, failing)?;
     let (mut issuer, signing) = first_issuer(alloc, failing)?;
-    let (Some(when), Ok(Some(key))) = (words.moment(0), words.key(alloc, 1)) else {
-        return Err(invalid());
-    };
-    let mut parent = parent_of(alloc, key, &signing)?;
-    let mut text = String::new(alloc);
-    for line in input.lines() {
-        let answer = answered(alloc, &mut parent, line, when, &mut issuer, &mut signer)?;
-        text.push_str(answer.as_str()).map_err(|_| out_of_memory())?;
-        text.push_str("\n").map_err(|_| out_of_memory())?;
-    }
-    let behind = did(alloc, &issuer).map_err(|_| out_of_memory())?;
-    text.push_str(behind.as_str()).map_err(|_| out_of_memory())?;
-    Ok(text)
+    run_under(alloc, words, input, failing, &mut issuer, &signing)
 }

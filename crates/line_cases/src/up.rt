@@ -21,11 +21,19 @@ pub fn out_of_memory() -> io::Error {
     io::Error::from(ErrorKind::OutOfMemory)
 }
 
+/// Adds an item.
+pub fn push<T: Drop>(items: &mut Vec<T>, item: T) -> io::Result<()> {
+    match items.push(item) {
+        Ok(()) => Ok(()),
+        Err(_) => Err(out_of_memory()),
+    }
+}
+
 // A signer that has one key, number 0, and whose call of this number fails, if there is one; to make the key is call 0.
 fn signer_of(alloc: Global, seed: u64, failing: Option<u64>) -> io::Result<ToySigner> {
     let mut calls = Vec::new(alloc);
     if let Some(call) = failing {
-        calls.push(call).map_err(|_| out_of_memory())?;
+        push(&mut calls, call)?;
     }
     let mut signer = ToySigner::new(alloc, seed, &calls).map_err(|_| out_of_memory())?;
     match Signer::<ToyScheme>::create_key(&mut signer, alloc, PublicKeyFormat::Rsa) {
@@ -34,55 +42,83 @@ fn signer_of(alloc: Global, seed: u64, failing: Option<u64>) -> io::Result<ToySi
     }
 }
 
-// The certificate of the issuer's key: its own, always valid.
-fn signing_cert(alloc: Global, signer: &mut ToySigner) -> io::Result<SigningCert>
-    ensures { IfOk result (λ s. IsCertificate s.cert) }
-{
-    let (Some(first), Some(last), Ok(url)) = (
-        Time::new(0),
-        Time::new(253_402_300_799),
-        Rsync::from_str(alloc, "rsync://localhost/repo/ta.cer"),
-    ) else {
+// From the first moment to the last.
+fn always() -> io::Result<Validity> {
+    let (Some(first), Some(last)) = (Time::new(0), Time::new(253_402_300_799)) else {
         return Err(out_of_memory());
     };
-    let validity = Validity::new(first, last);
-    let Ok(anchor) = IdCert::new_ta::<ToyScheme, ToySigner>(alloc, validity, &0, signer) else {
-        return Err(invalid());
-    };
-    match resource_certificate(alloc, &anchor) {
+    Ok(Validity::new(first, last))
+}
+
+fn signing_url(alloc: Global) -> io::Result<Rsync> {
+    Rsync::from_str(alloc, "rsync://localhost/repo/ta.cer").map_err(|_| out_of_memory())
+}
+
+fn published(alloc: Global, anchor: &IdCert) -> io::Result<SigningCert>
+    ensures { IfOk result (λ s. IsCertificate s.cert) }
+{
+    let url = signing_url(alloc)?;
+    match resource_certificate(alloc, anchor) {
         Ok(cert) => Ok(SigningCert::new(url, cert)),
         Err(_) => Err(out_of_memory()),
     }
 }
 
+// The certificate of the issuer's key: its own, always valid.
+fn signing_cert(alloc: Global, signer: &mut ToySigner) -> io::Result<SigningCert>
+    ensures { IfOk result (λ s. IsCertificate s.cert) }
+{
+    match IdCert::new_ta::<ToyScheme, ToySigner>(alloc, always()?, &0, signer) {
+        Ok(anchor) => published(alloc, &anchor),
+        Err(_) => Err(invalid()),
+    }
+}
+
 /// Which call of a signer fails, counted from 0, by a field: that of the replies' signer in `,s7`, that
 /// of the issuer's in `,i7`, none where it is empty.
-#[derive(Drop)]
+#[derive(Clone, Copy)]
 pub struct Failing {
     signer: Option<u64>,
     issuer: Option<u64>,
 }
 
+// The number of a call.
+fn call_of(digits: &str) -> io::Result<Option<u64>> {
+    match digits.parse::<u64>() {
+        Ok(call) => Ok(Some(call)),
+        Err(_) => Err(invalid()),
+    }
+}
+
 impl Failing {
+    fn of_signer(digits: &str) -> io::Result<Failing> {
+        Ok(Failing {
+            signer: call_of(digits)?,
+            issuer: None,
+        })
+    }
+
+    fn of_issuer(digits: &str) -> io::Result<Failing> {
+        Ok(Failing {
+            signer: None,
+            issuer: call_of(digits)?,
+        })
+    }
+
     /// The calls that a field names.
     pub fn of(field: &str) -> io::Result<Failing> {
-        if field.is_empty() {
-            return Ok(Failing {
-                signer: None,
-                issuer: None,
-            });
+        if let Some(digits) = field.strip_prefix(",s") {
+            return Failing::of_signer(digits);
         }
-        let of_signer = field.strip_prefix(",s");
-        let of_issuer = field.strip_prefix(",i");
-        let (Some(digits), is_signer) = (of_signer.or(of_issuer), of_signer.is_some()) else {
+        if let Some(digits) = field.strip_prefix(",i") {
+            return Failing::of_issuer(digits);
+        }
+        if !field.is_empty() {
             return Err(invalid());
-        };
-        let Ok(call) = digits.parse::<u64>() else {
-            return Err(invalid());
-        };
+        }
         Ok(Failing {
-            signer: if is_signer { Some(call) } else { None },
-            issuer: if is_signer { None } else { Some(call) },
+            signer: None,
+            issuer: None,
         })
     }
 }
@@ -104,6 +140,33 @@ pub fn first_issuer(alloc: Global, failing: &Failing) -> io::Result<(ToyIssuer, 
     }
 }
 
+// What it does with this issuer, whose certificate this is.
+fn run_with(
+    alloc: Global,
+    words: &Words,
+    source: &mut MemorySource,
+    sink: &mut MemorySink,
+    failing: &Failing,
+    issuer: &mut ToyIssuer,
+    signing: &SigningCert,
+) -> io::Result<Status>
+    requires { IsCertificate signing.now.cert }
+{
+    let mut signer = first_signer(alloc, failing)?;
+    let verifier = ToyVerifier::new();
+    Ok(serve(
+        alloc,
+        words,
+        source,
+        sink,
+        &verifier,
+        issuer,
+        &mut signer,
+        &0,
+        signing,
+    ))
+}
+
 /// What the program does with words and input.
 pub fn run_up(
     alloc: Global,
@@ -112,17 +175,6 @@ pub fn run_up(
     sink: &mut MemorySink,
     failing: &Failing,
 ) -> io::Result<Status> {
-    let mut signer = first_signer(alloc, failing)?;
     let (mut issuer, signing) = first_issuer(alloc, failing)?;
-    Ok(serve(
-        alloc,
-        words,
-        source,
-        sink,
-        &ToyVerifier::new(),
-        &mut issuer,
-        &mut signer,
-        &0,
-        &signing,
-    ))
+    run_with(alloc, words, source, sink, failing, &mut issuer, &signing)
 }

@@ -1,7 +1,7 @@
 //! What the answers of all calls have in common.
 
 use rpki_der::DecodeError;
-use rpki_updown::Error;
+use rpki_updown::{Error, OutOfMemory};
 use std::alloc::Global;
 use std::fmt::Display;
 use std::rc::RcStr;
@@ -20,6 +20,16 @@ pub fn append_print<T: Display>(
 /// Appends a truth value.
 pub fn append_truth(fields: &mut Fields, holds: bool) -> Result<(), DecodeError> {
     Ok(fields.octets(&[u8::from(holds)])?)
+}
+
+/// Appends whether a copy is equal.
+pub fn append_copy<T: PartialEq + Drop>(
+    fields: &mut Fields,
+    copy: Result<T, OutOfMemory>,
+    original: &T,
+) -> Result<(), DecodeError> {
+    let copy = copy?;
+    append_truth(fields, copy == *original)
 }
 
 /// Appends a text.

@@ -1,12 +1,12 @@
 //! Whether copies of the parts of messages are equal to them.
 
-use crate::answers::{append_truth, refused};
+use crate::answers::{append_copy, append_truth, refused};
 use rpki_der::DecodeError;
 use rpki_provisioning::{Message, Payload};
 use rpki_updown::{
     Error, IssuanceRequest, IssuanceResponse, IssuedCert, KeyElement, NotPerformedResponse,
-    RequestResourceLimit, ResourceClassEntitlements, ResourceClassListResponse, ResourceClassName,
-    RevocationRequest, RevocationResponse, SigningCert,
+    OutOfMemory, RequestResourceLimit, ResourceClassEntitlements, ResourceClassListResponse,
+    ResourceClassName, RevocationRequest, RevocationResponse, SigningCert,
 };
 use std::alloc::Global;
 use stored_cases::Fields;
@@ -16,7 +16,7 @@ fn append_name(
     fields: &mut Fields,
     name: &ResourceClassName,
 ) -> Result<(), DecodeError> {
-    append_truth(fields, name.clone(alloc)? == *name)
+    append_copy(fields, name.clone(alloc), name)
 }
 
 fn append_limit(
@@ -24,11 +24,11 @@ fn append_limit(
     fields: &mut Fields,
     limit: &RequestResourceLimit,
 ) -> Result<(), DecodeError> {
-    append_truth(fields, limit.clone(alloc)? == *limit)
+    append_copy(fields, limit.clone(alloc), limit)
 }
 
 fn append_key(alloc: Global, fields: &mut Fields, key: &KeyElement) -> Result<(), DecodeError> {
-    append_truth(fields, key.clone(alloc)? == *key)?;
+    append_copy(fields, key.clone(alloc), key)?;
     append_name(alloc, fields, key.class_name())
 }
 
@@ -37,7 +37,7 @@ fn append_issued(
     fields: &mut Fields,
     issued: &IssuedCert,
 ) -> Result<(), DecodeError> {
-    append_truth(fields, issued.clone(alloc)? == *issued)?;
+    append_copy(fields, issued.clone(alloc), issued)?;
     append_limit(alloc, fields, issued.req_limit())
 }
 
@@ -46,7 +46,7 @@ fn append_signing(
     fields: &mut Fields,
     signing: &SigningCert,
 ) -> Result<(), DecodeError> {
-    append_truth(fields, signing.clone(alloc)? == *signing)
+    append_copy(fields, signing.clone(alloc), signing)
 }
 
 // The class, its certificates, each with its limit, and the issuer's.
@@ -55,7 +55,7 @@ fn append_class(
     fields: &mut Fields,
     class: &ResourceClassEntitlements,
 ) -> Result<(), DecodeError> {
-    append_truth(fields, class.clone(alloc)? == *class)?;
+    append_copy(fields, class.clone(alloc), class)?;
     for issued in class.issued_certs() {
         append_issued(alloc, fields, issued)?;
     }
@@ -67,11 +67,20 @@ fn append_classes(
     fields: &mut Fields,
     list: &ResourceClassListResponse,
 ) -> Result<(), DecodeError> {
-    append_truth(fields, list.clone(alloc)? == *list)?;
+    append_copy(fields, list.clone(alloc), list)?;
     for class in list.classes() {
         append_class(alloc, fields, class)?;
     }
     Ok(())
+}
+
+// Whether the copy asks for the same.
+fn is_same(
+    alloc: Global,
+    copy: IssuanceRequest,
+    request: &IssuanceRequest,
+) -> Result<bool, OutOfMemory> {
+    copy.equals(alloc, request)
 }
 
 fn append_asked(
@@ -79,8 +88,7 @@ fn append_asked(
     fields: &mut Fields,
     request: &IssuanceRequest,
 ) -> Result<(), DecodeError> {
-    let copy = request.clone(alloc)?;
-    append_truth(fields, copy.equals(alloc, request)?)?;
+    append_truth(fields, is_same(alloc, request.clone(alloc)?, request)?)?;
     append_limit(alloc, fields, request.limit())
 }
 
@@ -89,7 +97,7 @@ fn append_issuance(
     fields: &mut Fields,
     response: &IssuanceResponse,
 ) -> Result<(), DecodeError> {
-    append_truth(fields, response.clone(alloc)? == *response)?;
+    append_copy(fields, response.clone(alloc), response)?;
     append_issued(alloc, fields, response.issued_cert())?;
     append_signing(alloc, fields, response.signing_cert())
 }
@@ -99,7 +107,7 @@ fn append_revocation(
     fields: &mut Fields,
     request: &RevocationRequest,
 ) -> Result<(), DecodeError> {
-    append_truth(fields, request.clone(alloc)? == *request)?;
+    append_copy(fields, request.clone(alloc), request)?;
     append_key(alloc, fields, request.key_element())
 }
 
@@ -108,7 +116,7 @@ fn append_revoked(
     fields: &mut Fields,
     response: &RevocationResponse,
 ) -> Result<(), DecodeError> {
-    append_truth(fields, response.clone(alloc)? == *response)?;
+    append_copy(fields, response.clone(alloc), response)?;
     append_key(alloc, fields, response.key_element())
 }
 
@@ -117,7 +125,7 @@ fn append_status(
     fields: &mut Fields,
     response: &NotPerformedResponse,
 ) -> Result<(), DecodeError> {
-    append_truth(fields, response.clone(alloc)? == *response)
+    append_copy(fields, response.clone(alloc), response)
 }
 
 fn append_parts(alloc: Global, fields: &mut Fields, payload: &Payload) -> Result<(), DecodeError> {
@@ -132,9 +140,14 @@ fn append_parts(alloc: Global, fields: &mut Fields, payload: &Payload) -> Result
     }
 }
 
+// Whether the copy is equal. The copy is let go here alone, since its kinds have many parts.
+fn is_equal(alloc: Global, copy: Payload, payload: &Payload) -> Result<bool, OutOfMemory> {
+    copy.equals(alloc, payload)
+}
+
 fn shown(alloc: Global, payload: &Payload) -> Result<Fields, DecodeError> {
-    let copy = payload.clone(alloc)?;
-    let mut fields = Fields::truth(alloc, copy.equals(alloc, payload)?)?;
+    let is_equal = is_equal(alloc, payload.clone(alloc)?, payload)?;
+    let mut fields = Fields::truth(alloc, is_equal)?;
     append_parts(alloc, &mut fields, payload)?;
     Ok(fields)
 }

@@ -55,19 +55,18 @@ fn again_shown(
     }
 }
 
-// The fields with these octets behind them.
-fn with_octets(fields: Fields, octets: &[u8]) -> Result<Fields, DecodeError> {
-    let mut fields = fields;
-    fields.octets(octets)?;
-    Ok(fields)
+// Whether the octets are decoded as this message, or why not.
+fn decoded_again(alloc: Global, octets: &[u8], message: &Message) -> Result<Fields, DecodeError> {
+    let again = ProvisioningCms::decode(alloc, octets);
+    again_shown(alloc, &again, message)
 }
 
 // Whether the octets that are written of it are decoded as its message, and these octets.
 fn copy_shown(alloc: Global, cms: &ProvisioningCms) -> Result<Fields, DecodeError> {
     let octets = cms.to_bytes(alloc)?;
-    let again = ProvisioningCms::decode(alloc, octets.as_slice());
-    let fields = again_shown(alloc, &again, cms.message())?;
-    with_octets(fields, octets.as_slice())
+    let mut fields = decoded_again(alloc, octets.as_slice(), cms.message())?;
+    fields.octets(octets.as_slice())?;
+    Ok(fields)
 }
 
 fn created_shown(
@@ -81,6 +80,19 @@ fn created_shown(
 }
 
 // The same of what the signer creates under the key with this number.
+fn created_by(
+    alloc: Global,
+    signer: &mut ToySigner,
+    message: Message,
+    when: Time,
+    key: u64,
+) -> Result<Fields, DecodeError> {
+    let answer = ProvisioningCms::create::<ToyScheme, ToySigner>(
+        alloc, message, when, &key, signer,
+    );
+    created_shown(alloc, &answer)
+}
+
 fn created_under(
     alloc: Global,
     message: Message,
@@ -88,14 +100,7 @@ fn created_under(
     key: u64,
 ) -> Result<Fields, DecodeError> {
     let mut signer = signer_of(alloc)?;
-    let answer = ProvisioningCms::create::<ToyScheme, ToySigner>(
-        alloc,
-        message,
-        when,
-        &key,
-        &mut signer,
-    );
-    created_shown(alloc, &answer)
+    created_by(alloc, &mut signer, message, when, key)
 }
 
 /// What the toy signer of seed 1 creates of this message, as the argument `MOMENT/KEY` says: whether the octets that a copy is written

@@ -6,6 +6,7 @@ use crate::texts::written;
 use rpki_der::DecodeError;
 use rpki_provisioning::{Message, Payload};
 use rpki_signer::ToyScheme;
+use rpki_text::{RecipientHandle, SenderHandle};
 use rpki_updown::{
     Error, IssuanceRequest, IssuanceResponse, KeyElement, PublicKey, ResourceClassEntitlements,
     RevocationRequest, RevocationResponse,
@@ -51,12 +52,23 @@ fn append_payload(alloc: Global, fields: &mut Fields, payload: Payload) -> Resul
     }
 }
 
-// Sender, recipient and payload of a copy.
+fn append_parties(
+    fields: &mut Fields,
+    sender: &SenderHandle,
+    recipient: &RecipientHandle,
+) -> Result<(), DecodeError> {
+    append_str(fields, sender.as_str())?;
+    append_str(fields, recipient.as_str())
+}
+
+// Sender, recipient and payload of a copy. The payload is handed on before any call may end this, since its kinds have many parts.
 fn shown(alloc: Global, copy: Message) -> Result<Fields, DecodeError> {
     let (sender, recipient, payload) = copy.unpack();
-    let mut fields = Fields::one(alloc, sender.as_bytes())?;
-    append_str(&mut fields, recipient.as_str())?;
-    append_payload(alloc, &mut fields, payload)?;
+    let mut fields = Fields::new(alloc);
+    let parties = append_parties(&mut fields, &sender, &recipient);
+    let parts = append_payload(alloc, &mut fields, payload);
+    parties?;
+    parts?;
     Ok(fields)
 }
 
@@ -123,9 +135,9 @@ fn granted_of(alloc: Global, payload: Payload) -> Result<RevocationResponse, Dec
 }
 
 fn granted_in(alloc: Global, message: &Message) -> Result<Fields, DecodeError> {
-    let response = granted_of(alloc, message.clone(alloc)?.into_payload())?;
     let sender = message.sender().clone(alloc)?;
     let recipient = message.recipient().clone(alloc)?;
+    let response = granted_of(alloc, message.clone(alloc)?.into_payload())?;
     written(
         alloc,
         &Message::revoke_response(sender, recipient, response),

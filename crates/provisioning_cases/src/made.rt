@@ -2,22 +2,29 @@
 
 use crate::answers::{number_of, refused, text_of};
 use crate::creating::created;
+use crate::parts::{limit_of, set_of};
 use crate::texts::is_written;
 use rpki_base::{KeyIdentifier, Time};
 use rpki_cert::{Cert, RpkiCaCsr};
 use rpki_der::DecodeError;
 use rpki_provisioning::Message;
-use rpki_sets::{AsBlocks, Ipv4Blocks, Ipv6Blocks, ResourceSet};
+use rpki_sets::ResourceSet;
 use rpki_text::{Handle, RecipientHandle, SenderHandle, uri};
 use rpki_updown::{
     Error, IssuanceRequest, IssuanceResponse, IssuedCert, KeyElement, NotPerformedResponse,
-    RequestResourceLimit, ResourceClassEntitlements, ResourceClassListResponse, ResourceClassName,
-    RevocationRequest, RevocationResponse, SigningCert, Text,
+    ResourceClassEntitlements, ResourceClassListResponse, ResourceClassName, RevocationRequest,
+    RevocationResponse, SigningCert, Text,
 };
 use std::alloc::Global;
 use stored_cases::{Fields, Step};
 
 // ---- parts
+
+// AS numbers, and IPv4 and IPv6 addresses.
+const SET: &str = "64496-64511\n10.0.0.0/8\n2001:db8::/32";
+
+// IPv4 addresses alone.
+const LIMIT: &str = "-\n10.0.0.0/9\n-";
 
 fn sender(alloc: Global) -> Result<SenderHandle, DecodeError> {
     match Handle::from_str(alloc, "Carol") {
@@ -40,40 +47,6 @@ fn uri_of(alloc: Global, text: &str) -> Result<uri::Rsync, DecodeError> {
     }
 }
 
-fn as_numbers(alloc: Global) -> Result<AsBlocks, DecodeError> {
-    match AsBlocks::from_str(alloc, "64496-64511") {
-        Ok(blocks) => Ok(blocks),
-        Err(_) => Err(DecodeError::OutOfMemory),
-    }
-}
-
-fn ipv4(alloc: Global, text: &str) -> Result<Ipv4Blocks, DecodeError> {
-    match Ipv4Blocks::from_str(alloc, text) {
-        Ok(blocks) => Ok(blocks),
-        Err(_) => Err(DecodeError::OutOfMemory),
-    }
-}
-
-fn ipv6(alloc: Global) -> Result<Ipv6Blocks, DecodeError> {
-    match Ipv6Blocks::from_str(alloc, "2001:db8::/32") {
-        Ok(blocks) => Ok(blocks),
-        Err(_) => Err(DecodeError::OutOfMemory),
-    }
-}
-
-fn set(alloc: Global) -> Result<ResourceSet, DecodeError> {
-    let asn = as_numbers(alloc)?;
-    let ipv4 = ipv4(alloc, "10.0.0.0/8")?;
-    let ipv6 = ipv6(alloc)?;
-    Ok(ResourceSet::new(asn, ipv4, ipv6))
-}
-
-fn limit(alloc: Global) -> Result<RequestResourceLimit, DecodeError> {
-    let mut limit = RequestResourceLimit::new();
-    limit.with_ipv4(ipv4(alloc, "10.0.0.0/9")?);
-    Ok(limit)
-}
-
 fn class_name(alloc: Global) -> Result<ResourceClassName, DecodeError> {
     Ok(ResourceClassName::default_name(alloc)?)
 }
@@ -88,7 +61,7 @@ fn moment() -> Result<Time, DecodeError> {
 fn issued(alloc: Global, octets: &[u8]) -> Result<IssuedCert, DecodeError> {
     let cert = Cert::decode(alloc, octets)?;
     let uri = uri_of(alloc, "rsync://localhost/repo/ca.cer")?;
-    let limit = limit(alloc)?;
+    let limit = limit_of(alloc, LIMIT)?;
     Ok(IssuedCert::new(uri, limit, cert))
 }
 
@@ -110,7 +83,7 @@ struct Start {
 
 fn start_of_class(alloc: Global) -> Result<Start, DecodeError> {
     let class_name = class_name(alloc)?;
-    let resource_set = set(alloc)?;
+    let resource_set = set_of(alloc, SET)?;
     let not_after = moment()?;
     Ok(Start {
         class_name,
@@ -185,7 +158,7 @@ fn list_of(
 
 fn request(alloc: Global, octets: &[u8]) -> Result<IssuanceRequest, DecodeError> {
     let class_name = class_name(alloc)?;
-    let limit = limit(alloc)?;
+    let limit = limit_of(alloc, LIMIT)?;
     let csr = RpkiCaCsr::decode(alloc, octets)?;
     Ok(IssuanceRequest::new(class_name, limit, csr))
 }
@@ -196,6 +169,11 @@ fn key(alloc: Global, octets: &[u8]) -> Result<KeyElement, DecodeError> {
         Some(key) => Ok(KeyElement::new(class_name(alloc)?, key)),
         None => Err(DecodeError::Malformed),
     }
+}
+
+fn revocation(alloc: Global, octets: &[u8]) -> Result<RevocationRequest, DecodeError> {
+    let key = key(alloc, octets)?;
+    Ok(RevocationRequest::new(key.class_name().clone(alloc)?, *key.key()))
 }
 
 // That nothing was done, and why; where the octets are no text, without saying why.
@@ -234,8 +212,14 @@ fn spaced_parties(alloc: Global) -> Result<Parties, DecodeError> {
     })
 }
 
-fn list_message(parties: Parties) -> Message {
-    Message::list(parties.sender, parties.recipient)
+fn list(alloc: Global) -> Result<Message, DecodeError> {
+    let parties = both_parties(alloc)?;
+    Ok(Message::list(parties.sender, parties.recipient))
+}
+
+fn spaced(alloc: Global) -> Result<Message, DecodeError> {
+    let parties = spaced_parties(alloc)?;
+    Ok(Message::list(parties.sender, parties.recipient))
 }
 
 fn list_response(alloc: Global, octets: &[u8], issuer: &[u8]) -> Result<Message, DecodeError> {
@@ -258,8 +242,7 @@ fn issue_response(alloc: Global, octets: &[u8], issuer: &[u8]) -> Result<Message
 
 fn revoke(alloc: Global, octets: &[u8]) -> Result<Message, DecodeError> {
     let parties = both_parties(alloc)?;
-    let key = key(alloc, octets)?;
-    let request = RevocationRequest::new(key.class_name().clone(alloc)?, *key.key());
+    let request = revocation(alloc, octets)?;
     Ok(Message::revoke(parties.sender, parties.recipient, request))
 }
 
@@ -289,27 +272,31 @@ fn again_shown(
     }
 }
 
-// The fields with the octets behind them, if these are what each call writes.
-fn with_text(
+// Whether the octets are read as this message, or why not.
+fn read_again(alloc: Global, octets: &[u8], message: &Message) -> Result<Fields, DecodeError> {
+    let again = Message::decode_slice(alloc, octets);
+    again_shown(alloc, &again, message)
+}
+
+// Appends the octets, if these are what each call writes.
+fn append_text(
     alloc: Global,
-    fields: Fields,
+    fields: &mut Fields,
     octets: &[u8],
     message: &Message,
-) -> Result<Fields, DecodeError> {
-    if !is_written(alloc, message, octets)? {
-        return Err(DecodeError::Malformed);
+) -> Result<(), DecodeError> {
+    match is_written(alloc, message, octets)? {
+        true => Ok(fields.octets(octets)?),
+        false => Err(DecodeError::Malformed),
     }
-    let mut fields = fields;
-    fields.octets(octets)?;
-    Ok(fields)
 }
 
 // Whether the text of a message is read as it, or why not, and this text, as each call writes it.
 fn shown(alloc: Global, message: &Message) -> Result<Fields, DecodeError> {
     let octets = message.text_bytes(alloc)?;
-    let again = Message::decode_slice(alloc, octets.as_slice());
-    let fields = again_shown(alloc, &again, message)?;
-    with_text(alloc, fields, octets.as_slice(), message)
+    let mut fields = read_again(alloc, octets.as_slice(), message)?;
+    append_text(alloc, &mut fields, octets.as_slice(), message)?;
+    Ok(fields)
 }
 
 fn made_shown(alloc: Global, made: &Result<Message, DecodeError>) -> Result<Fields, DecodeError> {
@@ -320,16 +307,8 @@ fn made_shown(alloc: Global, made: &Result<Message, DecodeError>) -> Result<Fiel
     }
 }
 
-fn list_shown(alloc: Global) -> Result<Fields, DecodeError> {
-    shown(alloc, &list_message(both_parties(alloc)?))
-}
-
-fn spaced_shown(alloc: Global) -> Result<Fields, DecodeError> {
-    shown(alloc, &list_message(spaced_parties(alloc)?))
-}
-
 fn spaced_created(alloc: Global, argument: &[u8]) -> Result<Fields, DecodeError> {
-    created(alloc, list_message(spaced_parties(alloc)?), argument)
+    created(alloc, spaced(alloc)?, argument)
 }
 
 // ---- many classes
@@ -346,16 +325,29 @@ fn copies(
     Ok(ResourceClassListResponse::new(classes))
 }
 
-// So many classes, each with the certificate at the beginning of the octets, which is the issuer's too.
-fn many(alloc: Global, octets: &[u8], number: u64) -> Result<Message, DecodeError> {
+// As many classes as the argument says, each with the certificate at the beginning of the octets, which is the issuer's too.
+fn many(alloc: Global, octets: &[u8], argument: &[u8]) -> Result<Message, DecodeError> {
+    let number = number_of(text_of(argument)?)?;
     let parties = both_parties(alloc)?;
     let list = copies(alloc, &class(alloc, octets, octets)?, number)?;
     Ok(Message::list_response(parties.sender, parties.recipient, list))
 }
 
-fn many_shown(alloc: Global, octets: &[u8], argument: &[u8]) -> Result<Fields, DecodeError> {
-    let number = number_of(text_of(argument)?)?;
-    shown(alloc, &many(alloc, octets, number)?)
+// The message that a step puts together; None where it does nothing of the kind.
+fn made(alloc: Global, octets: &[u8], step: &Step<'_>) -> Option<Result<Message, DecodeError>> {
+    let argument = &step.argument;
+    match step.call {
+        "made_list" => Some(list(alloc)),
+        "made_list_response" => Some(list_response(alloc, octets, argument)),
+        "made_issue" => Some(issue(alloc, octets)),
+        "made_issue_response" => Some(issue_response(alloc, octets, argument)),
+        "made_revoke" => Some(revoke(alloc, octets)),
+        "made_revoke_response" => Some(revoke_response(alloc, octets)),
+        "made_error" => Some(error(alloc, octets)),
+        "made_spaced" => Some(spaced(alloc)),
+        "made_classes" => Some(many(alloc, octets, argument)),
+        _ => None,
+    }
 }
 
 /// What a call of this module answers; None where the step is none.
@@ -364,18 +356,11 @@ pub fn answer(
     octets: &[u8],
     step: &Step<'_>,
 ) -> Option<Result<Fields, DecodeError>> {
-    let issuer = &step.argument;
-    match step.call {
-        "made_list" => Some(list_shown(alloc)),
-        "made_list_response" => { Some(made_shown(alloc, &list_response(alloc, octets, issuer))) }
-        "made_issue" => Some(made_shown(alloc, &issue(alloc, octets))),
-        "made_issue_response" => { Some(made_shown(alloc, &issue_response(alloc, octets, issuer))) }
-        "made_revoke" => Some(made_shown(alloc, &revoke(alloc, octets))),
-        "made_revoke_response" => Some(made_shown(alloc, &revoke_response(alloc, octets))),
-        "made_error" => Some(made_shown(alloc, &error(alloc, octets))),
-        "made_spaced" => Some(spaced_shown(alloc)),
-        "created_spaced" => Some(spaced_created(alloc, &step.argument)),
-        "made_classes" => Some(many_shown(alloc, octets, &step.argument)),
-        _ => None,
+    if step.call == "created_spaced" {
+        return Some(spaced_created(alloc, &step.argument));
+    }
+    match &made(alloc, octets, step) {
+        Some(made) => Some(made_shown(alloc, made)),
+        None => None,
     }
 }

@@ -56,6 +56,26 @@ fn of_text(alloc: Global, octets: &[u8], step: &Step<'_>) -> Option<Result<Field
     }
 }
 
+// A text that is read by the counted call.
+fn text_counted<L: Ledger>(
+    alloc: Global,
+    octets: &[u8],
+    steps: &mut Steps<L>,
+) -> Result<Fields, DecodeError> {
+    let read = Message::decode_slice_counted(alloc, octets, steps);
+    texts::text(alloc, octets, &read)
+}
+
+// A signed message that is decoded by the counted call.
+fn decoded_counted<L: Ledger>(
+    alloc: Global,
+    octets: &[u8],
+    steps: &mut Steps<L>,
+) -> Result<Fields, DecodeError> {
+    let decoded = ProvisioningCms::decode_counted(alloc, octets, steps);
+    signed::decoded(alloc, &decoded)
+}
+
 struct Provisionings;
 
 impl Calls for Provisionings {
@@ -87,14 +107,8 @@ impl Calls for Provisionings {
     ) -> Option<Result<Fields, DecodeError>> {
         let octets = cursor.here();
         match step.call {
-            "text" => {
-                let read = Message::decode_slice_counted(alloc, octets, steps);
-                Some(texts::text(alloc, octets, &read))
-            }
-            "decoded" => {
-                let decoded = ProvisioningCms::decode_counted(alloc, octets, steps);
-                Some(signed::decoded(alloc, &decoded))
-            }
+            "text" => Some(text_counted(alloc, octets, steps)),
+            "decoded" => Some(decoded_counted(alloc, octets, steps)),
             _ => None,
         }
     }

@@ -1,6 +1,6 @@
 //! Parts of messages by themselves: names of classes, kinds, why nothing was done, limits, errors, and the media type.
 
-use crate::answers::{append_print, append_str, append_truth, refused, text_of};
+use crate::answers::{append_copy, append_print, append_str, append_truth, refused, text_of};
 use crate::lent::{append_set, append_status};
 use rpki_der::DecodeError;
 use rpki_provisioning::CONTENT_TYPE;
@@ -23,17 +23,26 @@ fn order_name(ordering: Ordering) -> &'static str {
     }
 }
 
-// What a name prints, whether a copy is equal, whether another is, and in what order the two are.
+// Appends what a name prints, whether a copy is equal, whether another is, and in what order the two are.
+fn append_names(
+    alloc: Global,
+    fields: &mut Fields,
+    name: &ResourceClassName,
+    other: &ResourceClassName,
+) -> Result<(), DecodeError> {
+    append_print(alloc, fields, name)?;
+    append_copy(fields, name.clone(alloc), name)?;
+    append_truth(fields, name == other)?;
+    append_str(fields, order_name(name.cmp(other)))
+}
+
 fn names_shown(
     alloc: Global,
     name: &ResourceClassName,
     other: &ResourceClassName,
 ) -> Result<Fields, DecodeError> {
     let mut fields = Fields::new(alloc);
-    append_print(alloc, &mut fields, name)?;
-    append_truth(&mut fields, name.clone(alloc)? == *name)?;
-    append_truth(&mut fields, name == other)?;
-    append_str(&mut fields, order_name(name.cmp(other)))?;
+    append_names(alloc, &mut fields, name, other)?;
     Ok(fields)
 }
 
@@ -89,7 +98,7 @@ fn response_of(alloc: Global, status: &str) -> Option<Result<NotPerformedRespons
 fn response_shown(alloc: Global, response: &NotPerformedResponse) -> Result<Fields, DecodeError> {
     let mut fields = Fields::new(alloc);
     append_status(alloc, &mut fields, response)?;
-    append_truth(&mut fields, response.clone(alloc)? == *response)?;
+    append_copy(&mut fields, response.clone(alloc), response)?;
     Ok(fields)
 }
 
@@ -119,8 +128,8 @@ fn three(text: &str) -> Result<(&str, &str, &str), DecodeError> {
     }
 }
 
-// The limit of three texts; nothing is stated by a `-`.
-fn limit_of(alloc: Global, text: &str) -> Result<RequestResourceLimit, DecodeError> {
+/// The limit of three texts; nothing is stated by a `-`.
+pub fn limit_of(alloc: Global, text: &str) -> Result<RequestResourceLimit, DecodeError> {
     let (asn, ipv4, ipv6) = three(text)?;
     let mut limit = RequestResourceLimit::default();
     if asn != "-" {
@@ -135,7 +144,8 @@ fn limit_of(alloc: Global, text: &str) -> Result<RequestResourceLimit, DecodeErr
     Ok(limit)
 }
 
-fn set_of(alloc: Global, text: &str) -> Result<ResourceSet, DecodeError> {
+/// The set of three texts.
+pub fn set_of(alloc: Global, text: &str) -> Result<ResourceSet, DecodeError> {
     let (asn, ipv4, ipv6) = three(text)?;
     let asn = blocks(alloc, asn)?;
     let ipv4 = blocks(alloc, ipv4)?;
@@ -154,20 +164,38 @@ fn append_stated<N: Numbers>(
     }
 }
 
-// What is stated of each kind, what is printed of all, whether it is no limit, and whether a copy and another are equal.
+// Appends what is stated of each kind, and what is printed of all.
+fn append_kinds(
+    alloc: Global,
+    fields: &mut Fields,
+    limit: &RequestResourceLimit,
+) -> Result<(), DecodeError> {
+    append_stated(alloc, fields, limit.asn())?;
+    append_stated(alloc, fields, limit.ipv4())?;
+    append_stated(alloc, fields, limit.ipv6())?;
+    append_print(alloc, fields, limit)
+}
+
+// Appends whether it is no limit, and whether a copy and another are equal.
+fn append_equal(
+    alloc: Global,
+    fields: &mut Fields,
+    limit: &RequestResourceLimit,
+    other: &RequestResourceLimit,
+) -> Result<(), DecodeError> {
+    append_truth(fields, limit.is_empty())?;
+    append_copy(fields, limit.clone(alloc), limit)?;
+    append_truth(fields, limit == other)
+}
+
 fn limits_shown(
     alloc: Global,
     limit: &RequestResourceLimit,
     other: &RequestResourceLimit,
 ) -> Result<Fields, DecodeError> {
     let mut fields = Fields::new(alloc);
-    append_stated(alloc, &mut fields, limit.asn())?;
-    append_stated(alloc, &mut fields, limit.ipv4())?;
-    append_stated(alloc, &mut fields, limit.ipv6())?;
-    append_print(alloc, &mut fields, limit)?;
-    append_truth(&mut fields, limit.is_empty())?;
-    append_truth(&mut fields, limit.clone(alloc)? == *limit)?;
-    append_truth(&mut fields, limit == other)?;
+    append_kinds(alloc, &mut fields, limit)?;
+    append_equal(alloc, &mut fields, limit, other)?;
     Ok(fields)
 }
 
@@ -191,11 +219,20 @@ fn applied_shown(
     }
 }
 
+fn left_shown(
+    alloc: Global,
+    limit: &RequestResourceLimit,
+    set: &ResourceSet,
+) -> Result<Fields, DecodeError> {
+    let left = limit.apply_to(alloc, set);
+    applied_shown(alloc, &left)
+}
+
 // What a limit leaves of a set.
 fn applied(alloc: Global, text: &str, set: &str) -> Result<Fields, DecodeError> {
     let limit = limit_of(alloc, text)?;
     let set = set_of(alloc, set)?;
-    applied_shown(alloc, &limit.apply_to(alloc, &set))
+    left_shown(alloc, &limit, &set)
 }
 
 // ---- errors

@@ -198,8 +198,22 @@ fn believed(
     }
 }
 
-fn decode(alloc: Global, octets: &[u8]) -> Result<ProvisioningCms, Error> {
-    ProvisioningCms::decode(alloc, octets)
+// What is asked of what octets were decoded as; None where the step is none of these.
+fn of_decoded(
+    alloc: Global,
+    cms: &Result<ProvisioningCms, Error>,
+    step: &Step<'_>,
+) -> Option<Result<Fields, DecodeError>> {
+    let argument = &step.argument;
+    match step.call {
+        "decoded" => Some(decoded(alloc, cms)),
+        "signed" => Some(unpacked(alloc, cms)),
+        "message" => Some(message(alloc, cms)),
+        "rewritten" => Some(rewritten(alloc, cms)),
+        "checked" => Some(checked(alloc, cms, argument)),
+        "believed" => Some(believed(alloc, cms, argument)),
+        _ => None,
+    }
 }
 
 /// What a call of this module answers; None where the step is none.
@@ -208,14 +222,6 @@ pub fn answer(
     octets: &[u8],
     step: &Step<'_>,
 ) -> Option<Result<Fields, DecodeError>> {
-    let argument = &step.argument;
-    match step.call {
-        "decoded" => Some(decoded(alloc, &decode(alloc, octets))),
-        "signed" => Some(unpacked(alloc, &decode(alloc, octets))),
-        "message" => Some(message(alloc, &decode(alloc, octets))),
-        "rewritten" => Some(rewritten(alloc, &decode(alloc, octets))),
-        "checked" => Some(checked(alloc, &decode(alloc, octets), argument)),
-        "believed" => Some(believed(alloc, &decode(alloc, octets), argument)),
-        _ => None,
-    }
+    let cms = ProvisioningCms::decode(alloc, octets);
+    of_decoded(alloc, &cms, step)
 }

@@ -21,15 +21,15 @@ fn sink_of(alloc: Global, room: usize, failing: &[u64]) -> Result<MemorySink, De
 
 // ---- writing
 
-fn are_octets(answer: &Result<Bytes, Error>, octets: &[u8]) -> bool {
-    match answer {
+fn is_in_octets(alloc: Global, message: &Message, octets: &[u8]) -> bool {
+    match message.to_xml_bytes(alloc) {
         Ok(own) => own.as_slice() == octets,
         Err(_) => false,
     }
 }
 
-fn is_text(answer: &Result<String, Error>, octets: &[u8]) -> bool {
-    match answer {
+fn is_in_text(alloc: Global, message: &Message, octets: &[u8]) -> bool {
+    match message.to_xml_string(alloc) {
         Ok(own) => own.as_bytes() == octets,
         Err(_) => false,
     }
@@ -52,8 +52,8 @@ fn is_copied(alloc: Global, message: &Message, octets: &[u8]) -> Result<bool, De
 /// Whether each call writes these octets of the message, and so of a copy, which is equal.
 pub fn is_written(alloc: Global, message: &Message, octets: &[u8]) -> Result<bool, DecodeError> {
     Ok(
-        are_octets(&message.to_xml_bytes(alloc), octets)
-            && is_text(&message.to_xml_string(alloc), octets)
+        is_in_octets(alloc, message, octets)
+            && is_in_text(alloc, message, octets)
             && is_sunk(alloc, message, octets)?
             && is_copied(alloc, message, octets)?,
     )
@@ -91,6 +91,16 @@ fn are_alike(
     }
 }
 
+// Whether the source is read alike.
+fn is_read_alike(
+    alloc: Global,
+    source: &mut MemorySource,
+    read: &Result<Message, Error>,
+) -> Result<bool, DecodeError> {
+    let again = Message::decode(alloc, source);
+    are_alike(alloc, &again, read)
+}
+
 /// The message as which octets were read, as it is written, or why they are none; if a source of the octets is read alike.
 pub fn text(
     alloc: Global,
@@ -98,17 +108,22 @@ pub fn text(
     read: &Result<Message, Error>,
 ) -> Result<Fields, DecodeError> {
     let mut source = source_of(alloc, octets, &[])?;
-    if !are_alike(alloc, &Message::decode(alloc, &mut source), read)? {
+    if !is_read_alike(alloc, &mut source, read)? {
         return Err(DecodeError::Malformed);
     }
     read_shown(alloc, read)
+}
+
+fn source_shown(alloc: Global, source: &mut MemorySource) -> Result<Fields, DecodeError> {
+    let read = Message::decode(alloc, source);
+    read_shown(alloc, &read)
 }
 
 /// The message that a source of the octets gives, whose call with the number of the argument fails.
 pub fn read_of(alloc: Global, octets: &[u8], argument: &[u8]) -> Result<Fields, DecodeError> {
     let failing = [number_of(text_of(argument)?)?];
     let mut source = source_of(alloc, octets, &failing)?;
-    read_shown(alloc, &Message::decode(alloc, &mut source))
+    source_shown(alloc, &mut source)
 }
 
 fn sunk_shown(
@@ -124,6 +139,15 @@ fn sunk_shown(
     Ok(fields)
 }
 
+fn sink_shown(
+    alloc: Global,
+    message: &Message,
+    sink: &mut MemorySink,
+) -> Result<Fields, DecodeError> {
+    let answer = message.write_xml(alloc, sink);
+    sunk_shown(alloc, &answer, sink)
+}
+
 // What a sink has got, with room for so many octets, whose call with the number of the argument fails.
 fn sunk_of(
     alloc: Global,
@@ -133,8 +157,7 @@ fn sunk_of(
 ) -> Result<Fields, DecodeError> {
     let failing = [number_of(text_of(argument)?)?];
     let mut sink = sink_of(alloc, room, &failing)?;
-    let answer = message.write_xml(alloc, &mut sink);
-    sunk_shown(alloc, &answer, &sink)
+    sink_shown(alloc, message, &mut sink)
 }
 
 /// What a sink with room for as many octets as these has got of the message, and whether it failed, as its call with the number of the

@@ -1,6 +1,6 @@
 //! Changes of three objects, created as a signed message and received.
 
-use crate::ended::Ended;
+use crate::ended::{Ended, told};
 use crate::signing::{KEY, after_refusal, signer_of};
 use bytes::Bytes;
 use rpki_base::Time;
@@ -30,28 +30,25 @@ pub fn withdraw(alloc: Global) -> Result<Withdraw, Ended> {
     Ok(Withdraw::with_hash_tag(alloc, uri, Hash::from_data(b"d"))?)
 }
 
-// Whether all three are added.
-fn is_filled(
-    delta: &mut PublishDelta,
-    publish: Publish,
-    update: Update,
-    withdraw: Withdraw,
-) -> bool {
-    delta.add_publish(publish).is_ok()
-        && delta.add_update(update).is_ok()
-        && delta.add_withdraw(withdraw).is_ok()
+// How a call ends that adds.
+fn pushed<T: Drop>(answer: Result<(), T>) -> Result<(), Ended> {
+    match answer {
+        Ok(()) => Ok(()),
+        Err(_) => Err(Ended::OutOfMemory),
+    }
+}
+
+fn fill(alloc: Global, delta: &mut PublishDelta) -> Result<(), Ended> {
+    pushed(delta.add_publish(publish(alloc)?))?;
+    pushed(delta.add_update(update(alloc)?))?;
+    pushed(delta.add_withdraw(withdraw(alloc)?))
 }
 
 /// A publish, an update and a withdraw.
 pub fn three(alloc: Global) -> Result<PublishDelta, Ended> {
     let mut delta = PublishDelta::empty(alloc);
-    let publish = publish(alloc)?;
-    let update = update(alloc)?;
-    let withdraw = withdraw(alloc)?;
-    if is_filled(&mut delta, publish, update, withdraw) {
-        return Ok(delta);
-    }
-    Err(Ended::OutOfMemory)
+    fill(alloc, &mut delta)?;
+    Ok(delta)
 }
 
 /// The moment at which all is made.
@@ -62,10 +59,19 @@ pub fn moment() -> Result<Time, Ended> {
     }
 }
 
+fn octets_of(alloc: Global, cms: &PublicationCms) -> Result<Bytes, Ended> {
+    Ok(cms.to_bytes(alloc)?)
+}
+
 // The octets of what is created.
-fn created(alloc: Global, message: Message, signer: &mut ToySigner) -> Result<Bytes, Ended> {
-    match PublicationCms::create::<ToyScheme, ToySigner>(alloc, message, moment()?, &KEY, signer) {
-        Ok(cms) => Ok(cms.to_bytes(alloc)?),
+fn created(
+    alloc: Global,
+    message: Message,
+    now: Time,
+    signer: &mut ToySigner,
+) -> Result<Bytes, Ended> {
+    match PublicationCms::create::<ToyScheme, ToySigner>(alloc, message, now, &KEY, signer) {
+        Ok(cms) => octets_of(alloc, &cms),
         Err(error) => Err(after_refusal(alloc, Ended::from(error), signer)),
     }
 }
@@ -80,13 +86,24 @@ fn received(alloc: Global, octets: &[u8]) -> Result<Message, Ended> {
     }
 }
 
+fn sent(alloc: Global, message: &Message) -> Result<Bytes, Ended> {
+    let now = moment()?;
+    let mut signer = signer_of(alloc)?;
+    created(alloc, message.clone(alloc)?, now, &mut signer)
+}
+
+fn is_received(alloc: Global, octets: &[u8], message: &Message) -> Result<bool, Ended> {
+    Ok(received(alloc, octets)? == *message)
+}
+
+// Whether the message that is created of this one is received as it.
+fn is_exchanged(alloc: Global, message: &Message) -> Result<bool, Ended> {
+    let octets = sent(alloc, message)?;
+    is_received(alloc, octets.as_slice(), message)
+}
+
 /// Creates the message and receives it.
 pub fn exchanged(alloc: Global) -> Result<(), Ended> {
     let message = Message::delta(three(alloc)?);
-    let mut signer = signer_of(alloc)?;
-    let octets = created(alloc, message.clone(alloc)?, &mut signer)?;
-    if received(alloc, octets.as_slice())? == message {
-        return Ok(());
-    }
-    Err(Ended::Wrong)
+    told(is_exchanged(alloc, &message))
 }

@@ -29,6 +29,36 @@ pub fn refused(is_as_before: bool) -> Ended {
     }
 }
 
+/// How a case ends by an answer that says whether all is as it has to be.
+pub fn told(answer: Result<bool, Ended>) -> Result<(), Ended> {
+    match answer {
+        Ok(true) => Ok(()),
+        Ok(false) => Err(Ended::Wrong),
+        Err(ended) => Err(ended),
+    }
+}
+
+/// The answer, or how a case ends where it comes with what was given: that has to equal this copy.
+pub fn given_back<T: Drop, E: PartialEq + Drop>(answer: Result<T, E>, copy: E) -> Result<T, Ended> {
+    match answer {
+        Ok(value) => Ok(value),
+        Err(back) => Err(refused(back == copy)),
+    }
+}
+
+/// How a call ends that adds to a list: where the item comes back, it has to equal this copy, and the list what it was before.
+pub fn added<L: PartialEq + Drop, T: PartialEq + Drop>(
+    answer: Result<(), T>,
+    copy: T,
+    list: &L,
+    before: L,
+) -> Result<(), Ended> {
+    match answer {
+        Ok(()) => Ok(()),
+        Err(back) => Err(refused(back == copy && *list == before)),
+    }
+}
+
 impl From<AllocError> for Ended {
     fn from(_: AllocError) -> Ended {
         Ended::OutOfMemory

@@ -1,6 +1,6 @@
 //! Words and a cursor: what stands in them where memory is refused.
 
-use crate::ended::{Ended, refused};
+use crate::ended::{Ended, refused, told};
 use crate::writers::nested;
 use rpki_ca::Words;
 use rpki_der::{Cursor, DecodeError, Mode, Tag, take_octets};
@@ -96,23 +96,35 @@ fn leave(cursor: &mut Cursor<'_>) -> Result<(), Ended> {
     answered(cursor, before, answer)
 }
 
+fn enter_all(cursor: &mut Cursor<'_>) -> Result<(), Ended> {
+    for _ in 0..40 {
+        enter(cursor, Tag::SEQUENCE)?;
+    }
+    Ok(())
+}
+
+fn leave_all(cursor: &mut Cursor<'_>) -> Result<(), Ended> {
+    for _ in 0..40 {
+        leave(cursor)?;
+    }
+    Ok(())
+}
+
+// Whether 40 octets stand in so many levels, and nothing behind them.
+fn is_passed(alloc: Global, cursor: &mut Cursor<'_>) -> Result<bool, Ended> {
+    enter_all(cursor)?;
+    if octets(alloc, cursor)?.len() != 40 {
+        return Ok(false);
+    }
+    leave_all(cursor)?;
+    Ok(cursor.end())
+}
+
 /// Goes into nested values, takes octets in segments there, and goes out again.
 pub fn levels(alloc: Global) -> Result<(), Ended> {
     let writer = nested(alloc, 40)?;
     let mut cursor = Cursor::new(alloc, Mode::Ber, writer.as_slice());
-    for _ in 0..40 {
-        enter(&mut cursor, Tag::SEQUENCE)?;
-    }
-    if octets(alloc, &mut cursor)?.len() != 40 {
-        return Err(Ended::Wrong);
-    }
-    for _ in 0..40 {
-        leave(&mut cursor)?;
-    }
-    if cursor.end() {
-        return Ok(());
-    }
-    Err(Ended::Wrong)
+    told(is_passed(alloc, &mut cursor))
 }
 
 // A string of two segments, of which the first is in segments itself.

@@ -1,6 +1,6 @@
 //! An authority's request, constructed and decoded.
 
-use crate::ended::Ended;
+use crate::ended::{Ended, told};
 use crate::signing::{KEY, after_refusal, signer_of};
 use rpki_cert::{RpkiCaCsr, construct_rpki_ca};
 use rpki_der::Captured;
@@ -49,15 +49,29 @@ fn is_for(request: &RpkiCaCsr, slashed: &Rsync, places: &Places) -> bool {
         && request.rpki_notify() == Some(&places.notify)
 }
 
+fn octets_for(alloc: Global, places: &Places) -> Result<Captured, Ended> {
+    let mut signer = signer_of(alloc)?;
+    constructed(alloc, places, &mut signer)
+}
+
+// Lets a value go, whose parts are not spelled out where this is called.
+fn let_go<T: Drop>(_: T) {}
+
+// Whether the octets are decoded to a request for these places.
+fn is_decoded(alloc: Global, octets: &[u8], places: &Places) -> Result<bool, Ended> {
+    let slashed = Rsync::from_str(alloc, "rsync://localhost/repo/x/")?;
+    let decoded = RpkiCaCsr::decode(alloc, octets);
+    let answer = match &decoded {
+        Ok(request) => Ok(is_for(request, &slashed, places)),
+        Err(error) => Err(Ended::from(*error)),
+    };
+    let_go(decoded);
+    answer
+}
+
 /// Constructs the request and decodes it.
 pub fn exchanged(alloc: Global) -> Result<(), Ended> {
     let places = places_of(alloc)?;
-    let slashed = Rsync::from_str(alloc, "rsync://localhost/repo/x/")?;
-    let mut signer = signer_of(alloc)?;
-    let captured = constructed(alloc, &places, &mut signer)?;
-    let request = RpkiCaCsr::decode(alloc, captured.as_slice())?;
-    if is_for(&request, &slashed, &places) {
-        return Ok(());
-    }
-    Err(Ended::Wrong)
+    let captured = octets_for(alloc, &places)?;
+    told(is_decoded(alloc, captured.as_slice(), &places))
 }

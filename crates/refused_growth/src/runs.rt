@@ -62,18 +62,36 @@ fn status_of(
     if is_uncounted { Some(status) } else { None }
 }
 
+fn answered(
+    alloc: Global,
+    words: &Words,
+    source: &mut MemorySource,
+    sink: &mut MemorySink,
+) -> Result<Option<u8>, Ended> {
+    let mut signer = signer_of(alloc)?;
+    Ok(status_of(alloc, words, source, sink, &mut signer))
+}
+
+// How a run ends that wrote this, and has to write that line.
+fn ended(status: Option<u8>, written: &[u8], line: &[u8]) -> Result<(), Ended> {
+    if status == Some(0) && written == line {
+        return Ok(());
+    }
+    if status == Some(12) && written == b"OutOfMemory\n".as_slice() {
+        return Err(Ended::OutOfMemory);
+    }
+    Err(Ended::Wrong)
+}
+
+fn ran_from(alloc: Global, asked: &Asked, source: &mut MemorySource) -> Result<(), Ended> {
+    let mut sink = MemorySink::new(alloc, 1 << 16, 1000, &[])?;
+    let status = answered(alloc, &asked.words, source, &mut sink)?;
+    ended(status, sink.written(), &asked.line)
+}
+
 /// Runs the command of the line `NAME run INPUT LINE WORD..`, which has to write LINE, or the line of want of memory.
 pub fn ran(alloc: Global, line: &str) -> Result<(), Ended> {
     let asked = asked_of(alloc, line)?;
     let mut source = MemorySource::new(alloc, &asked.input, 1000, &[])?;
-    let mut sink = MemorySink::new(alloc, 1 << 16, 1000, &[])?;
-    let mut signer = signer_of(alloc)?;
-    let status = status_of(alloc, &asked.words, &mut source, &mut sink, &mut signer);
-    if status == Some(0) && sink.written() == asked.line.as_slice() {
-        return Ok(());
-    }
-    if status == Some(12) && sink.written() == b"OutOfMemory\n".as_slice() {
-        return Err(Ended::OutOfMemory);
-    }
-    Err(Ended::Wrong)
+    ran_from(alloc, &asked, &mut source)
 }

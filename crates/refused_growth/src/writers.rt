@@ -49,15 +49,25 @@ fn constructed(alloc: Global, writer: &mut Writer, inner: &Writer) -> Result<(),
     }
 }
 
+// Writes a value of each form.
+fn write_values(alloc: Global, writer: &mut Writer, inner: &Writer) -> Result<(), Ended> {
+    primitive(alloc, writer)?;
+    raw(alloc, writer)?;
+    constructed(alloc, writer, inner)
+}
+
+fn written(alloc: Global, inner: &Writer) -> Result<Writer, Ended> {
+    let mut writer = Writer::new(alloc);
+    for _ in 0..6 {
+        write_values(alloc, &mut writer, inner)?;
+    }
+    Ok(writer)
+}
+
 /// Writes values of each form.
 pub fn values(alloc: Global) -> Result<(), Ended> {
     let inner = nested(alloc, 3)?;
-    let mut writer = Writer::new(alloc);
-    for _ in 0..6 {
-        primitive(alloc, &mut writer)?;
-        raw(alloc, &mut writer)?;
-        constructed(alloc, &mut writer, &inner)?;
-    }
+    let writer = written(alloc, &inner)?;
     // 42 octets of a value, 40 as they are, and 50 of four levels.
     if writer.into_captured()?.as_slice().len() == 6 * 132 {
         return Ok(());
@@ -118,11 +128,16 @@ impl Persistent {
     }
 }
 
-fn write(writer: &mut Persistent) -> Result<(), OutOfMemory> {
+// The start of the outer element.
+fn start(writer: &mut Persistent) -> Result<(), OutOfMemory> {
     writer.element("a")?;
     writer.attr("b", "\"")?;
     writer.attr_opt("c", Some("1"))?;
-    writer.attr_opt("d", None)?;
+    writer.attr_opt("d", None)
+}
+
+fn write(writer: &mut Persistent) -> Result<(), OutOfMemory> {
+    start(writer)?;
     writer.text("x < y")?;
     writer.element("d")?;
     writer.close()?;
