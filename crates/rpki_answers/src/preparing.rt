@@ -5,22 +5,16 @@ ghost use Rattle.rpki_der.specs.declared.mode.Mode.{Mode};
 ghost use Rattle.rpki_der.specs.Takes.{BeginsAs};
 ghost use Rattle.rpki_sigmsg.specs.Message.{signed_message};
 ghost use Rattle.rpki_sigmsg.specs.Spelling.{CanBeSpelled, rewritten};
-ghost use Rattle.rpki_signer.specs.Limits.{IsShort};
 ghost use Rattle.rpki_answers.specs.Making as spec;
 ghost use Rattle.rpki_answers.specs.declared.preparing.PrepareError.TheVariants as variant;
 
 use bytes::Bytes;
 use rpki_base::{PublicKey, PublicKeyFormat, RpkiSignatureAlgorithm, Serial, Signature, Time};
 use rpki_common::OutOfMemory;
-use rpki_sigmsg::{SignedMessage, UnsignedMessage, Window};
+use rpki_sigmsg::{SignedMessage, UnsignedMessage, Window, content_is_within_limit};
+use rpki_signer::is_within_limit;
 use std::alloc::Global;
 use thiserror::Error;
-
-/// The most octets that a content may have.
-const CONTENT_LIMIT: usize = 1 << 31;
-
-/// The most octets that the bits of a key or a signature may have.
-const LIMIT: usize = 1 << 16;
 
 /// When a message is made, and with which keys.
 #[derive(Drop)]
@@ -74,20 +68,14 @@ impl From<OutOfMemory> for PrepareError {
     }
 }
 
-fn is_short(octets: &[u8]) -> bool
-    ensures { Decides result (IsShort octets.now) }
-{
-    octets.len() <= LIMIT
-}
-
 impl Plan {
     // Whether content and keys are within their limits.
     fn is_within_limits(&self, content: &[u8]) -> bool
         ensures { Decides result (spec.AreWithinLimits content.now self.now) }
     {
-        content.len() <= CONTENT_LIMIT
-            && is_short(self.issuing_key.bits_bytes().as_slice())
-            && is_short(self.key.bits_bytes().as_slice())
+        content_is_within_limit(content)
+            && is_within_limit(self.issuing_key.bits_bytes().as_slice())
+            && is_within_limit(self.key.bits_bytes().as_slice())
     }
 
     // Whether both keys are RSA keys.
@@ -111,9 +99,9 @@ impl Signatures {
     fn is_short(&self) -> bool
         ensures { Decides result (spec.AreShort self.now) }
     {
-        is_short(self.attributes.as_slice())
-            && is_short(self.crl.as_slice())
-            && is_short(self.certificate.as_slice())
+        is_within_limit(self.attributes.as_slice())
+            && is_within_limit(self.crl.as_slice())
+            && is_within_limit(self.certificate.as_slice())
     }
 }
 

@@ -14,9 +14,10 @@
 //! - `make COUNT SEED` reads nothing: it makes a query with so many elements, creates and receives
 //!   it, and writes how many there are of each kind and the digest of the signed message.
 //!
-//! For programs that answer line by line it has [`Lines`], into which [`read_input`] input is cut, the
-//! words of a line, the [`messages_in`] lines, [`hexadecimal_line`], and [`finish_lines`], which says
-//! why such a program ends.
+//! Programs that answer line by line have the same parts: [`read_input`] reads the input, [`Lines`]
+//! are the lines of it, [`split_word`] takes a word off a line, [`messages_in`] gives the octets that
+//! lines spell, and [`hexadecimal_line`] the line that spells octets. [`finish_lines`] ends such a
+//! program, and writes why where not every line was answered.
 //!
 //! What is accepted stands in specs/Acceptance.antt, what is created in specs/Creation.antt, what is
 //! made in specs/Summary.antt, and what is answered to words and input in specs/Answer.antt.

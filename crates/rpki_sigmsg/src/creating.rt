@@ -1,6 +1,6 @@
 //! Creating signed messages.
 
-ghost use Rattle.std.specs.Prelude.{◌≡◌, ◌++◌, ◌≤ℤ◌, ◌↔◌, ◌<◌, ◌≤◌, ◌^◌, ◌+ℤ◌, ◌-ℤ◌, ℕ, ℤ, List, pos, length, Decides, IsTrue, IsOk, IfOk, OnOk, IsErrOf, MatchResult};
+ghost use Rattle.std.specs.Prelude.{◌≡◌, ◌++◌, ◌≤ℤ◌, ◌<◌, ◌≤◌, ◌^◌, ◌+ℤ◌, ◌-ℤ◌, ℕ, ℤ, List, pos, length, Decides, IsOk, IfOk, OnOk, IsErrOf, MatchResult};
 ghost use Rattle.rpki_der.specs.declared.mode.Mode.{Mode};
 ghost use Rattle.rpki_der.specs.Takes.{BeginsAs};
 ghost use Rattle.rpki_base.specs.Civil.{IsMoment};
@@ -28,10 +28,11 @@ use std::alloc::Global;
 /// The most octets that a content may have.
 const CONTENT_LIMIT: usize = 1 << 31;
 
-fn is_too_long(content: &[u8]) -> bool
-    ensures { IsTrue result ↔ (2 ^ 31 < length content.now) }
+/// Whether a content is not too long for a signed message that is made: at most 2^31 octets.
+pub fn content_is_within_limit(content: &[u8]) -> bool
+    ensures within { Decides result (length content.now ≤ 2 ^ 31) }
 {
-    content.len() > CONTENT_LIMIT
+    content.len() <= CONTENT_LIMIT
 }
 
 fn is_same(a: &PublicKey, b: &PublicKey) -> bool
@@ -167,7 +168,7 @@ impl SignedMessage {
         let Some(window) = Window::new(now) else {
             return Err(CreateError::Moment);
         };
-        if is_too_long(content.as_slice()) {
+        if !content_is_within_limit(content.as_slice()) {
             return Err(CreateError::TooLong);
         }
         are_moments(window);

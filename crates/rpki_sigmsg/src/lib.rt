@@ -31,6 +31,7 @@ mod validation;
 mod window;
 
 pub use create_error::CreateError;
+pub use creating::content_is_within_limit;
 pub use crl::SignedMessageCrl;
 pub use law::{
     parts_stand_in_turn, rewritten_messages_are_read, strict_messages_are_loose,

@@ -17,7 +17,7 @@ mod toy_signer;
 
 pub use any::{AnyScheme, AnyVerifier};
 pub use errors::{CallError, KeyError, MakeError, SigningError};
-pub use limits::{key_within_limit, sign_once_within_limit, sign_within_limit};
+pub use limits::{is_within_limit, key_within_limit, sign_once_within_limit, sign_within_limit};
 pub use long_signer::LongSigner;
 pub use serials::random_serial;
 pub use signer::Signer;

@@ -1,6 +1,6 @@
 //! Keys and signatures of a signer that are not too long.
 
-ghost use Rattle.std.specs.Prelude.{◌≡◌, ◌↔◌, ◌<◌, ◌^◌, length, IsTrue, IfOk, MatchResult};
+ghost use Rattle.std.specs.Prelude.{◌≡◌, ◌<◌, ◌^◌, length, Decides, IfOk, MatchResult};
 ghost use Rattle.rpki_signer.specs.Signer.{AreDistinct, Stays};
 ghost use Rattle.rpki_signer.specs.Limits.{IsShort, IsShortKey, IsShortSignature, IsShortOneOff, Keeps, MakeFails, OnceFails, default_algorithm};
 
@@ -14,8 +14,9 @@ use std::alloc::Global;
 /// The most octets that the bits of a signer's key or one of its signatures may have.
 pub(crate) const LIMIT: usize = 1 << 16;
 
-fn is_short(octets: &[u8]) -> bool
-    ensures { IsTrue result ↔ IsShort octets.now }
+/// Whether the bits of a key or of a signature are not too long: at most 2^16 octets.
+pub fn is_within_limit(octets: &[u8]) -> bool
+    ensures within { Decides result (IsShort octets.now) }
 {
     octets.len() <= LIMIT
 }
@@ -33,7 +34,7 @@ pub fn key_within_limit<P: Scheme, S: Signer<P>>(
     ensures distinct { AreDistinct (S.state signer.new).keyring }
 {
     let key = signer.get_key_info(alloc, id)?;
-    if !is_short(key.bits_bytes().as_slice()) {
+    if !is_within_limit(key.bits_bytes().as_slice()) {
         return Err(MakeError::TooLong);
     }
     Ok(key)
@@ -55,7 +56,7 @@ pub fn sign_within_limit<P: Scheme, S: Signer<P>>(
     ensures distinct { AreDistinct (S.state signer.new).keyring }
 {
     let signature = signer.sign(alloc, id, RpkiSignatureAlgorithm::default(), message)?;
-    if !is_short(signature.value().as_slice()) {
+    if !is_within_limit(signature.value().as_slice()) {
         return Err(MakeError::TooLong);
     }
     Ok(signature)
@@ -77,7 +78,9 @@ pub fn sign_once_within_limit<P: Scheme, S: Signer<P>>(
 {
     let algorithm = RpkiSignatureAlgorithm::default();
     let (signature, key) = signer.sign_one_off(alloc, algorithm, message)?;
-    if !is_short(signature.value().as_slice()) || !is_short(key.bits_bytes().as_slice()) {
+    if !is_within_limit(signature.value().as_slice())
+        || !is_within_limit(key.bits_bytes().as_slice())
+    {
         return Err(MakeError::TooLong);
     }
     Ok((signature, key))

@@ -25,10 +25,10 @@ IsWhole source nodes = slots source (drop 1 nodes) ≡ flat (alone (root_of sour
 
 -- the same, of a document in memory
 abbrev pub root_in : Document → Element
-root_in d = root_of d.source.items d.nodes.items
+root_in d = root_of d.source.now d.nodes.items
 
 abbrev pub IsWholeIn : Document → Type 0
-IsWholeIn d = IsWhole d.source.items d.nodes.items
+IsWholeIn d = IsWhole d.source.now d.nodes.items
 
 -- the element of a document whose pieces were all read
 unfoldable pub root_element : List Open → Option Element

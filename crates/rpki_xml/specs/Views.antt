@@ -16,18 +16,21 @@ use Rattle.rpki_xml.specs.Nodes.{Slot}
 abbrev pub text_in : List ℕ → Rest → List ℕ
 text_in source (rest.Plain start end) = part_of start end source
 text_in source (rest.Own octets) = octets.value.items
+text_in source (rest.Bare attributes) = []
 text_in source (rest.Attributed more) = text_of source more.value.text
 text_in source (rest.Namespaced more) = text_of source more.value.text
 
 abbrev pub namespace_in : List ℕ → Rest → Option (List ℕ)
 namespace_in source (rest.Plain start end) = None
 namespace_in source (rest.Own octets) = None
+namespace_in source (rest.Bare attributes) = None
 namespace_in source (rest.Attributed more) = None
 namespace_in source (rest.Namespaced more) = Some (text_of source more.value.namespace)
 
 abbrev pub attributes_in : List ℕ → Rest → List Attribute
 attributes_in source (rest.Plain start end) = []
 attributes_in source (rest.Own octets) = []
+attributes_in source (rest.Bare attributes) = attributes_of source attributes.value.items
 attributes_in source (rest.Attributed more) = attributes_of source more.value.attributes.items
 attributes_in source (rest.Namespaced more) = attributes_of source more.value.attributes.items
 

@@ -27,23 +27,23 @@ use std::alloc::Global;
 use std::marker::Model;
 use std::rc::Rc;
 
-/// The element of a document. Its copies share their memory. In a clause it is a record of its head, which has name,
-/// namespace, attributes and text, and of its children.
+/// The element of a document whose octets are lent. Its copies share their memory. In a clause it is a record of its head,
+/// which has name, namespace, attributes and text, and of its children.
 #[derive(Drop)]
-pub struct Element {
-    document: Rc<Document>,
+pub struct Element<'a> {
+    document: Rc<Document<'a>>,
 }
 
 // A document that was read.
 #[derive(Drop)]
-struct Document {
+struct Document<'a> {
     // Its octets, in which the nodes have their places.
-    source: Vec<u8>,
+    source: &'a [u8],
     // A node for the document itself, and the elements in the order of their starts.
     nodes: Vec<Node>,
 }
 
-impl Model for Element {
+impl<'a> Model for Element<'a> {
     ghost use Rattle.rpki_xml.specs.Element.{Element as Tree, alone};
     ghost use Rattle.rpki_xml.specs.Lettered.{AreLettered};
     ghost use Rattle.rpki_xml.specs.Nodes.{element_code};
@@ -60,7 +60,7 @@ impl Model for Element {
 }
 
 /// Reads a document: the element that the octets are a document of. Malformed exactly where they are no document.
-pub fn read_document(alloc: Global, octets: &[u8]) -> Result<Element, XmlError>
+pub fn read_document(alloc: Global, octets: &[u8]) -> Result<Element<'_>, XmlError>
     ensures { MatchResult result (IsDocument octets.now) (λ e. IsRefused e octets.now) }
 {
     if !are_octets(octets) {
@@ -73,15 +73,17 @@ pub fn read_document(alloc: Global, octets: &[u8]) -> Result<Element, XmlError>
 }
 
 // The document, with its nodes.
-fn document_of(alloc: Global, octets: &[u8]) -> Result<Document, XmlError>
+fn document_of(alloc: Global, octets: &[u8]) -> Result<Document<'_>, XmlError>
     requires { list_all is_octet octets.now ≡ true }
     ensures value { MatchResult result (λ d. IsDocument octets.now (root_in d))
         (λ e. IsRefused e octets.now) }
     ensures whole { IfOk result IsWholeIn }
 {
-    let source = Vec::from_slice(alloc, octets)?;
     let nodes = nodes_of(alloc, octets)?;
-    Ok(Document { source, nodes })
+    Ok(Document {
+        source: octets,
+        nodes,
+    })
 }
 
 // The nodes of a document.
@@ -199,7 +201,7 @@ fn is_one(source: &[u8], nodes: &[Node]) -> bool
     }
 }
 
-impl Element {
+impl<'a> Element<'a> {
     /// The element, lent.
     pub fn as_ref(&self) -> ElementRef<'_>
         ensures { result ≡ self.now }
@@ -208,7 +210,7 @@ impl Element {
         let Some((_, below)) = document.nodes.split_first() else {
             unreachable!()
         };
-        let mut children = Children::over(document.source.as_slice(), below);
+        let mut children = Children::over(document.source, below);
         let Some(root) = children.next() else {
             unreachable!()
         };
@@ -216,7 +218,7 @@ impl Element {
     }
 
     /// An equal element that shares its memory with this one.
-    pub fn clone(&self, _alloc: Global) -> Result<Element, OutOfMemory>
+    pub fn clone(&self, _alloc: Global) -> Result<Element<'a>, OutOfMemory>
         ensures { IfOk result (λ e. e ≡ self.now) }
     {
         Ok(Element {

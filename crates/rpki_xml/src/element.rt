@@ -90,6 +90,8 @@ pub(crate) enum Rest {
     Plain { start: u32, end: u32 },
     /// A text of its own, and nothing else.
     Own(Box<Vec<u8>>),
+    /// Attributes, and nothing else.
+    Bare(Box<Vec<Named>>),
     /// A text and attributes, and no namespace.
     Attributed(Box<Attributed>),
     /// A text, a namespace and attributes.
@@ -119,6 +121,7 @@ impl Rest {
         match self {
             Rest::Plain { start, end } => part_of(source, *start, *end),
             Rest::Own(octets) => octets.as_slice(),
+            Rest::Bare(_) => &[],
             Rest::Attributed(more) => more.text.octets(source),
             Rest::Namespaced(more) => more.text.octets(source),
         }
@@ -132,6 +135,7 @@ impl Rest {
         match self {
             Rest::Plain { start: _, end: _ } => None,
             Rest::Own(_) => None,
+            Rest::Bare(_) => None,
             Rest::Attributed(_) => None,
             Rest::Namespaced(more) => Some(&more.namespace),
         }
@@ -145,6 +149,7 @@ impl Rest {
         match self {
             Rest::Plain { start: _, end: _ } => &[],
             Rest::Own(_) => &[],
+            Rest::Bare(attributes) => attributes.as_slice(),
             Rest::Attributed(more) => more.attributes.as_slice(),
             Rest::Namespaced(more) => more.attributes.as_slice(),
         }
@@ -182,12 +187,15 @@ fn rest_without_namespace(
     ensures { (source : List ℕ)
         → Gives (Some (parts_of source text None attributes.items)) (parts_in source) result }
 {
-    if !attributes.is_empty() {
-        return Ok(Rest::Attributed(Box::new(alloc, Attributed { text, attributes })?));
+    if attributes.is_empty() {
+        return match text {
+            Text::At { start, end } => Ok(Rest::Plain { start, end }),
+            Text::Own(octets) => Ok(Rest::Own(octets)),
+        };
     }
     match text {
-        Text::At { start, end } => Ok(Rest::Plain { start, end }),
-        Text::Own(octets) => Ok(Rest::Own(octets)),
+        Text::At { start: 0, end: 0 } => Ok(Rest::Bare(Box::new(alloc, attributes)?)),
+        _ => Ok(Rest::Attributed(Box::new(alloc, Attributed { text, attributes })?)),
     }
 }
 
@@ -199,6 +207,11 @@ pub(crate) fn taken_apart(alloc: Global, rest: Rest) -> (Text, Option<Text>, Vec
     match rest {
         Rest::Plain { start, end } => (Text::At { start, end }, None, Vec::new(alloc)),
         Rest::Own(octets) => (Text::Own(octets), None, Vec::new(alloc)),
+        Rest::Bare(attributes) => (
+            Text::At { start: 0, end: 0 },
+            None,
+            Box::into_inner(attributes),
+        ),
         Rest::Attributed(more) => {
             let Attributed { text, attributes } = Box::into_inner(more);
             (text, None, attributes)
