@@ -19,11 +19,13 @@ A line is `NAME MODE OCTETS STEP..`, with the steps of tools/stored.py; MODE is 
     validity,.. named,..
         whether the moment is in the validity; ok where the key is named as the issuer's, else 7
     crl whole_crl
-        the fields of tbs_crl; the signed octets and the signature
+        the fields of tbs_crl; the signed octets, the signature, and the CRL as it is written
     tbs_crl whole_tbs_crl
-        issuer, first and last second, the octets of the list's entries, the authority's key identifier, the number
+        issuer, first and last second, the octets of the list's entries, the authority's key identifier, the number; what is written
     list whole_list
-        the octets of the entries, and the number and second of each; whole_entry: those of one entry
+        of a copy the octets of the entries, what is written, and the number and second of each
+    entry whole_entry
+        the number and second of one entry, and what is written, without extensions
     lists,'NUMBER last_entry,ENTRY
         whether the list has the number, and whether an empty one has it; whether this is the last entry
     crl_check,FORMAT MOMENT
@@ -31,6 +33,16 @@ A line is `NAME MODE OCTETS STEP..`, with the steps of tools/stored.py; MODE is 
     made_anchor,'0/FIRST/LAST made_entity,'NUMBER/FIRST/LAST
         what is written of the certificate that the toy signer of seed 1 makes with its key number 0, of itself or of the key with this
         number, whatever the octets are
+    unsigned,'NUMBER/FIRST/LAST to_be_signed,.. with_signature,..
+        the fields of tbs of what is to be signed with serial number 7 under key number 0; these octets; the certificate whose signature
+        the octets are
+    write_extension,IDENTIFIER write_critical,IDENTIFIER write_authority,KEY
+        the extension that holds the octets; the octets, and behind them authorityKeyIdentifier where a key is named
+    data_signed,'SEED/NUMBER/MOMENT
+        as signed, of the signed data
+    toy_signer,'FAILING/CALL/CALL.. long_signer,'COUNT/CALL/CALL..
+        what the calls of a signer of seed 1 answer: numbers, keys as they are written, signatures and octets, or the text of the refusal;
+        and at the end how many calls failed, or how many signatures were too long
     toy_signature,NUMBER toy_holds,KIND FORMAT NUMBER SIGNATURE
         the bits of the key with this number and its signature of the octets; whether a signature holds under a key of this format
 """
@@ -353,7 +365,7 @@ def each_line(label, broken, moment=NOW, number=0, **options):
     holds = [check not in broken for check in END_ENTITY]
     argument = asked(moment, number)
     return line(f"each-{label}", "both", certificate(options_of(**options)), step("each", *holds, argument=argument),
-        step("signed", holds[4], argument=argument))
+        step("signed", holds[4], argument=argument), step("data_signed", holds[4], argument=argument))
 
 
 def each_cases():
@@ -370,7 +382,8 @@ def each_cases():
     yield each_line("under-another-key-unnamed", (5,), number=9)
     yield each_line("under-its-own-key", (3, 5), number=1, **good)
     cut = certificate(options_of())[:-1]
-    yield line("each-of-none", "both", cut, *[step(call, MALFORMED, argument=asked()) for call in ("each", "signed")])
+    yield line("each-of-none", "both", cut, *[step(call, MALFORMED, argument=asked()) for call in ("each", "signed",
+        "data_signed")])
 
 
 def check_cases():
@@ -486,10 +499,11 @@ def of_cryptography():
 # ---- CRLs
 
 
-def crl_of(issuer=seq(), extensions=(), outer=ALGORITHM):
-    """A CRL without a list, whose signature is an octet of zero bits."""
-    tbs = seq(integer(1), ALGORITHM, issuer, time(FIRST), time(LAST), value(0xA0, seq(*extensions)))
-    return seq(tbs, outer, bits(b"\0"))
+def crl_of(issuer=seq(), extensions=(), outer=ALGORITHM, inner=ALGORITHM, entries=b"", signature=b"\0"):
+    """A CRL, with a list where there are entries, whose signature is an octet of zero bits unless another is given."""
+    listed = seq(entries) if entries else b""
+    tbs = seq(integer(1), inner, issuer, time(FIRST), time(LAST), listed, value(0xA0, seq(*extensions)))
+    return seq(tbs, outer, bits(signature))
 
 
 OWN_AUTHORITY = authority_key(value(0x80, key_identifier(1, 0)))
@@ -510,22 +524,63 @@ OPENSSL_AUTHORITY = bytes.fromhex("4820274d74f3d34eff7a40c3f9f495b701200b63")
 FIRST_ENTRY, LAST_ENTRY = (1, 1699999800), (0x10203, 1699999860)
 
 
-def crl_fields(octets, issuer=seq(), listed=b"", authority=b"", number=None):
-    """The fields of the CRL that the octets are, whose signed part and signature stand where their lengths say."""
+def written_crl_part(issuer, listed, authority, number, inner):
+    """What is written of what is signed: the fields, with a list in any case."""
+    extensions = [authority_key(value(0x80, authority))] if authority else []
+    if number is not None:
+        extensions.append(extension(oid("2.5.29.20"), integer(number)))
+    return seq(integer(1), inner, issuer, time(FIRST), time(LAST), seq(listed), value(0xA0, seq(*extensions)))
+
+
+def crl_fields(octets, issuer=seq(), listed=b"", authority=b"", number=None, inner=ALGORITHM, outer=ALGORITHM, signature=None):
+    """The fields of the CRL that the octets are, whose signed part and signature stand where their lengths say. The signature has one
+    octet or 128, unless it is given."""
+    written = written_crl_part(issuer, listed, authority, number, inner)
     at = 2 + (octets[1] & 127 if octets[1] > 127 else 0)
     size = int.from_bytes(octets[at + 2:at + 2 + (octets[at + 1] & 127)], "big") + (octets[at + 1] & 127) if octets[
         at + 1] > 127 else octets[at + 1]
     signed = octets[at:at + 2 + size]
-    signature = octets[-1:] if octets[-4:-2] == b"\3\2" else octets[-128:]
+    if signature is None:
+        signature = octets[-1:] if octets[-4:-2] == b"\3\2" else octets[-128:]
     number = b"" if number is None else number.to_bytes(20, "big")
-    return issuer, FIRST, LAST, listed, authority, number, signed, signature
+    return issuer, FIRST, LAST, listed, authority, number, written, signed, signature, seq(signed, outer, bits(signature))
 
 
 def crl_lines(label, octets, **fields):
     shown = crl_fields(octets, **fields)
     yield line(label, "both", octets, step("whole_crl", *shown), step("crl", *shown), step("capture", MALFORMED))
-    yield line(f"{label}-signed", "both", shown[6] + NULL, step("whole_tbs_crl", MALFORMED), step("tbs_crl", *shown[:6]),
+    yield line(f"{label}-signed", "both", shown[7] + NULL, step("whole_tbs_crl", MALFORMED), step("tbs_crl", *shown[:7]),
         step("capture", NULL))
+
+
+def entry(number, *behind):
+    """An entry of the first second."""
+    return seq(integer(number), time(FIRST), *behind)
+
+
+def list_lines(label, *entries, behind=()):
+    """A list of these numbers, with this behind each date, and its first entry."""
+    spelled = [entry(number, *behind) for number in entries]
+    shown = b"".join(spelled), seq(*spelled), *(part for number in entries for part in (number.to_bytes(20, "big"), FIRST))
+    yield line(label, "both", seq(*spelled) + NULL, step("whole_list", MALFORMED), step("list", *shown), step("capture", NULL))
+    first = entries[0].to_bytes(20, "big"), FIRST, entry(entries[0])
+    yield line(f"{label}-entry", "both", spelled[0] + NULL, step("whole_entry", MALFORMED), step("entry", *first), step("capture", NULL))
+
+
+def crl_size_cases():
+    """Parts of the sizes where a length or a count takes one octet more."""
+    for n in SIZES:
+        part = b"a" * n
+        issuer = seq(relative(attribute(oid("2.5.4.3"), value(12, part))))
+        yield from crl_lines(f"crl-issuer-of-{n}", crl_of(issuer=issuer), issuer=issuer)
+        listed = entry(2, seq(octet_string(part)))
+        yield from crl_lines(f"crl-entry-of-{n}", crl_of(entries=listed), listed=listed)
+        yield from crl_lines(f"crl-signature-of-{n}", crl_of(signature=part), signature=part)
+        yield from list_lines(f"list-with-extensions-of-{n}", 2, behind=[seq(octet_string(part))])
+        if n < 1000:
+            yield from crl_lines(f"crl-of-{n}-entries", crl_of(entries=entry(2) * n), listed=entry(2) * n)
+            yield from list_lines(f"list-of-{n}", *range(1, n + 1))
+    yield from list_lines("list-of-a-long-number", (1 << 160) - 1, 0, 1 << 159)
 
 
 def crl_cases():
@@ -537,17 +592,23 @@ def crl_cases():
             ("crl-with-two-authorities", crl_of(extensions=[OWN_AUTHORITY] * 2)),
             ("crl-with-two-numbers", crl_of(extensions=[NUMBER] * 2)), ("crl-with-an-overlong-issuer", OVERLONG_CRL)):
         yield line(label, "both", octets, step("whole_crl", MALFORMED), step("crl", MALFORMED))
+    bare = seq(RSA_SHA256)
+    yield from crl_lines("crl-without-null", crl_of(inner=bare, outer=bare), inner=bare, outer=bare)
+    yield from crl_lines("crl-with-a-number", crl_of(extensions=[NUMBER]), number=7)
     overlong_fields = crl_fields(OVERLONG_CRL, issuer=b"\x30\x81\0")
-    yield line("crl-signed-with-an-overlong-issuer", "ber", overlong_fields[6], step("whole_tbs_crl", *overlong_fields[:6]))
+    yield line("crl-signed-with-an-overlong-issuer", "ber", overlong_fields[7], step("whole_tbs_crl", *overlong_fields[:7]))
     number = lambda entry: (entry[0].to_bytes(20, "big"), entry[1])
-    shown = OPENSSL_LIST[2:], *number(FIRST_ENTRY), *number(LAST_ENTRY)
+    shown = OPENSSL_LIST[2:], OPENSSL_LIST, *number(FIRST_ENTRY), *number(LAST_ENTRY)
     yield line("list-of-openssl", "both", OPENSSL_LIST, step("whole_list", *shown),
         *[step("lists", listed, False, argument=n) for n, listed in ((0, False), (1, True), (2, False), (0x10203, True))],
         step("last_entry", True, argument=OPENSSL_LIST[36:]), step("last_entry", False, argument=OPENSSL_LIST[2:36]),
         step("list", *shown), step("capture", MALFORMED))
-    yield line("entry-of-openssl", "both", OPENSSL_LIST[36:], step("whole_entry", *number(LAST_ENTRY)))
-    yield line("entry-with-a-reason", "both", OPENSSL_LIST[2:36], step("whole_entry", *number(FIRST_ENTRY)))
-    yield line("entry-behind", "both", OPENSSL_LIST[2:], step("whole_entry", MALFORMED))
+    bare_entry = lambda entry: seq(integer(entry[0]), time(entry[1]))
+    last, first = (*number(LAST_ENTRY), OPENSSL_LIST[36:]), (*number(FIRST_ENTRY), bare_entry(FIRST_ENTRY))
+    yield line("entry-of-openssl", "both", OPENSSL_LIST[36:], step("whole_entry", *last), step("entry", *last), step("capture", MALFORMED))
+    yield line("entry-with-a-reason", "both", OPENSSL_LIST[2:36], step("whole_entry", *first))
+    yield line("entry-behind", "both", OPENSSL_LIST[2:], step("whole_entry", MALFORMED), step("entry", *first), step("entry", *last))
+    yield line("no-entry", "both", OPENSSL_LIST[3:], step("whole_entry", MALFORMED), step("entry", MALFORMED))
     another = crl_of(outer=seq(RSA_SHA256))
     for label, octets, form, moment, check in (
             ("crl", crl_of(), 0, FIRST, DONE), ("unknown", UNKNOWN_CRL, 0, LAST, DONE),
@@ -568,6 +629,136 @@ def toy_cases():
             ("on-a-curve", b"abc", 1, 1, 0, held, True)):
         yield line(f"toy-signed-{label}", "both", octets,
             step("toy_holds", holds, argument=bytes([kind, form, number]) + signature))
+
+
+class Signer:
+    """A signer of seed 1: its keys and what it draws follow from numbers that it draws in turn."""
+
+    def __init__(self, failing=(), size=None):
+        self.failing, self.size = failing, size
+        self.calls = self.next = self.faults = self.overlong = 0
+        self.keys = {}
+
+    def is_refused(self):
+        """Counts a call; whether it is one of those that fail."""
+        fails = self.calls in self.failing
+        self.calls += 1
+        self.faults += fails
+        return fails
+
+    def drawn(self):
+        self.next += 1
+        return self.next - 1
+
+    def signed(self, number, message):
+        if self.size is None:
+            return sign(1, number, message)
+        self.overlong += self.size > 1 << 16
+        return bytes(self.size)
+
+    def key(self, number, form):
+        return spelled_key((form, key_bits(1, number)))
+
+    def answer(self, call, number, message):
+        """The fields that a call answers."""
+        draws = call.startswith(("create", "once", "rand", "serial"))
+        if self.is_refused():
+            return ["toy fault"]
+        if draws:
+            return self.of_drawing(call, self.drawn(), number, message)
+        if number not in self.keys:
+            return ["key not found"]
+        if call in ("info", "key_within"):
+            return [self.key(number, self.keys[number])]
+        if call == "destroy":
+            del self.keys[number]
+            return [b""]
+        if self.keys[number] != ("ec" if call == "sign_ec" else "rsa"):
+            return ["key not compatible with algorithm"]
+        signature = self.signed(number, message)
+        return ["key or signature too long"] if call == "sign_within" and len(signature) > 1 << 16 else [signature]
+
+    def of_drawing(self, call, drawn, count, message):
+        form = "ec" if call.endswith("_ec") else "rsa"
+        if call.startswith("create"):
+            self.keys[drawn] = form
+            return [drawn]
+        if call == "serial":
+            return [drawn_serial(1, drawn).to_bytes(20, "big")]
+        if call == "rand":
+            blocks = (hashlib.sha256(key_bits(1, drawn) + block.to_bytes(8, "big")).digest() for block in range(count // 32 + 1))
+            return [b"".join(blocks)[:count]]
+        signature = self.signed(drawn, message)
+        if call == "once_within" and len(signature) > 1 << 16:
+            return ["key or signature too long"]
+        return [signature, self.key(drawn, form)]
+
+
+def signer_line(label, calls, message=b"abc", failing=(), size=None):
+    """What a signer answers to calls in turn, each with a number behind a `:` where it takes one."""
+    signer = Signer(failing, size)
+    answers = []
+    for word in calls.split("/"):
+        call, _, number = word.partition(":")
+        answers += signer.answer(call, int(number or 0), message)
+    first = size if size is not None else ",".join(map(str, failing)) or "none"
+    name = "toy_signer" if size is None else "long_signer"
+    answers.append(signer.faults if size is None else signer.overlong)
+    return line(f"{name.replace('_', '-')}-{label}", "der", message, step(name, *answers, argument=f"{first}/{calls}"))
+
+
+# Every call of a signer, with a key of each format.
+CALLS = {
+    "keys": "create_rsa/create_ec/info:0/info:1/key_within:0/key_within:1/info:2/key_within:2/destroy:2/destroy:0/info:0/key_within:0/"
+    "destroy:0/info:1/create_rsa/info:2",
+    "signatures": "create_rsa/create_ec/sign:0/sign_ec:1/sign:1/sign_ec:0/sign_within:0/sign_within:1/sign:2/sign_ec:2/sign_within:2/"
+    "destroy:0/sign:0/sign_within:0",
+    "drawings": "once/once_ec/rand:33/serial/once_within/create_rsa/once/sign:5/rand:20/serial",
+}
+
+
+def signer_cases():
+    for label, calls in CALLS.items():
+        yield signer_line(label, calls)
+        count = len(calls.split("/"))
+        for number in range(count):
+            yield signer_line(f"{label}-but-call-{number}", calls, failing=(number,))
+        yield signer_line(f"{label}-failing", calls, failing=tuple(range(count)))
+        yield signer_line(f"{label}-but-two", calls, failing=(3, 0))
+        for size in (0, 1, 32, 65535, 65536, 65537):
+            yield signer_line(f"{label}-of-{size}", calls, size=size)
+    for n in (0, 1, 31, 32, 33, 64, *SIZES):
+        yield signer_line(f"drawing-{n}", f"rand:{n}/rand:{n}")
+        yield signer_line(f"signing-{n}", "create_rsa/sign:0/sign_within:0/once/once_within/once_ec", b"a" * n)
+        yield signer_line(f"drawing-{n}", f"rand:{n}/serial", size=1)
+        yield signer_line(f"signing-{n}", "create_rsa/sign:0/sign_within:0/once/once_within/once_ec", b"a", size=n)
+
+
+def unsigned_cases():
+    """What is to be signed for key 0 itself, and for another; whatever the signature is."""
+    own = own_anchor(FIRST, LAST)
+    own.serial = 7
+    other = options_of(serial=7, key=9, subject=name(1, 9), authority=key_identifier(1, 0))
+    for label, number, o in (("own", 0, own), ("other", 9, other)):
+        argument = f"{number}/{FIRST}/{LAST}"
+        yield line(f"unsigned-{label}", "both", b"", step("unsigned", *tbs_fields(o), argument=argument),
+            step("to_be_signed", signed_part(o), argument=argument))
+        for n in (0, 1, *SIZES):
+            yield line(f"signature-of-{n}-of-{label}", "der", b"a" * n,
+                step("with_signature", seq(signed_part(o), ALGORITHM, bits(b"a" * n)), argument=argument))
+    years = options_of(serial=7, key=9, subject=name(1, 9), authority=key_identifier(1, 0), validity=(-631152001, 2524608000))
+    yield line("unsigned-of-1949-to-2050", "both", b"", step("to_be_signed", signed_part(years), argument="9/-631152001/2524608000"))
+
+
+def extension_writing():
+    for n in (0, 1, *SIZES):
+        part = b"a" * n
+        for call, flag in (("write_extension", b""), ("write_critical", TRUE)):
+            yield line(f"{call}-of-{n}", "der", part, step(call, extension(SUBJECT_KEY, part, flag), argument=SUBJECT_KEY[2:]))
+            yield line(f"{call}-under-{n}", "der", b"x", step(call, extension(value(6, part + b"\1"), b"x", flag), argument=part + b"\1"))
+        named = extension(AUTHORITY_KEY, seq(value(0x80, OTHER)))
+        yield line(f"write-authority-behind-{n}", "der", part, step("write_authority", part + named, argument=OTHER),
+            step("write_authority", part, argument=b""))
 
 
 def own_anchor(first, last):
@@ -591,7 +782,7 @@ def made_lines():
 
 def lines():
     for cases in (good_cases, extension_cases, malformed_cases, ber_cases, size_cases, check_cases, each_cases, elsewhere_cases, crl_cases,
-            toy_cases, made_lines):
+            crl_size_cases, toy_cases, signer_cases, unsigned_cases, extension_writing, made_lines):
         yield from cases()
 
 

@@ -24,15 +24,23 @@ Or a line is `NAME DOCUMENT STEP..`, with the steps of tools/stored.py, which go
     pass enter                the name of the child that comes next, which is passed, or is where the steps go on
     texts                     the texts of the children that are not passed
     the_one at_most_one no_more none_left first_named,LOCAL        what is told of these children
+    tag_in                    the element's tag, or no field
+    base64_of,TEXT handle_of,TEXT rsync_of,TEXT https_of,TEXT      the octets, or the text; malformed where it is none
+    cloned,TEXT none_cloned   a copy of a text that is there, and of none
+    sent,TEXT                 what a sink of 65535 octets got; malformed where they are more
+    write_attribute,NAME/TEXT write_optional,.. write_absent,.. write_inside,.. write_base64,.. write_end,NAME write_text,/TEXT
+                              what is printed; write_base64: of the text's octets
 
 What a document is stands here a second time, as a tokenizer over regular expressions; no expected spelling comes from the program
 under test. Whether a row of the tables is a document is said by the table that it stands in, and compared.
 """
 
+import base64
 import pathlib
 import re
 
 from stored import DONE, MALFORMED, NOTHING, step
+from text_cases import BASE64, HANDLE, HTTPS, RSYNC, Refused, octets_of_base64
 
 CRATE = pathlib.Path(__file__).resolve().parent.parent / "crates" / "document_cases"
 SIZES = [127, 128, 255, 256, 65535, 65536]
@@ -324,6 +332,64 @@ ASKED = [
 ]
 
 
+# ---- texts of an element, and its parts as they are printed
+
+PRINTED = ["", "a", "<&>\"'", "a b", "a/b", "&amp;", "\u00e9", "\u20ac\U0001f600", " x\n"]
+TAGS = {
+    b"<a tag='1'/>": ["1"], b"<a tag=''/>": [""], b"<a tag=' &lt; '/>": [" < "], b"<a p:tag='1'/>": ["1"], b"<a/>": [NOTHING],
+    b"<a tags='1'/>": [NOTHING], b"<a p:tag='1' q:tag='2'/>": [MALFORMED], b"<a tag='1' q:tag='1'/>": [MALFORMED],
+}
+
+
+def read_as(call, text, given):
+    return "<a/>", step(call, MALFORMED if given is None else given, argument=text)
+
+
+def base64_given(text):
+    try:
+        return octets_of_base64(text)
+    except Refused:
+        return None
+
+
+def printed(call, name, text=""):
+    """What a call prints, by the rules of spelling."""
+    start, end, octets = name.encode(), f"</{name}>".encode(), text.encode()
+    inside = spelled_text(octets) if call != "write_base64" else base64.b64encode(octets)
+    return {
+        "write_attribute": spelled_attribute(start, octets), "write_optional": spelled_attribute(start, octets), "write_absent": b"",
+        "write_end": end, "write_text": inside}.get(call, b">" + inside + end if inside else b"/>")
+
+
+def part_rows(texts):
+    for text in texts:
+        for call in ("write_attribute", "write_optional", "write_absent", "write_inside", "write_base64"):
+            yield "<a/>", step(call, printed(call, "p:a", text), argument=f"p:a/{text}")
+        yield "<a/>", step("write_text", printed("write_text", "", text), argument=f"/{text}")
+
+
+def text_rows():
+    """Documents, each with a step."""
+    for document, answer in TAGS.items():
+        yield document.decode(), step("tag_in", *answer)
+    for text in [*BASE64, "", *["A" * n for n in SIZES], *["YWJj" * n for n in SIZES]]:
+        yield read_as("base64_of", text, base64_given(text))
+    for text in ["Carol", "Carol/1", "", "a\\b", "Carol ", "Ca rol", "-_/", "\u00e9", *["a" * n for n in SIZES]]:
+        yield read_as("handle_of", text, text if HANDLE.fullmatch(text) else None)
+    for call, rows in (("rsync_of", RSYNC), ("https_of", HTTPS)):
+        for text, refusal in [*rows, *[(f"{call[:5]}://localhost/repo/".ljust(n, "a"), n > 65535) for n in SIZES]]:
+            yield read_as(call, text, None if refusal else text)
+    for text in [*PRINTED, *["a" * n for n in SIZES]]:
+        yield read_as("cloned", text, text)
+        yield read_as("sent", text, text if len(text.encode()) <= 65535 else None)
+    yield "<a/>", step("none_cloned", NOTHING)
+    yield from part_rows([*PRINTED, *["a" * n for n in SIZES], *["<" * n for n in SIZES]])
+    for n in (1, *SIZES):
+        yield "<a/>", step("write_end", f"</{'a' * n}>", argument="a" * n)
+        yield "<a/>", step("write_attribute", printed("write_attribute", "a" * n, "x"), argument="a" * n + "/x")
+        yield "<a/>", step("write_inside", printed("write_inside", "a" * n, "x"), argument="a" * n + "/x")
+
+
 def each_octet():
     """Each octet in a text, a value, a comment and an instruction"""
     for octet in range(256):
@@ -401,6 +467,8 @@ def cases():
     for name, octets, *steps in ASKED:
         assert element_of(octets) is not None
         yield f"asked-{name}", octets.hex(), *steps
+    for number, (document, told) in enumerate(text_rows()):
+        yield f"read-{number}", document.encode().hex(), told
     for number, octets in enumerate(each_octet()):
         element = element_of(octets)
         yield f"octet-{number // 4}-{number % 4}", octets.hex(), element.hex() if element is not None else "-"

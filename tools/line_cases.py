@@ -11,6 +11,11 @@ made of examples/query-list.hex and of what stands here. No expected answer come
 
 A line is `NAME PROGRAM STATUS OUTPUT INPUT WORD..`: the status in decimal, what is written and the input as stored octets, and the
 words as they are, or behind a `#` in hexadecimal. A `-` stands for an empty field.
+
+Four PROGRAMs are none: `parent`, a parent of several classes, writes its answers, what its issuer did and what the child is told of each class;
+`issuer` is that issuer by itself, with lines `issue NAME REQUEST` and `revoke NAME KEY`; `class` is a class with the name, the directory and
+the AS numbers that the words say, and writes where a certificate of the key is published that the input names, and what the child is told; `state` reads
+the input as the state of a guard, and writes it again, or ends with 13.
 """
 
 import base64
@@ -19,14 +24,15 @@ import pathlib
 import re
 import sys
 
-from messages import CALLS, QUERY, broken, drawn_serial, message, numbered
-from parent_talks import Talk, program_rows, rows_of_classes
-from stored import write
+from messages import (
+    CALLS, NULL, QUERY, RSA, SIGNING_TIME, bits, broken, drawn_serial, key_bits, message, numbered, seq, sign, without)
+from parent_talks import Talk, issuer_rows, program_rows, rows_of_class, rows_of_classes
+from stored import SIZES, terms, write
 
 ROOT = pathlib.Path(__file__).resolve().parent.parent
 CRATE = ROOT / "crates" / "line_cases"
 MESSAGE = (ROOT / "examples" / "query-list.hex").read_text().strip()
-PROGRAMS = "guard", "arch", "pub", "up", "parent"
+PROGRAMS = "guard", "state", "arch", "pub", "up", "parent", "issuer", "class"
 
 MOMENT = 1700000000
 KEY = "3022300d06092a864886f70d010101050003110000000000000000010000000000000000"
@@ -35,7 +41,12 @@ LEGIBLE = re.compile(rb"[0-9A-Za-z.:/,_-]{4,}")
 
 
 def octets(field):
-    """Octets as terms, legible where they can be."""
+    """Octets as terms, legible where they can be; many in hexadecimal with what is repeated written once, where that is shorter."""
+    legible = legible_octets(field)
+    return min(legible, terms(field), key=len) if len(field) > 20000 else legible
+
+
+def legible_octets(field):
     parts, at = [], 0
     for match in LEGIBLE.finditer(field):
         parts += [field[at:match.start()].hex()] if at < match.start() else []
@@ -45,7 +56,9 @@ def octets(field):
 
 
 def word(text):
-    """A word, in hexadecimal where it isn't legible."""
+    """A word, in hexadecimal where it isn't legible or is long."""
+    if len(text) > 1000:
+        return "#" + terms(text.encode())
     return text if re.fullmatch(r"[0-9A-Za-z]+", text) else "#" + text.encode().hex() if text else "-"
 
 
@@ -111,6 +124,50 @@ def guard_rows():
     yield row("no-words", lines("-"), 2, lines("Usage"), ())
     yield row("two-words", lines("-"), 2, lines("Usage"), ("0", "0"))
     yield row("no-moment", lines("-"), 2, lines("Usage"), ("00",))
+
+
+def sized_key(n):
+    """A key of so many bits, in octets, and a message that is signed under it."""
+    held = b"k" * n
+    identifier = hashlib.sha1(held).digest()
+
+    def signed(seed, number, signed_octets, spoilt=False):
+        return sign(seed, number, signed_octets, spoilt) if number else hashlib.sha256(held + signed_octets).digest()
+
+    sent = message(authority_key=identifier, crl_authority=identifier, sign=signed)
+    return seq(seq(RSA, NULL), bits(held)).hex(), sent.hex()
+
+
+def untold_rows():
+    """Messages that say no time, and messages under keys of the sizes where a length takes one octet more."""
+    untold = message(attributes=without(SIGNING_TIME)).hex()
+    yield case("guard-no-time", "guard", (str(MOMENT),), lines("-", f"{KEY} {untold}", f"{KEY} {MESSAGE}", f"{KEY} {untold}"), 0,
+        lines("NoTime", f"ok {MOMENT}", "NoTime", "-", f"{KEY} {MOMENT}"))
+    for n in SIZES:
+        key, sent = sized_key(n)
+        yield case(f"guard-key-of-{n}", "guard", (str(MOMENT),), lines("-", f"{key} {sent}", f"{KEY} {sent}", f"{key} {sent}"), 0,
+            lines(f"ok {MOMENT}", "Validation 6", f"Replayed {MOMENT} {MOMENT}", "-", f"{key} {MOMENT}"))
+
+
+def state_rows():
+    """Texts that are states, and texts that are none."""
+    def row(name, *texts, status=0, end="\n"):
+        text = "\n".join(texts) + (end if texts else "")
+        return case(f"state-{name}", "state", (), text.encode(), status, b"" if status else text.encode())
+
+    yield row("empty")
+    yield row("of-one", f"{KEY} 5")
+    yield row("of-two", f"{OTHER_KEY} 6", f"{KEY} 5")
+    yield row("below-zero", f"{KEY} -62167219200")
+    for n in SIZES:
+        yield row(f"of-a-key-of-{n}", f"{sized_key(n)[0]} 0")
+        if n < 1000:
+            yield row(f"of-{n}", *(f"{KEY[:-32]}{key_bits(1, number).hex()} {number}" for number in range(n)))
+    for name, text in (("dash", "-"), ("blank", ""), ("key-alone", KEY), ("no-key", "00 5"), ("in-upper-case", f"{KEY.upper()} 5"),
+            ("plus", f"{KEY} +5"), ("leading-zero", f"{KEY} 05"), ("too-late", f"{KEY} 253402300800"), ("three-words", f"{KEY} 5 5")):
+        yield row(name, text, status=13)
+    yield row("no-line-feed-at-the-end", f"{KEY} 5", status=13, end="")
+    yield row("key-twice", f"{KEY} 5", f"{OTHER_KEY} 6", f"{KEY} 7", status=13)
 
 
 def archive_rows():
@@ -293,7 +350,26 @@ def class_rows():
         yield case(f"parent-{name}", f"parent{behind}", (str(MOMENT), KEY), lines(*sent), status, lines(*answers))
 
 
-ROWS = {"guard": guard_rows, "arch": archive_rows, "pub": server_rows, "up": parent_rows, "parent": class_rows}
+def issuing_rows():
+    """An issuer by itself."""
+    for name, behind, sent, answers, status in issuer_rows():
+        yield case(f"issuer-{name}", f"issuer{behind}", (), lines(*sent), status, lines(*answers))
+
+
+def told_rows():
+    """Classes by themselves."""
+    for name, words, identifier, answers in rows_of_class():
+        yield case(f"class-{name}", "class", words, identifier.encode(), 0, lines(*answers))
+
+
+def guarded_rows():
+    yield from guard_rows()
+    yield from untold_rows()
+
+
+ROWS = {
+    "guard": guarded_rows, "state": state_rows, "arch": archive_rows, "pub": server_rows, "up": parent_rows, "parent": class_rows,
+    "issuer": issuing_rows, "class": told_rows}
 
 
 def main():

@@ -23,6 +23,8 @@ signs and whose certificate and CRL key 0 does, where the signatures come from e
 Or a line is `NAME long MOMENT OCTETS COUNT CONTENT MESSAGE`: what `create` makes with a signer of the same keys whose signatures are as many
 zeros as OCTETS says, or `too_long`; COUNT is how many too long signatures it gave. The MESSAGE is in terms (tools/stored.py).
 
+Or a line is `NAME DER OCTETS STEP..`, of tools/message_walks.py.
+
 Or a line is `NAME checks FORMAT SEED NUMBER MOMENT DIGITS MESSAGE`: the fourteen checks of the message under the issuer's key of this format,
 whose bits are SEED and NUMBER, each as the digit 1 where it holds and else 0.
 
@@ -218,15 +220,24 @@ def attribute(kind, *values):
     return seq(kind, value(0x31, b"".join(values)))
 
 
-def signer(o):
-    digest = hashlib.sha256(o.content if o.digested is None else o.digested).digest()
-    attributes = b"".join(o.attributes([
+def digest_of(o):
+    return hashlib.sha256(o.content if o.digested is None else o.digested).digest()
+
+
+def attributes_of(o):
+    return b"".join(o.attributes([
         attribute(CONTENT_TYPE, XML), attribute(SIGNING_TIME, time(o.signed_at)),
-        attribute(MESSAGE_DIGEST, octet_string(digest))]))
-    signature = o.sign(o.seed, o.ee, value(0x31, attributes), o.spoilt_attributes)
+        attribute(MESSAGE_DIGEST, octet_string(digest_of(o)))]))
+
+
+def signature_of(o):
+    return o.signature(o.sign(o.seed, o.ee, value(0x31, attributes_of(o)), o.spoilt_attributes))
+
+
+def signer(o):
     return value(0x30, held(
         o, "signer", integer(o.signer_version), value(0x80, o.signer_id or subject_key(o)), seq(SHA256, *o.digest_parameters),
-        o.attributes_tag(0xA0, attributes), o.signer_algorithm, octet_string(o.signature(signature))))
+        o.attributes_tag(0xA0, attributes_of(o)), o.signer_algorithm, octet_string(signature_of(o))))
 
 
 def message(**options):
@@ -744,11 +755,14 @@ def agree_elsewhere():
 
 
 def main():
+    import message_walks
+
     if len(sys.argv) > 1:
         compare(bytes.fromhex(pathlib.Path(sys.argv[1]).read_text()))
         return
     agree_elsewhere()
-    written = [*lines(), *built_cases(), *created_cases(), *unsigned_cases(), *long_cases(), *checks_cases()]
+    written = [*lines(), *built_cases(), *created_cases(), *unsigned_cases(), *long_cases(), *checks_cases(),
+        *message_walks.lines()]
     names = [line.split(" ")[0] for line in written]
     assert len(names) == len(set(names))
     (CRATE / "data" / "cases.txt").write_text("".join(line + "\n" for line in written))

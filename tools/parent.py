@@ -5,9 +5,9 @@
 import base64
 import hashlib
 
-from certificates import authority_key, spelled_key, subject_key
+from certificates import authority_key, key_of, spelled_key, subject_key
 from messages import (
-    ALGORITHM, bits, drawn_serial, integer, key_bits, key_identifier, message, name, seq, sign, time, value)
+    ALGORITHM, COMMON_NAME, bits, drawn_serial, integer, key_bits, key_identifier, message, name, printable, seq, sign, time, value)
 from provisioning_cases import element, limits, root, ski, status
 from requests import info, options_of, request
 
@@ -67,6 +67,17 @@ def own_certificate(issuer, key, subject, serial, validity, extensions):
     tbs = seq(value(0xA0, integer(2)), integer(serial), ALGORITHM, name(issuer, 0), seq(*map(time, validity)), subject, key,
         value(0xA3, seq(*extensions)))
     return seq(tbs, ALGORITHM, bits(sign(issuer, 0, tbs)))
+
+
+def certified(signer, key):
+    """The certificate for a key of an issuer with this signer, which is asked three times."""
+    serial = signer.serial()
+    signer.call()
+    signer.call()
+    identifier = hashlib.sha1(key_of(key)[1]).digest()
+    subject = seq(value(0x31, seq(COMMON_NAME, printable(identifier.hex().upper().encode()))))
+    return own_certificate(signer.seed, spelled_key(key), subject, serial, (0, LAST_SECOND),
+        [subject_key(identifier), authority_key(value(0x80, key_identifier(signer.seed, 0)))])
 
 
 # ---- requests
@@ -140,6 +151,30 @@ class Parent:
     def answer_list(self):
         return b"list_response", *(self.class_element(c, c.issued.values()) for c in self.classes)
 
+    def told(self):
+        """The classes, each alone in the list that says what the child is told of it."""
+        return [root(b"list_response", self.class_element(c, c.issued.values()), sender=BOB, recipient=CAROL) for c in self.classes]
+
+    # What the issuer does: None where it fails.
+
+    def issue(self, label, key, resources):
+        try:
+            octets = certified(self.issuer, key)
+        except Fault:
+            self.faults += 1
+            return None
+        self.made.append((label, hashlib.sha1(key_of(key)[1]).digest(), resources))
+        return octets
+
+    def revoke(self, label, identifier):
+        try:
+            self.issuer.call()
+        except Fault:
+            self.faults += 1
+            return None
+        self.gone.append((label, identifier))
+        return identifier
+
     def answer_issue(self, label, key, limit, limit_sets, holds):
         c = self.named(label)
         identifier = key_identifier(1, key)
@@ -155,16 +190,9 @@ class Parent:
             return self.refused(1204)
         if not c.has(limit_sets):
             return self.refused(1202)
-        try:
-            serial = self.issuer.serial()
-            self.issuer.call()
-            self.issuer.call()
-        except Fault:
-            self.faults += 1
+        octets = self.issue(label, key, c.left(limit))
+        if octets is None:
             return self.refused(2001)
-        octets = own_certificate(ISSUER_SEED, spelled_key(key), name(1, key), serial, (0, LAST_SECOND),
-            [subject_key(identifier), authority_key(value(0x80, key_identifier(ISSUER_SEED, 0)))])
-        self.made.append((label, identifier, c.left(limit)))
         c.issued[identifier] = BASE + identifier.hex().upper().encode() + b".cer", limits(**limit), octets
         return b"issue_response", self.class_element(c, [c.issued[identifier]])
 
@@ -174,14 +202,10 @@ class Parent:
             return self.refused(1301)
         if identifier not in c.issued:
             return self.refused(1302)
-        try:
-            self.issuer.call()
-        except Fault:
-            self.faults += 1
+        if self.revoke(label, identifier) is None:
             return self.refused(2001)
         del c.issued[identifier]
         c.revoked.append(identifier)
-        self.gone.append((label, identifier))
         return b"revoke_response", element(b"key", class_name=label, ski=ski(identifier))
 
     def reply(self, kind, *inside):

@@ -3,9 +3,14 @@ behind it, calls of the signers that fail, and several classes. A row is its nam
 answers to them, and the status.
 """
 
+import hashlib
+
+from certificates import key_of
 from messages import CALLS, key_identifier
-from parent import BOB, CAROL, Child, Class, Parent, request_of, standard_class
+from parent import BASE, BOB, CAROL, Child, Class, Parent, request_of, standard_class
 from provisioning_cases import asked, key as key_element, status as status_element
+from requests import options_of, request
+from stored import SIZES
 
 RUNS = {
     b"10.0.0.0/9": (0x0A000000, 0x0A7FFFFF), b"11.0.0.0/8": (0x0B000000, 0x0BFFFFFF), b"10.0.0.0/7": (0x0A000000, 0x0BFFFFFF),
@@ -98,9 +103,10 @@ def done(parent):
 
 
 def rows_of_classes():
-    """The answers, and then what the issuer did."""
+    """The answers, then what the issuer did, and then what the child is told of each class."""
     def row(name, behind, talk):
-        return name, behind, talk.sent, [*talk.answers, *done(talk.parent)], 0
+        told = [text.decode() for text in talk.parent.told()]
+        return name, behind, talk.sent, [*talk.answers, *done(talk.parent), *told], 0
 
     for name, talk in talks_of_classes():
         yield row(name, "", talk)
@@ -111,3 +117,54 @@ def rows_of_classes():
     for call in 3, 4, 5:
         yield row(f"issuer-call-{call}-failing", f",i{call}", of_classes(failing_issuer=(call,)).issue(b"1").list())
     yield row("revocation-failing", ",i6", of_classes(failing_issuer=(6,)).issue(b"1").revoke(b"1").list())
+
+
+# ---- an issuer and a class by themselves
+
+
+def issuer_row(name, *asked_for, failing=()):
+    """What an issuer answers, and what it did; a number is a key of seed 1, and other keys are a format and bits."""
+    parent, behind = Parent(failing_issuer=failing), "".join(f",i{call}" for call in failing)
+    sent, answers = [], []
+    for call, label, key in asked_for:
+        identifier = hashlib.sha1(key_of(key)[1]).digest()
+        if call == "issue":
+            sent.append(f"issue {label} {request(options_of(key=key)).hex()}")
+            octets = parent.issue(label.encode(), key, standard_class().left({}))
+            answers.append("Failed" if octets is None else octets.hex())
+        else:
+            sent.append(f"revoke {label} {identifier.hex()}")
+            answers.append("Failed" if parent.revoke(label.encode(), identifier) is None else "revoked")
+    return name, behind, sent, [*answers, *done(parent)], 0
+
+
+def issuer_rows():
+    """It keeps no table: it revokes what it never issued, and issues again."""
+    yield issuer_row("issues", ("issue", "0", 0), ("issue", "0", 0), ("issue", "1", 7))
+    yield issuer_row("revokes", ("revoke", "0", 3), ("issue", "0", 3), ("revoke", "1", 3))
+    yield issuer_row("does-nothing")
+    for call in range(3, 8):
+        yield issuer_row(f"call-{call}-failing", ("issue", "0", 0), ("revoke", "0", 0), ("issue", "0", 1), failing=(call,))
+    for n in SIZES:
+        yield issuer_row(f"key-of-{n}", ("issue", "0", ("rsa", b"k" * n)), ("revoke", "0", ("rsa", b"k" * n)))
+        yield issuer_row(f"class-name-of-{n}", ("issue", "n" * n, 0), ("revoke", "n" * n, 0))
+
+
+def class_row(name, label, base, key=0, asn="1-10"):
+    """Where a key's certificate is published, and what is told of a new class."""
+    identifier, held = key_identifier(1, key), standard_class(label.encode())
+    held.texts["asn"] = asn.encode()
+    answers = [base + identifier.hex().upper() + ".cer", *(text.decode() for text in Parent(classes=[held]).told())]
+    return name, (label, base, asn), identifier.hex(), answers
+
+
+def rows_of_class():
+    here = BASE.decode()
+    yield class_row("new", "0", here)
+    yield class_row("of-another-key", "a b", "rsync://h/m/", 9)
+    for n in SIZES:
+        yield class_row(f"name-of-{n}", "n" * n, here)
+    for n in (127, 128, 255, 256, 65000):
+        yield class_row(f"directory-of-{n}", "0", here + "b" * (n - len(here) - 1) + "/")
+    for n in 127, 128, 255, 256, 10000:
+        yield class_row(f"{n}-numbers", "0", here, asn=",".join(str(2 * number) for number in range(n)))

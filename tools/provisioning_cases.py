@@ -38,7 +38,7 @@ name where no standard says what it prints:
     made_spaced created_spaced,..     the same, and what `created` says, of a question for the classes from the sender `a b`
     class_name,TEXT class_number,'N   what the name prints, whether a copy is equal, whether the other name is, and in what order they are; of a
                                       number beside the name of none
-    kind,'TEXT                        the kind that the text is, and what it prints
+    kind,'TEXT                        the kind that the text is, and what it prints; behind a refusal what its cause prints
     status,'NUMBER                    what the constructor gives, as by lent, and whether a copy is equal
     limit,TEXT                        of a limit what is stated of each kind or `-`, its print, whether it is none, and whether a copy and
                                       another are equal
@@ -572,8 +572,8 @@ def word_lines():
     yield line("statuses", b"", *[step("status", number, text, f"{number} - {text}", True, argument=str(number)) for number,
         text in STATUSES.items()])
     yield line("kinds", b"", *[step("kind", kind, kind, argument=kind) for kind in KINDS],
-        *[step("kind", "refused", f"Invalid payload type: {text}", argument=text) for text in ("foo", "", "List", "list ",
-        "issue-response")])
+        *[step("kind", "refused", *[f"Invalid payload type: {text}"] * 2, argument=text) for text in ("foo", "", "List", "list ",
+        "issue-response", *("t" * n for n in SIZES))])
     yield line("content-type", b"", step("content_type", "application/rpki-updown"))
     yield line("errors", b"", step("errors", "Invalid protocol version, MUST be 1",
         *(why[1] for why in (NO_XML, NO_REQUEST, NO_CERTIFICATE, NO_CMS))))

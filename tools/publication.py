@@ -17,10 +17,12 @@ A line is `NAME ber OCTETS STEP..`, with the steps of tools/stored.py. What the 
                                       and digest; of objects `list`, `-`, URI and digest; of errors code, tag, text and what failed, and
                                       what is printed of all; a `-` stands for what is absent
     handed                            of changes and objects the same without the first two
+    copied                            a copy of the query or the reply as it is written; behind it copies of the changes, as by lent, or of what
+                                      failed, and what is printed of all errors
     created,'MOMENT                   the signed message that the toy signer makes of the message, whether it is decoded as that, and as
                                       which text
     list_query success                these messages as they are written, whatever the octets are
-    made_delta made_twice made_list made_withdrawals made_errors made_three made_denial made_failure
+    made_delta made_twice made_list made_withdrawals made_no_errors made_errors made_three made_denial made_failure
                                       messages that calls put together, as each call writes them: four times the same
     created_three,'MOMENT             what `created` says of made_three
     code,'TEXT                        the code as it is printed, and its words
@@ -196,6 +198,7 @@ def made_lines():
             ("delta", root(b"query", *changes)), ("twice", root(b"query", *changes, *changes)),
             ("list", root(b"reply", *(element(b"list", uri=URI, hash=hash_) for hash_ in (first, second)))),
             ("withdrawals", root(b"query", *(element(b"withdraw", tag=hash_, uri=URI, hash=hash_) for hash_ in (first, second)))),
+            ("no_errors", root(b"reply")),
             ("errors", root(b"reply", error % (b"permission_failure", b"Client does not have permission to update this URI."),
                 error % (b"other_error", b"Found some other issue.")))):
         yield line(f"made-{label}", b"", step(f"made_{label}", text, text, text, text))
@@ -212,7 +215,8 @@ def three_lines():
         uris[2], bytes.fromhex(third.decode())]
     signed = created(text, NOW)
     yield line("made-three", text, step("made_three", text, text, text, text), step("created_three", signed, True, text, argument=NOW),
-        step("created", signed, True, text, argument=NOW), step("lent", 3, False, *held), step("handed", *held), step("query", text))
+        step("created", signed, True, text, argument=NOW), step("lent", 3, False, *held), step("handed", *held), step("query", text),
+        step("copied", text, *held))
     yield received("received-three", signed, text)
 
 
@@ -252,10 +256,10 @@ def part_lines():
     """What messages are taken to, and the other kind refused."""
     listed = root(b"reply", *(element(b"list", uri=uri, hash=hash_) for uri, hash_ in ((MORE, OLD), (URI, NEW))))
     held = ["list", "-", MORE, bytes.fromhex(OLD.decode()), "list", "-", URI, bytes.fromhex(NEW.decode())]
-    yield line("parts-of-objects", listed, step("lent", *held), step("handed", *held), step("reply", listed),
+    yield line("parts-of-objects", listed, step("lent", *held), step("handed", *held), step("reply", listed), step("copied", listed),
         step("query", "refused", "was not a query message"))
-    yield line("parts-of-list", QUERY, step("lent", "list"), step("query", QUERY), step("reply", "refused", "was not a reply message"))
-    yield line("parts-of-success", REPLY, step("lent", "success"), step("reply", REPLY), step("query", "refused", "was not a query message"))
+    yield line("parts-of-list", QUERY, step("lent", "list"), step("copied", QUERY), step("query", QUERY), step("reply", "refused", "was not a reply message"))
+    yield line("parts-of-success", REPLY, step("lent", "success"), step("copied", REPLY), step("reply", REPLY), step("query", "refused", "was not a query message"))
     bare = element(b"publish", uri=URI)
     empty_tag = element(b"publish", tag=b"", uri=URI)
     yield line("parts-without-tag", root(b"query", bare), step("lent", 1, False, "publish", "-", URI, b""),
@@ -264,9 +268,13 @@ def part_lines():
     code, words = b"other_error", "error reply including: error code: other_error error code: xml_error "
     errors = root(b"reply", element(b"report_error", element(b"failed_pdu", element(b"list")), error_code=code),
         element(b"report_error", error_code=b"xml_error", tag=b"b"))
-    yield line("parts-of-errors", errors, step("lent", "other_error", "-", "-", "list", "xml_error", "b", "-", "-", words))
+    meant = root(b"reply", report(code, b"Found some other issue.", element(b"list")),
+        report(b"xml_error", b"Encountered an XML problem.", tag=b"b"))
+    yield line("parts-of-errors", errors, step("lent", "other_error", "-", "-", "list", "xml_error", "b", "-", "-", words),
+        step("copied", meant, "list", "-", words))
     for number, text in enumerate((b"", b"<msg/>")):
-        yield line(f"parts-of-none-{number}", text, *[step(call, *NO_XML) for call in ("lent", "handed", "query", "reply")])
+        yield line(f"parts-of-none-{number}", text,
+            *[step(call, *NO_XML) for call in ("lent", "handed", "query", "reply", "copied")])
 
 
 def created_lines():
@@ -281,15 +289,22 @@ def size_lines():
         yield line(f"text-of-empty-{kind.decode()}", root(kind), step("text", root(kind)))
     for n in SIZES:
         tag, content = b"t" * n, base64.b64encode(b"c" * n)
-        for label, kind, part in (
-                ("tag", b"query", element(b"withdraw", tag=tag, uri=URI, hash=digest(b""))),
-                ("content", b"query", element(b"publish", content, tag=b"", uri=URI)),
-                ("uri", b"reply", element(b"list", uri=(URI + b"u" * n)[:min(n, 65535)], hash=digest(b""))),
-                ("error-text", b"reply", b'<report_error error_code="other_error"><error_text>%s</error_text></report_error>' % tag)):
-            yield line(f"text-with-{label}-of-{n}", root(kind, part), step("text", root(kind, part)))
+        withdraw, hash_ = element(b"withdraw", tag=tag, uri=URI, hash=digest(b"")), bytes.fromhex(digest(b"").decode())
+        withdrawn = "withdraw", tag, URI, hash_
+        printed = b"error reply including: error code: other_error, text: %s "
+        for label, kind, part, copied in (
+                ("tag", b"query", withdraw, withdrawn),
+                ("content", b"query", element(b"publish", content, tag=b"", uri=URI), ("publish", b"", URI, b"c" * n)),
+                ("update", b"query", element(b"publish", content, tag=tag, uri=URI, hash=digest(b"")),
+                    ("update", tag, URI, b"c" * n, hash_)),
+                ("uri", b"reply", element(b"list", uri=(URI + b"u" * n)[:min(n, 65535)], hash=digest(b"")), ()),
+                ("error-text", b"reply", report(b"other_error", tag), ("-", printed % tag)),
+                ("failed-tag", b"reply", report(b"other_error", b"a", withdraw), (*withdrawn, printed % b"a"))):
+            yield line(f"text-with-{label}-of-{n}", root(kind, part), step("text", root(kind, part)),
+                step("copied", root(kind, part), *copied))
         if n < 1000:
             listed = root(b"reply", *[element(b"list", uri=URI, hash=digest(b""))] * n)
-            yield line(f"text-of-{n}-objects", listed, step("text", listed))
+            yield line(f"text-of-{n}-objects", listed, step("text", listed), step("copied", listed))
 
 
 def text_lines():

@@ -16,6 +16,10 @@ A line is `NAME MODE OCTETS STEP..`, with the steps of tools/stored.py; MODE is 
     authority_attributes router_attributes
         whether the subject is an authority, `ca` or `ee` for the key's usage, the contents of the purposes with an octet 00 behind
         each, repository, manifest, notification; the purposes alone
+    next_authority_attributes next_router_attributes
+        the same of the attributes that stand next, behind which the call goes
+    invalid_attribute
+        what is printed of an attribute that no request can have, by its object identifier
     authority_holds router_holds
         whether the request is signed with its own key by the toy scheme
     certificate next_certificate
@@ -24,7 +28,8 @@ A line is `NAME MODE OCTETS STEP..`, with the steps of tools/stored.py; MODE is 
         whether the certificates at the beginning of both are equal
     made,'FORMAT KEY FAILING REPOSITORY MANIFEST NOTIFY
         the request that is made with the toy signer of seed 1, whose call 0 makes a key of this format, under the key with this
-        identifier, where the signer's call FAILING fails; or why none is made; and how many calls of the signer failed
+        identifier, where the signer's call FAILING fails; or why none is made, and the text of that; and how many calls of the signer
+        failed
     capture
         the octets of the value that stands next
 """
@@ -279,6 +284,47 @@ def attribute_cases():
             "attributes-primitive": lambda asked: value(0x80, asked),
             "attributes-twice": lambda asked: value(0xA0, asked) * 2}.items():
         yield from neither(label, tagged=tagged)
+
+
+def next_attributes(label, authority=True, router=True, mode="der", **options):
+    """The attributes of both kinds, which the calls that go on take in the cursor's mode."""
+    o = options_of(**options)
+    octets, behind = attributes(o) + NULL, step("capture", NULL)
+    for kind, shown in (("authority", authority and authority_attributes(o)), ("router", router and purpose_fields(o))):
+        yield line(f"next-{label}-{kind}", mode, octets, answered(f"next_{kind}_attributes", shown), *([behind] if shown else []))
+
+
+def next_attribute_cases():
+    ca, used, where = ASKED
+    yield from next_attributes("good", mode="both")
+    yield from next_attributes("no-extension", authority=False, extensions=[])
+    yield from next_attributes("access-missing", authority=False, extensions=[ca, used])
+    yield from next_attributes("purposes", extensions=[*ASKED, purposes(BGPSEC_ROUTER)], purposes=[BGPSEC_ROUTER])
+    yield from next_attributes("another-purpose", router=False, extensions=[*ASKED, purposes(SERVER)], purposes=[SERVER])
+    yield from next_attributes("of-an-entity", usage="ee", basic=False, extensions=[constraints(), usage(EE), where])
+    yield from next_attributes("unknown", False, False, extensions=[*ASKED, extension(UNKNOWN, b"")])
+    yield from next_attributes("usage-twice", False, False, extensions=[*ASKED, used])
+    yield from next_attributes("null", False, False, attribute=NULL)
+    yield from next_attributes("under-1", False, False, tagged=lambda asked: value(0xA1, asked))
+    loose_parts = dict(attribute=loose(EXTENSION_REQUEST, indefinite(0x31, loose(*ASKED))),
+        tagged=lambda asked: indefinite(0xA0, asked))
+    yield from next_attributes("loose", mode="ber", **loose_parts)
+    yield from next_attributes("loose-in-der", False, False, **loose_parts)
+    for n in SIZES:
+        many = [SERVER] * (n - 1) + [BGPSEC_ROUTER]
+        yield from next_attributes(f"{n}-purposes", extensions=[*ASKED, purposes(*many)], purposes=many)
+        yield from next_attributes(f"{n}-descriptions",
+            extensions=[ca, used, access(*[seq(REPOSITORY, NULL)] * n, *DESCRIBED)])
+        rsync = long_uri(b"rsync://localhost/repo/", n)
+        yield from next_attributes(f"location-of-{n}", extensions=[ca, used, access(description(MANIFEST, rsync), *DESCRIBED)],
+            found=(HERE[0], rsync if n <= 65535 else HERE[1], HERE[2]))
+
+
+def invalid_attribute_cases():
+    for arcs in ("1.2.840.113549.1.9.7", "1.2.840.113549.1.9.14", "2.999", "0.0", "1.2" + ".1" * 126, *["1.2" + ".1" * n for n in SIZES]):
+        yield line(f"invalid-attribute-{arcs if len(arcs) < 30 else f'of-{len(arcs)}'}", "der", oid(arcs),
+            step("invalid_attribute", f"invalid attribute {arcs}"))
+    yield line("invalid-attribute-null", "der", NULL, step("invalid_attribute", MALFORMED))
 
 
 # ---- extensions
@@ -648,8 +694,14 @@ def made(label, repository, slashed, manifest="rsync://localhost/repo/ca.mft", n
         answered("authority", fields(o)), step("router", MALFORMED), step("authority_holds", True))
 
 
+# Why no request is made, and what that prints.
+REFUSALS = {
+    "key not found": "key not found", "incompatible key": "key not compatible with algorithm", "signer": "toy fault",
+    "uri too long": "the URI with its slash is unlawful"}
+
+
 def unmade(label, why, faults=0, repository="rsync://localhost/repo/x", **options):
-    yield line(f"unmade-{label}", "der", b"", step("made", why, faults, argument=asked_for(repository, **options)))
+    yield line(f"unmade-{label}", "der", b"", step("made", why, REFUSALS[why], faults, argument=asked_for(repository, **options)))
 
 
 def long_text(scheme, size, tail=""):
@@ -700,7 +752,7 @@ def unmade_cases():
 
 def lines():
     for cases in (
-            good_cases, algorithm_cases, frame_cases, attribute_cases, extension_cases, value_cases, location_cases, ber_cases,
+            good_cases, algorithm_cases, frame_cases, attribute_cases, next_attribute_cases, invalid_attribute_cases, extension_cases, value_cases, location_cases, ber_cases,
             size_cases, certificate_cases, openssl_cases, making_cases):
         yield from cases()
 

@@ -21,6 +21,16 @@ Or a line is `NAME CALL ANSWER WORD..`: what words say by themselves.
     key         the format and the bits of the key that the word at 0 spells, or `none`
     command     `content`, or kind, seconds and keys, or `create` or `setup`, kind and seconds, or `make`, how many and the seed, or `none`
 
+Or with parts that programs share, which read and write lines; octets are in hexadecimal, and a refusal is its name.
+
+    line_of         the line of the word
+    input_octets    the octets that the word spells as an input
+    spelled_key     the format and the bits of the key that the word spells, or `none`
+    read_input      what is read of the second word: the first is as READ below
+    finish_lines    status, what is written, and how many calls of the sink failed. The first word says what came of the lines: `done`, `write`
+                    where the output failed, or the name of a refusal; the second how many octets the sink has room for
+    message_in      the message of the kind of the first word that the second is, as it is written
+
 Or it is `NAME faults ANSWER READ WRITE ROOM INPUT WORD..`: READ and WRITE say how many octets a call gives or takes, and behind a `/`
 which call fails, from 0; ROOM is how many octets the sink has room for. ANSWER is the status, what is written in hexadecimal, and
 how many calls of the source and of the sink failed, with `/` between.
@@ -37,7 +47,8 @@ import pathlib
 import sys
 
 from certificates import certificate, own_anchor
-from messages import CONTENT_A, NOW, QUERY, built, created, indefinite, key_bits, message, own_crl, overlong, segmented, value
+from messages import (
+    CONTENT_A, NOW, NULL, QUERY, RSA, bits, built, created, indefinite, key_bits, message, own_crl, overlong, segmented, seq, value)
 from publication import digest, element, mixed, root, shaped
 from requests import options_of, request
 from resource_certificates import certificate_of
@@ -513,6 +524,79 @@ def orders():
     yield "words-none", "words", (), "0/true"
 
 
+# ---- parts that programs share: name, call, words, answer
+
+
+REFUSED = {
+    "Usage": 2, "Hex": 3, "CmsDecode": 4, "XmlError": 5, "CertSyntax": 5, "InvalidCsrSyntax": 5, "InvalidTaCertEncoding": 5,
+    "InvalidTaCert": 5, "Validation": 6, "KeyNotFound": 7, "IncompatibleKey": 7, "KeyReused": 7, "Signer": 7, "Moment": 8, "TooLong": 9,
+    "ReadFault": 10, "OutOfMemory": 12}
+PARTS = 0, 127, 128, 256, 65536
+
+
+def line_parts():
+    """Lines, what inputs spell, and keys, with parts of sizes where a length or a count takes one octet more."""
+    for n in PARTS:
+        yield f"line-of-{n}", "line_of", ("a" * n,), (b"a" * n + b"\n").hex()
+        octets = b"\xab" * n
+        for label, digits in ("", octets.hex()), ("-in-upper-case", octets.hex().upper()), ("-with-a-line-feed", octets.hex() + "\n"):
+            if n < 1000 or not label:
+                yield f"octets-of-{n}{label}", "input_octets", (digits,), octets.hex()
+        spelled = seq(seq(RSA, NULL), bits(octets)).hex()
+        yield f"spelled-key-of-{n}", "spelled_key", (spelled,), "rsa:" + octets.hex()
+        yield f"spelled-key-of-{n}-cut", "spelled_key", (spelled[:-2],), "none"
+    for number, digits in enumerate(("0", "0g", "00\n\n", " 00", "\n00", "00 ")):
+        yield f"no-octets-{number}", "input_octets", (digits,), "Hex"
+    for name, _, words, answer in keys():
+        if words:
+            yield f"spelled-{name}", "spelled_key", words, answer
+
+
+def stream_parts():
+    """Inputs that are read, or whose calls fail; and ends of programs that answer line by line."""
+    for n in PARTS:
+        for piece in ("1", "100") if n < 1000 else ("1000",):
+            yield f"read-{n}-by-{piece}", "read_input", (piece, "a" * n), (b"a" * n).hex()
+    for call in range(4):
+        yield f"read-input-{call}-fails", "read_input", (f"100/{call}", "a" * 300), "ReadFault"
+    yield "read-input-4-fails", "read_input", ("100/4", "a" * 300), (b"a" * 300).hex()
+    for room in 0, 1000:
+        yield f"finish-done-{room}", "finish_lines", ("done", str(room)), "0//0"
+        yield f"finish-failed-{room}", "finish_lines", ("write", str(room)), "11//0"
+    for name, status in REFUSED.items():
+        said = f"{name} 14\n" if name == "Validation" else f"{name}\n"
+        yield f"finish-{name}", "finish_lines", (name, "1000"), f"{status}/{said.encode().hex()}/0"
+        yield f"finish-{name}-cut", "finish_lines", (name, str(len(said) - 1)), f"11/{said[:-1].encode().hex()}/1"
+
+
+def message_parts():
+    """Texts that are messages of a protocol, and that are none."""
+    for label, text, written in (*updown_texts(), *certified_texts()):
+        answer = written[1].decode() if isinstance(written, tuple) else written.hex() if written else "XmlError"
+        yield f"message-updown-{label}", "message_in", ("provisioning", text.decode()), answer
+    for label, spelled, written in shaped():
+        yield f"message-{label}", "message_in", ("publication", spelled.decode()), written.hex()
+    for label, kind, elements in mixed():
+        yield f"message-{label}", "message_in", ("publication", root(kind, *elements).decode()), "XmlError"
+    for n in PARTS:
+        text = root(b"query", element(b"publish", base64.b64encode(b"c" * n), tag=b"t" * n, uri=b"rsync://localhost/ca/f"))
+        yield f"message-of-{n}", "message_in", ("publication", text.decode()), text.hex()
+        text = updown(b"error_response", status(b"1101", b"<description>%s</description>" % (b"d" * n) if n else b"<description/>"))
+        yield f"message-updown-of-{n}", "message_in", ("provisioning", text.decode()), text.hex()
+    yield "message-of-the-other-kind", "message_in", ("provisioning", QUERY.decode()), "XmlError"
+    yield "message-updown-of-the-other-kind", "message_in", ("publication", updown(b"list").decode()), "XmlError"
+
+
+def part_rows():
+    for name, call, words, answer in (*line_parts(), *stream_parts(), *message_parts()):
+        yield " ".join((f"part-{name}", call, answer or "-", *map(sized_word, words)))
+
+
+def sized_word(text):
+    """A word as the cases have it; a long one in terms."""
+    return word_of(text) if len(text) < 1000 else "#" + terms(text.encode())
+
+
 # ---- streams of which calls fail: name, answer, calls of the source and of the sink, room, input, words
 
 
@@ -590,6 +674,7 @@ def rows():
         yield case(name, words, given, status, text + b"\n")
     for name, call, words, answer in (*moments(), *keys(), *commands(), *orders()):
         yield " ".join((name, call, answer, *map(word_of, words)))
+    yield from part_rows()
     for row in fault_rows():
         yield fault_case(*row)
     for row in signer_rows():

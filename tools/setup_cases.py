@@ -7,8 +7,8 @@ under test.
 A line is `NAME ber OCTETS STEP..`, with the steps of tools/stored.py. What the calls answer, or `refused` and the printed error:
 
     child_request parent_response publisher_request repository_response
-                                      the message as each call writes it: as a text, to a sink, and as octets of a copy; whether the copy is
-                                      equal; and the tag, or `-`
+                                      the message as each call writes it: as a text, to a sink, and as octets of a copy; what it prints;
+                                      whether the copy is equal; and the tag, or `-`
     made_child made_parent made_publisher made_repository
                                       the same of a message that calls put together, with the octets in the place of the certificate
     child_parts publisher_parts       what such a message is taken to: the octets, the handle and the tag
@@ -34,7 +34,7 @@ def line(label, octets, *steps):
 
 
 def written(call, text, tag="-"):
-    return step(call, text, text, text, True, tag)
+    return step(call, text, text, text, text, True, tag)
 
 
 def message(number, octets, attributes=b""):

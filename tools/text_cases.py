@@ -94,6 +94,23 @@ def string_of_json(text):
     return found
 
 
+def octets_of_json(text):
+    """The octets whose base64 text, without white space, is the one string of a JSON text."""
+    found = string_of_json(text)
+    octets = octets_of_base64(found)
+    if base64.b64encode(octets).decode() != found:
+        raise Refused("Malformed")
+    return octets
+
+
+def compact(text):
+    """The value of a JSON text, without spaces."""
+    try:
+        return json.dumps(json.loads(text), ensure_ascii=False, separators=(",", ":"))
+    except ValueError:
+        raise Refused("Malformed") from None
+
+
 def handle_of(text, refusal="Pattern"):
     if not HANDLE.fullmatch(text):
         raise Refused(refusal)
@@ -209,6 +226,59 @@ def piece_rows():
             yield line(f"write-{size}-by-{piece}", "write_all", kept, octets, b"\x00" * piece)
 
 
+def source_rows():
+    for size in (0, 1, *SIZES):
+        octets = bytes(place % 61 for place in range(size))
+        for piece in sorted({0, 1, 7, size, 65536}):
+            yield line(f"given-{size}-by-{piece}", "std_read", octets[:2 * piece], octets, b"\x00" * piece)
+
+
+def json_rows():
+    texts = [chr(octet) for octet in range(256)] + ["\u20ac", "\U0001f600", "a\"b\\c/d"]
+    texts += [letter * size for size in SIZES for letter in ("a", '"', "\u00e9")]
+    spelled_texts = [json.dumps(text) for text in texts] + [json.dumps(text, ensure_ascii=False) for text in texts]
+    for number, text in enumerate(texts):
+        yield line(f"string-to-json-{number}", "string_to_json", json.dumps(text, ensure_ascii=False), text)
+    for number, text in enumerate(JSON + JSON_VALUES + spelled_texts):
+        yield line(f"json-string-{number}", "json_string", answered(string_of_json, text), text)
+    for number, text in enumerate(JSON + JSON_VALUES + [f"[{text},{text}]" for text in spelled_texts]):
+        yield line(f"json-value-{number}", "json_value", answered(compact, text), text)
+    for size in SIZES:
+        yield line(f"json-array-of-{size}", "json_value", "[" + "1," * (size - 1) + "1]", "[ " + "1 , " * (size - 1) + "1 ]")
+    for levels, answer in ((127, None), (128, Refused("Malformed"))):
+        text = "[" * levels + "]" * levels
+        yield line(f"json-of-{levels}-levels", "json_value", answer or text, text)
+    for number, text in enumerate([*BASE64, "", *["A" * size for size in SIZES], *["YWJj" * size for size in SIZES]]):
+        yield line(f"json-octets-{number}", "json_octets", answered(octets_of_json, json.dumps(text)), json.dumps(text))
+    for number, text in enumerate(JSON):
+        yield line(f"json-octets-of-{number}", "json_octets", answered(octets_of_json, text), text)
+    for number, text in enumerate(["", "a", "ab", "abc", "\u00ff~?", *["a" * size for size in SIZES]]):
+        yield line(f"octets-to-json-{number}", "octets_to_json", json.dumps(base64.b64encode(text.encode()).decode()), text)
+
+
+def ipv6_text(number):
+    """Groups in lower case without leading zeros, of which the first of the longest runs of two zeros or more is `::`."""
+    groups = [f"{number >> 16 * place & 0xFFFF:x}" for place in reversed(range(8))]
+    for size in range(8, 1, -1):
+        for at in range(9 - size):
+            if groups[at:at + size] == ["0"] * size:
+                return ":".join(groups[:at]) + "::" + ":".join(groups[at + size:])
+    return ":".join(groups)
+
+
+def number_rows():
+    for number in (0, 1, 9, 10, 64496, 65535, 65536, (1 << 31) - 1, 1 << 31, 0x0A000001, 0xC0000201, (1 << 32) - 1):
+        octets = number.to_bytes(4, "big")
+        yield line(f"number-as-{number}", "number_as", str(number), octets)
+        yield line(f"number-ipv4-{number}", "number_ipv4", ".".join(map(str, octets)), octets)
+    groups = ["0", "1", "20010db8" + "0" * 24, "20010db8" + "0" * 23 + "1", "f" * 32, "00010002000300040005000600070008",
+        "00010000000200000003000000040000", "00010000000000020000000000000003", "00000000000000010000000000000001", "0001" + "0" * 28,
+        "00000000000000000000ffffc0000201", "0000ffff" * 4, "abcd" + "0" * 24 + "0010"]
+    for number, digits in enumerate(groups):
+        octets = bytes.fromhex(digits.zfill(32))
+        yield line(f"number-ipv6-{number}", "number_ipv6", ipv6_text(int(digits, 16)), octets)
+
+
 def set_rows():
     for kind, rows, none in sets.kinds():
         for number, (text, printed) in enumerate(rows):
@@ -309,6 +379,11 @@ JSON = [
     ' "Y\\nQ\\u003d=" ', '"????????"', '"YR=="', "YQ==", '["YQ=="]', "1.5", "null", '"YQ==', '"YQ==" x', "",
     '"Carol\\/1"', '"Ca rol"', "Carol", '{"a":"Carol"}', "true", '""', '"\\u0043arol"',
 ]
+JSON_VALUES = [
+    "true", "false", "0", "-1", "18446744073709551615", "[]", "{}", ' [ 1 , "a" , null , { } ] ', '{"a":1,"b":[true,{"c":"d"}]}',
+    '{"a":1,"a":2}', "[1,]", '{"a":1,}', "{a:1}", "[1 2]", "01", "+1", ".5", "1.", "tru", "[", '{"a"}', '"a', "\t[\n]\r", "\f[]",
+    '"\\x41"', '"\\u12"', '"\t"', "'a'", "[] []", "// a\n1",
+]
 PARTS = "10.0.0.0/8,192.0.2.0/24,198.51.100.7"
 PART = "10.1.0.0/16,192.0.2.1-192.0.2.9,198.51.100.7"
 CONTAINED = [
@@ -352,8 +427,8 @@ SAME = [
 
 def main():
     lines = [
-        *uri_rows(), *hash_rows(), *base64_rows(), *handle_rows(), *ski_rows(), *piece_rows(), *set_rows(), *same_rows(),
-        *kept_rows()]
+        *uri_rows(), *hash_rows(), *base64_rows(), *handle_rows(), *ski_rows(), *piece_rows(), *source_rows(), *json_rows(),
+        *number_rows(), *set_rows(), *same_rows(), *kept_rows()]
     names = [line.split(" ")[0] for line in lines]
     assert len(names) == len(set(names))
     (CRATE / "data" / "cases.txt").write_text("".join(line + "\n" for line in lines))

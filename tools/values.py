@@ -22,6 +22,9 @@ A line is `NAME MODE OCTETS STEP..`, with the steps of tools/stored.py; MODE is 
     key whole_key decoded_key         format, bits, key identifier, DER; the last also the name that is made of the key
     x509 cms algorithm                what a certificate writes, and what a signer's information does
     data whole_data router_data       the signed octets, the signature, what is written
+    data_algorithm signature          as algorithm; what a certificate writes of the algorithm, and the signature, of data that were entered
+    extensions extensions_under,TAG   identifier and value of each, one behind the other; two_extensions: the same without what is round them
+    append_constructed,TAG            the octets, and behind them the constructed value whose contents they are
 """
 
 import calendar
@@ -541,6 +544,34 @@ def extension_cases():
         yield case(f"no-extension-{name}", "der" if name.endswith("der") else "both", octets, step("extension", MALFORMED))
 
 
+def spelled_extension(kind, held, flag=b"", string=octet_string):
+    return seq(kind, flag, string(held))
+
+
+def gathering_cases():
+    one, other = spelled_extension(SUBJECT_KEY, b"ab", b"\1\1\xff"), spelled_extension(oid("1.2"), b"")
+    for name, parts, found in (
+            ("none", (), b""), ("one", (one,), SUBJECT_KEY[2:] + b"ab"), ("two", (one, other), SUBJECT_KEY[2:] + b"ab" + b"\x2a"),
+            ("turned", (other, one), b"\x2a" + SUBJECT_KEY[2:] + b"ab"), ("twice", (one, one), (SUBJECT_KEY[2:] + b"ab") * 2)):
+        octets = seq(*parts)
+        yield case(f"extensions-{name}", "both", octets + NULL, step("extensions", found), end(NULL))
+        yield case(f"extensions-{name}-tagged", "both", value(0xA3, octets) + NULL,
+            step("extensions_under", found, argument=b"\x83"), end(NULL))
+        if len(parts) == 2:
+            yield case(f"extensions-{name}-alone", "both", b"".join(parts) + NULL, step("two_extensions", found), end(NULL))
+    loose = indefinite(0xA0, indefinite(0x30, spelled_extension(SUBJECT_KEY, b"a", b"\1\1\1",
+        lambda held: value(0x24, octet_string(held)))))
+    yield case("extensions-loose", "ber", loose, step("extensions_under", SUBJECT_KEY[2:] + b"a", argument=b"\x80"), end())
+    yield from refused("extensions-loose-in-der", "der", loose, "extensions_under,80")
+    for name, octets in {
+            "set": value(0x31, one), "of-null": seq(one, NULL), "of-no-value": seq(one, b"\x30"), "bare": one,
+            "unended": seq(one)[:-1], "without-value": seq(one, seq(SUBJECT_KEY))}.items():
+        yield from refused(f"no-extensions-{name}", "both", octets, "extensions")
+        yield from refused(f"no-extensions-{name}-tagged", "both", value(0xA3, octets), "extensions_under,83")
+    yield from refused("extensions-under-another-tag", "both", value(0xA2, seq(one)), "extensions_under,83")
+    yield from refused("extensions-with-something-behind", "both", value(0xA3, seq(one) + NULL), "extensions_under,83")
+
+
 # ---- keys, algorithms, signed data
 
 
@@ -629,10 +660,12 @@ def data_cases():
     data = lambda *parts: seq(*parts)
     good = data(inner, ALGORITHM, bits(b"\7"))
     yield case("data", "both", good + NULL, step("whole_data", MALFORMED), step("data", inner, b"\7", good), end(NULL))
-    yield case("whole-data", "both", good, step("whole_data", inner, b"\7", good), step("router_data", MALFORMED))
+    yield case("whole-data", "both", good, step("whole_data", inner, b"\7", good), step("router_data", MALFORMED),
+        step("data_algorithm", ALGORITHM, seq(RSA, NULL)))
     alone = data(integer(5), seq(RSA_SHA256), bits(b"\7"))
     yield case("data-without-null", "both", alone, step("whole_data", integer(5), b"\7", alone),
-        step("data", integer(5), b"\7", alone))
+        step("data_algorithm", seq(RSA_SHA256), seq(RSA)), step("data", integer(5), b"\7", alone))
+    yield from left_cases(inner, good, alone)
     loose = data(loose_inner, ALGORITHM, bits(b"\7"))
     yield case("data-of-an-indefinite-value", "ber", loose, step("whole_data", loose_inner, b"\7", loose))
     yield from refused("strict-data-of-an-indefinite-value", "der", loose, "whole_data")
@@ -653,6 +686,25 @@ def data_cases():
             "of-no-value": data(b"\0\0", ALGORITHM, bits(b"")),
             "set": value(0x31, good[2:])}.items():
         yield case(f"no-data-{name}", "both", octets, step("whole_data", MALFORMED), step("data", MALFORMED))
+
+
+ENTERED = step("enter", DONE, argument=b"\x10")
+
+
+def left_cases(inner, good, alone):
+    """The signature behind the signed value, with which the data are left."""
+    yield case("left-data", "both", good + NULL, step("signature", MALFORMED), ENTERED, step("capture", inner),
+        step("signature", ALGORITHM, b"\7"), step("depth", 0), end(NULL))
+    yield case("left-data-without-null", "both", alone + NULL, ENTERED, step("capture", integer(5)),
+        step("signature", seq(RSA_SHA256), b"\7"), end(NULL))
+    loose = indefinite(0x30, inner + value(0x30, RSA_SHA256, overlong) + value(3, b"\3\x08", overlong))
+    yield case("left-data-indefinite", "ber", loose + NULL, ENTERED, step("capture", inner),
+        step("signature", seq(RSA_SHA256), b"\x08"), end(NULL))
+    for name, octets in {
+            "of-signers": seq(inner, seq(RSA, NULL), bits(b"\7")), "of-routers": seq(inner, ROUTER, bits(b"\7")),
+            "without-signature": seq(inner, ALGORITHM), "without-algorithm": seq(inner, bits(b"\7")),
+            "behind": seq(inner, ALGORITHM, bits(b"\7"), NULL), "of-octets": seq(inner, ALGORITHM, octet_string(b"\7"))}.items():
+        yield case(f"left-data-{name}", "both", octets, ENTERED, step("capture", inner), step("signature", MALFORMED))
 
 
 # ---- sizes: parts of 127 to 65536 octets, values, segments and levels
@@ -773,12 +825,24 @@ def part_sizes(n, part):
             ("signature", seq(NULL, ALGORITHM, bits(part)), (NULL, part))):
         yield case(f"data-of-{n}-{name}", "both", octets, step("whole_data", *fields, octets), step("data", *fields, octets),
             end())
+        yield case(f"left-data-of-{n}-{name}", "both", octets, ENTERED, step("capture", fields[0]),
+            step("signature", ALGORITHM, fields[1]), end())
+    for name, octets, found in (
+            ("octets", seq(spelled_extension(SUBJECT_KEY, part)), SUBJECT_KEY[2:] + part),
+            ("identifier", seq(seq(kind, octet_string(b""))), kind[-n:]),
+            ("extensions", seq(*[spelled_extension(oid("1.2"), b"")] * n), b"\x2a" * n)):
+        yield case(f"extensions-of-{n}-{name}", "both", octets, step("extensions", found), end())
+        yield case(f"extensions-of-{n}-{name}-tagged", "both", value(0xA0, octets),
+            step("extensions_under", found, argument=b"\x80"), end())
+    pair = spelled_extension(SUBJECT_KEY, part)
+    yield case(f"two-extensions-of-{n}", "both", pair * 2, step("two_extensions", (SUBJECT_KEY[2:] + part) * 2), end())
 
 
 def written_sizes(n, part):
     yield case(
         f"written-{n}", "der", part, step("write_primitive", octet_string(part), argument=b"\4"),
-        step("write_constructed", *[value(0x30, part)] * 2, argument=b"\x10"), step("write_rsa_key", rsa_key(part)),
+        step("write_constructed", *[value(0x30, part)] * 2, argument=b"\x10"),
+        step("append_constructed", part + value(0x30, part), argument=b"\x10"), step("write_rsa_key", rsa_key(part)),
         step("write_ec_key", seq(seq(EC, P256), bits(part))),
         step("write_rsa_data", seq(part, ALGORITHM, bits(part)), argument=part),
         step("write_ec_data", seq(part, ROUTER, bits(part)), argument=part))
@@ -787,6 +851,9 @@ def written_sizes(n, part):
 def written_cases():
     inner = b"\1\1\xff" + integer(128) + NULL
     yield case("written-constructed", "der", inner, step("write_constructed", *[value(0xA0, inner)] * 2, argument=b"\x80"))
+    yield case("appended-constructed", "der", inner, step("append_constructed", inner + value(0xA0, inner), argument=b"\x80"),
+        step("append_constructed", inner + value(0x31, inner), argument=b"\x11"),
+        step("append_constructed", MALFORMED, argument=b"\0"))
     yield case("written-under-a-long-tag", "der", b"x",
         step("write_primitive", b"\x9f\x81\x82\3\1x", argument=bytes.fromhex("9f818203")))
     yield case("written-constructed-under-a-long-tag", "der", NULL,
@@ -799,7 +866,8 @@ def lines():
     for cases in (
             shape_cases, no_value_cases, level_cases, tag_cases, string_cases, oid_cases, leaf_cases, integer_cases,
             whole_cases, time_cases,
-            no_time_cases, text_cases, validity_cases, serial_cases, identifier_cases, name_cases, extension_cases, key_cases,
+            no_time_cases, text_cases, validity_cases, serial_cases, identifier_cases, name_cases, extension_cases,
+            gathering_cases, key_cases,
             algorithm_cases,
             data_cases, size_cases, written_cases):
         yield from cases()

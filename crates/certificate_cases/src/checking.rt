@@ -99,6 +99,14 @@ fn signed(alloc: Global, cert: &IdCert, asked: &Asked<'_>) -> Result<Fields, Dec
     Ok(Fields::truth(alloc, holds)?)
 }
 
+// The same of the signed data by themselves.
+fn data_signed(alloc: Global, cert: &IdCert, asked: &Asked<'_>) -> Result<Fields, DecodeError> {
+    let key = key_of(alloc, asked)?;
+    let data = cert.signed_data();
+    let verified = data.verify_signature::<ToyScheme, ToyVerifier>(&ToyVerifier::new(), &key);
+    Ok(Fields::truth(alloc, verified.is_ok())?)
+}
+
 // Whether the key is named as the issuer's, by `names_issuer` and by `require` with it.
 fn named(alloc: Global, cert: &IdCert, asked: &Asked<'_>) -> Result<Fields, DecodeError> {
     let key = key_of(alloc, asked)?;
@@ -123,6 +131,7 @@ fn checked(
         "named" => Some(named(alloc, cert, asked)),
         "each" => Some(each(alloc, cert, asked)),
         "signed" => Some(signed(alloc, cert, asked)),
+        "data_signed" => Some(data_signed(alloc, cert, asked)),
         _ => None,
     }
 }

@@ -2,7 +2,7 @@
 
 use crate::shown::append_identifier;
 use rpki_base::Serial;
-use rpki_der::{Cursor, DecodeError, Mode, Steps};
+use rpki_der::{Cursor, DecodeError, Mode, OutOfMemory, Steps, Writer};
 use rpki_sigmsg::{CrlEntry, RevokedCertificates, SignedMessageCrl, SignedMessageTbsCrl};
 use std::alloc::Global;
 use std::sync::ledger::Ledger;
@@ -16,7 +16,13 @@ fn append_number(fields: &mut Fields, number: Option<Serial>) -> Result<(), Deco
     }
 }
 
-// The issuer, the two updates, the list's octets, the authority's key identifier and the number.
+fn tbs_written(alloc: Global, tbs: &SignedMessageTbsCrl) -> Result<Writer, OutOfMemory> {
+    let mut out = Writer::new(alloc);
+    tbs.encode_ref(&mut out)?;
+    Ok(out)
+}
+
+// The issuer, the two updates, the list's octets, the authority's key identifier, the number, and what is written.
 fn tbs_shown(alloc: Global, tbs: &SignedMessageTbsCrl) -> Result<Fields, DecodeError> {
     let mut fields = Fields::one(alloc, tbs.issuer().as_slice())?;
     fields.print(alloc, tbs.this_update().seconds())?;
@@ -24,14 +30,27 @@ fn tbs_shown(alloc: Global, tbs: &SignedMessageTbsCrl) -> Result<Fields, DecodeE
     fields.octets(tbs.revoked_certs().as_slice())?;
     append_identifier(&mut fields, tbs.authority_key_id())?;
     append_number(&mut fields, tbs.crl_number())?;
+    fields.octets(tbs_written(alloc, tbs)?.as_slice())?;
     Ok(fields)
 }
 
-// The same of a CRL, the signed octets, and the signature.
+// The same of a copy.
+fn tbs_copied(alloc: Global, tbs: &SignedMessageTbsCrl) -> Result<Fields, DecodeError> {
+    tbs_shown(alloc, &tbs.clone(alloc)?)
+}
+
+fn crl_written(alloc: Global, crl: &SignedMessageCrl) -> Result<Writer, OutOfMemory> {
+    let mut out = Writer::new(alloc);
+    crl.encode_ref(&mut out)?;
+    Ok(out)
+}
+
+// The same of a CRL, the signed octets, the signature, and what is written.
 fn fields_shown(alloc: Global, crl: &SignedMessageCrl) -> Result<Fields, DecodeError> {
     let mut fields = tbs_shown(alloc, crl.tbs())?;
     fields.octets(crl.signed_data().slice().as_slice())?;
     fields.octets(crl.signed_data().signature().value().as_slice())?;
+    fields.octets(crl_written(alloc, crl)?.as_slice())?;
     Ok(fields)
 }
 
@@ -47,18 +66,38 @@ fn append_entry(alloc: Global, fields: &mut Fields, entry: &CrlEntry) -> Result<
     Ok(())
 }
 
-// The list's octets, and each entry.
+fn list_written(alloc: Global, list: &RevokedCertificates) -> Result<Writer, OutOfMemory> {
+    let mut out = Writer::new(alloc);
+    list.encode_ref(&mut out)?;
+    Ok(out)
+}
+
+// The list's octets, what is written, and each entry.
 fn list_shown(alloc: Global, list: &RevokedCertificates) -> Result<Fields, DecodeError> {
     let mut fields = Fields::one(alloc, list.as_slice())?;
+    fields.octets(list_written(alloc, list)?.as_slice())?;
     for entry in list.entries() {
         append_entry(alloc, &mut fields, entry)?;
     }
     Ok(fields)
 }
 
+// The same of a copy.
+fn list_copied(alloc: Global, list: &RevokedCertificates) -> Result<Fields, DecodeError> {
+    list_shown(alloc, &list.clone(alloc)?)
+}
+
+fn entry_written(alloc: Global, entry: &CrlEntry) -> Result<Writer, OutOfMemory> {
+    let mut out = Writer::new(alloc);
+    entry.encode(&mut out)?;
+    Ok(out)
+}
+
+// The serial number, the seconds of the date, and what is written.
 fn entry_shown(alloc: Global, entry: &CrlEntry) -> Result<Fields, DecodeError> {
     let mut fields = Fields::new(alloc);
     append_entry(alloc, &mut fields, entry)?;
+    fields.octets(entry_written(alloc, entry)?.as_slice())?;
     Ok(fields)
 }
 
@@ -67,11 +106,15 @@ fn crl(alloc: Global, cursor: &mut Cursor<'_>) -> Result<Fields, DecodeError> {
 }
 
 fn tbs(alloc: Global, cursor: &mut Cursor<'_>) -> Result<Fields, DecodeError> {
-    tbs_shown(alloc, &SignedMessageTbsCrl::take_from(alloc, cursor)?)
+    tbs_copied(alloc, &SignedMessageTbsCrl::take_from(alloc, cursor)?)
 }
 
 fn list(alloc: Global, cursor: &mut Cursor<'_>) -> Result<Fields, DecodeError> {
-    list_shown(alloc, &RevokedCertificates::take_from(alloc, cursor)?)
+    list_copied(alloc, &RevokedCertificates::take_from(alloc, cursor)?)
+}
+
+fn entry(alloc: Global, cursor: &mut Cursor<'_>) -> Result<Fields, DecodeError> {
+    entry_shown(alloc, &CrlEntry::take_from(cursor)?)
 }
 
 /// What a call that takes a cursor answers; None where the step is none.
@@ -84,6 +127,7 @@ pub fn answer(
         "crl" => Some(crl(alloc, cursor)),
         "tbs_crl" => Some(tbs(alloc, cursor)),
         "list" => Some(list(alloc, cursor)),
+        "entry" => Some(entry(alloc, cursor)),
         _ => None,
     }
 }
@@ -99,15 +143,34 @@ fn crl_counted<L: Ledger>(
     )
 }
 
+fn tbs_counted<L: Ledger>(
+    alloc: Global,
+    cursor: &mut Cursor<'_>,
+    steps: &mut Steps<L>,
+) -> Result<Fields, DecodeError> {
+    tbs_copied(
+        alloc,
+        &SignedMessageTbsCrl::take_from_counted(alloc, cursor, steps)?,
+    )
+}
+
 fn list_counted<L: Ledger>(
     alloc: Global,
     cursor: &mut Cursor<'_>,
     steps: &mut Steps<L>,
 ) -> Result<Fields, DecodeError> {
-    list_shown(
+    list_copied(
         alloc,
         &RevokedCertificates::take_from_counted(alloc, cursor, steps)?,
     )
+}
+
+fn entry_counted<L: Ledger>(
+    alloc: Global,
+    cursor: &mut Cursor<'_>,
+    steps: &mut Steps<L>,
+) -> Result<Fields, DecodeError> {
+    entry_shown(alloc, &CrlEntry::take_from_counted(cursor, steps)?)
 }
 
 /// What a counted call answers; None where the step is none.
@@ -119,7 +182,9 @@ pub fn counted_answer<L: Ledger>(
 ) -> Option<Result<Fields, DecodeError>> {
     match call {
         "crl" => Some(crl_counted(alloc, cursor, steps)),
+        "tbs_crl" => Some(tbs_counted(alloc, cursor, steps)),
         "list" => Some(list_counted(alloc, cursor, steps)),
+        "entry" => Some(entry_counted(alloc, cursor, steps)),
         _ => None,
     }
 }
@@ -129,11 +194,11 @@ fn whole_crl(alloc: Global, mode: Mode, octets: &[u8]) -> Result<Fields, DecodeE
 }
 
 fn whole_tbs(alloc: Global, mode: Mode, octets: &[u8]) -> Result<Fields, DecodeError> {
-    tbs_shown(alloc, &SignedMessageTbsCrl::take(alloc, mode, octets)?)
+    tbs_copied(alloc, &SignedMessageTbsCrl::take(alloc, mode, octets)?)
 }
 
 fn whole_list(alloc: Global, mode: Mode, octets: &[u8]) -> Result<Fields, DecodeError> {
-    list_shown(alloc, &RevokedCertificates::take(alloc, mode, octets)?)
+    list_copied(alloc, &RevokedCertificates::take(alloc, mode, octets)?)
 }
 
 fn whole_entry(alloc: Global, mode: Mode, octets: &[u8]) -> Result<Fields, DecodeError> {

@@ -5,12 +5,16 @@
 //! rules of the toy scheme alone, and says what the calls are.
 #![tactic(auto)]
 
+mod asking;
 mod checking;
 mod crls;
+mod long_calls;
 mod making;
 mod reading;
 mod shown;
 mod signing;
+mod toy_calls;
+mod unsigned;
 
 use rpki_der::{Cursor, DecodeError, Mode, Steps};
 use std::alloc::Global;
@@ -32,6 +36,9 @@ fn of_octets(
         return Some(answer);
     }
     if let Some(answer) = signing::answer(alloc, mode, octets, step) {
+        return Some(answer);
+    }
+    if let Some(answer) = unsigned::answer(alloc, octets, step) {
         return Some(answer);
     }
     if let Some(answer) = making::answer(alloc, step) {

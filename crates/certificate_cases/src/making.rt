@@ -19,8 +19,8 @@ fn time_of(text: &str) -> Option<Time> {
     Time::new(text.parse::<i64>().ok()?)
 }
 
-// A number and a validity.
-fn asked_of(argument: &[u8]) -> Option<(u64, Validity)> {
+/// A number and a validity.
+pub fn asked_of(argument: &[u8]) -> Option<(u64, Validity)> {
     let mut words = std::str::from_utf8(argument).ok()?.split('/');
     let number = words.next()?.parse::<u64>().ok()?;
     let first = time_of(words.next()?)?;

@@ -1,5 +1,6 @@
 //! What is asked of an element that is read, step by step.
 
+use crate::texts::{of_part, of_text};
 use rpki_common::OutOfMemory;
 use rpki_der::DecodeError;
 use rpki_xml::{Children, Element, ElementRef, ElementWriter, Mismatch};
@@ -223,11 +224,17 @@ fn answer(alloc: Global, place: &mut Place<'_>, step: &Step<'_>) -> Option<Answe
     if let Some(answer) = of_attributes(alloc, &place.element, step.call, asked_for) {
         return Some(answer);
     }
+    if let Some(answer) = of_text(alloc, &place.element, step.call, asked_for) {
+        return Some(answer);
+    }
+    if let Some(answer) = of_part(alloc, step.call, asked_for) {
+        return Some(answer);
+    }
     of_children(alloc, place, step.call, asked_for)
 }
 
 // Appends the names of the attributes and of the children of the document's element.
-fn append_names(fields: &mut Fields, element: &Element) -> Result<(), DecodeError> {
+fn append_names(fields: &mut Fields, element: &Element<'_>) -> Result<(), DecodeError> {
     for attribute in element.attributes() {
         fields.octets(attribute.name.as_bytes())?;
     }
@@ -238,7 +245,7 @@ fn append_names(fields: &mut Fields, element: &Element) -> Result<(), DecodeErro
 }
 
 // What the document's element shows by its own calls: names, namespace, text, and these names.
-fn root(alloc: Global, element: &Element) -> Answer {
+fn root(alloc: Global, element: &Element<'_>) -> Answer {
     let mut fields = Fields::one(alloc, element.name().as_bytes())?;
     fields.octets(element.local().as_bytes())?;
     fields.octets(element.namespace().unwrap_or("none").as_bytes())?;
@@ -250,7 +257,7 @@ fn root(alloc: Global, element: &Element) -> Answer {
 // Whether a step is answered as expected.
 fn is_met(
     alloc: Global,
-    element: &Element,
+    element: &Element<'_>,
     place: &mut Place<'_>,
     step: &Step<'_>,
 ) -> io::Result<bool> {
@@ -264,7 +271,7 @@ fn is_met(
 }
 
 /// Whether the steps of a line are answered as expected, from the element on.
-pub fn are_met(alloc: Global, element: &Element, steps: &str) -> io::Result<bool> {
+pub fn are_met(alloc: Global, element: &Element<'_>, steps: &str) -> io::Result<bool> {
     let mut place = Place {
         element: element.as_ref(),
         passed: 0,

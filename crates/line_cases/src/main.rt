@@ -1,19 +1,24 @@
 //! Runs the programs that answer line by line on stored cases, in memory, and says how many answers
 //! differ from the expected.
 //!
-//! A line of data/cases.txt is `NAME PROGRAM STATUS OUTPUT INPUT WORD..`: PROGRAM is `guard`, `arch`, `pub`, `up`
-//! or `parent`, and the last is no program, but a parent of several classes. Behind `pub` may stand the number of a
-//! call of the signer that fails, counted from 0, the one that makes its key; behind the last two `,s` and such
-//! a number, or `,i` and one of the issuer's signer.
+//! A line of data/cases.txt is `NAME PROGRAM STATUS OUTPUT INPUT WORD..`: PROGRAM is `guard`, `arch`, `pub`, `up`,
+//! or what is no program: `parent`, a parent of several classes; `issuer`, its issuer; `class`, a class; or `state`,
+//! the state of a guard. Behind `pub` may stand the number of a call of the signer that fails, counted from 0, the
+//! one that makes its key; behind `up` and `parent` `,s` and such a number; and behind these or `issuer` `,i` and one
+//! of the issuer's signer.
 //! OUTPUT is what has to be written, and it and INPUT are octets as in other stored cases; `-` is an empty field.
 //! tools/line_cases.py writes the file; its expected answers come from a model that was written apart
 //! from this tree, or are stated in the script.
 #![tactic(auto)]
 
+mod guarded;
+mod issuing;
 mod parents;
 mod server;
 mod up;
 
+use crate::guarded::{admits_alike, holds_state};
+use crate::issuing::{holds_class, holds_issuer};
 use crate::parents::run_parent;
 use crate::server::answers_alike;
 use crate::up::{Failing, out_of_memory, run_up};
@@ -211,19 +216,39 @@ fn does_as_parent(alloc: Global, failing: &str, case: &Case) -> io::Result<bool>
     let input = text_in(case)?;
     let failing = Failing::of(failing)?;
     let text = run_parent(alloc, &case.words, input, &failing)?;
-    Ok(text.as_bytes() == case.output.as_slice())
+    Ok(text.as_slice() == case.output.as_slice())
 }
 
-// Whether the case is answered as expected, whole and an octet at a time; and by the calls of a
-// server, where it is one whose queries are all answered.
+// Whether the calls of a server or of a guard, one by one, answer as the program.
+fn does_alike(alloc: Global, program: &str, case: &Case) -> io::Result<bool> {
+    match program {
+        "pub" => answers_alike(alloc, case),
+        "guard" => admits_alike(alloc, case),
+        _ => Ok(true),
+    }
+}
+
+// Whether the case is answered as expected, whole and an octet at a time; and by such calls, where
+// all lines are answered.
+fn holds_run(alloc: Global, program: &str, case: &Case) -> io::Result<bool> {
+    if case.status == 0 && !does_alike(alloc, program, case)? {
+        return Ok(false);
+    }
+    Ok(is_answered(alloc, program, case, 1 << 20)? && is_answered(alloc, program, case, 1)?)
+}
+
 fn holds_case(alloc: Global, program: &str, case: &Case) -> io::Result<bool> {
     if let Some(failing) = program.strip_prefix("parent") {
         return does_as_parent(alloc, failing, case);
     }
-    if program == "pub" && case.status == 0 && !answers_alike(alloc, case)? {
-        return Ok(false);
+    if let Some(failing) = program.strip_prefix("issuer") {
+        return holds_issuer(alloc, failing, case);
     }
-    Ok(is_answered(alloc, program, case, 1 << 20)? && is_answered(alloc, program, case, 1)?)
+    match program {
+        "class" => holds_class(alloc, case),
+        "state" => holds_state(alloc, case),
+        _ => holds_run(alloc, program, case),
+    }
 }
 
 struct Runs;

@@ -2,6 +2,7 @@
 
 ghost use Rattle.rpki_provisioning.specs.Writable.{IsCertificate};
 
+use crate::issuing::add_told;
 use crate::up::{Failing, first_issuer, first_signer, out_of_memory, push};
 use rpki_base::{PublicKey, Time, ToyFault};
 use rpki_ca::Words;
@@ -17,8 +18,8 @@ use std::alloc::Global;
 use std::io;
 use stored_cases::{invalid, octets_of};
 
-// The AS numbers that a text means, and all other resources of the program's class; or none where it is empty.
-fn set_of(alloc: Global, asn: &str) -> io::Result<ResourceSet> {
+/// The AS numbers that a text means, and all other resources of the program's class; or none where it is empty.
+pub fn set_of(alloc: Global, asn: &str) -> io::Result<ResourceSet> {
     if asn.is_empty() {
         return Ok(ResourceSet::default(alloc));
     }
@@ -33,17 +34,18 @@ fn set_of(alloc: Global, asn: &str) -> io::Result<ResourceSet> {
 }
 
 // The name of a class, and the directory of its certificates.
-fn place_of(alloc: Global, name: &str) -> io::Result<(ResourceClassName, Rsync)> {
+fn place_of(alloc: Global, name: &str, base: &str) -> io::Result<(ResourceClassName, Rsync)> {
     let Ok(name) = ResourceClassName::from_str(alloc, name) else {
         return Err(out_of_memory());
     };
-    match Rsync::from_str(alloc, "rsync://localhost/repo/") {
+    match Rsync::from_str(alloc, base) {
         Ok(base) => Ok((name, base)),
         Err(_) => Err(out_of_memory()),
     }
 }
 
-fn until() -> io::Result<Time> {
+/// Until when the child has its resources.
+pub fn until() -> io::Result<Time> {
     match Time::new(2_524_607_999) {
         Some(until) => Ok(until),
         None => Err(out_of_memory()),
@@ -66,11 +68,18 @@ fn class_under(
     }
 }
 
-fn class_of(alloc: Global, name: &str, asn: &str, signing: &SigningCert) -> io::Result<Class>
+/// The class of this name, whose certificates are in this directory, with these AS numbers, under this certificate.
+pub fn class_of(
+    alloc: Global,
+    name: &str,
+    base: &str,
+    asn: &str,
+    signing: &SigningCert,
+) -> io::Result<Class>
     requires { IsCertificate signing.now.cert }
 {
     let until = until()?;
-    let name = place_of(alloc, name)?;
+    let name = place_of(alloc, name, base)?;
     let set = set_of(alloc, asn)?;
     match signing.clone(alloc) {
         Ok(signing) => class_under(name, set, until, signing),
@@ -78,13 +87,15 @@ fn class_of(alloc: Global, name: &str, asn: &str, signing: &SigningCert) -> io::
     }
 }
 
+const BASE: &str = "rsync://localhost/repo/";
+
 // The classes `0`, `1` and `2`: the last one is empty.
 fn classes_of(alloc: Global, signing: &SigningCert) -> io::Result<Vec<Class>>
     requires { IsCertificate signing.now.cert }
 {
     let mut classes = Vec::new(alloc);
     for (name, asn) in [("0", "1-10"), ("1", "1-10"), ("2", "")] {
-        push(&mut classes, class_of(alloc, name, asn, signing)?)?;
+        push(&mut classes, class_of(alloc, name, BASE, asn, signing)?)?;
     }
     Ok(classes)
 }
@@ -153,8 +164,8 @@ fn add_gone(alloc: Global, text: &mut String, done: &ToyIssuer) -> Result<(), Ou
     Ok(())
 }
 
-// Adds lines of what the issuer did.
-fn add_did(alloc: Global, text: &mut String, done: &ToyIssuer) -> Result<(), OutOfMemory> {
+/// Adds lines of what the issuer did.
+pub fn add_did(alloc: Global, text: &mut String, done: &ToyIssuer) -> Result<(), OutOfMemory> {
     add_made(alloc, text, done)?;
     add_gone(alloc, text, done)?;
     let line = format!(in alloc; "faults {}\n", done.faults())?;
@@ -239,6 +250,22 @@ fn run_with(
     Ok(text)
 }
 
+// The same, and what the child is told then of each class.
+fn told_with(
+    alloc: Global,
+    words: &Words,
+    input: &str,
+    failing: &Failing,
+    parent: &mut Parent,
+    issuer: &mut ToyIssuer,
+) -> io::Result<Vec<u8>> {
+    let mut text = run_with(alloc, words, input, failing, parent, issuer)?.into_bytes();
+    for class in parent.classes() {
+        add_told(alloc, &mut text, class)?;
+    }
+    Ok(text)
+}
+
 // What it does with this issuer, whose certificate this is.
 fn run_under(
     alloc: Global,
@@ -247,20 +274,20 @@ fn run_under(
     failing: &Failing,
     issuer: &mut ToyIssuer,
     signing: &SigningCert,
-) -> io::Result<String>
+) -> io::Result<Vec<u8>>
     requires { IsCertificate signing.now.cert }
 {
     let mut parent = parent_of(alloc, words, signing)?;
-    run_with(alloc, words, input, failing, &mut parent, issuer)
+    told_with(alloc, words, input, failing, &mut parent, issuer)
 }
 
-/// What the parent answers to each line, and then what its issuer did.
+/// What the parent answers to each line, then what its issuer did, and then what the child is told of each class.
 pub fn run_parent(
     alloc: Global,
     words: &Words,
     input: &str,
     failing: &Failing,
-) -> io::Result<String> {
+) -> io::Result<Vec<u8>> {
     let (mut issuer, signing) = first_issuer(alloc, failing)?;
     run_under(alloc, words, input, failing, &mut issuer, &signing)
 }

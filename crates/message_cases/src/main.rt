@@ -2,17 +2,19 @@
 //!
 //! A line of data/cases.txt is `NAME MODE FORMAT SEED MOMENT EXPECTED HEX`, `NAME built MOMENT SEED REVOKED CONTENT MESSAGE`,
 //! `NAME created MOMENT KEY FAILING CONTENT MESSAGE`, `NAME unsigned MOMENT SERIAL CONTENT MESSAGE`,
-//! `NAME long MOMENT OCTETS COUNT CONTENT MESSAGE`, or `NAME checks FORMAT SEED NUMBER MOMENT DIGITS MESSAGE`; tools/messages.py, which
-//! writes the file by the formats and by the toy rules alone, says what the words are. Of a message that is read, the view is compared
-//! too.
+//! `NAME long MOMENT OCTETS COUNT CONTENT MESSAGE`, `NAME checks FORMAT SEED NUMBER MOMENT DIGITS MESSAGE`, or, run twice, the second time
+//! by the counted calls, `NAME DER OCTETS STEP..`, where DER is `der`, `ber` or `both`; tools/messages.py, which writes the file by the
+//! formats and by the toy rules alone, says what the words are. Of a message that is validated, the view is compared too.
 #![tactic(auto)]
 
 mod building;
 mod checking;
 mod creating;
 mod long;
+mod reading;
 mod unsigned;
 
+use crate::reading::Readings;
 use rpki_base::{PublicKey, PublicKeyFormat, Time};
 use rpki_idcert::{ValidationError, ValidationKind};
 use rpki_sigmsg::{DecodeError, OutOfMemory, SignedMessage, SignedMessageRef};
@@ -20,7 +22,7 @@ use rpki_signer::{ToyScheme, ToyVerifier};
 use std::alloc::Global;
 use std::io;
 use std::io::ErrorKind;
-use stored_cases::{Cases, invalid, run};
+use stored_cases::{Cases, Walks, invalid, run};
 
 #[derive(Drop)]
 struct Case<'a> {
@@ -183,6 +185,8 @@ fn is_validated(alloc: Global, line: &str) -> io::Result<bool> {
     }
 }
 
+const READINGS: Walks<Readings> = Walks { calls: Readings };
+
 struct Messages;
 
 impl Cases for Messages {
@@ -193,6 +197,7 @@ impl Cases for Messages {
             Some("created") => creating::holds(alloc, line),
             Some("long") => long::holds(alloc, line),
             Some("unsigned") => unsigned::holds(alloc, line),
+            Some("der" | "ber" | "both") => READINGS.holds(alloc, line),
             _ => is_validated(alloc, line),
         }
     }

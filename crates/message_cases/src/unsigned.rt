@@ -3,7 +3,12 @@
 use crate::building::text_of;
 use bytes::Bytes;
 use rpki_base::{PublicKey, RpkiSignatureAlgorithm, Serial, Signature, Time};
-use rpki_sigmsg::{OutOfMemory, SignedMessage, UnsignedMessage, Window};
+use rpki_der::{Captured, Writer};
+use rpki_idcert::{IdCert, TbsIdCert, UnsignedIdCert};
+use rpki_sigmsg::{
+    OutOfMemory, SignedMessage, SignedMessageCrl, SignedMessageTbsCrl, UnsignedContent,
+    UnsignedCrl, UnsignedMessage, Window,
+};
 use rpki_signer::ToyScheme;
 use std::alloc::Global;
 use std::io;
@@ -12,6 +17,26 @@ use stored_cases::{invalid, octets_of};
 
 fn out_of_memory(_: OutOfMemory) -> io::Error {
     io::Error::from(ErrorKind::OutOfMemory)
+}
+
+// Who signs and when: key 1 of seed 1 the attributes, key 0 the CRL and the certificate with this number.
+#[derive(Drop)]
+struct Signing {
+    window: Window,
+    serial: Serial,
+    key: PublicKey,
+    issuing_key: PublicKey,
+}
+
+fn signing_of(alloc: Global, window: Window, serial: Serial) -> Result<Signing, OutOfMemory> {
+    let issuing_key = ToyScheme::key(alloc, 1, 0)?;
+    let key = ToyScheme::key(alloc, 1, 1)?;
+    Ok(Signing {
+        window,
+        serial,
+        key,
+        issuing_key,
+    })
 }
 
 fn signature(
@@ -23,31 +48,146 @@ fn signature(
     Ok(Signature::new(RpkiSignatureAlgorithm::default(), value))
 }
 
-// The attributes signed by key 1 of seed 1, the CRL and the certificate by key 0.
+// ---- all at once
+
+// The signatures of the attributes, of the CRL and of the certificate.
+#[derive(Drop)]
+struct Signatures {
+    attributes: Signature<RpkiSignatureAlgorithm>,
+    crl: Signature<RpkiSignatureAlgorithm>,
+    certificate: Signature<RpkiSignatureAlgorithm>,
+}
+
+fn sign_all(
+    alloc: Global,
+    unsigned: &UnsignedMessage,
+    signing: &Signing,
+) -> Result<Signatures, OutOfMemory> {
+    let attributes = signature(alloc, &signing.key, unsigned.attributes())?;
+    let crl = signature(alloc, &signing.issuing_key, unsigned.crl())?;
+    let certificate = signature(alloc, &signing.issuing_key, unsigned.certificate())?;
+    Ok(Signatures {
+        attributes,
+        crl,
+        certificate,
+    })
+}
+
 fn signed(
     alloc: Global,
     unsigned: UnsignedMessage,
-    key: &PublicKey,
-    issuing_key: &PublicKey,
+    signing: &Signing,
 ) -> Result<SignedMessage, OutOfMemory> {
-    let attributes = signature(alloc, key, unsigned.attributes())?;
-    let crl = signature(alloc, issuing_key, unsigned.crl())?;
-    let certificate = signature(alloc, issuing_key, unsigned.certificate())?;
+    let Signatures {
+        attributes,
+        crl,
+        certificate,
+    } = sign_all(alloc, &unsigned, signing)?;
     unsigned.into_message(alloc, attributes, crl, certificate)
 }
 
-fn made(
+fn made(alloc: Global, content: &[u8], signing: &Signing) -> Result<SignedMessage, OutOfMemory> {
+    let content = Bytes::copy_from_slice(alloc, content)?;
+    let unsigned = UnsignedMessage::new(
+        alloc,
+        content,
+        signing.window,
+        signing.serial,
+        &signing.key,
+        &signing.issuing_key,
+    )?;
+    signed(alloc, unsigned, signing)
+}
+
+// ---- part by part
+
+// What is written of the fields of the CRL.
+fn crl_octets(alloc: Global, signing: &Signing) -> Result<Captured, OutOfMemory> {
+    let tbs = SignedMessageTbsCrl::new(alloc, &signing.issuing_key, signing.window)?;
+    let mut out = Writer::new(alloc);
+    tbs.encode_ref(&mut out)?;
+    out.into_captured()
+}
+
+// The CRL, with the signature of what is written of its fields by themselves.
+fn signed_crl(alloc: Global, signing: &Signing) -> Result<SignedMessageCrl, OutOfMemory> {
+    let octets = crl_octets(alloc, signing)?;
+    let value = signature(alloc, &signing.issuing_key, octets.as_slice())?;
+    let unsigned = UnsignedCrl::new(alloc, &signing.issuing_key, signing.window)?;
+    Ok(unsigned.with_signature(value))
+}
+
+fn unsigned_certificate(alloc: Global, signing: &Signing) -> Result<UnsignedIdCert, OutOfMemory> {
+    let validity = signing.window.validity();
+    let serial = signing.serial;
+    let tbs = TbsIdCert::new(alloc, serial, validity, &signing.key, &signing.issuing_key)?;
+    UnsignedIdCert::new(alloc, tbs)
+}
+
+fn signed_certificate(alloc: Global, signing: &Signing) -> Result<IdCert, OutOfMemory> {
+    let unsigned = unsigned_certificate(alloc, signing)?;
+    let value = signature(alloc, &signing.issuing_key, unsigned.as_slice())?;
+    Ok(unsigned.with_signature(value))
+}
+
+// The message of this content and this certificate.
+fn certified(
     alloc: Global,
-    octets: &[u8],
+    content: UnsignedContent,
+    certificate: IdCert,
+    signing: &Signing,
+) -> Result<SignedMessage, OutOfMemory> {
+    match (
+        signature(alloc, &signing.key, content.as_slice()),
+        signed_crl(alloc, signing),
+    ) {
+        (Ok(value), Ok(crl)) => content.into_message(alloc, value, certificate, crl),
+        _ => Err(OutOfMemory),
+    }
+}
+
+fn put_together(
+    alloc: Global,
+    content: &[u8],
+    signing: &Signing,
+) -> Result<SignedMessage, OutOfMemory> {
+    let content = Bytes::copy_from_slice(alloc, content)?;
+    let content = UnsignedContent::new(alloc, content, signing.window.moment())?;
+    let certificate = signed_certificate(alloc, signing)?;
+    certified(alloc, content, certificate, signing)
+}
+
+// Whether the message is written as these octets.
+fn is_written(
+    alloc: Global,
+    message: Result<SignedMessage, OutOfMemory>,
+    expected: &[u8],
+) -> Result<bool, OutOfMemory> {
+    let message = message?;
+    Ok(message.to_captured(alloc)?.as_slice() == expected)
+}
+
+// Whether the message is so, made at once and part by part.
+fn are_written(
+    alloc: Global,
+    content: &[u8],
+    signing: &Signing,
+    expected: &[u8],
+) -> Result<bool, OutOfMemory> {
+    let at_once = is_written(alloc, made(alloc, content, signing), expected)?;
+    let by_parts = is_written(alloc, put_together(alloc, content, signing), expected)?;
+    Ok(at_once && by_parts)
+}
+
+fn is_made(
+    alloc: Global,
+    content: &[u8],
     window: Window,
     serial: Serial,
-) -> Result<Bytes, OutOfMemory> {
-    let content = Bytes::copy_from_slice(alloc, octets)?;
-    let issuing_key = ToyScheme::key(alloc, 1, 0)?;
-    let key = ToyScheme::key(alloc, 1, 1)?;
-    let unsigned = UnsignedMessage::new(alloc, content, window, serial, &key, &issuing_key)?;
-    let message = signed(alloc, unsigned, &key, &issuing_key)?;
-    Ok(message.to_captured(alloc)?.into_bytes())
+    expected: &[u8],
+) -> Result<bool, OutOfMemory> {
+    let signing = signing_of(alloc, window, serial)?;
+    are_written(alloc, content, &signing, expected)
 }
 
 /// Whether the words behind two of a line, `MOMENT SERIAL CONTENT`, have the message in the last word, or `moment`.
@@ -65,6 +205,6 @@ pub fn holds(alloc: Global, line: &str) -> io::Result<bool> {
     let Some(window) = Window::new(now) else {
         return Ok(expected == "moment");
     };
-    let written = made(alloc, &content, window, Serial::from(serial)).map_err(out_of_memory)?;
-    Ok(written.as_slice() == octets_of(alloc, expected)?.as_slice())
+    let octets = octets_of(alloc, expected)?;
+    is_made(alloc, &content, window, Serial::from(serial), &octets).map_err(out_of_memory)
 }

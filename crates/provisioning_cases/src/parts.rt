@@ -64,6 +64,20 @@ fn class_number(alloc: Global, text: &str) -> Result<Fields, DecodeError> {
 
 // ---- kinds
 
+// Appends what the cause prints by itself, of a text that is no kind.
+fn append_cause(alloc: Global, fields: &mut Fields, error: &Error) -> Result<(), DecodeError> {
+    match error {
+        Error::InvalidPayloadType(cause) => append_print(alloc, fields, cause),
+        _ => Ok(()),
+    }
+}
+
+fn kind_refused(alloc: Global, error: &Error) -> Result<Fields, DecodeError> {
+    let mut fields = refused(alloc, error)?;
+    append_cause(alloc, &mut fields, error)?;
+    Ok(fields)
+}
+
 fn kind_shown(alloc: Global, answer: &Result<PayloadType, Error>) -> Result<Fields, DecodeError> {
     match answer {
         Ok(kind) => {
@@ -71,7 +85,7 @@ fn kind_shown(alloc: Global, answer: &Result<PayloadType, Error>) -> Result<Fiel
             append_print(alloc, &mut fields, kind)?;
             Ok(fields)
         }
-        Err(error) => refused(alloc, error),
+        Err(error) => kind_refused(alloc, error),
     }
 }
 

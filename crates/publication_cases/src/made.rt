@@ -164,6 +164,7 @@ fn message(alloc: Global, call: &str) -> Result<Option<Message>, DecodeError> {
         "made_twice" => Ok(Some(Message::delta(twice(alloc)?))),
         "made_list" => Ok(Some(Message::list_reply(list(alloc)?))),
         "made_withdrawals" => Ok(Some(Message::delta(withdrawals(alloc)?))),
+        "made_no_errors" => Ok(Some(Message::error(ErrorReply::empty(alloc)))),
         "made_errors" => Ok(Some(Message::error(errors(alloc)?))),
         "made_three" => Ok(Some(three(alloc)?)),
         "made_denial" => Ok(Some(Message::error(denial(alloc)?))),

@@ -5,6 +5,7 @@
 //! file, by the formats and the rules of the toy scheme alone, and says what the calls are.
 #![tactic(auto)]
 
+mod copied;
 mod creating;
 mod made;
 mod parts;
@@ -75,6 +76,7 @@ fn of_text(alloc: Global, octets: &[u8], step: &Step<'_>) -> Option<Result<Field
     match step.call {
         "lent" => Some(parts::lent(alloc, Message::decode_slice(alloc, octets))),
         "handed" => Some(parts::handed(alloc, Message::decode_slice(alloc, octets))),
+        "copied" => Some(copied::copied(alloc, Message::decode_slice(alloc, octets))),
         "query" => Some(parts::query(alloc, Message::decode_slice(alloc, octets))),
         "reply" => Some(parts::reply(alloc, Message::decode_slice(alloc, octets))),
         "created" => {

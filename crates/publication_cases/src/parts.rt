@@ -57,7 +57,8 @@ fn lent_withdraw(fields: &mut Fields, w: &Withdraw) -> Result<(), DecodeError> {
     append_hash(fields, w.hash())
 }
 
-fn lent_change(
+/// Appends a change.
+pub fn lent_change(
     alloc: Global,
     fields: &mut Fields,
     change: &PublishDeltaElement,
@@ -88,7 +89,12 @@ fn lent_list(alloc: Global, list: &ListReply) -> Result<Fields, DecodeError> {
     Ok(fields)
 }
 
-fn lent_pdu(alloc: Global, fields: &mut Fields, pdu: Option<&QueryPdu>) -> Result<(), DecodeError> {
+/// Appends an element of a query, or `-` where there is none.
+pub fn lent_pdu(
+    alloc: Global,
+    fields: &mut Fields,
+    pdu: Option<&QueryPdu>,
+) -> Result<(), DecodeError> {
     match pdu {
         Some(QueryPdu::PublishDeltaElement(change)) => lent_change(alloc, fields, change),
         Some(QueryPdu::List) => Ok(fields.octets(b"list")?),

@@ -92,7 +92,7 @@ fn uri_refusal(error: Error) -> &'static str {
     }
 }
 
-fn signing_refusal(error: SigningError<ToyFault>) -> &'static str {
+fn signing_refusal(error: &SigningError<ToyFault>) -> &'static str {
     match error {
         SigningError::KeyNotFound => "key not found",
         SigningError::IncompatibleKey => "incompatible key",
@@ -101,9 +101,9 @@ fn signing_refusal(error: SigningError<ToyFault>) -> &'static str {
     }
 }
 
-fn refusal(error: CsrError<ToyFault>) -> Result<&'static str, DecodeError> {
+fn refusal(error: &CsrError<ToyFault>) -> Result<&'static str, DecodeError> {
     match error {
-        CsrError::Uri(error) => Ok(uri_refusal(error)),
+        CsrError::Uri(error) => Ok(uri_refusal(*error)),
         CsrError::TooLong => Ok("too long"),
         CsrError::Signing(error) => Ok(signing_refusal(error)),
         CsrError::OutOfMemory => Err(DecodeError::OutOfMemory),
@@ -146,14 +146,18 @@ fn constructed(
     )
 }
 
-// What was made, or why nothing was made.
+// What was made, or why nothing was made: the name of the refusal, and what it prints.
 fn shown(
     alloc: Global,
     answer: Result<Captured, CsrError<ToyFault>>,
 ) -> Result<Fields, DecodeError> {
     match answer {
         Ok(captured) => Ok(Fields::one(alloc, captured.as_slice())?),
-        Err(error) => Ok(Fields::one(alloc, refusal(error)?.as_bytes())?),
+        Err(error) => {
+            let mut fields = Fields::one(alloc, refusal(&error)?.as_bytes())?;
+            fields.print(alloc, error)?;
+            Ok(fields)
+        }
     }
 }
 

@@ -3,8 +3,10 @@
 use crate::shown::{
     authority_attributes_shown, authority_shown, router_attributes_shown, router_shown,
 };
-use rpki_cert::{BgpsecCsr, BgpsecCsrAttributes, CsrAttributes, RpkiCaCsr, RpkiCaCsrAttributes};
-use rpki_der::{Cursor, DecodeError, Steps};
+use rpki_cert::{
+    BgpsecCsr, BgpsecCsrAttributes, CsrAttributes, InvalidAttribute, RpkiCaCsr, RpkiCaCsrAttributes,
+};
+use rpki_der::{Cursor, DecodeError, Mode, Oid, Steps};
 use rpki_signer::{ToyScheme, ToyVerifier};
 use std::alloc::Global;
 use std::sync::ledger::Ledger;
@@ -35,6 +37,14 @@ fn router_attributes(alloc: Global, octets: &[u8]) -> Result<Fields, DecodeError
     router_attributes_shown(alloc, &attributes.clone(alloc)?)
 }
 
+// What is printed of an attribute that no request can have, by its object identifier.
+fn invalid_attribute(alloc: Global, octets: &[u8]) -> Result<Fields, DecodeError> {
+    let oid = Oid::take(alloc, Mode::Der, octets)?;
+    let mut fields = Fields::new(alloc);
+    fields.print(alloc, InvalidAttribute::new(oid))?;
+    Ok(fields)
+}
+
 // Whether the request is signed with its own key, by the toy scheme.
 fn authority_holds(alloc: Global, octets: &[u8]) -> Result<Fields, DecodeError> {
     let request = RpkiCaCsr::decode(alloc, octets)?;
@@ -56,6 +66,7 @@ pub fn answer(alloc: Global, octets: &[u8], call: &str) -> Option<Result<Fields,
         "router" => Some(router(alloc, octets)),
         "authority_attributes" => Some(authority_attributes(alloc, octets)),
         "router_attributes" => Some(router_attributes(alloc, octets)),
+        "invalid_attribute" => Some(invalid_attribute(alloc, octets)),
         "authority_holds" => Some(authority_holds(alloc, octets)),
         "router_holds" => Some(router_holds(alloc, octets)),
         _ => None,
@@ -94,6 +105,24 @@ fn next_router<L: Ledger>(
     router_shown(alloc, &BgpsecCsr::take_from_counted(alloc, cursor, steps)?)
 }
 
+fn next_authority_attributes<L: Ledger>(
+    alloc: Global,
+    cursor: &mut Cursor<'_>,
+    steps: &mut Steps<L>,
+) -> Result<Fields, DecodeError> {
+    let attributes = RpkiCaCsrAttributes::take_from_counted(alloc, cursor, steps)?;
+    authority_attributes_shown(alloc, &attributes)
+}
+
+fn next_router_attributes<L: Ledger>(
+    alloc: Global,
+    cursor: &mut Cursor<'_>,
+    steps: &mut Steps<L>,
+) -> Result<Fields, DecodeError> {
+    let attributes = BgpsecCsrAttributes::take_from_counted(alloc, cursor, steps)?;
+    router_attributes_shown(alloc, &attributes)
+}
+
 /// What a counted call answers; None where the step is none.
 pub fn counted_answer<L: Ledger>(
     alloc: Global,
@@ -106,6 +135,8 @@ pub fn counted_answer<L: Ledger>(
         "router" => Some(router_counted(alloc, cursor.here(), steps)),
         "next_authority" => Some(next_authority(alloc, cursor, steps)),
         "next_router" => Some(next_router(alloc, cursor, steps)),
+        "next_authority_attributes" => Some(next_authority_attributes(alloc, cursor, steps)),
+        "next_router_attributes" => Some(next_router_attributes(alloc, cursor, steps)),
         _ => None,
     }
 }

@@ -42,14 +42,14 @@ fn joined(alloc: Global, purposes: &ExtendedKeyUsage) -> Result<Vec<u8>, DecodeE
     Ok(octets)
 }
 
-// Appends the purposes; where nothing is said of them, a field of no octets.
+// Appends what a copy of the purposes says; where nothing is said of them, a field of no octets.
 fn append_purposes(
     alloc: Global,
     fields: &mut Fields,
     purposes: Option<&ExtendedKeyUsage>,
 ) -> Result<(), DecodeError> {
     match purposes {
-        Some(purposes) => Ok(fields.octets(&joined(alloc, purposes)?)?),
+        Some(purposes) => Ok(fields.octets(&joined(alloc, &purposes.clone(alloc)?)?)?),
         None => Ok(fields.octets(&[])?),
     }
 }

@@ -12,8 +12,8 @@ use std::alloc::Global;
 use std::io;
 use stored_cases::{invalid, octets_of};
 
-// `PIECE` or `PIECE/CALL`: how many octets a call gives or takes, and the call that fails.
-fn calls_of(alloc: Global, field: &str) -> io::Result<(usize, Vec<u64>)> {
+/// `PIECE` or `PIECE/CALL`: how many octets a call gives or takes, and the call that fails.
+pub fn calls_of(alloc: Global, field: &str) -> io::Result<(usize, Vec<u64>)> {
     let (piece, call) = field.split_once('/').unwrap_or((field, ""));
     let Ok(piece) = piece.parse::<usize>() else {
         return Err(invalid());

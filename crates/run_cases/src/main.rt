@@ -3,12 +3,13 @@
 //!
 //! A line of data/cases.txt is `NAME STATUS LINE INPUT WORD..`: LINE is what has to be written, and
 //! it and INPUT are octets as in other stored cases; `-` is an empty field. Or it is
-//! `NAME CALL ANSWER ..`, with a call of words.rt, faults.rt or signers.rt and the text that it says. tools/run_cases.py
+//! `NAME CALL ANSWER ..`, with a call of words.rt, parts.rt, faults.rt or signers.rt and the text that it says. tools/run_cases.py
 //! writes the file; its expected answers come from a model that was written apart from this tree, or
 //! are stated in the script.
 #![tactic(auto)]
 
 mod faults;
+mod parts;
 mod signers;
 mod words;
 
@@ -86,12 +87,20 @@ fn is_run(alloc: Global, line: &str) -> io::Result<bool> {
     Ok(is_answered(alloc, &case, 1 << 20)? && is_answered(alloc, &case, 1)?)
 }
 
+// What a call over words says; None where there is none of its name.
+fn answer_to_words(alloc: Global, call: &str, words: &Words) -> io::Result<Option<String>> {
+    match parts::answer_to(alloc, call, words)? {
+        Some(answer) => Ok(Some(answer)),
+        None => words::answer_to(alloc, call, words),
+    }
+}
+
 // What the call of a line says; None where the line has a status in its place.
 fn answer_to(alloc: Global, call: &str, line: &str) -> io::Result<Option<String>> {
     match call {
         "faults" => Ok(Some(faults::answer_to(alloc, line)?)),
         "signed" => Ok(Some(signers::answer_to(alloc, line)?)),
-        _ => words::answer_to(alloc, call, &words_of(alloc, line, 3)?),
+        _ => answer_to_words(alloc, call, &words_of(alloc, line, 3)?),
     }
 }
 
@@ -104,7 +113,7 @@ impl Cases for Runs {
             return Err(invalid());
         };
         match answer_to(alloc, call, line)? {
-            Some(answer) => Ok(answer.as_str() == expected),
+            Some(answer) => Ok(answer.as_str() == text_of(expected)),
             None => is_run(alloc, line),
         }
     }

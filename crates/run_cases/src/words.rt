@@ -7,7 +7,8 @@ use std::alloc::Global;
 use std::io;
 use stored_cases::{invalid, octets_of};
 
-const NONE: &str = "none";
+/// What is said where there is nothing.
+pub const NONE: &str = "none";
 
 // The text that a word of a case stands for: `#` and its octets in hexadecimal, or itself.
 fn push(alloc: Global, words: &mut Words, field: &str) -> io::Result<()> {
@@ -54,8 +55,8 @@ fn moment(alloc: Global, words: &Words) -> io::Result<String> {
     }
 }
 
-// A key: its format, and its bits in hexadecimal.
-fn key_text(alloc: Global, key: &PublicKey) -> io::Result<String> {
+/// A key: its format, and its bits in hexadecimal.
+pub fn key_text(alloc: Global, key: &PublicKey) -> io::Result<String> {
     let format = match key.format() {
         PublicKeyFormat::Rsa => "rsa",
         PublicKeyFormat::EcdsaP256 => "ec",

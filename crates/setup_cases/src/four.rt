@@ -40,12 +40,13 @@ fn sunk<M: SetupMessage>(alloc: Global, message: &M) -> Result<MemorySink, Decod
     }
 }
 
-/// The message as each call writes it, the last time of a copy; whether the copy is equal; and the tag.
+/// The message as each call writes it, the last time of a copy; what it prints; whether the copy is equal; and the tag.
 pub fn shown<M: SetupMessage>(alloc: Global, message: &M) -> Result<Fields, DecodeError> {
     let copy = message.copy(alloc)?;
     let mut fields = Fields::one(alloc, message.text(alloc)?.as_bytes())?;
     fields.octets(sunk(alloc, message)?.written())?;
     fields.octets(&copy.octets(alloc)?)?;
+    fields.octets(message.printed(alloc)?.as_bytes())?;
     fields.octets(&[u8::from(copy.is_same(message))])?;
     append_text(&mut fields, message.own_tag())?;
     Ok(fields)

@@ -24,6 +24,8 @@ pub trait SetupMessage: Drop {
 
     fn octets(&self, alloc: Global) -> Result<Vec<u8>, OutOfMemory>;
 
+    fn printed(&self, alloc: Global) -> Result<String, OutOfMemory>;
+
     fn sink(&self, alloc: Global, sink: &mut MemorySink) -> Result<(), Error>;
 
     fn own_tag(&self) -> Option<&RcStr>;
@@ -54,6 +56,10 @@ impl SetupMessage for ChildRequest {
 
     fn octets(&self, alloc: Global) -> Result<Vec<u8>, OutOfMemory> {
         self.to_xml_vec(alloc)
+    }
+
+    fn printed(&self, alloc: Global) -> Result<String, OutOfMemory> {
+        Ok(format!(in alloc; "{self}")?)
     }
 
     fn sink(&self, alloc: Global, sink: &mut MemorySink) -> Result<(), Error> {
@@ -94,6 +100,10 @@ impl SetupMessage for ParentResponse {
         self.to_xml_vec(alloc)
     }
 
+    fn printed(&self, alloc: Global) -> Result<String, OutOfMemory> {
+        Ok(format!(in alloc; "{self}")?)
+    }
+
     fn sink(&self, alloc: Global, sink: &mut MemorySink) -> Result<(), Error> {
         self.write_xml(alloc, sink)
     }
@@ -132,6 +142,10 @@ impl SetupMessage for PublisherRequest {
         self.to_xml_vec(alloc)
     }
 
+    fn printed(&self, alloc: Global) -> Result<String, OutOfMemory> {
+        Ok(format!(in alloc; "{self}")?)
+    }
+
     fn sink(&self, alloc: Global, sink: &mut MemorySink) -> Result<(), Error> {
         self.write_xml(alloc, sink)
     }
@@ -168,6 +182,10 @@ impl SetupMessage for RepositoryResponse {
 
     fn octets(&self, alloc: Global) -> Result<Vec<u8>, OutOfMemory> {
         self.to_xml_vec(alloc)
+    }
+
+    fn printed(&self, alloc: Global) -> Result<String, OutOfMemory> {
+        Ok(format!(in alloc; "{self}")?)
     }
 
     fn sink(&self, alloc: Global, sink: &mut MemorySink) -> Result<(), Error> {

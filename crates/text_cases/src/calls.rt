@@ -1,11 +1,11 @@
 //! The calls that cases name, and what they answer.
 
-use crate::{kept, same, sets};
+use crate::{json, kept, numbers, same, sets};
 use rpki_common::OutOfMemory;
 use rpki_text::uri::{self, HttpsKind, RsyncKind, Uri, UriKind};
 use rpki_text::{
     Base64, Base64Error, ChildHandle, Hash, InvalidHandle, JsonError, MemorySink, MemorySource,
-    ReadAllError, key_identifier_text, read_all, read_key_identifier, write_all,
+    ReadAllError, Source, StdSource, key_identifier_text, read_all, read_key_identifier, write_all,
 };
 use std::alloc::Global;
 use std::io;
@@ -43,7 +43,7 @@ pub(crate) fn refused(name: &'static str) -> io::Result<Answer> {
     Ok(Answer::Refused(name))
 }
 
-fn printed(alloc: Global, text: Result<String, OutOfMemory>) -> io::Result<Answer> {
+pub(crate) fn printed(alloc: Global, text: Result<String, OutOfMemory>) -> io::Result<Answer> {
     match text {
         Ok(text) => given(alloc, text.as_str().as_bytes()),
         Err(OutOfMemory) => out_of_memory(),
@@ -169,6 +169,21 @@ fn octets_written(alloc: Global, octets: &[u8], piece: usize) -> io::Result<Answ
     }
 }
 
+// What two calls give of a source over `octets`, each asked for `piece` of them.
+fn octets_given(alloc: Global, octets: &[u8], piece: usize) -> io::Result<Answer> {
+    let mut source = StdSource::new(octets);
+    let mut found = Vec::new(alloc);
+    'calls: for _ in 0..2 {
+        let mut block = vec![in alloc; 0u8; piece]?;
+        let Ok(count) = source.read(&mut block) else {
+            return refused("Failed");
+        };
+        block.truncate(count);
+        found.extend_from_slice(&block)?;
+    }
+    Ok(Answer::Given(found))
+}
+
 // The base64 text of octets, and what is told of it.
 fn of_content(alloc: Global, call: &str, content: &[u8]) -> io::Result<Answer> {
     let Ok(held) = Base64::from_content(alloc, content) else {
@@ -223,7 +238,10 @@ fn of_texts(alloc: Global, call: &str, first: &str, second: &[u8]) -> io::Result
 // The calls that take a text, and maybe another.
 fn of_first_text(alloc: Global, call: &str, first: &str, second: &[u8]) -> io::Result<Answer> {
     match of_text(alloc, call, first, second)? {
-        Answer::Unknown => of_texts(alloc, call, first, second),
+        Answer::Unknown => match json::answer_to(alloc, call, first)? {
+            Answer::Unknown => of_texts(alloc, call, first, second),
+            answer => Ok(answer),
+        },
         answer => Ok(answer),
     }
 }
@@ -235,6 +253,8 @@ pub fn answer_to(alloc: Global, call: &str, first: &[u8], second: &[u8]) -> io::
         "ski_of" => text_of_key_identifier(alloc, first),
         "read_all" => octets_read(alloc, first, second.len()),
         "write_all" => octets_written(alloc, first, second.len()),
+        "std_read" => octets_given(alloc, first, second.len()),
+        "number_as" | "number_ipv4" | "number_ipv6" => numbers::answer_to(alloc, call, first),
         _ => match std::str::from_utf8(first) {
             Ok(text) => match of_first_text(alloc, call, text, second)? {
                 Answer::Unknown => of_content(alloc, call, first),

@@ -9,6 +9,7 @@
 
 mod counted;
 mod counted_parts;
+mod gathering;
 mod leaves;
 mod levels;
 mod parts;
@@ -77,6 +78,9 @@ impl Calls for Values {
             return Some(answer);
         }
         if let Some(answer) = counted::leaf_answer(alloc, cursor, step, steps) {
+            return Some(answer);
+        }
+        if let Some(answer) = gathering::answer(alloc, cursor, step, steps) {
             return Some(answer);
         }
         counted_parts::answer(alloc, cursor, step, steps)

@@ -27,24 +27,52 @@ fn pair(alloc: Global, mode: Mode, octets: &[u8]) -> Result<Fields, DecodeError>
     }
 }
 
+// What a copy of an octet string holds, if the two are equal.
+fn string_copied(
+    alloc: Global,
+    string: &OctetString,
+    copy: &OctetString,
+) -> Result<Fields, DecodeError> {
+    if *copy != *string {
+        return Err(DecodeError::Malformed);
+    }
+    let mut fields = Fields::one(alloc, copy.as_slice())?;
+    fields.print(alloc, copy.len())?;
+    fields.octets(copy.to_bytes(alloc)?.as_slice())?;
+    Ok(fields)
+}
+
 fn octet_string(alloc: Global, mode: Mode, octets: &[u8]) -> Result<Fields, DecodeError> {
     let string = OctetString::take(alloc, mode, octets)?;
-    let mut fields = Fields::one(alloc, string.as_slice())?;
-    fields.print(alloc, string.len())?;
-    fields.octets(string.to_bytes(alloc)?.as_slice())?;
-    Ok(fields)
+    string_copied(alloc, &string, &string.clone(alloc)?)
+}
+
+// What a copy of a bit string holds, if the two are equal.
+fn bits_copied(alloc: Global, string: &BitString, copy: &BitString) -> Result<Fields, DecodeError> {
+    if *copy != *string {
+        return Err(DecodeError::Malformed);
+    }
+    bits_shown(alloc, Ok((copy.unused(), copy.octets())))
 }
 
 fn bit_string(alloc: Global, mode: Mode, octets: &[u8]) -> Result<Fields, DecodeError> {
     let string = BitString::take(alloc, mode, octets)?;
-    bits_shown(alloc, Ok((string.unused(), string.octets())))
+    bits_copied(alloc, &string, &string.clone(alloc)?)
+}
+
+// What a copy of an object identifier holds and prints, if the two are equal.
+fn oid_copied(alloc: Global, oid: &Oid, copy: &Oid) -> Result<Fields, DecodeError> {
+    if *copy != *oid {
+        return Err(DecodeError::Malformed);
+    }
+    let mut fields = Fields::one(alloc, copy.as_slice())?;
+    fields.octets(format!(in alloc; "{copy}")?.as_bytes())?;
+    Ok(fields)
 }
 
 fn oid(alloc: Global, mode: Mode, octets: &[u8]) -> Result<Fields, DecodeError> {
     let oid = Oid::take(alloc, mode, octets)?;
-    let mut fields = Fields::one(alloc, oid.as_slice())?;
-    fields.octets(format!(in alloc; "{oid}")?.as_bytes())?;
-    Ok(fields)
+    oid_copied(alloc, &oid, &oid.clone(alloc)?)
 }
 
 // The node that comes next, each before those in it; None behind the last.

@@ -84,6 +84,12 @@ fn router(alloc: Global, mode: Mode, octets: &[u8]) -> Result<Fields, DecodeErro
     Ok(Fields::one(alloc, out.as_slice())?)
 }
 
+// The algorithm of signed data.
+fn data_algorithm(alloc: Global, mode: Mode, octets: &[u8]) -> Result<Fields, DecodeError> {
+    let data = SignedData::<RpkiSignatureAlgorithm>::take(alloc, mode, octets)?;
+    algorithm_shown(alloc, Ok(data.signature().algorithm()))
+}
+
 // What a call that takes an algorithm or signed data answers; None where the step is none.
 fn signing_answer(
     alloc: Global,
@@ -101,6 +107,7 @@ fn signing_answer(
             RpkiSignatureAlgorithm::cms_take_from(mode, octets).ok_or(DecodeError::Malformed),
         )),
         "router" => Some(router(alloc, mode, octets)),
+        "data_algorithm" => Some(data_algorithm(alloc, mode, octets)),
         "whole_data" => Some(data_shown(
             alloc,
             SignedData::<RpkiSignatureAlgorithm>::take(alloc, mode, octets),

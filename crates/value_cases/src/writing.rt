@@ -4,9 +4,9 @@ use crate::shown::{tag_of, written_data, written_key};
 use bytes::Bytes;
 use rpki_base::{
     BgpsecSignatureAlgorithm, PublicKey, PublicKeyFormat, RpkiSignatureAlgorithm, Signature,
-    SignatureAlgorithm, SignedData,
+    SignatureAlgorithm, SignedData, write_constructed,
 };
-use rpki_der::{DecodeError, OutOfMemory, Writer};
+use rpki_der::{Captured, DecodeError, OutOfMemory, Writer};
 use std::alloc::Global;
 use stored_cases::{Fields, Step};
 
@@ -22,7 +22,15 @@ fn primitive(alloc: Global, octets: &[u8], tag: &[u8]) -> Result<Fields, DecodeE
     Ok(Fields::one(alloc, out.as_slice())?)
 }
 
-// A constructed value whose contents are written as they are, kept and shared.
+// What a copy of what was kept holds, and the octets that the copy shares.
+fn captured_copied(alloc: Global, captured: &Captured) -> Result<Fields, DecodeError> {
+    let copy = captured.clone(alloc)?;
+    let mut fields = Fields::one(alloc, copy.as_slice())?;
+    fields.octets(copy.into_bytes().as_slice())?;
+    Ok(fields)
+}
+
+// A constructed value whose contents are written as they are, kept, copied and shared.
 fn constructed(alloc: Global, octets: &[u8], tag: &[u8]) -> Result<Fields, DecodeError> {
     let mut inner = Writer::new(alloc);
     inner.raw(octets)?;
@@ -31,10 +39,18 @@ fn constructed(alloc: Global, octets: &[u8], tag: &[u8]) -> Result<Fields, Decod
     }
     let mut out = Writer::new(alloc);
     out.constructed(tag_of(tag)?, &inner)?;
-    let captured = out.into_captured()?;
-    let mut fields = Fields::one(alloc, captured.as_slice())?;
-    fields.octets(captured.into_bytes().as_slice())?;
-    Ok(fields)
+    captured_copied(alloc, &out.into_captured()?)
+}
+
+// The octets, and behind them a constructed value whose contents they are.
+fn appended(alloc: Global, octets: &[u8], tag: &[u8]) -> Result<Fields, DecodeError> {
+    let tag = tag_of(tag)?;
+    let mut inner = Writer::new(alloc);
+    inner.raw(octets)?;
+    let mut out = Writer::new(alloc);
+    out.raw(octets)?;
+    write_constructed(tag, &inner, &mut out)?;
+    Ok(Fields::one(alloc, out.as_slice())?)
 }
 
 fn key(alloc: Global, bits: &[u8], format: PublicKeyFormat) -> Result<Fields, DecodeError> {
@@ -74,6 +90,7 @@ pub fn answer(
     match step.call {
         "write_primitive" => Some(primitive(alloc, octets, &step.argument)),
         "write_constructed" => Some(constructed(alloc, octets, &step.argument)),
+        "append_constructed" => Some(appended(alloc, octets, &step.argument)),
         "write_rsa_key" => Some(key(alloc, octets, PublicKeyFormat::Rsa)),
         "write_ec_key" => Some(key(alloc, octets, PublicKeyFormat::EcdsaP256)),
         "write_rsa_data" => Some(rsa_data(alloc, octets, &step.argument)),
