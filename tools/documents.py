@@ -9,14 +9,15 @@ Asked is, and what is not so is printed:
   of the program or script that it stands behind; any other name is a word of the sources (comments left out), of a script or of a file's
   name, or one of ELSEWHERE below, with where it comes from. Words in capitals stand for something, and so do single letters.
 - that what README's table of promises and the table of laws in docs/READING.md name as clauses are functions, types or clauses of the
-  crate of that row;
+  crate of that row; and that a clause stands behind a function that has it;
 - that the definitions that are listed behind the name of a crate's specs/ are files there, and that the head of each specs/Lib.antt names
   each file of its folder;
 - that the commands, and the statuses with their lines, are those of rpki_ca, and in the help of rpkica; that the examples which a help
-  names are there;
-- that docs/ARCHITECTURE.md has each crate of crates.txt, and says of none that it stands on a crate which it doesn't use; that the crates
-  that are trusted are those that are used;
-- that a number that NUMBERS below knows is what is counted, and that a number in front of what figures.py counts is one of its counts;
+  names are there, and that the line of `make` that README shows is its stored case's;
+- that docs/ARCHITECTURE.md has each crate of crates.txt, lowest first, and says of none that it stands on a crate which it doesn't use;
+  that the crates that are trusted are those that are used;
+- that a number that NUMBERS below knows is what is counted, that a number in front of what figures.py counts is one of its counts, and that
+  any other number above fourteen, and any power of two, is one that is counted, or one of SAID below, with where it comes from;
 - that no line but of a table, a link or a block of code has more than 140 characters, and no name in backquotes goes over a line's end.
 
 The first column of docs/DIFFERENCES.md speaks of the Rust crate, and is left out; tools/quotations.py looks at blocks of code. The exit
@@ -26,8 +27,9 @@ import pathlib
 import re
 import sys
 
-from figures import all_figures, sum_of
+from figures import LIMITS, all_figures, kinds_of_cases, limit, sum_of
 from sources import CRATES, TOP, Tree, crates_in_order, definitions
+from stored import SIZES
 
 MOST = 140
 DOCUMENTS = [TOP / "README.md", TOP / "CONTRIBUTING.md", *sorted((TOP / "docs").glob("*.md"))]
@@ -44,7 +46,7 @@ ELSEWHERE = {
     "the standards": "sid cA thisUpdate",
     "programs": "openssl cms asn1parse xxd rt ci",
     "the toolchain": "rattle kit logic dac8208d650f15bf Lts antt goal Goals Given",
-    "the surroundings": "RT_JOBS LD_PRELOAD malloc ipaddress",
+    "the surroundings": "RT_JOBS LD_PRELOAD kernel.sched_autogroup_enabled nice malloc ipaddress",
     "the Rust crate": "bcder chrono rpki crypto compat validate_ta validate_ee BufRead IntoSource src/ca/ "
     "src/crypto/signer.rs",
     "examples of texts": "cars roa",
@@ -118,7 +120,9 @@ def counts(tree):
     count, first, last = values_in(octets_of("query-list.hex"))
     ee = re.search(r"^ee_checks [^=]*=(.*?)\[\]", (CRATES / "rpki_idcert/specs/Checks.antt").read_text(encoding="utf-8"), re.M | re.S)
     made = re.findall(r"pub fn err_\d+", source("rpki_updown", "not_performed_response.rt"))
-    return {
+    cases = kinds_of_cases("answer_cases")
+    margin, keys, now = limit("seconds of a window")[0], limit("keys")[0], moment_of_examples()
+    return {name: limit(name) for name in LIMITS} | {
         "values": [count],
         "signature": [first, last],
         "checks": [len(checks_in_help())],
@@ -128,7 +132,22 @@ def counts(tree):
         "refused": [len(made)],
         "status 7": [sum(status == 7 for status in refusals().values())],
         "programs": [sum((TOP / name).is_file() and name.startswith("rpki") and name != "rpkica" for name in crates_in_order())],
+        "examples": [now],
+        "validity": [now - margin, now + margin],
+        "window": [margin, margin],
+        "window of make": [margin, now, margin],
+        "questions": [1 + keys * (1 + 2)],
+        "overlong": [2 * 2 ** limit("powers of a key")[0]],
+        "of run_keys": [cases["keys"] + cases["whole"]],
+        "of receive": [cases["toy"]],
+        "sizes": list(SIZES),
+        "changes": limit("small deltas")[::-1],
+        "two ticks": limit("ticks of both") + limit("ticks of an envelope"),
     }
+
+
+def moment_of_examples():
+    return int(re.search(r"^NOW = (\d+)", (TOP / "tools" / "messages.py").read_text(encoding="utf-8"), re.MULTILINE)[1])
 
 
 # A pattern, whose groups are numbers, and what is counted.
@@ -142,7 +161,47 @@ NUMBERS = [
     (r"`new`, and (\w+) calls that may want memory", "refused"),
     (r"\*\*(\w+) refusals share status 7\*\*", "status 7"),
     (r"(\w+) further programs", "programs"),
+    (r"one to (\w+) (?:such )?(?:keys|KEYs|of them)|There are one to (\w+)\b", "keys"),
+    (r"a line for each question of the message, at most (\d+)", "questions"),
+    (r"[Ff]rom (\d+) seconds before (?:the moment|it|MOMENT) to (\d+) seconds after", "window"),
+    (r"at each second from (\d+) before the moment to (\d+) after", "window"),
+    (r"at each second from (\d+) before (\d+) to (\d+) after", "window of make"),
+    (r"below (\d+) or above (\d+)", "moments with a window"),
+    (r"up to (253\d+)", "last moment"),
+    (r"(\d+) and (\d+): `receive` answers", "validity"),
+    (r"COUNT elements, at most (\d+)|a number up to (\d+)|`make` with up to (\d+) elements", "elements that are made"),
+    (r"no directory or has more than (\d+) octets", "octets of a base"),
+    (r"at most (\d+)n \+ (\d+) times for n octets, and (\d+)n \+\s(\d+) times", "two ticks"),
+    (r"`decode_slice_counted` ticks at most (\d+)n \+ (\d+) times|(\d+)n \+ (\d+) for the n octets", "ticks of certificates and requests"),
+    (r"(?:at most|longer than) (\d+) (?:octets for each octet read|times what was read), and (\d+)", "texts that were read"),
+    (r"(?:at most|longer than) (\d+) (?:octets for each octet read|times what was read), and (\d+)", "texts of publication that were read"),
+    (r"at most (\d+) octets for each change, and (\d+) more", "changes"),
+    (r"base64 texts have at most (\d+) octets", "small changes"),
+    (r"at most (\d+) octets for each of the text", "printed sets"),
+    (r"ordered set of names once there are more than (\w+)", "attributes in pairs"),
+    (r"`Tag` holds up to (\w+) octets", "octets of a tag"),
+    (r"with signatures of 0 to (\d+)", "overlong"),
+    (r"(\d+) are of `run_keys`", "of run_keys"),
+    (r"(\d+) are those of the command `receive`", "of receive"),
+    (r"with parts of (\d+), (\d+), (\d+), (\d+), (\d+) and (\d+) octets", "sizes"),
 ]
+# Numbers above fourteen that are not counted, and where they come from; and powers of two.
+SAID = {
+    "OpenSSL prints": "22 2023",
+    "the standards": "20 60 256 2001",
+    "years": "1970 9999",
+    "bits of numbers, and of RSA keys": "32 2048",
+    "of a word on Linux": "131071",
+    "minutes that a gate took, on the machine that CONTRIBUTING.md tells of": "143 309 320",
+}
+OUTSIDE = {int(number): place for place, numbers in SAID.items() for number in numbers.split()}
+POWERS = {32: "numbers in 32 bits", 63: "longer than memory", 64: "counts"}
+NUMERAL = re.compile(r"(?<![\w^.:/-])(\d[\d,]*)(?![\w])(?!\.\d)")
+POWER = re.compile(r"\b2\^(\d+)")
+REFERENCE = re.compile(
+    r"RFC \d+(?:, (?:(?:section|appendix) )?[\dA-Z][\d.]*)*|X\.690, [\d.]+|`[^`\n]*`|\b[0-9A-F]{2}(?: [0-9A-F]{2}){3} \.\."
+)
+SHOWN = re.compile(r"\b([0-9A-F]{2}(?: [0-9A-F]{2}){3}) \.\.")
 # Words behind a number that figures.py counts, and which of its counts the number may be.
 COUNTED = re.compile(
     r"\b(\d[\d,]*|" + "|".join(WORDS) + r") (crates|wrong bodies|stored cases|tests|lines of (?:code|definitions|proofs))\b(?! of a time)"
@@ -157,6 +216,7 @@ class Names:
         self.tree = Tree()
         self.words = set(BEYOND) | set(crates_in_order()) | {used for all_used in crates_in_order().values() for used in all_used}
         self.of_crate = {}
+        self.clauses = {}  # of each crate, of each name of a function: the names of its clauses
         self.functions = {}  # of each name of a type: the names of its functions, variants and fields
         for name in self.tree.crates:
             self.add_crate(name)
@@ -169,6 +229,7 @@ class Names:
 
     def add_crate(self, name):
         folder, found = CRATES / name, set()
+        self.clauses[name] = {}
         for file in [file for part in ("src", "specs", "proofs") for file in (folder / part).rglob("*.*t")]:
             text = file.read_text(encoding="utf-8")
             text = re.sub(r"//[^\n]*" if file.suffix == ".rt" else r"--[^\n]*", "", text)
@@ -176,6 +237,8 @@ class Names:
         for module in self.tree.crates[name].modules.values():
             for item in module.items:
                 self.add_item(item, found)
+                for function in [item] if item.kind == "fn" else item.functions:
+                    self.clauses[name].setdefault(function.name, set()).update(clause.name for clause in function.clauses)
             found |= set(module.names)
         for implementation in self.tree.crates[name].implementations:
             target = implementation.target.head[-1]
@@ -267,7 +330,19 @@ class Looker:
             name = re.sub(r"\(.*", "", span).split("::")[-1].split(" ")[0]
             if not any(name in self.names.of_crate.get(one, ()) for one in crates):
                 self.say(document, number, f"`{span}` is no function, type or clause of {' or '.join(crates)}")
+        for part in asked.split(";") if document.name == "README.md" else []:
+            self.clause_of_function(document, number, crates, part)
         return crate
+
+    def clause_of_function(self, document, number, crates, part):
+        """Where a part of a cell names functions, the clauses in it are theirs."""
+        named = [re.sub(r"\(.*", "", span).split("::")[-1].split(" ")[0] for span in SPAN.findall(part)]
+        functions = [self.names.clauses[one] for one in crates]
+        known = set().union(*(found[name] for name in named for found in functions if name in found))
+        for name in named if known else []:
+            is_clause = any(name in clauses for found in functions for clauses in found.values())
+            if is_clause and name not in known and not any(name in found for found in functions):
+                self.say(document, number, f"`{name}` is a clause of none of the functions beside it")
 
     def span(self, document, number, span):
         """A name in backquotes."""
@@ -359,11 +434,32 @@ class Looker:
                 given = [number_of(group) for group in match.groups() if group and (group.lower() in WORDS or group[0].isdigit())]
                 if given and given != known[what]:
                     self.say(document, line_of(text, match[0]), f"{match[0]!r}: counted are {known[what]}")
+        self.uncounted(document, text, known)
         figures = all_figures()
         for match in COUNTED.finditer(flat):
             number, what = number_of(match[1]), match[2]
             if number > 2 and number not in allowed(figures, what):
                 self.say(document, line_of(text, match[0]), f"{match[0]!r} is no count of tools/figures.py")
+
+
+    def uncounted(self, document, text, known):
+        """Numbers above fourteen and powers of two that nothing counts."""
+        counted = {number for numbers in known.values() for number in numbers}
+        counted |= {number for found in all_figures().values() for number in found}
+        powers = {number for name in LIMITS if name.startswith("powers") for number in known[name]}
+        rest = FENCE.sub(lambda match: "\n" * match[0].count("\n"), text)
+        rest = REFERENCE.sub(lambda match: "RFC" + "\n" * match[0].count("\n"), rest)
+        for match in SHOWN.finditer(text):
+            if bytes.fromhex(match[1]) not in octets_of("query-list.hex"):
+                self.say(document, line_of(text, match[0]), f"{match[1]} doesn't stand in examples/query-list.hex")
+        for number, line in enumerate(rest.splitlines(), 1):
+            for match in NUMERAL.finditer(line):
+                value = int(match[1].replace(",", ""))
+                if value > 14 and value not in counted and value not in OUTSIDE:
+                    self.say(document, number, f"{match[1]} is counted by nothing")
+            for match in POWER.finditer(line):
+                if int(match[1]) not in powers and int(match[1]) not in POWERS:
+                    self.say(document, number, f"2^{match[1]} is no limit that tools/figures.py reads")
 
 
 def line_of(text, part):
@@ -406,6 +502,15 @@ def statuses(looker):
         looker.say(readme, 0, "the checks are not numbered as in the help of rpkica")
 
 
+def summary(looker):
+    """The line of `make` that README shows is the one of its stored case."""
+    readme = TOP / "README.md"
+    cases = (CRATES / "run_cases" / "data" / "cases.txt").read_text(encoding="utf-8")
+    for count, seed, line in re.findall(r"`make (\d+) (\d+)` writes\s+`([^`]*)\.\.`", readme.read_text(encoding="utf-8")):
+        if not re.search(rf"^make-{count}-{seed} 0 {line.encode().hex()}", cases, re.MULTILINE):
+            looker.say(readme, 0, f"make {count} {seed} is stored with another line than {line}")
+
+
 def commands(looker):
     """README's table of words has each command, and no other."""
     readme = TOP / "README.md"
@@ -443,6 +548,8 @@ def crates(looker):
         for name in re.findall(r"\w+", re.sub(r"\bor\b|\bits tests on\b", "", cells[2])):
             if name not in uses:
                 looker.say(document, number, f"there is no crate {name}")
+            elif name not in named:
+                looker.say(document, number, f"{name} stands below {' and '.join(last)}")
             elif not any(name in uses.get(crate, ()) for crate in last):
                 looker.say(document, number, f"{' and '.join(last)} doesn't use {name}")
     for name in sorted(set(uses) ^ named):
@@ -474,6 +581,7 @@ def main():
     for document in DOCUMENTS:
         looker.document(document)
     statuses(looker)
+    summary(looker)
     commands(looker)
     helps(looker)
     crates(looker)

@@ -1,12 +1,13 @@
 #!/usr/bin/env python3
-"""Counts the tree: lines, crates, wrong bodies, stored cases and tests.
+"""Counts the tree: lines, crates, wrong bodies, stored cases and tests; and reads its limits and bounds.
 
     tools/figures.py
 
 Printed are, for each crate, the lines of src/, specs/ and proofs/, how many wrong bodies it has (`must-fail/*.edit`), how many stored
 cases (lines of data/cases.txt; of refused_growth, of stdin) and how many functions with `#[test]`; then the same of all crates, of the
-library (rpki_*), and of the others. Lines are those of the files, empty ones and comments among them. tools/documents.py compares with
-these what the documents say."""
+library (rpki_*), and of the others. Lines are those of the files, empty ones and comments among them. Behind that stands how many of the
+stored cases of answer_cases there are of each kind, and each limit and bound of LIMITS below, as its source or its clause has it.
+tools/documents.py compares with all these what the documents say."""
 
 import collections
 import re
@@ -44,6 +45,52 @@ def figures_of(crate):
     )
 
 
+def kinds_of_cases(crate):
+    """How many stored cases of a crate there are of each kind, which is the second word of a line."""
+    lines = (CRATES / crate / "data" / "cases.txt").read_text(encoding="utf-8").splitlines()
+    return collections.Counter(line.split(" ")[1] for line in lines)
+
+
+# What is limited or bounded: the file of a crate that says so, and a pattern whose groups are the numbers. Where a pattern is found more
+# than once, it has to say the same each time.
+TICKS = r"≤ steps\.old \+ (\d+) \* length octets\.now \+ (\d+) \}"
+TEXTS = r"length \(text_of m\) ≤ (\d+) \* length octets \+ (\d+) \}"
+LIMITS = {
+    "powers of input": ("rpki_ca/src/reading.rt", r"const LIMIT: u64 = 1 << (\d+);"),
+    "powers of a content": ("rpki_sigmsg/src/creating.rt", r"const CONTENT_LIMIT: usize = 1 << (\d+);"),
+    "powers of a key": ("rpki_signer/src/limits.rt", r"const LIMIT: usize = 1 << (\d+);"),
+    "octets of a message": ("rpki_message/src/transfer.rt", r"const MOST_OCTETS: u64 = (0x[\d_a-f]+);"),
+    "seconds of a window": ("rpki_sigmsg/src/window.rt", r"Time::new\(seconds [-+] ([\d_]+)\)"),
+    "moments with a window": ("rpki_sigmsg/src/window.rt", r"seconds < ([\d_]+) \|\| seconds > ([\d_]+)"),
+    "last moment": ("rpki_base/src/time.rt", r"seconds > ([\d_]+) "),
+    "elements that are made": ("rpki_ca/src/command.rt", r"const MOST_ELEMENTS: u32 = ([\d_]+);"),
+    "keys": ("rpki_ca/src/receiving.rt", r"length keys\.now ≤ (\d+) \}"),
+    "octets of a base": ("rpki_upserver/src/class.rt", r"const MOST_OCTETS: usize = ([\d_]+);"),
+    "ticks of an envelope": ("rpki_publication/src/cms.rt", TICKS),
+    "ticks of certificates and requests": ("rpki_provisioning/src/message.rt", TICKS),
+    "ticks of both": ("rpki_provisioning/src/cms.rt", TICKS),
+    "texts that were read": ("rpki_provisioning/src/law.rt", TEXTS),
+    "texts of publication that were read": ("rpki_publication/src/law.rt", TEXTS),
+    "small deltas": ("rpki_publication/src/law.rt", r"≤ (\d+) \+ (\d+) \* length changes \}"),
+    "small changes": ("rpki_publication/specs/Change.antt", r"length tag ≤ (\d+)\)"),
+    "printed sets": ("rpki_sets/src/laws.rt", r"≤ (\d+) \* length text"),
+    "attributes in pairs": ("rpki_xml/src/distinct.rt", r"const FEW: usize = (\d+);"),
+    "growth of what is open": ("rpki_xml/src/stack.rt", r"places\.len\(\) / (\d+)"),
+    "growth of what is read": ("rpki_text/src/reading.rt", r"out\.len\(\) / (\d+)"),
+    "octets of a tag": ("rpki_der/src/tag.rt", r"octets: \[u8; (\d+)\],"),
+}
+
+
+def limit(name):
+    """The numbers of a limit, in the order of the pattern's groups."""
+    file, pattern = LIMITS[name]
+    found = re.findall(pattern, (CRATES / file).read_text(encoding="utf-8"))
+    numbers = {tuple(int(group.replace("_", ""), 0) for group in ([one] if isinstance(one, str) else one)) for one in found}
+    if len(numbers) != 1:
+        sys.exit(f"{file}: {pattern} gives {sorted(numbers) or 'nothing'}")
+    return list(numbers.pop())
+
+
 def all_figures():
     """The figures of each crate, lowest first."""
     return {crate: figures_of(crate) for crate in crates_in_order()}
@@ -65,6 +112,9 @@ def main():
     print(f"{'':22}" + "".join(f"{name:>8}" for name in Figures._fields))
     for name, figures in [*found.items(), *sums.items()]:
         print(f"{name:22}" + "".join(f"{number:8}" for number in figures))
+    print("answer_cases: " + ", ".join(f"{number} {kind}" for kind, number in sorted(kinds_of_cases("answer_cases").items())))
+    for name in LIMITS:
+        print(f"{name}: " + ", ".join(map(str, limit(name))))
     return 0
 
 

@@ -1,0 +1,127 @@
+#!/usr/bin/env python3
+"""Says how much processor time the gate takes, crate by crate.
+
+    tools/gate_minutes.py [--watch PID] [--log FILE] [--read FILE ..]
+
+Runs `rt ci --anew` at the top, or watches a gate that runs already, of which PID is the process. Every second it reads how much processor
+time each process below it has taken, and when the gate ends it prints, for each crate, the minutes of its proofs, of its wrong bodies and
+of its tests and programs, and the same of all. A process counts for the crate that is named by `--crate-name`, or in whose folder it runs;
+it counts as a wrong body where it works on a copy that rt makes for one, as a run where it is no `rattle`. Processes that end within the
+second are missed, so the sums are a little too low. What rt itself takes stands under `rt`.
+
+With --log each process is noted in a file as well, a line each: crate, what it counts for, seconds, place. With --read nothing runs, and
+the table is that of such files."""
+
+import argparse
+import collections
+import os
+import re
+import subprocess
+import sys
+import time
+
+from sources import TOP, crates_in_order
+
+KINDS = ("proofs", "wrong bodies", "runs")
+TICKS = os.sysconf("SC_CLK_TCK")
+
+
+def stat_of(pid):
+    """The parent of a process and its processor seconds; None where it is gone."""
+    try:
+        with open(f"/proc/{pid}/stat", encoding="utf-8", errors="replace") as file:
+            fields = file.read().rpartition(")")[2].split()
+    except OSError:
+        return None
+    return int(fields[1]), (int(fields[11]) + int(fields[12])) / TICKS
+
+
+def place_of(pid):
+    """The words of a process and the folder that it runs in."""
+    try:
+        with open(f"/proc/{pid}/cmdline", encoding="utf-8", errors="replace") as file:
+            return file.read().split("\0"), os.readlink(f"/proc/{pid}/cwd")
+    except OSError:
+        return [], ""
+
+
+def counted_for(words, folder, crates):
+    """The crate that a process counts for, and what it counts as."""
+    named = re.search(r"/crates/(\w+)", folder)
+    crate = words[words.index("--crate-name") + 1] if "--crate-name" in words[:-1] else named.group(1) if named else "rt"
+    if "rattle" not in os.path.basename(words[0] if words else ""):
+        return (crate, "runs") if crate in crates else ("rt", "runs")
+    is_edit = any("/rt-edit" in word for word in [folder, *words])
+    return crate, "wrong bodies" if is_edit else "proofs"
+
+
+def below(root):
+    """The processes below one, with their processor seconds."""
+    stats = {pid: found for pid in map(int, filter(str.isdigit, os.listdir("/proc"))) if (found := stat_of(pid))}
+    inside = {root}
+    while more := {pid for pid, (parent, _) in stats.items() if parent in inside} - inside:
+        inside |= more
+    return {pid: stats[pid][1] for pid in inside if pid in stats}
+
+
+def watch(root, is_over):
+    """The seconds that each process below the gate took, with what it counts for."""
+    crates, seconds, known = set(crates_in_order()), {}, {}
+    while not is_over():
+        for pid, taken in below(root).items():
+            if pid == root:
+                known[pid] = ("rt", "runs", "")
+            elif (words_and_folder := place_of(pid))[0][:1] not in ([], [""]):
+                # What a process is can change, as rt starts one by a copy of itself.
+                known[pid] = (*counted_for(*words_and_folder, crates), words_and_folder[1])
+            seconds[pid] = max(taken, seconds.get(pid, 0.0))
+        time.sleep(1)
+    return [(*known[pid], taken) for pid, taken in seconds.items() if pid in known]
+
+
+def table_of(rows):
+    sums = collections.defaultdict(lambda: dict.fromkeys(KINDS, 0.0))
+    for crate, kind, _, taken in rows:
+        sums[crate][kind] += taken / 60
+    order = [crate for crate in crates_in_order() if crate in sums] + sorted(set(sums) - set(crates_in_order()))
+    lines = [f"{'minutes':20}" + "".join(f"{kind:>14}" for kind in KINDS) + f"{'all':>8}"]
+    for crate in order:
+        of = sums[crate]
+        lines.append(f"{crate:20}" + "".join(f"{of[kind]:14.1f}" for kind in KINDS) + f"{sum(of.values()):8.1f}")
+    whole = {kind: sum(of[kind] for of in sums.values()) for kind in KINDS}
+    lines.append(f"{'all':20}" + "".join(f"{whole[kind]:14.1f}" for kind in KINDS) + f"{sum(whole.values()):8.1f}")
+    return "\n".join(lines)
+
+
+def rows_in(path):
+    with open(path, encoding="utf-8") as file:
+        rows = [line.rstrip("\n").split("\t") for line in file]
+    return [(crate, kind, place, float(taken)) for crate, kind, taken, place in rows]
+
+
+def main():
+    parser = argparse.ArgumentParser(description=__doc__, formatter_class=argparse.RawDescriptionHelpFormatter)
+    parser.add_argument("--watch", type=int, metavar="PID")
+    parser.add_argument("--log", metavar="FILE")
+    parser.add_argument("--read", nargs="+", metavar="FILE")
+    asked = parser.parse_args()
+    if asked.read:
+        print(table_of([row for path in asked.read for row in rows_in(path)]))
+        return
+    began, status = time.monotonic(), 0
+    if asked.watch:
+        rows = watch(asked.watch, lambda: stat_of(asked.watch) is None)
+    else:
+        with subprocess.Popen(["rt", "ci", "--anew"], cwd=TOP) as gate:
+            rows = watch(gate.pid, lambda: gate.poll() is not None)
+            status = gate.wait()
+    if asked.log:
+        with open(asked.log, "w", encoding="utf-8") as file:
+            file.writelines(f"{crate}\t{kind}\t{taken:.2f}\t{place}\n" for crate, kind, place, taken in rows)
+    print(table_of(rows))
+    print(f"{(time.monotonic() - began) / 60:.1f} minutes by the clock")
+    sys.exit(status)
+
+
+if __name__ == "__main__":
+    main()
