@@ -1,4 +1,5 @@
-//! Of setup messages, what no clause shows: texts from outside, and faults in mid-stream. The octets in the certificates' places are 0, 1 and 2.
+//! Of setup messages, what no clause shows: texts from outside, and faults in mid-stream. The octets in the certificates' places are 0, 1
+//! and 2.
 
 use rpki_setup::*;
 use rpki_text::{Base64, MemorySink, MemorySource, uri};

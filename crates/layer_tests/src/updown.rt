@@ -1,5 +1,5 @@
-//! Of the parts of provisioning messages, what no clause shows: that calls that take memory answer, and what is printed. The texts are those of
-//! the crate `rpki` (NLnet Labs).
+//! Of the parts of provisioning messages, what no clause shows: that calls that take memory answer, and what is printed. The texts are
+//! those of the crate `rpki` (NLnet Labs).
 //!
 //! What has many parts is made by one function and lent to another, so that none holds much over several calls that may fail.
 

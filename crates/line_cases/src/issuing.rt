@@ -100,8 +100,8 @@ fn shown_under(alloc: Global, case: &Case, signing: &SigningCert) -> io::Result<
     shown(alloc, &class, identifier_of(alloc, text_in(case)?)?)
 }
 
-/// Whether a class of the name, the directory and the AS numbers that the words say has the two lines that the case expects: where a certificate of the
-/// key is published that the input names, and what the child is told.
+/// Whether a class of the name, the directory and the AS numbers that the words say has the two lines that the case expects: where a
+/// certificate of the key is published that the input names, and what the child is told.
 pub fn holds_class(alloc: Global, case: &Case) -> io::Result<bool> {
     let (_issuer, signing) = first_issuer(alloc, &Failing::of("")?)?;
     let text = shown_under(alloc, case, &signing)?;

@@ -68,7 +68,7 @@ pub struct AnswerVerifier<'a, A: Answers> {
 }
 
 impl<'a, A: Answers> AnswerVerifier<'a, A> {
-    /// The verifier with these questions and answers.
+    /// The verifier of the scheme of `A`: the questions and the answers have to be those of `A`, in their order. It takes no memory.
     pub fn new(questions: &'a [Question], answers: &'a [bool]) -> AnswerVerifier<'a, A>
         requires questions { questions.now ≡ A.questions }
         requires answers { answers.now ≡ A.answers }

@@ -140,7 +140,8 @@ fn check_read<P: Scheme, O: Sink, V: Verifier<P>>(
     }
 }
 
-/// Writes of each line of the input a line of its own.
+/// Writes of each line of the input a line of its own. Then the exit status that it answers is 0, whatever
+/// the lines are.
 ///
 /// The only word is `batch` or `explain`. A line of the input is a message: its kind, the moment in
 /// seconds since 1970, the DER of the key in hexadecimal, and the signed message in hexadecimal, with one
@@ -149,6 +150,9 @@ fn check_read<P: Scheme, O: Sink, V: Verifier<P>>(
 /// refusal; and a line follows with the number of lines and of those that were accepted. With `explain`
 /// its line has a digit for each of the fourteen checks, 1 where it holds, or is `Usage`, `Hex` or
 /// `CmsDecode` where there is nothing to check; the content isn't read.
+///
+/// The other exit statuses are 2 where the words are others, 9 where the input has more than 2^26 octets,
+/// 10 where it fails, 11 where a write failed, and 12 where memory ran out.
 pub fn check<P: Scheme, I: Source, O: Sink, V: Verifier<P>>(
     alloc: Global,
     words: &Words,

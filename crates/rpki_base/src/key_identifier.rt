@@ -65,7 +65,8 @@ impl KeyIdentifier {
         &self.octets
     }
 
-    /// The key identifier under `tag` that stands next. It ticks once for each header and each end mark that it reads.
+    /// The key identifier under `tag` that stands next, as `take_under` reads it. It ticks once for each header and each end mark that it
+    /// reads.
     pub fn take_under_counted<L: Ledger>(
         alloc: Global,
         cursor: &mut Cursor<'_>,

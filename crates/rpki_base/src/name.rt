@@ -134,7 +134,7 @@ pub fn made_name_is_read()
 
 /// # Decoding
 impl Name {
-    /// The name that the octets hold, with nothing behind it.
+    /// The name that the octets hold, as `take_from` reads it, with nothing behind it; Malformed exactly where they hold none.
     pub fn take(alloc: Global, mode: Mode, octets: &[u8]) -> Result<Name, DecodeError>
         ensures { HoldsOne name (λ n. n) mode octets.now result }
     {
@@ -146,7 +146,7 @@ impl Name {
         Ok(found)
     }
 
-    /// The name that stands next. It ticks once for each header and each end mark in it.
+    /// The name that stands next, as `take_from` reads it. It ticks once for each header and each end mark in it.
     pub fn take_from_counted<L: Ledger>(
         alloc: Global,
         cursor: &mut Cursor<'_>,
@@ -174,7 +174,8 @@ impl Name {
         Name::take_from_counted(alloc, cursor, &mut steps)
     }
 
-    /// The name that stands next.
+    /// The name that stands next (RFC 5280, 4.1.2.4): a SEQUENCE of SETs of attributes, each a SEQUENCE of an object identifier and a
+    /// value of any kind. A SET may have any number of them, and so may the SEQUENCE of SETs.
     pub fn take_from(alloc: Global, cursor: &mut Cursor<'_>) -> Result<Name, DecodeError>
         ensures { Takes name (λ n. n) cursor.old cursor.new result }
     {

@@ -109,7 +109,7 @@ impl PublicKey {
         PublicKey::take_from(alloc, &mut cursor)
     }
 
-    /// The key that the octets hold, with nothing behind it.
+    /// The key that the octets hold, as `take_from` reads it, with nothing behind it; Malformed exactly where they hold none.
     pub fn take(alloc: Global, mode: Mode, octets: &[u8]) -> Result<PublicKey, DecodeError>
         ensures { HoldsOne spec.public_key (λ k. k) mode octets.now result }
     {
@@ -121,14 +121,16 @@ impl PublicKey {
         Ok(key)
     }
 
-    /// The key that stands next.
+    /// The key that stands next (RFC 5280, 4.1.2.7): a SEQUENCE of an algorithm identifier, which is rsaEncryption with NULL or without
+    /// parameters or ecPublicKey with prime256v1, and a BIT STRING, whose count of unused bits is dropped. How long the bits are isn't
+    /// looked at.
     pub fn take_from(alloc: Global, cursor: &mut Cursor<'_>) -> Result<PublicKey, DecodeError>
         ensures { Takes spec.public_key (λ k. k) cursor.old cursor.new result }
     {
         take_from_within::<Brand>(alloc, cursor, Blank::new(1))
     }
 
-    /// The key that stands next. It ticks once for each header and each end mark that it reads.
+    /// The key that stands next, as `take_from` reads it. It ticks once for each header and each end mark that it reads.
     pub fn take_from_counted<L: Ledger>(
         alloc: Global,
         cursor: &mut Cursor<'_>,

@@ -143,7 +143,7 @@ impl Serial {
         shortest_number(octets)
     }
 
-    /// The serial number that stands next. It ticks once.
+    /// The serial number that stands next, as `take_from` reads it. It ticks once.
     pub fn take_from_counted<L: Ledger>(
         cursor: &mut Cursor<'_>,
         steps: &mut Steps<L>,

@@ -76,7 +76,7 @@ impl<Alg: SignatureAlgorithm> SignedData<Alg> {
 
 /// # Decoding
 impl<Alg: SignatureAlgorithm> SignedData<Alg> {
-    /// The signed data that the octets hold, with nothing behind it.
+    /// The signed data that the octets hold, as `take_from` reads them, with nothing behind them; Malformed exactly where they hold none.
     pub fn take(alloc: Global, mode: Mode, octets: &[u8]) -> Result<SignedData<Alg>, DecodeError>
         ensures { HoldsOne (signed_data Alg.reads mode) (λ d. d) mode octets.now result }
     {
@@ -88,7 +88,8 @@ impl<Alg: SignatureAlgorithm> SignedData<Alg> {
         Ok(signed)
     }
 
-    /// The signed data that stands next.
+    /// The signed data that stand next (RFC 5280, 4.1.1): a SEQUENCE of a value of any kind, an algorithm identifier as `x509_take_from`
+    /// reads it, and a BIT STRING, whose count of unused bits is dropped. Whether the signature holds isn't looked at.
     pub fn take_from(alloc: Global, cursor: &mut Cursor<'_>) -> Result<SignedData<Alg>, DecodeError>
         ensures { Takes (signed_data Alg.reads cursor.old.mode) (λ d. d)
             cursor.old cursor.new result }
@@ -96,7 +97,7 @@ impl<Alg: SignatureAlgorithm> SignedData<Alg> {
         take_from_within::<Alg, Brand>(alloc, cursor, Blank::new(1))
     }
 
-    /// The signed data that stands next. It ticks once for each header and each end mark that it reads.
+    /// The signed data that stand next, as `take_from` reads them. It ticks once for each header and each end mark that it reads.
     pub fn take_from_counted<L: Ledger>(
         alloc: Global,
         cursor: &mut Cursor<'_>,
@@ -189,7 +190,8 @@ fn take_from_within<Alg: SignatureAlgorithm, L: Ledger>(
 }
 
 /// The signature of the signed value that stands in front: an algorithm identifier and a BIT STRING, behind which the SEQUENCE round
-/// them ends; the cursor goes out of that. It ticks once for each header and each end mark that it reads.
+/// them ends; the cursor, which has to be inside of that, goes out of it. It ticks once for each header and each end mark that it
+/// reads.
 pub fn leave_signature<Alg: SignatureAlgorithm, L: Ledger>(
     alloc: Global,
     cursor: &mut Cursor<'_>,

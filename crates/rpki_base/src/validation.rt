@@ -32,7 +32,7 @@ impl fmt::Display for ValidationError {
     }
 }
 
-/// One check of a list: Ok where it holds, else Err with its number in the list.
+/// One check of a list: Ok where it holds, else Err with `number`, its number in the list.
 pub fn require(number: u8, holds: bool) -> Result<(), u8>
     ensures { result ≡ spec.first_failure number (holds ∷ []) }
 {

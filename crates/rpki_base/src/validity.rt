@@ -32,7 +32,8 @@ impl Model for Validity {
 }
 
 impl Validity {
-    /// The validity from the first time to the last.
+    /// The validity from the first second `not_before` to the last second `not_after`, both included. Nothing is looked at: the last may
+    /// be before the first.
     pub fn new(not_before: Time, not_after: Time) -> Validity
         ensures { result ≡ record { not_before = not_before; not_after = not_after } }
     {
@@ -77,7 +78,7 @@ impl Validity {
         Some(Validity::new(not_before, not_after))
     }
 
-    /// The validity that stands next. It ticks once for each header and each end mark that it reads.
+    /// The validity that stands next, as `take_from` reads it. It ticks once for each header and each end mark that it reads.
     pub fn take_from_counted<L: Ledger>(
         cursor: &mut Cursor<'_>,
         steps: &mut Steps<L>,
@@ -105,7 +106,8 @@ impl Validity {
         Validity::take_from_counted(cursor, &mut steps)
     }
 
-    /// The validity that stands next: a SEQUENCE of two times.
+    /// The validity that stands next (RFC 5280, 4.1.2.5): a SEQUENCE of two times, each in a form that `Time::take_from` reads. The last
+    /// may be before the first.
     pub fn take_from(cursor: &mut Cursor<'_>) -> Result<Validity, DecodeError>
         ensures { Takes validity (λ x. x) cursor.old cursor.new result }
     {

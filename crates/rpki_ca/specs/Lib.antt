@@ -1,4 +1,5 @@
--- Said in contracts, and to be believed: Refusal, Hexadecimal, Words, Keys, Command, Acceptance, Seen, Creation, Setup, Summary, Answer, Lines, Steps, Sending, Sent.
+-- Said in contracts, and to be believed: Refusal, Hexadecimal, Words, Keys, Command, Acceptance, Seen, Creation, Setup, Summary, Answer,
+-- Lines, Steps, Sending, Sent.
 pub mod Refusal
 pub mod Hexadecimal
 pub mod Words

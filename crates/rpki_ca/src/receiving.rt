@@ -159,8 +159,9 @@ fn receive_any_within<P: Scheme, V: Verifier<P>, L: Ledger>(
     receive_any_counted(alloc, kind, octets, keys, when, verifier, &mut steps)
 }
 
-/// As [`receive_any`]. It ticks once for each header and each end mark that it reads, in the signed
-/// message, and in the certificates and the request in its content, however many keys there are.
+/// As [`receive_any`], under one to eight keys. It ticks once for each header and each end mark that
+/// it reads, in the signed message, and in the certificates and the request in its content, however
+/// many keys there are.
 pub fn receive_any_counted<P: Scheme, V: Verifier<P>, L: Ledger>(
     alloc: Global,
     kind: Kind,

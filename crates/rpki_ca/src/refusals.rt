@@ -51,7 +51,7 @@ pub enum Refusal {
 }
 
 impl Refusal {
-    /// The exit status.
+    /// The exit status, from 2 to 12.
     pub fn status(self) -> u8
         ensures { result ≡ status_of self }
     {

@@ -305,8 +305,9 @@ fn sign_request<P: Scheme, S: Signer<P>>(
     Ok(out.into_captured()?)
 }
 
-/// The request of an authority for the signer's key: with its objects at `ca_repository`, to which a slash is added where its path is
-/// no directory, its manifest at `rpki_manifest`, and its changes notified at `rpki_notify`.
+/// The request (RFC 6487, 6) of an authority for the signer's RSA key `key`, in DER: with its objects at `ca_repository`, to which a
+/// slash is added where its path is no directory, its manifest at `rpki_manifest`, and its changes notified at `rpki_notify`, if that
+/// is there.
 ///
 /// The signer gives the key, then the URI with its slash is tested, and then the signer signs; the first refusal decides. TooLong
 /// where the key or the signature has more than 2^16 octets.

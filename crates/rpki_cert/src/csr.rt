@@ -199,8 +199,8 @@ impl<Alg: SignatureAlgorithm, Attributes: CsrAttributes> Csr<Alg, Attributes> {
         decode_within::<Alg, Attributes, Brand>(alloc, octets, Blank::new(1))
     }
 
-    /// The same, at a price: it ticks once for each header that it reads, at least once for each value and at most twice an octet
-    /// of the request; where it refuses, at most twice for each octet that it was given, and 8 times more.
+    /// The same as `decode`, at a price: it ticks once for each header that it reads, at least once for each value and at most twice an
+    /// octet of the request; where it refuses, at most twice for each octet that it was given, and 8 times more.
     pub fn decode_counted<L: Ledger>(
         alloc: Global,
         octets: &[u8],
@@ -213,7 +213,7 @@ impl<Alg: SignatureAlgorithm, Attributes: CsrAttributes> Csr<Alg, Attributes> {
         Csr::<Alg, Attributes>::take_from_counted(alloc, &mut cursor, steps)
     }
 
-    /// The request that stands next. It ticks once for each header and each end mark that it reads.
+    /// The request that stands next, by the cursor's rules. It ticks once for each header and each end mark that it reads.
     pub fn take_from_counted<L: Ledger>(
         alloc: Global,
         cursor: &mut Cursor<'_>,

@@ -27,7 +27,7 @@ fn truth(mode: Mode, octets: &[u8]) -> Option<bool>
     }
 }
 
-/// The BOOLEAN that stands next. It ticks once.
+/// The BOOLEAN that stands next (X.690, 8.2 and 11.1): 00 is false; FF is true, and in BER each other octet too. It ticks once.
 pub fn take_boolean_counted<L: Ledger>(
     cursor: &mut Cursor<'_>,
     steps: &mut Steps<L>,

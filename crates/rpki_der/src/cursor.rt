@@ -20,7 +20,8 @@ use std::alloc::Global;
 use std::marker::{Brand, Model};
 use std::sync::ledger::{Blank, Ledger};
 
-/// A place in the values that octets spell.
+/// A place in the values that octets spell. After each of its own calls that is refused it stands where it stood before; the
+/// functions that take a cursor don't say where they leave it then.
 #[derive(Drop)]
 pub struct Cursor<'a> {
     pub(crate) alloc: Global,
@@ -41,7 +42,8 @@ impl<'a> Model for Cursor<'a> {
 }
 
 impl<'a> Cursor<'a> {
-    /// A cursor before the first value.
+    /// A cursor before the first value of `octets`, outside of any constructed value. It takes no memory here; later calls take it
+    /// from `alloc`.
     pub fn new(alloc: Global, mode: Mode, octets: &'a [u8]) -> Cursor<'a>
         ensures { result ≡ record { mode = mode; here = octets.now; levels = [] } }
     {
@@ -60,7 +62,7 @@ impl<'a> Cursor<'a> {
         self.mode
     }
 
-    /// Goes into the constructed value with this tag that stands next. It ticks once.
+    /// Goes into the constructed value with this tag that stands next; Malformed exactly where none does. It ticks once.
     #[tactic(auto, using(crate::proofs::Cursors::none_opens, crate::proofs::Cursors::none_opens_primitive, crate::proofs::Cursors::none_opens_other))]
     pub fn enter_counted<L: Ledger>(
         &mut self,
@@ -99,7 +101,8 @@ impl<'a> Cursor<'a> {
         self.enter_counted(tag, &mut steps)
     }
 
-    /// Goes into the constructed value with this tag that stands next.
+    /// Goes into the constructed value with this tag that stands next; Malformed exactly where none does. Memory is taken only
+    /// for a value of definite length.
     pub fn enter(&mut self, tag: Tag) -> Result<(), DecodeError>
         ensures place { Enters tag self.old self.new result }
         ensures err { OnErr result (self.new ≡ self.old) }
@@ -107,7 +110,8 @@ impl<'a> Cursor<'a> {
         self.enter_within::<Brand>(tag, Blank::new(1))
     }
 
-    /// Goes out of the innermost constructed value, behind it. It ticks once where it passes an end mark.
+    /// Goes out of the innermost constructed value, behind it; Malformed exactly where that doesn't end here. The cursor has to be inside
+    /// of one. It ticks once where it passes an end mark, and takes no memory.
     pub fn leave_counted<L: Ledger>(&mut self, steps: &mut Steps<L>) -> Result<(), DecodeError>
         requires inside { self.old.levels ≢ [] }
         ensures place { GoesOut self.old self.new result }
@@ -140,7 +144,8 @@ impl<'a> Cursor<'a> {
         self.leave_counted(&mut steps)
     }
 
-    /// Goes out of the innermost constructed value, behind it.
+    /// Goes out of the innermost constructed value, behind it; Malformed exactly where that doesn't end here. The cursor has to be inside
+    /// of one. It takes no memory.
     pub fn leave(&mut self) -> Result<(), DecodeError>
         requires inside { self.old.levels ≢ [] }
         ensures place { GoesOut self.old self.new result }
@@ -159,7 +164,7 @@ impl<'a> Cursor<'a> {
         }
     }
 
-    /// How many constructed values the cursor is in.
+    /// How many constructed values the cursor is in: 0 before the first `enter`.
     pub fn depth(&self) -> usize
         ensures { result ≡ length self.now.levels }
     {
@@ -182,14 +187,14 @@ impl<'a> Cursor<'a> {
         }
     }
 
-    /// Whether no value is left at this level.
+    /// Whether no value is left at this level: it ends here, at its end mark where its length is indefinite.
     pub fn end(&self) -> bool
         ensures { IsTrue result ↔ AtEnd self.now }
     {
         self.level_end().is_some()
     }
 
-    /// The contents of the primitive value with this tag that stands next. It ticks once.
+    /// The contents octets of the primitive value with this tag that stands next; Malformed exactly where none does. It ticks once.
     #[tactic(auto, using(crate::proofs::Cursors::takes_primitive, crate::proofs::Cursors::none_primitive, crate::proofs::Cursors::none_primitive_other, crate::proofs::Cursors::none_primitive_opens), unfolding(crate::specs::Takes::Refuses))]
     pub fn take_primitive_counted<L: Ledger>(
         &mut self,
@@ -232,7 +237,7 @@ impl<'a> Cursor<'a> {
         self.take_primitive_counted(tag, &mut steps)
     }
 
-    /// The contents of the primitive value with this tag that stands next.
+    /// The contents octets of the primitive value with this tag that stands next; Malformed exactly where none does.
     pub fn take_primitive(&mut self, tag: Tag) -> Result<&'a [u8], DecodeError>
         ensures value { Takes (primitive tag) (λ x. x.now) self.old self.new result }
         ensures err { OnErr result (self.new ≡ self.old) }
@@ -240,7 +245,8 @@ impl<'a> Cursor<'a> {
         self.take_primitive_within::<Brand>(tag, Blank::new(1))
     }
 
-    /// The octets of the value that stands next. It ticks once for each header and each end mark in it.
+    /// The octets of the value that stands next, of any tag, its header and its end mark among them. It ticks once for each header
+    /// and each end mark in it.
     #[tactic(auto, using(crate::proofs::Cursors::none_any), unfolding(crate::specs::Takes::Refuses))]
     pub fn capture_counted<L: Ledger>(
         &mut self,
@@ -271,7 +277,7 @@ impl<'a> Cursor<'a> {
         self.capture_counted(&mut steps)
     }
 
-    /// The octets of the value that stands next.
+    /// The octets of the value that stands next, of any tag, its header and its end mark among them.
     pub fn capture(&mut self) -> Result<&'a [u8], DecodeError>
         ensures value { Takes any (λ x. x.now) self.old self.new result }
         ensures err { OnErr result (self.new ≡ self.old) }

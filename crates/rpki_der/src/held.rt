@@ -26,8 +26,9 @@ impl<'a> Cursor<'a> {
         &start[..start.len().saturating_sub(self.here.len())]
     }
 
-    /// Goes out of the innermost constructed value, and gives its contents from `start` on, which is what `here` gave
-    /// before; an end mark isn't among them. It ticks once where it passes an end mark.
+    /// Goes out of the innermost constructed value, of which there has to be one, and gives its contents from `start` on, which is
+    /// what `here` gave before; an end mark isn't among them. Malformed exactly where that value doesn't end here. It ticks once where it
+    /// passes an end mark.
     pub fn leave_since_counted<L: Ledger>(
         &mut self,
         start: &'a [u8],
@@ -47,8 +48,8 @@ impl<'a> Cursor<'a> {
     }
 }
 
-/// The octets of what is left of the innermost constructed value, values of any kind, and goes out of it. It ticks once
-/// for each header and each end mark that it reads.
+/// The octets of what is left of the innermost constructed value, values of any kind, and goes out of it. The cursor has to be
+/// inside of one. It ticks once for each header and each end mark that it reads.
 pub fn take_rest_counted<'a, L: Ledger>(
     cursor: &mut Cursor<'a>,
     steps: &mut Steps<L>,

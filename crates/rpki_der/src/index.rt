@@ -177,7 +177,8 @@ fn index_value<'a>(
     Ok((entries, here))
 }
 
-/// The value at the beginning of the octets, and how many octets it has. What stands behind it is unread.
+/// The value at the beginning of the octets, and how many octets it has; Malformed exactly where none begins them. What stands behind it
+/// is unread.
 pub fn read_tree(alloc: Global, mode: Mode, octets: &[u8]) -> Result<(Tree, usize), DecodeError>
     ensures ok { IfOk result (λ r. Begins mode octets.now r.0 (drop r.1 octets.now)) }
     ensures size { IfOk result (λ r. r.1 ≡ length (spelling r.0)) }

@@ -11,7 +11,7 @@ use crate::steps::Steps;
 use crate::tag::Tag;
 use std::sync::ledger::Ledger;
 
-/// Passes the INTEGER `number`, if it stands next. It ticks once.
+/// Passes the INTEGER `number`, which has to be below 128, if it stands next; otherwise the answer is Malformed. It ticks once.
 pub fn take_integer_if_counted<L: Ledger>(
     cursor: &mut Cursor<'_>,
     number: u8,

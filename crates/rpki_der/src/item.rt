@@ -168,7 +168,8 @@ impl<'a> Cursor<'a> {
         }
     }
 
-    /// The value that stands next; None at the end of the level. It ticks once for each header and each end mark in it.
+    /// The value that stands next; None at the end of the level; Malformed exactly where neither is there. It ticks once for each header
+    /// and each end mark in it.
     pub fn next_value_counted<L: Ledger>(
         &mut self,
         steps: &mut Steps<L>,
@@ -208,7 +209,7 @@ impl<'a> Cursor<'a> {
         self.next_value_counted(&mut steps)
     }
 
-    /// The value that stands next; None at the end of the level.
+    /// The value that stands next; None at the end of the level; Malformed exactly where neither is there.
     pub fn next_value(&mut self) -> Result<Option<Item<'a>>, DecodeError>
         ensures value { TakesNext self.old self.new result }
         ensures err { OnErr result (self.new ≡ self.old) }
@@ -216,7 +217,8 @@ impl<'a> Cursor<'a> {
         self.next_value_within::<Brand>(Blank::new(1))
     }
 
-    /// The value with this tag that stands next. It ticks once for each header and each end mark in it.
+    /// The value with this tag, of either form, that stands next; Malformed exactly where none does. It ticks once for each header
+    /// and each end mark in it.
     pub fn take_if_counted<L: Ledger>(
         &mut self,
         tag: Tag,
@@ -251,7 +253,7 @@ impl<'a> Cursor<'a> {
         self.take_if_counted(tag, &mut steps)
     }
 
-    /// The value with this tag that stands next.
+    /// The value with this tag, of either form, that stands next; Malformed exactly where none does.
     pub fn take_if(&mut self, tag: Tag) -> Result<Item<'a>, DecodeError>
         ensures value { Takes (item_with tag) (λ i. i) self.old self.new result }
         ensures err { OnErr result (self.new ≡ self.old) }

@@ -37,7 +37,7 @@ impl Model for OctetString {
 }
 
 impl OctetString {
-    /// The octet string that the octets hold, with nothing behind it.
+    /// The OCTET STRING that the octets hold, with nothing behind it; Malformed exactly where they hold none.
     pub fn take(alloc: Global, mode: Mode, octets: &[u8]) -> Result<OctetString, DecodeError>
         ensures { HoldsOne (octet_string mode) (λ s. s) mode octets.now result }
     {
@@ -100,7 +100,7 @@ impl Model for BitString {
 }
 
 impl BitString {
-    /// The bit string that the octets hold, with nothing behind it.
+    /// The BIT STRING that the octets hold, with nothing behind it; Malformed exactly where they hold none.
     pub fn take(alloc: Global, mode: Mode, octets: &[u8]) -> Result<BitString, DecodeError>
         ensures { HoldsOne bit_string (λ s. s) mode octets.now result }
     {
@@ -158,7 +158,7 @@ impl Model for Oid {
 }
 
 impl Oid {
-    /// The object identifier that the octets hold, with nothing behind it.
+    /// The OBJECT IDENTIFIER that the octets hold, with nothing behind it; Malformed exactly where they hold none.
     pub fn take(alloc: Global, mode: Mode, octets: &[u8]) -> Result<Oid, DecodeError>
         ensures { HoldsOne oid (λ s. s) mode octets.now result }
     {

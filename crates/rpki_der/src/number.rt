@@ -48,7 +48,8 @@ fn small_number(octets: &[u8]) -> Option<u64>
     }
 }
 
-/// The contents octets of the INTEGER that stands next. It ticks once.
+/// The contents octets of the INTEGER that stands next (X.690, 8.3): a two's complement number in the fewest octets, in both
+/// modes. It ticks once.
 pub fn take_integer_counted<'a, L: Ledger>(
     cursor: &mut Cursor<'a>,
     steps: &mut Steps<L>,
@@ -63,7 +64,7 @@ pub fn take_integer_counted<'a, L: Ledger>(
     }
 }
 
-/// The INTEGER that stands next, which isn't negative and is below 2^64. It ticks once.
+/// The INTEGER that stands next, which isn't negative and is below 2^64; any other is malformed. It ticks once.
 pub fn take_u64_counted<L: Ledger>(
     cursor: &mut Cursor<'_>,
     steps: &mut Steps<L>,

@@ -31,7 +31,7 @@ pub(crate) fn is_exactly(octets: &[u8], wanted: &[u8]) -> Option<()>
     if octets == wanted { Some(()) } else { None }
 }
 
-/// The contents octets of the object identifier that stands next. It ticks once.
+/// The contents octets of the object identifier that stands next (X.690, 8.19). It ticks once.
 pub fn take_oid_counted<'a, L: Ledger>(
     cursor: &mut Cursor<'a>,
     steps: &mut Steps<L>,
@@ -65,7 +65,8 @@ pub fn take_oid<'a>(cursor: &mut Cursor<'a>) -> Result<&'a [u8], DecodeError>
     take_oid_within::<Brand>(cursor, Blank::new(1))
 }
 
-/// Passes the object identifier whose contents octets are `wanted`, if it stands next. It ticks once.
+/// Passes the object identifier whose contents octets are `wanted`, if it stands next; otherwise the answer is Malformed. It
+/// ticks once.
 pub fn take_oid_if_counted<L: Ledger>(
     cursor: &mut Cursor<'_>,
     wanted: &[u8],

@@ -9,8 +9,8 @@ use crate::error::DecodeError;
 use crate::steps::Steps;
 use std::sync::ledger::Ledger;
 
-/// Passes over what is left of the innermost constructed value, and goes out of it. It ticks once for each header and
-/// each end mark that it reads.
+/// Passes over what is left of the innermost constructed value, and goes out of it. The cursor has to be inside of one. It ticks
+/// once for each header and each end mark that it reads.
 pub fn pass_rest_counted<L: Ledger>(
     cursor: &mut Cursor<'_>,
     steps: &mut Steps<L>,

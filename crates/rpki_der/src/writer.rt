@@ -105,7 +105,8 @@ impl Writer {
         }
     }
 
-    /// Appends a primitive value. After a refusal nothing is appended.
+    /// Appends a primitive value with this tag and these contents, which have to be below 2^32 octets. After a refusal nothing is
+    /// appended.
     pub fn primitive(&mut self, tag: Tag, content: &[u8]) -> Result<(), OutOfMemory>
         requires { length content.now < 2 ^ 32 }
         ensures ok { OnOk result (self.new ≡ self.old ++ der_primitive tag content.now) }
@@ -114,7 +115,8 @@ impl Writer {
         self.write(tag.as_slice(), content)
     }
 
-    /// Appends a constructed value whose contents another writer has. After a refusal nothing is appended.
+    /// Appends a constructed value with this tag, whose contents another writer has: below 2^32 octets. After a refusal nothing is
+    /// appended.
     pub fn constructed(&mut self, tag: Tag, inner: &Writer) -> Result<(), OutOfMemory>
         requires { length inner.now < 2 ^ 32 }
         ensures ok { OnOk result (self.new ≡ self.old ++ der_constructed tag inner.now) }

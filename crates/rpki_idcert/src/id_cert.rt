@@ -98,7 +98,7 @@ impl IdCert {
         IdCert::take_from(alloc, &mut cursor)
     }
 
-    /// The certificate that the octets hold, with nothing behind it.
+    /// The certificate that the octets hold, with nothing behind it; Malformed exactly where they hold none.
     pub fn take(alloc: Global, mode: Mode, octets: &[u8]) -> Result<IdCert, DecodeError>
         ensures { HoldsOne (identity_certificate mode) (λ c. c) mode octets.now result }
     {
@@ -110,7 +110,7 @@ impl IdCert {
         Ok(found)
     }
 
-    /// The certificate that stands next.
+    /// The certificate that stands next (RFC 5280, 4.1), by the cursor's rules. The contents of the extensions that are read are in DER.
     pub fn take_from(alloc: Global, cursor: &mut Cursor<'_>) -> Result<IdCert, DecodeError>
         ensures { Takes (identity_certificate cursor.old.mode) (λ c. c)
             cursor.old cursor.new result }
@@ -133,7 +133,7 @@ impl IdCert {
         IdCert::take_from_counted(alloc, cursor, &mut steps)
     }
 
-    /// The certificate that stands next. It ticks once for each header and each end mark that it reads.
+    /// The certificate that stands next, as `take_from` reads it. It ticks once for each header and each end mark that it reads.
     pub fn take_from_counted<L: Ledger>(
         alloc: Global,
         cursor: &mut Cursor<'_>,
@@ -173,7 +173,7 @@ impl IdCert {
         out.into_captured()
     }
 
-    /// The same as shared octets.
+    /// What `encode_ref` appends, by itself, as shared octets.
     pub fn to_bytes(&self, alloc: Global) -> Result<Bytes, OutOfMemory>
         ensures octets { IfOk result (λ b. b ≡ spelled_data spelled_x509 self.now.signed) }
         ensures spelled { OnOk result (CanBeSpelled spelled_x509 self.now.signed) }

@@ -126,7 +126,8 @@ fn issue_to<P: Scheme, S: Signer<P>>(
 
 /// # Making
 impl IdCert {
-    /// A trust anchor's certificate: that of the signer's key itself, with serial number 1, valid for this time.
+    /// A trust anchor's certificate: that of the signer's RSA key `issuing_key_id`, signed under this key itself, with serial number 1,
+    /// cA true and this validity.
     ///
     /// The signer gives the key and then signs; its first refusal decides. TooLong where the key or the signature has more than
     /// 2^16 octets.
@@ -155,7 +156,8 @@ impl IdCert {
         issue(alloc, tbs, issuing_key_id, signer)
     }
 
-    /// An end entity's certificate for `ee_key` under the signer's key, with a serial number that it draws, valid for this time.
+    /// An end entity's certificate: that of `ee_key`, signed under the signer's RSA key `issuing_key_id`, with a serial number that the
+    /// signer draws and this validity.
     ///
     /// The signer draws, gives the issuing key and then signs; its first refusal decides. TooLong where the issuing key or the
     /// signature has more than 2^16 octets; the length of `ee_key` isn't looked at.

@@ -20,7 +20,9 @@ const TRUE_ALONE: [u8; 5] = [0x30, 0x03, 0x01, 0x01, 0xFF];
 
 const NOTHING: [u8; 2] = [0x30, 0x00];
 
-/// Appends an extension, whose flag is written only where it is true. After a refusal nothing is appended.
+/// Appends an extension (RFC 5280, 4.1): the contents octets of its object identifier, its flag, which is written only where it is
+/// true, and the octets that it holds. Identifier and value together have to be below 2^32 - 64 octets. After a refusal nothing is
+/// appended.
 pub fn write_extension(
     identifier: &[u8],
     critical: bool,
@@ -63,7 +65,8 @@ fn write_subject_key(identifier: KeyIdentifier, out: &mut Writer) -> Result<(), 
     write_extension(&SUBJECT_KEY_IDENTIFIER, false, value.as_slice(), out)
 }
 
-/// Appends the extension authorityKeyIdentifier, where it is there. After a refusal nothing is appended.
+/// Appends the extension authorityKeyIdentifier (RFC 5280, 4.2.1.1), not critical, where the identifier is there, and nothing where
+/// it isn't. After a refusal nothing is appended.
 pub fn write_authority_key(
     identifier: Option<KeyIdentifier>,
     out: &mut Writer,

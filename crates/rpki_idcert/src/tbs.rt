@@ -229,7 +229,7 @@ fn take_version<L: Ledger>(cursor: &mut Cursor<'_>, steps: &mut Steps<L>) -> Res
 
 /// # Decoding
 impl TbsIdCert {
-    /// What stands next. It ticks once for each header and each end mark that it reads.
+    /// The fields that stand next, as `take_from` reads them. It ticks once for each header and each end mark that it reads.
     pub fn take_from_counted<L: Ledger>(
         alloc: Global,
         cursor: &mut Cursor<'_>,
@@ -277,7 +277,9 @@ impl TbsIdCert {
         TbsIdCert::take_from_counted(alloc, cursor, &mut steps)
     }
 
-    /// What stands next.
+    /// The fields that stand next: a TBSCertificate (RFC 5280, 4.1.2) of version 3 with the RPKI's signature algorithm, without unique
+    /// identifiers and with extensions, among which the subject's key identifier has to be. It is read by the cursor's rules, but what the
+    /// known extensions hold is in DER.
     pub fn take_from(alloc: Global, cursor: &mut Cursor<'_>) -> Result<TbsIdCert, DecodeError>
         ensures { Takes (tbs_certificate cursor.old.mode) (λ x. x) cursor.old cursor.new result }
     {

@@ -8,7 +8,7 @@ use rpki_common::{OutOfMemory, Text};
 use std::alloc::Global;
 use std::rc::RcStr;
 
-/// The text, lent.
+/// The text, lent, where there is one.
 pub fn lent(text: &Option<Text>) -> Option<&str>
     ensures { option_copied result ≡ text.now }
 {
@@ -18,7 +18,7 @@ pub fn lent(text: &Option<Text>) -> Option<&str>
     }
 }
 
-/// The shared text, lent.
+/// The shared text, lent, where there is one.
 pub fn shared(text: &Option<Text>) -> Option<&RcStr>
     ensures { option_map (λ t. rc_str_bytes t.now) result ≡ text.now }
 {
@@ -28,7 +28,7 @@ pub fn shared(text: &Option<Text>) -> Option<&RcStr>
     }
 }
 
-/// The shared text, handed out.
+/// The shared text, handed out, where there is one.
 pub fn handed_out(text: Option<Text>) -> Option<RcStr>
     ensures { option_map rc_str_bytes result ≡ text }
 {
@@ -38,7 +38,7 @@ pub fn handed_out(text: Option<Text>) -> Option<RcStr>
     }
 }
 
-/// A shared text, taken in.
+/// A shared text, taken in, where there is one. It takes no memory.
 pub fn taken_in(text: Option<RcStr>) -> Option<Text>
     ensures { result ≡ option_map rc_str_bytes text }
 {
@@ -48,7 +48,7 @@ pub fn taken_in(text: Option<RcStr>) -> Option<Text>
     }
 }
 
-/// An equal text that shares its octets with this one.
+/// An equal text that shares its octets with this one, where there is one.
 pub fn cloned(alloc: Global, text: &Option<Text>) -> Result<Option<Text>, OutOfMemory>
     ensures { IfOk result (λ t. t ≡ text.now) }
 {

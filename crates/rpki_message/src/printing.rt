@@ -60,7 +60,7 @@ fn write_text_character<W: fmt::Write>(f: &mut fmt::Formatter<W>, c: char) -> fm
     f.write_char(c)
 }
 
-/// A text.
+/// Writes a text, in which `&`, `<` and `>` become entities.
 pub fn write_text<W: fmt::Write>(f: &mut fmt::Formatter<W>, text: &str) -> fmt::Result
     ensures { WritesOnOk W.write_str_gives f.old result (spelled_text text.now) f.new }
 {
@@ -70,7 +70,8 @@ pub fn write_text<W: fmt::Write>(f: &mut fmt::Formatter<W>, text: &str) -> fmt::
     Ok(())
 }
 
-/// An attribute.
+/// Writes an attribute behind a space: its name as it is, and its value in double quotes, in which `&`, `<`, `>` and both quotes become
+/// entities.
 pub fn write_attribute<W: fmt::Write>(
     f: &mut fmt::Formatter<W>,
     name: &str,
@@ -86,7 +87,7 @@ pub fn write_attribute<W: fmt::Write>(
     f.write_str("\"")
 }
 
-/// An attribute, where there is a value.
+/// Writes an attribute as `write_attribute` does where there is a value, and nothing where there is none.
 pub fn write_optional<W: fmt::Write>(
     f: &mut fmt::Formatter<W>,
     name: &str,
@@ -101,7 +102,7 @@ pub fn write_optional<W: fmt::Write>(
     }
 }
 
-/// The end of an element.
+/// Writes the end tag of an element of this name.
 pub fn write_end<W: fmt::Write>(f: &mut fmt::Formatter<W>, name: &str) -> fmt::Result
     ensures { WritesOnOk W.write_str_gives f.old result (spelled_end name.now) f.new }
 {
@@ -110,7 +111,8 @@ pub fn write_end<W: fmt::Write>(f: &mut fmt::Formatter<W>, name: &str) -> fmt::R
     f.write_str(">")
 }
 
-/// What stands behind the attributes of an element that has this text and no child: its text and its end.
+/// Writes what stands behind the attributes of an element of this name that has this text and no child: `/>` where the text is empty,
+/// and otherwise `>`, the text and the end tag.
 pub fn write_inside<W: fmt::Write>(f: &mut fmt::Formatter<W>, name: &str, text: &str) -> fmt::Result
     ensures { WritesOnOk W.write_str_gives f.old result (text_inside name.now text.now) f.new }
 {
@@ -122,7 +124,7 @@ pub fn write_inside<W: fmt::Write>(f: &mut fmt::Formatter<W>, name: &str, text: 
     write_end(f, name)
 }
 
-/// The same of an element whose text is octets in base64.
+/// Writes the same as `write_inside` of an element whose text is octets in base64.
 pub fn write_base64<W: fmt::Write>(
     f: &mut fmt::Formatter<W>,
     name: &str,

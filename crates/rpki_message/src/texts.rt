@@ -13,7 +13,7 @@ use rpki_text::{Base64, Base64Error, Handle, InvalidHandle, uri};
 use rpki_xml::{ElementRef, XmlError};
 use std::alloc::Global;
 
-/// The octets of a base64 text.
+/// The octets of a base64 text, read as [`Base64::from_str`] does. Malformed exactly where it spells none.
 pub fn base64_of(alloc: Global, text: &str) -> Result<Base64, XmlError>
     ensures { Gives (base64_content text.now) (λ b. b) result }
 {
@@ -24,7 +24,7 @@ pub fn base64_of(alloc: Global, text: &str) -> Result<Base64, XmlError>
     }
 }
 
-/// The handle that a text is.
+/// The handle that a text is, read as [`Handle::from_str`] does. Malformed exactly where it is none.
 pub fn handle_of<T>(alloc: Global, text: &str) -> Result<Handle<T>, XmlError>
     ensures { Gives (handle_of_text text.now) (λ h. h) result }
 {
@@ -35,7 +35,7 @@ pub fn handle_of<T>(alloc: Global, text: &str) -> Result<Handle<T>, XmlError>
     }
 }
 
-/// The URI that a text is.
+/// The URI of the kind `K` that a text is. Malformed exactly where it is none.
 pub fn uri_of<K: UriKind>(alloc: Global, text: &str) -> Result<Uri<K>, XmlError>
     ensures { Gives (uri_of_text K.kind text.now) (λ u. u) result }
 {

@@ -172,8 +172,8 @@ impl ProvisioningCms {
         )
     }
 
-    /// The place, from 0, of the first of these one to eight keys under which the message is believed; if under none, Validation
-    /// with the greatest of the first checks that fail, as [`SignedMessage::validate_any_at`] answers. It takes no memory.
+    /// The place, from 0, of the first of these keys, of which there have to be one to eight, under which the message is believed; if under
+    /// none, Validation with the greatest of the first checks that fail, as [`SignedMessage::validate_any_at`] answers. It takes no memory.
     pub fn validate_any_at<P: Scheme, V: Verifier<P>>(
         &self,
         verifier: &V,

@@ -43,7 +43,7 @@ impl Publish {
         Publish { tag, uri, content }
     }
 
-    /// The same, tagged with the digest of the octets.
+    /// A new object, as `new` makes it: its tag is the SHA-256 digest of the octets, in hexadecimal digits of lower case.
     pub fn with_hash_tag(
         alloc: Global,
         uri: uri::Rsync,

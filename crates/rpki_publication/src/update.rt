@@ -64,7 +64,8 @@ impl Update {
         }
     }
 
-    /// The same, tagged with the digest of the new octets.
+    /// An object in another one's place, as `new` makes it: its tag is the SHA-256 digest of the new octets, in hexadecimal digits of
+    /// lower case.
     pub fn with_hash_tag(
         alloc: Global,
         uri: uri::Rsync,

@@ -41,7 +41,7 @@ impl Withdraw {
         Withdraw { tag, uri, hash }
     }
 
-    /// The same, tagged with the digest.
+    /// An object that is removed, as `new` makes it: its tag is the digest, in hexadecimal digits of lower case.
     pub fn with_hash_tag(
         alloc: Global,
         uri: uri::Rsync,

@@ -111,12 +111,17 @@ fn serve_lines<P: Scheme, O: Sink, V: Verifier<P>, S: Signer<P>>(
 }
 
 /// Keeps the objects of one publisher and answers its queries one behind the other, each by a signed
-/// reply.
+/// reply. Where all are answered, the exit status that it answers is 0.
 ///
 /// The words are the moment in seconds since 1970, the base URI, which is that of a directory, and the
 /// publisher's key in DER and hexadecimal. Each line of the input is a signed message in hexadecimal
 /// digits of either case, and is answered by a line with the signed reply in hexadecimal of lower case,
 /// which the signer makes under the issuing key with the identifier `key`. At first there are no objects.
+///
+/// The other exit statuses are 2 where the words are others, 3 where a line isn't hexadecimal, and 8 where
+/// the 300 seconds before or after the moment leave the years 1970 to 9999, and then no query is answered;
+/// 7 where the signer refuses, 9 where the input has more than 2^26 octets or something that is signed is
+/// too long, 10 where the input fails, 11 where a write failed, and 12 where memory ran out.
 pub fn serve<P: Scheme, I: Source, O: Sink, V: Verifier<P>, S: Signer<P>>(
     alloc: Global,
     words: &Words,

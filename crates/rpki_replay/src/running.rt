@@ -113,7 +113,7 @@ fn run_read<P: Scheme, O: Sink, V: Verifier<P>>(
 }
 
 /// Admits the messages of the input one behind the other, and writes for each what came of it, and the
-/// state behind them.
+/// state behind them. Then the exit status that it answers is 0.
 ///
 /// The only word is the moment in seconds since 1970. The input is the state's text, as
 /// [`Guard::to_text`] writes it, a line with a dash, and a line for each message: the DER of the peer's
@@ -121,6 +121,10 @@ fn run_read<P: Scheme, O: Sink, V: Verifier<P>>(
 /// Each message is answered by a line: `ok` with the time of signing, `CmsDecode`, `Validation` with the
 /// number of the first check that fails, `NoTime`, or `Replayed` with the last time and the message's,
 /// all times in seconds since 1970. A line with a dash and the new state follow.
+///
+/// The other exit statuses are 2 where the words are others, 3 where a line behind the dash is no message,
+/// and 13 where no state with a dash behind it is there, and then no message is answered; 9 where the
+/// input has more than 2^26 octets, 10 where it fails, 11 where a write failed, and 12 where memory ran out.
 pub fn run_guard<P: Scheme, I: Source, O: Sink, V: Verifier<P>>(
     alloc: Global,
     words: &Words,

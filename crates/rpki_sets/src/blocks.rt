@@ -51,8 +51,9 @@ impl<N: Numbers> Blocks<N> {
         }
     }
 
-    /// The set that a text stands for, which is the union of its items. Malformed exactly where the text isn't by the
-    /// rule.
+    /// The set that a text stands for: the union of its items, which are separated by `,` and may have spaces round them, overlap and
+    /// stand in any order; the empty set where the text is empty or spaces. What an item is the kind of numbers says. Malformed exactly
+    /// where the text isn't by the rule.
     pub fn from_str(alloc: Global, text: &str) -> Result<Self, BlocksError>
         ensures set { IfOk result (λ blocks. blocks_of N.kind text.now ≡ Some blocks) }
         ensures numbers { IfOk result (λ blocks. IsSomeAnd (runs_of N.kind text.now)
@@ -68,7 +69,7 @@ impl<N: Numbers> Blocks<N> {
         })
     }
 
-    /// The maximal runs of the set in ascending order, lent.
+    /// The maximal runs of the set in ascending order, lent: first and last number of each, both in it. No two of them overlap or touch.
     pub fn runs(&self) -> &[Run]
         ensures runs { result.now ≡ self.now }
         ensures set { IsSet N.kind.width self.now }

@@ -22,7 +22,7 @@ pub trait Numbers {
     fn read(text: &[u8]) -> Option<u128>
         ensures { result ≡ kind.number text.now };
 
-    /// Writes the text of a number.
+    /// Writes the text of a number, which has to have no more bits than the kind.
     fn write<W: fmt::Write>(f: &mut fmt::Formatter<W>, number: u128) -> fmt::Result
         requires { number < 2 ^ kind.width }
         ensures { DisplaysOnOk W.Write.write_str_gives f.old result (Some (kind.number_text number))

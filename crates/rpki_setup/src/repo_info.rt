@@ -35,7 +35,7 @@ impl Model for RepoInfo {
 }
 
 impl RepoInfo {
-    /// These two.
+    /// A repository whose objects stand below this base, and whose changes are notified here (RFC 8182), if they are.
     pub fn new(sia_base: uri::Rsync, rrdp_notification_uri: Option<uri::Https>) -> RepoInfo
         ensures { result ≡ record {
           sia_base = sia_base;

@@ -117,7 +117,7 @@ impl SignedMessageCrl {
         Ok(found)
     }
 
-    /// The CRL that the octets hold, with nothing behind it. It is read in DER whatever the mode.
+    /// The CRL that the octets hold, with nothing behind it; Malformed exactly where they hold none. It is read in DER whatever the mode.
     pub fn take(alloc: Global, _mode: Mode, octets: &[u8]) -> Result<SignedMessageCrl, DecodeError>
         ensures { HoldsOne (revocation_list Der) (λ c. c) Der octets.now result }
     {
@@ -150,7 +150,7 @@ impl SignedMessageCrl {
         SignedMessageCrl::take_from_counted(alloc, cursor, &mut steps)
     }
 
-    /// The CRL that stands next. It ticks once for each header and each end mark that it reads.
+    /// The CRL that stands next, as `take_from` reads it. It ticks once for each header and each end mark that it reads.
     pub fn take_from_counted<L: Ledger>(
         alloc: Global,
         cursor: &mut Cursor<'_>,

@@ -92,8 +92,8 @@ impl SignedMessage {
         SignedMessage::take_from(alloc, &mut cursor)
     }
 
-    /// The same, and it ticks once for each header and each end mark that it reads: at most three times an octet, and eight times
-    /// more where it refuses.
+    /// The same as `decode`, and it ticks once for each header and each end mark that it reads: at most three times an octet, and eight
+    /// times more where it refuses.
     pub fn decode_counted<L: Ledger>(
         alloc: Global,
         octets: &[u8],
@@ -107,7 +107,7 @@ impl SignedMessage {
         SignedMessage::take_from_counted(alloc, &mut cursor, steps)
     }
 
-    /// The message that the octets hold, with nothing behind it.
+    /// The message that the octets hold, by the rules of the mode, with nothing behind it; Malformed exactly where they hold none.
     pub fn take(alloc: Global, mode: Mode, octets: &[u8]) -> Result<SignedMessage, DecodeError>
         ensures { HoldsOne (signed_message mode) (λ m. m) mode octets.now result }
     {
@@ -133,14 +133,14 @@ impl SignedMessage {
         SignedMessage::take_from_counted(alloc, cursor, &mut steps)
     }
 
-    /// The message that stands next.
+    /// The message that stands next, by the cursor's rules. The CRLs are in DER in both modes.
     pub fn take_from(alloc: Global, cursor: &mut Cursor<'_>) -> Result<SignedMessage, DecodeError>
         ensures { Takes (signed_message cursor.old.mode) (λ m. m) cursor.old cursor.new result }
     {
         SignedMessage::take_from_within::<Brand>(alloc, cursor, Blank::new(1))
     }
 
-    /// The message that stands next. It ticks once for each header and each end mark that it reads.
+    /// The message that stands next, as `take_from` reads it. It ticks once for each header and each end mark that it reads.
     pub fn take_from_counted<L: Ledger>(
         alloc: Global,
         cursor: &mut Cursor<'_>,
@@ -170,7 +170,7 @@ impl SignedMessage {
         &self.content
     }
 
-    /// The digest that was signed.
+    /// The octets of the digest that was signed, in the attribute messageDigest (RFC 5652, 11.2).
     pub fn digest(&self) -> &[u8]
         ensures { result.now ≡ self.now.digest }
     {

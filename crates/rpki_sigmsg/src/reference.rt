@@ -64,21 +64,21 @@ impl<'a> SignedMessageRef<'a> {
         self.content_value
     }
 
-    /// The certificate of the signer's key.
+    /// The certificate of the signer's key, its header among the octets.
     pub fn certificate(&self) -> &'a [u8]
         ensures { result.now ≡ self.now.certificate }
     {
         self.certificate
     }
 
-    /// The first CRL.
+    /// The first CRL, its header among the octets.
     pub fn crl(&self) -> &'a [u8]
         ensures { result.now ≡ self.now.crl }
     {
         self.crl
     }
 
-    /// The second CRL, where there are two.
+    /// The second CRL, where there are two, its header among the octets.
     pub fn second_crl(&self) -> Option<&'a [u8]>
         ensures { option_copied result ≡ self.now.second_crl }
     {
@@ -106,7 +106,7 @@ impl<'a> SignedMessageRef<'a> {
         self.message.clone(alloc)
     }
 
-    /// The same without memory, in place of the view.
+    /// The message in place of the view, without memory.
     pub fn into_message(self) -> SignedMessage
         ensures { result ≡ self.entry.message }
     {
@@ -214,7 +214,7 @@ impl<'a> SignedMessageRef<'a> {
         SignedMessageRef::take_from_counted(alloc, cursor, &mut steps)
     }
 
-    /// The view of the message that stands next.
+    /// The view of the message that stands next, by the cursor's rules. The CRLs are in DER in both modes.
     pub fn take_from(
         alloc: Global,
         cursor: &mut Cursor<'a>,
@@ -225,7 +225,7 @@ impl<'a> SignedMessageRef<'a> {
         SignedMessageRef::take_from_within::<Brand>(alloc, cursor, Blank::new(1))
     }
 
-    /// The view of the message that stands next. It ticks once for each header and each end mark that it reads.
+    /// The view of the message that stands next, as `take_from` reads it. It ticks once for each header and each end mark that it reads.
     pub fn take_from_counted<L: Ledger>(
         alloc: Global,
         cursor: &mut Cursor<'a>,

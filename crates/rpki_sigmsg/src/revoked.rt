@@ -108,7 +108,7 @@ impl CrlEntry {
         CrlEntry::take_from_counted(cursor, &mut steps)
     }
 
-    /// The entry that stands next. It ticks once for each header and each end mark that it reads.
+    /// The entry that stands next, as `take_from` reads it. It ticks once for each header and each end mark that it reads.
     pub fn take_from_counted<L: Ledger>(
         cursor: &mut Cursor<'_>,
         steps: &mut Steps<L>,
@@ -199,7 +199,7 @@ impl RevokedCertificates {
         RevokedCertificates::take_from_counted(alloc, cursor, &mut steps)
     }
 
-    /// The list that stands next. It ticks once for each header and each end mark that it reads.
+    /// The list that stands next, as `take_from` reads it. It ticks once for each header and each end mark that it reads.
     pub fn take_from_counted<L: Ledger>(
         alloc: Global,
         cursor: &mut Cursor<'_>,

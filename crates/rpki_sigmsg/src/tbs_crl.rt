@@ -156,7 +156,7 @@ impl SignedMessageTbsCrl {
 
 /// # Decoding
 impl SignedMessageTbsCrl {
-    /// What the octets hold, with nothing behind it.
+    /// The fields that the octets hold, as `take_from` reads them, with nothing behind them; Malformed exactly where they hold none.
     pub fn take(
         alloc: Global,
         mode: Mode,
@@ -172,7 +172,8 @@ impl SignedMessageTbsCrl {
         Ok(found)
     }
 
-    /// What stands next.
+    /// The fields that stand next: a TBSCertList (RFC 5280, 5.1.2) of version 2 with the RPKI's signature algorithm, with nextUpdate and
+    /// extensions. Where no list of entries is there, the fields have the empty one.
     pub fn take_from(
         alloc: Global,
         cursor: &mut Cursor<'_>,
@@ -196,7 +197,7 @@ impl SignedMessageTbsCrl {
         SignedMessageTbsCrl::take_from_counted(alloc, cursor, &mut steps)
     }
 
-    /// What stands next. It ticks once for each header and each end mark that it reads.
+    /// The fields that stand next, as `take_from` reads them. It ticks once for each header and each end mark that it reads.
     pub fn take_from_counted<L: Ledger>(
         alloc: Global,
         cursor: &mut Cursor<'_>,

@@ -208,8 +208,8 @@ impl SignedMessage {
         Err(greatest)
     }
 
-    /// The place, from 0, of the first of these one to eight keys under which all checks of [`SignedMessage::validate_at`] hold. If
-    /// they hold under none, the greatest of the first checks that fail, one under each key. It takes no memory.
+    /// The place, from 0, of the first of these keys under which all checks of [`SignedMessage::validate_at`] hold; there have to be one to
+    /// eight of them. If they hold under none, the greatest of the first checks that fail, one under each key. It takes no memory.
     pub fn validate_any_at<P: Scheme, V: Verifier<P>>(
         &self,
         verifier: &V,

@@ -69,7 +69,7 @@ impl Model for Base64 {
 }
 
 impl Base64 {
-    /// The base64 text of `content`.
+    /// The octets `content`, of which the base64 text is made.
     pub fn from_content(alloc: Global, content: &[u8]) -> Result<Base64, OutOfMemory>
         ensures { IfOk result (λ b. b ≡ content.now) }
     {
@@ -81,7 +81,7 @@ impl Base64 {
 
     /// The octets that base64 text spells, as a message holds it: white space in it counts for
     /// nothing, and the rest is the one text that RFC 4648 gives these octets, with its padding and
-    /// with zeros in the bits that are left over.
+    /// with zeros in the bits that are left over. Malformed exactly where the text spells no octets.
     pub fn from_str(alloc: Global, text: &str) -> Result<Base64, Base64Error>
         ensures content { IfOk result (λ b. base64_content text.now ≡ Some b) }
         ensures spelled { IfOk result (λ b. IsBase64Text text.now b) }
@@ -120,6 +120,7 @@ impl Base64 {
     }
 
     /// The octets that the one string of a JSON text spells, read as [`Base64::from_str`] does.
+    /// Malformed exactly where the text is no JSON or no string, or where the string spells no octets.
     pub fn from_json(alloc: Global, text: &str) -> Result<Base64, JsonError>
         ensures content { IfOk result (λ b. base64_content_of_json text.now ≡ Some b) }
         ensures malformed { IsErrOf result JsonError.Malformed
@@ -153,7 +154,7 @@ impl Base64 {
         }
     }
 
-    /// The digest of the octets.
+    /// The SHA-256 digest of the octets: 32 octets.
     pub fn to_hash(&self, alloc: Global) -> Result<Hash, OutOfMemory>
         ensures { IfOk result (λ h. h ≡ sha256 self.now) }
     {

@@ -34,7 +34,7 @@ impl Model for Hash {
 }
 
 impl Hash {
-    /// The digest of `octets`. It takes no memory.
+    /// The SHA-256 digest of `octets`. It takes no memory.
     pub fn from_data(octets: &[u8]) -> Hash
         ensures { result ≡ sha256 octets.now }
     {

@@ -134,8 +134,8 @@ impl<T> Handle<T> {
         }
     }
 
-    /// The handle that `text` is: 1 to 255 letters, digits, `-`, `_` and `/`. Memory is taken for
-    /// such a text alone.
+    /// The handle that `text` is: 1 to 255 octets, each a letter, a digit, `-`, `_` or `/` (RFC 8183,
+    /// appendix A). Pattern exactly where it is none, and then no memory is taken.
     pub fn from_str(alloc: Global, text: &str) -> Result<Handle<T>, InvalidHandle>
         ensures name { IfOk result (λ h. h ≡ text.now) }
         ensures accepted { OnOk result (IsHandle text.now) }
@@ -151,7 +151,8 @@ impl<T> Handle<T> {
         })
     }
 
-    /// The handle that the one string of a JSON text is.
+    /// The handle that the one string of a JSON text is, read as [`Handle::from_str`] does. Malformed
+    /// exactly where the text is no JSON or no string, or where the string is no handle.
     pub fn from_json(alloc: Global, text: &str) -> Result<Handle<T>, JsonError>
         ensures name { IfOk result (λ h. handle_of_json text.now ≡ Some h) }
         ensures malformed { IsErrOf result JsonError.Malformed → handle_of_json text.now ≡ None }

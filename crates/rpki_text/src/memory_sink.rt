@@ -48,9 +48,9 @@ impl Model for MemorySink {
 }
 
 impl MemorySink {
-    /// An empty sink with room for `room` octets, which takes at most `piece` of them a call, and
-    /// fails at each call whose number, counted from 0, stands in `failing`. All its memory is
-    /// taken here: `write` takes none.
+    /// An empty sink with room for `room` octets, which takes at most `piece` of them a call, 1 at
+    /// least, and fails at each call whose number, counted from 0, stands in `failing`. `piece` has to
+    /// be 1 at least. All its memory is taken here: `write` takes none.
     pub fn new(
         alloc: Global,
         room: usize,

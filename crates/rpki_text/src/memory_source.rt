@@ -44,8 +44,8 @@ impl Model for MemorySource {
 }
 
 impl MemorySource {
-    /// A source of `octets`, which gives at most `piece` of them a call, and fails at each call
-    /// whose number, counted from 0, stands in `failing`.
+    /// A source of `octets`, which gives at most `piece` of them a call, and fails at each call whose
+    /// number, counted from 0, stands in `failing`. `piece` has to be 1 at least.
     pub fn new(
         alloc: Global,
         octets: &[u8],

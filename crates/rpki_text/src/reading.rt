@@ -53,7 +53,8 @@ fn append(out: &mut Vec<u8>, octets: &[u8]) -> Result<(), AllocError>
 }
 
 /// Reads `source` to the end of input, to its first fault, or until one octet more than `limit` was
-/// read. `limit` counts octets, and every number is allowed.
+/// read. `limit` counts octets, and every number is allowed. Read is answered exactly where the
+/// source failed, and TooLong where one octet more came.
 ///
 /// What was read before an error is gone. The octet past the limit takes no memory, nor does the
 /// end of input. While it reads, the result takes at most 2.25 times the memory of the octets read,

@@ -109,8 +109,8 @@ impl<K: UriKind> Model for Uri<K> {
 }
 
 impl<K: UriKind> Uri<K> {
-    /// The URI that `text` is, or the first rule that it breaks. Memory is taken for a lawful text
-    /// alone.
+    /// The URI that `text` is, kept as it is written, or the first rule that it breaks, in the order of
+    /// [`Error`]. Memory is taken for a lawful text alone.
     pub fn from_str(alloc: Global, text: &str) -> Result<Self, Error>
         ensures text { IfOk result (λ u. u ≡ text.now) }
         ensures accepted { OnOk result (fault_of K.kind text.now ≡ None) }
@@ -125,8 +125,9 @@ impl<K: UriKind> Uri<K> {
         })
     }
 
-    /// This URI with `path` behind it and exactly one slash between the two, or the first rule that
-    /// this text breaks.
+    /// This URI with `path` behind it: a slash is put between where this one doesn't end with one, and
+    /// the first slash of `path` is left out. If the text that comes of it is no URI of this kind, the
+    /// first rule that it breaks, in the order of [`Error`].
     pub fn join(&self, alloc: Global, path: &[u8]) -> Result<Self, Error>
         ensures text { IfOk result (λ u. u ≡ joined_text self.now path.now) }
         ensures accepted { OnOk result (fault_of K.kind (joined_text self.now path.now) ≡ None) }

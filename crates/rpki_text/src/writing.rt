@@ -7,8 +7,8 @@ ghost use Rattle.rpki_text.specs.Sink.{AppendsPart};
 
 use crate::traits::{Failed, Sink};
 
-/// Writes all of `octets`, or up to the first fault: then some octets from the front were written,
-/// and not all.
+/// Writes all of `octets` in their order, in as many calls as it takes, or up to the first fault,
+/// which is answered: then some octets from the front were written, maybe none, and not all.
 pub fn write_all<O: Sink>(sink: &mut O, octets: &[u8]) -> Result<(), Failed>
     ensures ok { OnOk result (Appends (O.written sink.old) (O.written sink.new) octets.now) }
     ensures err { OnErr result (AppendsPart (O.written sink.old) (O.written sink.new) octets.now) }

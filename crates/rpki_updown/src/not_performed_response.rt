@@ -67,42 +67,43 @@ impl NotPerformedResponse {
         })
     }
 
-    /// An earlier request of the client for the same is still processed.
+    /// Status 1101 with the standard's words (RFC 6492, 3.6): an earlier request of the client for the same is still processed.
     pub fn err_1101(alloc: Global) -> Result<NotPerformedResponse, OutOfMemory>
         ensures { IfOk result (λ r. r ≡ record { status = 1101; description = reason 1101 }) }
     {
         described(alloc, 1101, "already processing request")
     }
 
-    /// The version of the message is not the protocol's.
+    /// Status 1102 with the standard's words (RFC 6492, 3.6): the version of the message is not the protocol's.
     pub fn err_1102(alloc: Global) -> Result<NotPerformedResponse, OutOfMemory>
         ensures { IfOk result (λ r. r ≡ record { status = 1102; description = reason 1102 }) }
     {
         described(alloc, 1102, "version number error")
     }
 
-    /// The type of the message is not known.
+    /// Status 1103 with the standard's words (RFC 6492, 3.6): the type of the message is not known.
     pub fn err_1103(alloc: Global) -> Result<NotPerformedResponse, OutOfMemory>
         ensures { IfOk result (λ r. r ≡ record { status = 1103; description = reason 1103 }) }
     {
         described(alloc, 1103, "unrecognized request type")
     }
 
-    /// The request will be processed later.
+    /// Status 1104 with the standard's words (RFC 6492, 3.6): the request will be processed later.
     pub fn err_1104(alloc: Global) -> Result<NotPerformedResponse, OutOfMemory>
         ensures { IfOk result (λ r. r ≡ record { status = 1104; description = reason 1104 }) }
     {
         described(alloc, 1104, "request scheduled for processing")
     }
 
-    /// A certificate is asked for in a resource class that there is not.
+    /// Status 1201 with the standard's words (RFC 6492, 3.6): a certificate is asked for in a resource class that there is not.
     pub fn err_1201(alloc: Global) -> Result<NotPerformedResponse, OutOfMemory>
         ensures { IfOk result (λ r. r ≡ record { status = 1201; description = reason 1201 }) }
     {
         described(alloc, 1201, "request - no such resource class")
     }
 
-    /// A certificate is asked for in a resource class of which the client has no resources.
+    /// Status 1202 with the standard's words (RFC 6492, 3.6): a certificate is asked for in a resource class of which the client has no
+    /// resources.
     pub fn err_1202(alloc: Global) -> Result<NotPerformedResponse, OutOfMemory>
         ensures { IfOk result (λ r. r ≡ record { status = 1202; description = reason 1202 }) }
     {
@@ -113,35 +114,35 @@ impl NotPerformedResponse {
         )
     }
 
-    /// The certificate request is malformed.
+    /// Status 1203 with the standard's words (RFC 6492, 3.6): the certificate request is malformed.
     pub fn err_1203(alloc: Global) -> Result<NotPerformedResponse, OutOfMemory>
         ensures { IfOk result (λ r. r ≡ record { status = 1203; description = reason 1203 }) }
     {
         described(alloc, 1203, "request - badly formed certificate request")
     }
 
-    /// The key of the certificate request is used already.
+    /// Status 1204 with the standard's words (RFC 6492, 3.6): the key of the certificate request is used already.
     pub fn err_1204(alloc: Global) -> Result<NotPerformedResponse, OutOfMemory>
         ensures { IfOk result (λ r. r ≡ record { status = 1204; description = reason 1204 }) }
     {
         described(alloc, 1204, "request - already used key in request")
     }
 
-    /// Revocation is asked for in a resource class that there is not.
+    /// Status 1301 with the standard's words (RFC 6492, 3.6): revocation is asked for in a resource class that there is not.
     pub fn err_1301(alloc: Global) -> Result<NotPerformedResponse, OutOfMemory>
         ensures { IfOk result (λ r. r ≡ record { status = 1301; description = reason 1301 }) }
     {
         described(alloc, 1301, "revoke - no such resource class")
     }
 
-    /// Revocation is asked for of a key that there is not.
+    /// Status 1302 with the standard's words (RFC 6492, 3.6): revocation is asked for of a key that there is not.
     pub fn err_1302(alloc: Global) -> Result<NotPerformedResponse, OutOfMemory>
         ensures { IfOk result (λ r. r ≡ record { status = 1302; description = reason 1302 }) }
     {
         described(alloc, 1302, "revoke - no such key")
     }
 
-    /// The server failed.
+    /// Status 2001 with the standard's words (RFC 6492, 3.6): the server failed.
     pub fn err_2001(alloc: Global) -> Result<NotPerformedResponse, OutOfMemory>
         ensures { IfOk result (λ r. r ≡ record { status = 2001; description = reason 2001 }) }
     {

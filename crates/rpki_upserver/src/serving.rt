@@ -169,7 +169,7 @@ fn serve_lines<P: Scheme, O: Sink, V: Verifier<P>, N: Issuer, S: Signer<P>>(
     finish_lines(output, answered)
 }
 
-/// Answers the messages of a child one behind the other, each by a line.
+/// Answers the messages of a child one behind the other, each by a line. Where all are answered, the exit status that it answers is 0.
 ///
 /// The words are the moment in seconds since 1970 and the child's public key in DER, in hexadecimal digits of either case. Each line of
 /// the input is a signed message of the provisioning protocol in hexadecimal digits of either case, and is answered by a line: the signed
@@ -178,6 +178,10 @@ fn serve_lines<P: Scheme, O: Sink, V: Verifier<P>, N: Issuer, S: Signer<P>>(
 /// nothing was issued: the child has the AS numbers 1 to 10 and the addresses 10.0.0.0/8 and 2001:db8::/32 in it until
 /// the second 2524607999, its certificates are published under `rsync://localhost/repo/`, and `signing` is the certificate of the issuing
 /// key, which has to be one in DER. Replies are signed under the issuing key with the identifier `key`.
+///
+/// The other exit statuses are 2 where the words are others, 3 where a line isn't hexadecimal, and 8 where the 300 seconds before or after
+/// the moment leave the years 1970 to 9999, and then no message is answered; 7 where the signer refuses, 9 where the input has more than
+/// 2^26 octets or something that is signed is too long, 10 where the input fails, 11 where a write failed, and 12 where memory ran out.
 pub fn serve<P: Scheme, I: Source, O: Sink, V: Verifier<P>, N: Issuer, S: Signer<P>>(
     alloc: Global,
     words: &Words,

@@ -59,7 +59,8 @@ impl<'a> Model for Element<'a> {
         × AreLettered (alone (root_in e.document.value)) };
 }
 
-/// Reads a document: the element that the octets are a document of. Malformed exactly where they are no document.
+/// Reads a document: the element that the octets are a document of, which goes on lending the octets that were read. Malformed exactly
+/// where they are no document.
 pub fn read_document(alloc: Global, octets: &[u8]) -> Result<Element<'_>, XmlError>
     ensures { MatchResult result (IsDocument octets.now) (λ e. IsRefused e octets.now) }
 {

@@ -486,8 +486,9 @@ impl<'a> ElementRef<'a> {
         require(is_or_absent(value, text))
     }
 
-    /// What a rule reads of the attribute with this local name, where it is there. Mismatch where the rule reads nothing of it,
-    /// or where there are two of them. In a clause the rule is any function `reading` that says what its calls return.
+    /// What a rule, which has to be callable at any text, reads of the attribute with this local name, where it is there. Mismatch where
+    /// the rule reads nothing of it, or where there are two of them. In a clause the rule is any function `reading` that says what its
+    /// calls return.
     pub fn optional_by<T, F>(&self, local: &str, rule: F) -> Result<Option<T>, Mismatch>
     where
         F: FnOnce(&'a str) -> Option<T> + Drop,

@@ -50,7 +50,8 @@ impl ElementWriter {
         }
     }
 
-    /// Begins an element inside the innermost open one.
+    /// Begins an element with this whole name inside the innermost open one; from now on it is the innermost. The name is written as it
+    /// is, and isn't tested.
     #[tactic(auto, unfolding(crate::specs::Draft::opened))]
     pub fn element(&mut self, name: &str) -> Result<(), OutOfMemory>
         ensures ok { OnOk result (self.new ≡ opened name.now self.old) }
@@ -72,7 +73,8 @@ impl ElementWriter {
         }
     }
 
-    /// Gives the element that was begun last an attribute. Nothing is inside it yet.
+    /// Gives the element that was begun last an attribute with this whole name, written as it is, and this value, in which `&`, `<`, `>`
+    /// and quotes become entities. The caller sees to it that nothing is inside the element yet.
     #[tactic(auto, unfolding(crate::specs::Draft::with_attribute))]
     pub fn attr(&mut self, name: &str, value: &str) -> Result<(), OutOfMemory>
         ensures ok { OnOk result (self.new ≡ with_attribute name.now value.now self.old) }
@@ -83,7 +85,7 @@ impl ElementWriter {
         Ok(())
     }
 
-    /// The same, where there is a value.
+    /// The same as `attr` where there is a value, and nothing where there is none.
     pub fn attr_opt(&mut self, name: &str, value: Option<&str>) -> Result<(), OutOfMemory>
         ensures ok { let attributes = optional_attribute name.now (option_copied value.entry) in
             OnOk result (self.new ≡ with_attributes attributes self.old) }
@@ -95,7 +97,7 @@ impl ElementWriter {
         }
     }
 
-    /// Writes text into the innermost open element. The empty text changes nothing.
+    /// Writes text into the innermost open element: `&`, `<` and `>` become entities. The empty text changes nothing.
     #[tactic(auto, unfolding(crate::specs::Draft::with_inside))]
     pub fn text(&mut self, text: &str) -> Result<(), OutOfMemory>
         ensures ok { OnOk result (self.new ≡ with_text text.now self.old) }
@@ -110,7 +112,8 @@ impl ElementWriter {
         Ok(())
     }
 
-    /// Ends the innermost open element.
+    /// Ends the innermost open element: with `/>` where nothing is inside it, and otherwise with its end tag. Where none is open, nothing
+    /// is written.
     #[tactic(auto, unfolding(crate::specs::Draft::closed))]
     pub fn close(&mut self) -> Result<(), OutOfMemory>
         ensures ok { OnOk result (self.new ≡ closed self.old) }
@@ -123,7 +126,7 @@ impl ElementWriter {
         Ok(())
     }
 
-    /// The octets that were written.
+    /// The octets that were written. Elements that are still open aren't ended.
     pub fn done(self) -> Result<Bytes, OutOfMemory>
         ensures { IfOk result (λ octets. octets ≡ self.octets) }
     {
