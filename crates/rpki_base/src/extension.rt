@@ -38,6 +38,15 @@ impl<'a> Model for Extension<'a> {
     } };
 }
 
+impl<'a> Extension<'a> {
+    /// The octets that it holds, as a slice.
+    pub fn held(&self) -> &[u8]
+        ensures { result.now ≡ self.now.value }
+    {
+        &self.value
+    }
+}
+
 /// The extension that stands next: a SEQUENCE of an object identifier, a BOOLEAN or none, and an OCTET STRING (RFC 5280, 4.1).
 /// What it holds isn't read. It ticks once for each header and each end mark that it reads.
 pub fn take_extension_counted<'a, L: Ledger>(

@@ -23,10 +23,16 @@ use std::sync::ledger::{Blank, Ledger};
 /// A signed value, as the exact octets that are signed, and its signature (RFC 5280, 4.1.1 and 5.1.1).
 ///
 /// In a clause it is these two.
-#[derive(Drop, PartialEq)]
+#[derive(PartialEq)]
 pub struct SignedData<Alg: SignatureAlgorithm> {
     slice: Bytes,
     signature: Signature<Alg>,
+}
+
+impl<Alg: SignatureAlgorithm> Drop for SignedData<Alg> {
+    fn drop(self) {
+        let SignedData { slice, signature } = self;
+    }
 }
 
 impl<Alg: SignatureAlgorithm> Model for SignedData<Alg> {

@@ -9,7 +9,6 @@ ghost use Rattle.rpki_der.specs.Ticks.{TakesCounted, DecodesCounted};
 ghost use Rattle.rpki_der.specs.Whole.{whole_of};
 ghost use Rattle.rpki_base.specs.RpkiSignatureAlgorithm.{x509_algorithm};
 ghost use Rattle.rpki_base.specs.SignedData.{signed_as};
-ghost use Rattle.rpki_idcert.specs.TbsIdCert.{version};
 ghost use Rattle.rpki_cert.specs.Cert.{CertFields, unread_extensions, tbs_certificate, what_is_signed, certificate};
 
 use bytes::Bytes;
@@ -17,9 +16,8 @@ use rpki_base::{
     Extension, FindsExtensions, Name, PublicKey, RpkiSignatureAlgorithm, Serial, Validity,
     leave_signature, take_algorithm, take_tagged_extensions_counted,
 };
-use rpki_der::{
-    Captured, Cursor, DecodeError, Mode, OutOfMemory, Steps, Tag, Writer, take_integer_if_counted,
-};
+use rpki_der::{Captured, Cursor, DecodeError, Mode, OutOfMemory, Steps, Tag, Writer};
+use rpki_idcert::take_version;
 use rpki_text::Base64;
 use std::alloc::Global;
 use std::marker::{Brand, Model};
@@ -28,12 +26,17 @@ use std::sync::ledger::{Blank, Ledger};
 /// A resource certificate: its exact octets, and the key of its subject (RFC 6487, 4).
 ///
 /// In a clause it is these two. `==` compares the octets.
-#[derive(Drop)]
 #[derive_where(PartialEq, Eq)]
 pub struct Cert {
     slice: Bytes,
     #[derive_where(skip)]
     key: PublicKey,
+}
+
+impl Drop for Cert {
+    fn drop(self) {
+        let Cert { slice, key } = self;
+    }
 }
 
 impl Model for Cert {
@@ -75,16 +78,6 @@ impl Cert {
         let key = self.key.clone(alloc)?;
         Ok(Cert { slice, key })
     }
-}
-
-// Passes the version.
-fn take_version<L: Ledger>(cursor: &mut Cursor<'_>, steps: &mut Steps<L>) -> Result<(), DecodeError>
-    ensures { TakesCounted 1 version (λ x. x) cursor.old cursor.new steps.old steps.new result }
-{
-    cursor.enter_counted(Tag::CTX_0, steps)?;
-    take_integer_if_counted(cursor, 2, steps)?;
-    cursor.leave_counted(steps)?;
-    Ok(())
 }
 
 // Nothing is found in extensions that are unread.

@@ -28,11 +28,20 @@ use std::sync::ledger::{Blank, Ledger};
 /// What a request says (RFC 2986, 4.1).
 ///
 /// In a clause it is the record of the three.
-#[derive(Drop)]
 pub(crate) struct CsrContent<Attributes: CsrAttributes> {
     subject: Name,
     public_key: PublicKey,
     attributes: Attributes,
+}
+
+impl<Attributes: CsrAttributes> Drop for CsrContent<Attributes> {
+    fn drop(self) {
+        let CsrContent {
+            subject,
+            public_key,
+            attributes,
+        } = self;
+    }
 }
 
 impl<Attributes: CsrAttributes> Model for CsrContent<Attributes> {
@@ -50,10 +59,15 @@ impl<Attributes: CsrAttributes> Model for CsrContent<Attributes> {
 /// A certificate request: the exact octets that are signed with their signature, and what they say (RFC 2986, 4).
 ///
 /// In a clause it is these two.
-#[derive(Drop)]
 pub struct Csr<Alg: SignatureAlgorithm, Attributes: CsrAttributes> {
     signed: SignedData<Alg>,
     content: CsrContent<Attributes>,
+}
+
+impl<Alg: SignatureAlgorithm, Attributes: CsrAttributes> Drop for Csr<Alg, Attributes> {
+    fn drop(self) {
+        let Csr { signed, content } = self;
+    }
 }
 
 /// The request of an authority for a resource certificate (RFC 6487, 6).

@@ -48,12 +48,22 @@ pub trait CsrAttributes: Drop {
 /// The attributes of an authority's request (RFC 6487, 6.3).
 ///
 /// In a clause it is the record of what they say.
-#[derive(Drop)]
 pub struct RpkiCaCsrAttributes {
     basic_ca: bool,
     key_usage: KeyUsage,
     extended_key_usage: Option<ExtendedKeyUsage>,
     access: Access,
+}
+
+impl Drop for RpkiCaCsrAttributes {
+    fn drop(self) {
+        let RpkiCaCsrAttributes {
+            basic_ca,
+            key_usage,
+            extended_key_usage,
+            access,
+        } = self;
+    }
 }
 
 impl Model for RpkiCaCsrAttributes {

@@ -130,13 +130,6 @@ fn add_access<L: Ledger>(
     Ok(Some(access))
 }
 
-// The octets that the extension holds.
-fn held<'a>(extension: &'a Extension<'_>) -> &'a [u8]
-    ensures { result.now ≡ extension.now.value }
-{
-    &extension.value
-}
-
 impl FindsExtensions for Requested {
     ghost use Rattle.rpki_cert.specs.Gathered.{add};
 
@@ -154,7 +147,7 @@ impl FindsExtensions for Requested {
             extended_key_usage,
             access,
         } = self;
-        let value = held(extension);
+        let value = extension.held();
         if extension.identifier == BASIC_CONSTRAINTS.as_slice() {
             let basic_ca = add_authority(alloc, value, basic_ca, steps)?;
             Ok(Requested {

@@ -57,7 +57,7 @@ use Rattle.rpki_signer.specs.Limits.{default_algorithm}
 use Rattle.rpki_idcert.specs.IdCert.{CertificateFields, identity_certificate}
 use Rattle.rpki_idcert.specs.Making.{name_of_key, issuer_of_other, made_fields, IsReadAgain}
 use Rattle.rpki_idcert.specs.Spelling.{spelled_validity, spelled_version, spelled_algorithm, spelled_fields, spelled_tbs, CanBeSpelled, AreTwenty, AreReadable}
-use Rattle.rpki_idcert.specs.TbsIdCert.{TbsFields, version, tbs_certificate}
+use Rattle.rpki_idcert.specs.TbsIdCert.{TbsFields, version, tbs_fields, tbs_certificate}
 use Rattle.rpki_idcert.proofs.Pieces.{Piece, is_whole, begins_as, with_its_octets, of_whole, of_begins, constructed, wrapping, as_octets, inside_is}
 use Rattle.rpki_idcert.proofs.Sizes.{primitive_size, constructed_size, content_within, times_size}
 
@@ -311,27 +311,6 @@ validity_piece mode v p q =
 
 pub key_info_piece : (mode : Mode) (key : KeyFields) → KeyCanBeSpelled key → Piece mode public_key (spelled_key key) key
 key_info_piece mode key h = let w = written_key mode key [] h in of_begins mode public_key (spelled_key key) key w.0 w.1 w.2
-
-abbrev tbs_fields : Mode → Values → Option TbsFields
-tbs_fields mode vs = do
-  version ← first version vs
-  serial ← first serial version.1
-  algorithm ← first (algorithm mode) serial.1
-  issuer ← first name algorithm.1
-  validity ← first validity issuer.1
-  subject ← first name validity.1
-  key ← first public_key subject.1
-  known ← first (wrapped (context 3) (extension_list mode)) key.1
-  done (record {
-    serial = serial.0;
-    issuer = issuer.0;
-    validity = validity.0;
-    subject = subject.0;
-    key = key.0;
-    basic_ca = known.0.basic_ca;
-    subject_key_id = known.0.subject;
-    authority_key_id = known.0.authority;
-  }) known.1
 
 tbs_reads : (mode : Mode) (t : TbsFields) (a : RpkiAlgorithm) (v1 v2 v3 v4 v5 v6 v7 v8 : Value) → version v1 ≡ Some tt → serial v2 ≡ Some t.serial → algorithm mode v3 ≡ Some a → name v4 ≡ Some t.issuer → validity v5 ≡ Some t.validity → name v6 ≡ Some t.subject → public_key v7 ≡ Some t.key
     → wrapped (context 3) (extension_list mode) v8 ≡ Some (record { subject = t.subject_key_id; basic_ca = t.basic_ca; authority = t.authority_key_id }) → tbs_fields mode (v1 ▸ v2 ▸ v3 ▸ v4 ▸ v5 ▸ v6 ▸ v7 ▸ v8 ▸ End) ≡ Some t

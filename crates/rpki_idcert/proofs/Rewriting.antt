@@ -13,7 +13,7 @@ use Rattle.rpki_der.specs.Tags.{sequence}
 use Rattle.rpki_der.specs.Value.{Value, Primitive, Constructed, Values, End, ◌▸◌, spelling, IsValue, Begins}
 use Rattle.rpki_der.specs.Whole.{alone, whole_of}
 use Rattle.rpki_der.specs.Writing.{constructed_value, Spells}
-use Rattle.rpki_der.proofs.Firsts.{first_is}
+use Rattle.rpki_der.proofs.Firsts.{first_is, done_is}
 use Rattle.rpki_der.proofs.Flats.{alone_only}
 use Rattle.rpki_der.proofs.Written.{spells_followed, spells_one, begins_constructed}
 use Rattle.rpki_base.specs.SignedData.{SignedParts, Signed, algorithm_in, signature_in, signed_as, signed_value, spelled_data, CanBeSpelled}
@@ -29,11 +29,6 @@ use Rattle.rpki_base.proofs.Keys.{bits_value, bits_spell, bits_within}
 pub record IsRead {A : Type 0} (reads : Mode → List ℕ → Option A) (mode : Mode) (a : A) : Type 0 where
   pub octets : List ℕ
   pub reads' : reads mode octets ≡ Some a
-
-done_is : {X : Type 0} (x y : X) (vs : Values) → done x vs ≡ Some y → x ≡ y
-unfolding done
-done_is x y End e = same_some x y e
-done_is x y (v ▸ vs) e = absurd (none_some y e)
 
 signature_read : {A : Type 0} (reads : Mode → List ℕ → Option A) (mode : Mode) (vs : Values) (s : SignatureParts A) → signature_in reads mode vs ≡ Some s → IsRead reads mode s.algorithm
 unfolding signature_in so ◌>>=◌

@@ -3,7 +3,7 @@ use Rattle.std.specs.Prelude.{ℕ, Bool, Option, List}
 use Rattle.rpki_common.specs.Chaining.{◌>>=◌}
 use Rattle.rpki_der.specs.declared.mode.Mode.{Mode}
 use Rattle.rpki_der.specs.Tags.{sequence, context}
-use Rattle.rpki_der.specs.Value.{Value}
+use Rattle.rpki_der.specs.Value.{Value, Values}
 use Rattle.rpki_der.specs.Grammar.{within, first, done, wrapped}
 use Rattle.rpki_der.specs.Integer.{integer_is}
 use Rattle.rpki_base.specs.RpkiSignatureAlgorithm.{algorithm}
@@ -44,8 +44,8 @@ version = wrapped (context 0) (integer_is 2)
 -- The version is v3, which is spelled 2, and the two unique identifiers can't be there. The algorithm is read, and is no field: it is
 -- always that one.
 -- Extensions have to be there, since the subject's key identifier stands in them.
-unfoldable pub tbs_certificate : Mode → Value → Option TbsFields
-tbs_certificate mode = within sequence (λ vs. do
+abbrev pub tbs_fields : Mode → Values → Option TbsFields
+tbs_fields mode vs = do
   version ← first version vs
   serial ← first serial version.1
   algorithm ← first (algorithm mode) serial.1
@@ -63,4 +63,8 @@ tbs_certificate mode = within sequence (λ vs. do
     basic_ca = known.0.basic_ca;
     subject_key_id = known.0.subject;
     authority_key_id = known.0.authority;
-  }) known.1)
+  }) known.1
+
+-- the signed certificate: a SEQUENCE of these
+unfoldable pub tbs_certificate : Mode → Value → Option TbsFields
+tbs_certificate mode = within sequence (tbs_fields mode)

@@ -201,13 +201,6 @@ fn read_authority<L: Ledger>(
     take_authority_key(&mut cursor, steps)
 }
 
-// The octets that the extension holds.
-fn held<'a>(extension: &'a Extension<'_>) -> &'a [u8]
-    ensures { result.now ≡ extension.now.value }
-{
-    &extension.value
-}
-
 impl FindsExtensions for Found {
     ghost use Rattle.rpki_idcert.specs.Gathered.{add};
 
@@ -224,7 +217,7 @@ impl FindsExtensions for Found {
             basic_ca,
             authority,
         } = self;
-        let value = held(extension);
+        let value = extension.held();
         if extension.identifier == SUBJECT_KEY_IDENTIFIER.as_slice() {
             let subject = add_subject(alloc, value, subject, steps)?;
             Ok(Found {

@@ -24,12 +24,17 @@ use std::sync::ledger::{Blank, Ledger};
 ///
 /// In a clause it is these two. `==` compares the signed data alone: the octets that are signed, the algorithm and the octets of the
 /// signature.
-#[derive(Drop)]
 #[derive_where(PartialEq)]
 pub struct IdCert {
     signed: SignedData<RpkiSignatureAlgorithm>,
     #[derive_where(skip)]
     tbs: TbsIdCert,
+}
+
+impl Drop for IdCert {
+    fn drop(self) {
+        let IdCert { signed, tbs } = self;
+    }
 }
 
 impl Model for IdCert {

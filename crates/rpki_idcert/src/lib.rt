@@ -22,4 +22,4 @@ pub use law::written_fields_are_read;
 pub use making::UnsignedIdCert;
 pub use rpki_base::{ValidationError, ValidationKind, first_false_decides, names_issuer, require};
 pub use spelling::{write_authority_key, write_extension};
-pub use tbs::{TbsIdCert, equal_certificates_are_the_same};
+pub use tbs::{TbsIdCert, equal_certificates_are_the_same, take_version};

@@ -22,10 +22,15 @@ use std::alloc::Global;
 use std::marker::Model;
 
 /// A certificate that is to be signed: its fields, and the octets that the signature covers. In a clause it is the fields.
-#[derive(Drop)]
 pub struct UnsignedIdCert {
     tbs: TbsIdCert,
     octets: Bytes,
+}
+
+impl Drop for UnsignedIdCert {
+    fn drop(self) {
+        let UnsignedIdCert { tbs, octets } = self;
+    }
 }
 
 impl Model for UnsignedIdCert {
@@ -72,8 +77,9 @@ impl UnsignedIdCert {
           tbs = self;
         } }
     {
-        let signed = SignedData::new(self.octets, signature);
-        IdCert::from_parts(signed, self.tbs)
+        let UnsignedIdCert { tbs, octets } = self;
+        let signed = SignedData::new(octets, signature);
+        IdCert::from_parts(signed, tbs)
     }
 }
 

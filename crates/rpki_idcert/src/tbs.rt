@@ -22,7 +22,7 @@ use std::sync::ledger::{Blank, Ledger};
 /// is always that of the RPKI.
 ///
 /// In a clause it is the record of its fields.
-#[derive(Drop, PartialEq, Eq)]
+#[derive(PartialEq, Eq)]
 pub struct TbsIdCert {
     serial: Serial,
     issuer: Name,
@@ -32,6 +32,21 @@ pub struct TbsIdCert {
     basic_ca: Option<bool>,
     subject_key_id: KeyIdentifier,
     authority_key_id: Option<KeyIdentifier>,
+}
+
+impl Drop for TbsIdCert {
+    fn drop(self) {
+        let TbsIdCert {
+            serial,
+            issuer,
+            validity,
+            subject,
+            key,
+            basic_ca,
+            subject_key_id,
+            authority_key_id,
+        } = self;
+    }
 }
 
 impl Model for TbsIdCert {
@@ -217,8 +232,12 @@ impl TbsIdCert {
     }
 }
 
-// Passes the version.
-fn take_version<L: Ledger>(cursor: &mut Cursor<'_>, steps: &mut Steps<L>) -> Result<(), DecodeError>
+/// Passes the version of a certificate, which has to be 3 (RFC 5280, 4.1.2.1). It ticks once for each header and each end mark that
+/// it reads.
+pub fn take_version<L: Ledger>(
+    cursor: &mut Cursor<'_>,
+    steps: &mut Steps<L>,
+) -> Result<(), DecodeError>
     ensures { TakesCounted 1 version (λ x. x) cursor.old cursor.new steps.old steps.new result }
 {
     cursor.enter_counted(Tag::CTX_0, steps)?;

@@ -35,10 +35,15 @@ use std::marker::{Brand, Model};
 use std::sync::ledger::{Blank, Ledger};
 
 /// A signed message, and the message that its content is (RFC 6492, 3.1). In a clause it is the record of both.
-#[derive(Drop)]
 pub struct ProvisioningCms {
     signed: SignedMessage,
     message: Message,
+}
+
+impl Drop for ProvisioningCms {
+    fn drop(self) {
+        let ProvisioningCms { signed, message } = self;
+    }
 }
 
 impl Model for ProvisioningCms {
@@ -128,7 +133,8 @@ impl ProvisioningCms {
         ensures message { result ≡ self.message }
         ensures says { Says self.signed.content result }
     {
-        self.message
+        let ProvisioningCms { signed, message } = self;
+        message
     }
 
     /// Both: the content of the signed message says the message.
@@ -137,7 +143,8 @@ impl ProvisioningCms {
         ensures message { result.1 ≡ self.message }
         ensures says { Says result.0.content result.1 }
     {
-        (self.signed, self.message)
+        let ProvisioningCms { signed, message } = self;
+        (signed, message)
     }
 
     /// An equal message with its signed message.

@@ -35,10 +35,15 @@ use std::marker::{Brand, Model};
 use std::sync::ledger::{Blank, Ledger};
 
 /// A signed message, and the message that its content is (RFC 8181, 2). In a clause it is the record of both.
-#[derive(Drop)]
 pub struct PublicationCms {
     signed: SignedMessage,
     message: Message,
+}
+
+impl Drop for PublicationCms {
+    fn drop(self) {
+        let PublicationCms { signed, message } = self;
+    }
 }
 
 impl Model for PublicationCms {
@@ -128,7 +133,8 @@ impl PublicationCms {
         ensures message { result ≡ self.message }
         ensures says { Says self.signed.content result }
     {
-        self.message
+        let PublicationCms { signed, message } = self;
+        message
     }
 
     /// Both: the content of the signed message says the message.
@@ -137,7 +143,8 @@ impl PublicationCms {
         ensures message { result.1 ≡ self.message }
         ensures says { Says result.0.content result.1 }
     {
-        (self.signed, self.message)
+        let PublicationCms { signed, message } = self;
+        (signed, message)
     }
 
     /// An equal message with its signed message.

@@ -16,11 +16,17 @@ use std::marker::Model;
 use std::rc::RcStr;
 
 /// An object that is published where none was (RFC 8181, 2.2 and 3.1). In a clause it is the record of its fields.
-#[derive(Debug, Drop, PartialEq, Eq)]
+#[derive(Debug, PartialEq, Eq)]
 pub struct Publish {
     tag: Option<Text>,
     uri: uri::Rsync,
     content: Base64,
+}
+
+impl Drop for Publish {
+    fn drop(self) {
+        let Publish { tag, uri, content } = self;
+    }
 }
 
 impl Model for Publish {

@@ -16,12 +16,23 @@ use std::rc::RcStr;
 
 /// An error that a server reports (RFC 8181, 2.4): its code, the tag of the element of the query that failed, a text, and that element.
 /// In a clause it is the record of its fields.
-#[derive(Debug, Drop, PartialEq, Eq)]
+#[derive(Debug, PartialEq, Eq)]
 pub struct ReportError {
     error_code: ReportErrorCode,
     tag: Option<Text>,
     error_text: Option<Text>,
     failed_pdu: Option<QueryPdu>,
+}
+
+impl Drop for ReportError {
+    fn drop(self) {
+        let ReportError {
+            error_code,
+            tag,
+            error_text,
+            failed_pdu,
+        } = self;
+    }
 }
 
 impl Model for ReportError {

@@ -16,12 +16,23 @@ use std::marker::Model;
 use std::rc::RcStr;
 
 /// An object that takes the place of another (RFC 8181, 2.2 and 3.2). In a clause it is the record of its fields.
-#[derive(Debug, Drop, PartialEq, Eq)]
+#[derive(Debug, PartialEq, Eq)]
 pub struct Update {
     tag: Option<Text>,
     uri: uri::Rsync,
     content: Base64,
     hash: Hash,
+}
+
+impl Drop for Update {
+    fn drop(self) {
+        let Update {
+            tag,
+            uri,
+            content,
+            hash,
+        } = self;
+    }
 }
 
 impl Model for Update {

@@ -15,11 +15,17 @@ use std::marker::Model;
 use std::rc::RcStr;
 
 /// An object that is removed (RFC 8181, 2.2 and 3.3). In a clause it is the record of its fields.
-#[derive(Debug, Drop, PartialEq, Eq)]
+#[derive(Debug, PartialEq, Eq)]
 pub struct Withdraw {
     tag: Option<Text>,
     uri: uri::Rsync,
     hash: Hash,
+}
+
+impl Drop for Withdraw {
+    fn drop(self) {
+        let Withdraw { tag, uri, hash } = self;
+    }
 }
 
 impl Model for Withdraw {

@@ -13,11 +13,17 @@ use std::fmt;
 use std::marker::Model;
 
 /// A set of AS numbers, one of IPv4 addresses and one of IPv6 addresses. In a clause it is the record of the three.
-#[derive(Debug, Drop)]
+#[derive(Debug)]
 pub struct ResourceSet {
     asn: AsBlocks,
     ipv4: Ipv4Blocks,
     ipv6: Ipv6Blocks,
+}
+
+impl Drop for ResourceSet {
+    fn drop(self) {
+        let ResourceSet { asn, ipv4, ipv6 } = self;
+    }
 }
 
 impl Model for ResourceSet {

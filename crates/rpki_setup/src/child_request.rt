@@ -29,11 +29,21 @@ use std::rc::RcStr;
 
 /// What a child sends to its parent (RFC 8183, 5.2.1): its BPKI trust anchor, the handle by which it wants to be known, and a tag that
 /// the sender may choose. In a clause it is the record of its fields, and the certificate the list of its octets.
-#[derive(Debug, Drop, PartialEq, Eq)]
+#[derive(Debug, PartialEq, Eq)]
 pub struct ChildRequest {
     id_cert: Base64,
     child_handle: ChildHandle,
     tag: Option<Text>,
+}
+
+impl Drop for ChildRequest {
+    fn drop(self) {
+        let ChildRequest {
+            id_cert,
+            child_handle,
+            tag,
+        } = self;
+    }
 }
 
 impl Model for ChildRequest {

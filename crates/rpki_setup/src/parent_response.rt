@@ -31,13 +31,25 @@ use std::rc::RcStr;
 /// What a parent answers its child (RFC 8183, 5.2.2): its BPKI trust anchor, the handles by which the two are known, where its service
 /// is reached, and the tag of the request, if it had one. In a clause it is the record of its fields, and the certificate the list of
 /// its octets.
-#[derive(Debug, Drop, PartialEq, Eq)]
+#[derive(Debug, PartialEq, Eq)]
 pub struct ParentResponse {
     id_cert: Base64,
     parent_handle: ParentHandle,
     child_handle: ChildHandle,
     service_uri: ServiceUri,
     tag: Option<Text>,
+}
+
+impl Drop for ParentResponse {
+    fn drop(self) {
+        let ParentResponse {
+            id_cert,
+            parent_handle,
+            child_handle,
+            service_uri,
+            tag,
+        } = self;
+    }
 }
 
 impl Model for ParentResponse {

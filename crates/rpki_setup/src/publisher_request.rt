@@ -30,11 +30,21 @@ use std::rc::RcStr;
 
 /// What a publisher sends to a repository (RFC 8183, 5.2.3): its BPKI trust anchor, the handle by which it wants to be known, and a
 /// tag that the sender may choose. In a clause it is the record of its fields, and the certificate the list of its octets.
-#[derive(Debug, Drop, PartialEq, Eq)]
+#[derive(Debug, PartialEq, Eq)]
 pub struct PublisherRequest {
     id_cert: Base64,
     publisher_handle: PublisherHandle,
     tag: Option<Text>,
+}
+
+impl Drop for PublisherRequest {
+    fn drop(self) {
+        let PublisherRequest {
+            id_cert,
+            publisher_handle,
+            tag,
+        } = self;
+    }
 }
 
 impl Model for PublisherRequest {

@@ -32,13 +32,25 @@ use std::rc::RcStr;
 /// What a repository answers a publisher (RFC 8183, 5.2.4): its BPKI trust anchor, the handle by which it knows the publisher, where its
 /// service is reached and its objects are found, and the tag of the request, if it had one. In a clause it is the record of its fields,
 /// and the certificate the list of its octets.
-#[derive(Debug, Drop, PartialEq, Eq)]
+#[derive(Debug, PartialEq, Eq)]
 pub struct RepositoryResponse {
     id_cert: Base64,
     publisher_handle: PublisherHandle,
     service_uri: ServiceUri,
     repo_info: RepoInfo,
     tag: Option<Text>,
+}
+
+impl Drop for RepositoryResponse {
+    fn drop(self) {
+        let RepositoryResponse {
+            id_cert,
+            publisher_handle,
+            service_uri,
+            repo_info,
+            tag,
+        } = self;
+    }
 }
 
 impl Model for RepositoryResponse {

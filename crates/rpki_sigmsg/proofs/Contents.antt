@@ -10,8 +10,9 @@ use Rattle.rpki_der.specs.OctetString.{joined, joined_all, octets_under, octet_s
 use Rattle.rpki_der.specs.Tags.{octet_string_tag, sequence, context}
 use Rattle.rpki_der.specs.Takes.{BeginsAs}
 use Rattle.rpki_der.specs.Value.{Value, Primitive, Constructed, Values, End, ◌▸◌, lengths_of, end_mark, spelling, spellings}
-use Rattle.rpki_der.proofs.Firsts.{FirstIs, first_is, done_is}
+use Rattle.rpki_der.proofs.Firsts.{FirstIs, done_is}
 use Rattle.rpki_sigmsg.specs.Message.{MessageFields, ViewFields, encapsulated_content, view_of, signed_parts, viewed_message, message_of, signed_message}
+use Rattle.rpki_sigmsg.proofs.Fields.{field}
 
 -- ---- what a grammar reads is no longer than the value
 
@@ -39,11 +40,10 @@ sizes grammar vs p f = ap (λ (w : Values). length (spellings w)) f.parts ∙ le
 inside_wrapped : {X : Type 0} (size : X → ℕ) (tag : List ℕ) (grammar : Value → Option X) → IsInside size grammar → IsInside size (wrapped tag grammar)
 unfolding wrapped
 inside_wrapped {X = X} size tag grammar g = inside_within size tag _ (λ vs x e.
-    let b = bound (first grammar vs) _ x e in
-    let f = first_is grammar vs b.x b.found in
+    let b = field grammar vs _ x e in
     let is = done_is b.x.0 x b.x.1 b.then' in
-    let h = g f.value b.x.0 f.reads in
-    subst (λ (y : X). size y ≤ length (spellings vs)) is (omega (arith, h, sizes grammar vs b.x f)))
+    let h = g b.is.value b.x.0 b.is.reads in
+    subst (λ (y : X). size y ≤ length (spellings vs)) is (omega (arith, h, sizes grammar vs b.x b.is)))
 
 inside_with_octets : {X : Type 0} (size : X → ℕ) (grammar : Value → Option X) → IsInside size grammar → IsInside (λ (y : List ℕ × X). size y.1) (with_octets grammar)
 unfolding with_octets
@@ -86,40 +86,33 @@ view_size w = length w.message.content
 content_inside : IsInside content_size (encapsulated_content Ber)
 unfolding encapsulated_content
 content_inside = inside_within content_size sequence _ (λ vs x e.
-    let a = bound _ _ x e in
-    let fa = first_is _ vs a.x a.found in
-    let b = bound _ _ x a.then' in
-    let fb = first_is _ a.x.1 b.x b.found in
+    let a = field _ vs _ x e in
+    let b = field _ a.x.1 _ x a.then' in
     let is = done_is b.x.0 x b.x.1 b.then' in
-    let h = inside_wrapped content_size (context 0) (with_octets (octet_string Ber)) (inside_with_octets (λ (o : List ℕ). length o) (octet_string Ber) string_inside) fb.value b.x.0 fb.reads in
-    subst (λ (y : List ℕ × List ℕ). content_size y ≤ length (spellings vs)) is (omega (arith, h, sizes _ vs a.x fa, sizes _ a.x.1 b.x fb)))
+    let h = inside_wrapped content_size (context 0) (with_octets (octet_string Ber)) (inside_with_octets (λ (o : List ℕ). length o) (octet_string Ber) string_inside) b.is.value b.x.0 b.is.reads in
+    subst (λ (y : List ℕ × List ℕ). content_size y ≤ length (spellings vs)) is (omega (arith, h, sizes _ vs a.x a.is, sizes _ a.x.1 b.x b.is)))
 
 parts_inside : IsInside view_size (signed_parts Ber)
 unfolding signed_parts
 parts_inside = inside_within view_size sequence _ (λ vs w e.
-    let a = bound _ _ w e in
-    let fa = first_is _ vs a.x a.found in
-    let b = bound _ _ w a.then' in
-    let fb = first_is _ a.x.1 b.x b.found in
-    let c = bound _ _ w b.then' in
-    let fc = first_is _ b.x.1 c.x c.found in
+    let a = field _ vs _ w e in
+    let b = field _ a.x.1 _ w a.then' in
+    let c = field _ b.x.1 _ w b.then' in
     let d = bound _ _ w c.then' in
     let k = bound _ _ w d.then' in
     let m = bound _ _ w k.then' in
     let is = done_is (view_of c.x.0 d.x.0 k.x.0 m.x.0) w m.x.1 m.then' in
-    let h = content_inside fc.value c.x.0 fc.reads in
-    subst (λ (y : ViewFields). view_size y ≤ length (spellings vs)) is (omega (arith, h, sizes _ vs a.x fa, sizes _ a.x.1 b.x fb, sizes _ b.x.1 c.x fc)))
+    let h = content_inside c.is.value c.x.0 c.is.reads in
+    subst (λ (y : ViewFields). view_size y ≤ length (spellings vs)) is (omega (arith, h, sizes _ vs a.x a.is, sizes _ a.x.1 b.x b.is, sizes _ b.x.1 c.x c.is)))
 
 view_inside : IsInside view_size (viewed_message Ber)
 unfolding viewed_message
 view_inside = inside_within view_size sequence _ (λ vs w e.
-    let a = bound _ _ w e in
-    let fa = first_is _ vs a.x a.found in
-    let b = bound _ _ w a.then' in
-    let fb = first_is _ a.x.1 b.x b.found in
+    let a = field _ vs _ w e in
+    let b = field _ a.x.1 _ w a.then' in
     let is = done_is b.x.0 w b.x.1 b.then' in
-    let h = inside_wrapped view_size (context 0) (signed_parts Ber) parts_inside fb.value b.x.0 fb.reads in
-    subst (λ (y : ViewFields). view_size y ≤ length (spellings vs)) is (omega (arith, h, sizes _ vs a.x fa, sizes _ a.x.1 b.x fb)))
+    let h = inside_wrapped view_size (context 0) (signed_parts Ber) parts_inside b.is.value b.x.0 b.is.reads in
+    subst (λ (y : ViewFields). view_size y ≤ length (spellings vs)) is (omega (arith, h, sizes _ vs a.x a.is, sizes _ a.x.1 b.x b.is)))
 
 message_inside : IsInside (λ (m : MessageFields). length m.content) (signed_message Ber)
 unfolding signed_message so

@@ -20,7 +20,7 @@ use Rattle.rpki_der.specs.Value.{Value, Primitive, Constructed, Values, End, ◌
 use Rattle.rpki_der.specs.Whole.{alone, whole_of}
 use Rattle.rpki_der.specs.Writing.{Spells}
 use Rattle.rpki_der.proofs.Decoding.{value_at-sound}
-use Rattle.rpki_der.proofs.Firsts.{FirstIs, first_is, done_is}
+use Rattle.rpki_der.proofs.Firsts.{done_is}
 use Rattle.rpki_der.proofs.Flats.{alone_only}
 use Rattle.rpki_base.specs.declared.rpki_algorithm.RsaIdentifier.TheVariants.{RsaEncryption}
 use Rattle.rpki_base.specs.AlgorithmLaws.{x509_named}
@@ -37,6 +37,7 @@ use Rattle.rpki_sigmsg.specs.Crl.{CrlFields, revocation_list}
 use Rattle.rpki_sigmsg.specs.Message.{MessageFields, ViewFields, AreOneOrTwo, encapsulated_content, crl_in_der, CrlSet, crl_set_of, if_any, crl_set, view_of, signed_parts, viewed_message, message_of, signed_message}
 use Rattle.rpki_sigmsg.specs.Signer.{SignerFields, signer_info}
 use Rattle.rpki_sigmsg.specs.TbsCrl.{tbs_crl}
+use Rattle.rpki_sigmsg.proofs.Fields.{field, lawful_field, first_lawful, there_is}
 use Rattle.rpki_sigmsg.proofs.Rewriting.{IsCrlHeld, IsHeld}
 
 -- ---- what a grammar reads of a lawful value has a property
@@ -52,17 +53,11 @@ unfolding within
 gives_within mode tag fields P g (Primitive i l c) x p e = absurd (none_some x e)
 gives_within mode tag fields P g (Constructed i f vs) x p e = g vs x p.3 (chosen (has_tag tag i) (fields vs) x e)
 
--- the first value, and the rest
-first_lawful : {X : Type 0} (mode : Mode) (grammar : Value → Option X) (vs : Values) (p : X × Values) (f : FirstIs grammar vs p) → AreValues mode vs → IsValue mode f.value × AreValues mode p.1
-first_lawful mode grammar vs p f l = let all : AreValues mode (f.value ▸ p.1) = subst (AreValues mode) f.parts l in (all.0, all.1)
-
 gives_wrapped : {X : Type 0} (mode : Mode) (tag : List ℕ) (grammar : Value → Option X) (P : X → Type 0) → Gives mode grammar P → Gives mode (wrapped tag grammar) P
 unfolding wrapped
 gives_wrapped mode tag grammar P g = gives_within mode tag _ P (λ vs x l e.
-    let b = bound (first grammar vs) _ x e in
-    let f = first_is grammar vs b.x b.found in
-    let q = first_lawful mode grammar vs b.x f l in
-    subst P (done_is b.x.0 x b.x.1 b.then') (g f.value b.x.0 q.0 f.reads))
+    let b = lawful_field mode grammar vs _ x l e in
+    subst P (done_is b.x.0 x b.x.1 b.then') (g b.is.value b.x.0 b.lawful b.is.reads))
 
 second_of : {X : Type 0} (grammar : Value → Option X) (v : Value) (p : List ℕ × X) → with_octets grammar v ≡ Some p → grammar v ≡ Some p.1
 unfolding with_octets
@@ -93,11 +88,10 @@ named_in mode v a e = x509_named mode (spelling v) a e
 signature_named : (mode : Mode) (vs : Values) (s : SignatureParts RpkiAlgorithm) → signature_in (whole_of x509_algorithm) mode vs ≡ Some s → s.algorithm.identifier ≡ RsaEncryption
 unfolding signature_in
 signature_named mode vs s e =
-    let a = bound _ _ s e in
-    let f = first_is _ vs a.x a.found in
+    let a = field _ vs _ s e in
     let b = bound _ _ s a.then' in
     let is = done_is (record { algorithm = a.x.0; value = b.x.0.octets }) s b.x.1 b.then' in
-    subst (λ (x : SignatureParts RpkiAlgorithm). x.algorithm.identifier ≡ RsaEncryption) is (named_in mode f.value a.x.0 f.reads)
+    subst (λ (x : SignatureParts RpkiAlgorithm). x.algorithm.identifier ≡ RsaEncryption) is (named_in mode a.is.value a.x.0 a.is.reads)
 
 signed_named : {T : Type 0} (tbs : Mode → Value → Option T) (mode : Mode) (v : Value) (d : Signed RpkiAlgorithm T) → signed_value tbs (whole_of x509_algorithm) mode v ≡ Some d → d.signed.signature.algorithm.identifier ≡ RsaEncryption
 unfolding signed_value signed_as within
@@ -135,24 +129,10 @@ crl_held mode v c l e =
 abbrev AreHeld : CrlSet → Type 0
 AreHeld s = AllByRecursion IsCrlHeld s.lists × AreOneOrTwo s.lists
 
-none_other : (y : List ℕ × CrlFields) (rest : Values) → if_any (with_octets crl_in_der) End ≡ Some (Some y, rest) → ⊥
-unfolding if_any
-none_other y rest e = no_list (ap (λ (o : Option (Option (List ℕ × CrlFields) × Values)). second o) e)
-  where
-    second : Option (Option (List ℕ × CrlFields) × Values) → Option (List ℕ × CrlFields)
-    second None = None
-    second (Some p) = p.0
-
-    no_list : None ≡ Some y → ⊥
-    no_list k = cc
-
 other_held : (mode : Mode) (vs : Values) (y : List ℕ × CrlFields) (rest : Values) → AreValues mode vs → if_any (with_octets crl_in_der) vs ≡ Some (Some y, rest) → IsCrlHeld y.1
-unfolding if_any
-other_held mode End y rest l e = absurd (none_other y rest e)
-other_held mode (v ▸ vs) y rest l e =
-    let b = bound (with_octets crl_in_der v) _ (Some y, rest) e in
-    let same : b.x ≡ y = same_some b.x y (ap (λ (p : Option (List ℕ × CrlFields) × Values). p.0) (same_some _ _ b.then')) in
-    subst (λ (z : List ℕ × CrlFields). IsCrlHeld z.1) same (gives_with_octets mode crl_in_der IsCrlHeld (crl_held mode) v b.x l.0 b.found)
+other_held mode vs y rest l e =
+    let f = there_is (with_octets crl_in_der) vs y rest e in
+    gives_with_octets mode crl_in_der IsCrlHeld (crl_held mode) f.value y (first_lawful mode (with_octets crl_in_der) vs (y, rest) f l).0 f.reads
 
 set_held : (one : List ℕ × CrlFields) (other : Option (List ℕ × CrlFields)) → IsCrlHeld one.1 → ((y : List ℕ × CrlFields) → other ≡ Some y → IsCrlHeld y.1) → AreHeld (crl_set_of one other)
 set_held one None h g = ((h, tt), (omega arith, omega arith))
@@ -161,13 +141,11 @@ set_held one (Some y) h g = ((h, (g y refl, tt)), (omega arith, omega arith))
 crls_held : (mode : Mode) → Gives mode crl_set AreHeld
 unfolding crl_set
 crls_held mode = gives_within mode (context 1) _ AreHeld (λ vs s l e.
-    let a = bound _ _ s e in
-    let f = first_is _ vs a.x a.found in
-    let q = first_lawful mode _ vs a.x f l in
+    let a = lawful_field mode _ vs _ s l e in
     let b = bound _ _ s a.then' in
     let is = done_is (crl_set_of a.x.0 b.x.0) s b.x.1 b.then' in
-    let one = gives_with_octets mode crl_in_der IsCrlHeld (crl_held mode) f.value a.x.0 q.0 f.reads in
-    subst AreHeld is (set_held a.x.0 b.x.0 one (λ y g. other_held mode a.x.1 y b.x.1 q.1 (b.found ∙ ap (λ (o : Option (List ℕ × CrlFields)). Some (o, b.x.1)) g))))
+    let one = gives_with_octets mode crl_in_der IsCrlHeld (crl_held mode) a.is.value a.x.0 a.lawful a.is.reads in
+    subst AreHeld is (set_held a.x.0 b.x.0 one (λ y g. other_held mode a.x.1 y b.x.1 a.rest (b.found ∙ ap (λ (o : Option (List ℕ × CrlFields)). Some (o, b.x.1)) g))))
 
 -- ---- the signer
 
@@ -200,22 +178,14 @@ pub record IsSignerHeld (mode : Mode) (s : SignerFields) : Type 0 where
 signer_held : (mode : Mode) → Gives mode (signer_info mode) (IsSignerHeld mode)
 unfolding signer_info
 signer_held mode = gives_within mode sequence _ (IsSignerHeld mode) (λ vs s l e.
-    let a = bound _ _ s e in
-    let fa = first_is _ vs a.x a.found in
-    let la = first_lawful mode _ vs a.x fa l in
-    let b = bound _ _ s a.then' in
-    let fb = first_is _ a.x.1 b.x b.found in
-    let lb = first_lawful mode _ a.x.1 b.x fb la.1 in
-    let c = bound _ _ s b.then' in
-    let fc = first_is _ b.x.1 c.x c.found in
-    let lc = first_lawful mode _ b.x.1 c.x fc lb.1 in
-    let d = bound _ _ s c.then' in
-    let fd = first_is _ c.x.1 d.x d.found in
-    let ld = first_lawful mode _ c.x.1 d.x fd lc.1 in
+    let a = lawful_field mode _ vs _ s l e in
+    let b = lawful_field mode _ a.x.1 _ s a.rest a.then' in
+    let c = lawful_field mode _ b.x.1 _ s b.rest b.then' in
+    let d = lawful_field mode _ c.x.1 _ s c.rest c.then' in
     let k = bound _ _ s d.then' in
     let m = bound _ _ s k.then' in
     let is = done_is _ s m.x.1 m.then' in
-    subst (IsSignerHeld mode) is (record { identifier = name_held mode fb.value b.x.0 fb.reads; attributes = attributes_held mode fd.value d.x.0 ld.0 fd.reads }))
+    subst (IsSignerHeld mode) is (record { identifier = name_held mode b.is.value b.x.0 b.is.reads; attributes = attributes_held mode d.is.value d.x.0 d.lawful d.is.reads }))
 
 -- ---- the message
 
@@ -239,41 +209,25 @@ view_held mode content certificate crls signer c l s = record {
 parts_held : (mode : Mode) → Gives mode (signed_parts mode) (IsMessageHeld mode)
 unfolding signed_parts
 parts_held mode = gives_within mode sequence _ (IsMessageHeld mode) (λ vs w l e.
-    let a = bound _ _ w e in
-    let fa = first_is _ vs a.x a.found in
-    let la = first_lawful mode _ vs a.x fa l in
-    let b = bound _ _ w a.then' in
-    let fb = first_is _ a.x.1 b.x b.found in
-    let lb = first_lawful mode _ a.x.1 b.x fb la.1 in
-    let c = bound _ _ w b.then' in
-    let fc = first_is _ b.x.1 c.x c.found in
-    let lc = first_lawful mode _ b.x.1 c.x fc lb.1 in
-    let d = bound _ _ w c.then' in
-    let fd = first_is _ c.x.1 d.x d.found in
-    let ld = first_lawful mode _ c.x.1 d.x fd lc.1 in
-    let k = bound _ _ w d.then' in
-    let fk = first_is _ d.x.1 k.x k.found in
-    let lk = first_lawful mode _ d.x.1 k.x fk ld.1 in
-    let m = bound _ _ w k.then' in
-    let fm = first_is _ k.x.1 m.x m.found in
-    let lm = first_lawful mode _ k.x.1 m.x fm lk.1 in
+    let a = lawful_field mode _ vs _ w l e in
+    let b = lawful_field mode _ a.x.1 _ w a.rest a.then' in
+    let c = lawful_field mode _ b.x.1 _ w b.rest b.then' in
+    let d = lawful_field mode _ c.x.1 _ w c.rest c.then' in
+    let k = lawful_field mode _ d.x.1 _ w d.rest d.then' in
+    let m = lawful_field mode _ k.x.1 _ w k.rest k.then' in
     let is = done_is (view_of c.x.0 d.x.0 k.x.0 m.x.0) w m.x.1 m.then' in
-    let certificate = gives_wrapped mode (context 0) (with_octets (identity_certificate mode)) (λ y. IsSignedHeld tbs_certificate mode y.1) (gives_with_octets mode (identity_certificate mode) (IsSignedHeld tbs_certificate mode) (certificate_held mode)) fd.value d.x.0 ld.0 fd.reads in
-    let crls = crls_held mode fk.value k.x.0 lk.0 fk.reads in
-    let signer = gives_wrapped mode set (signer_info mode) (IsSignerHeld mode) (signer_held mode) fm.value m.x.0 lm.0 fm.reads in
+    let certificate = gives_wrapped mode (context 0) (with_octets (identity_certificate mode)) (λ y. IsSignedHeld tbs_certificate mode y.1) (gives_with_octets mode (identity_certificate mode) (IsSignedHeld tbs_certificate mode) (certificate_held mode)) d.is.value d.x.0 d.lawful d.is.reads in
+    let crls = crls_held mode k.is.value k.x.0 k.lawful k.is.reads in
+    let signer = gives_wrapped mode set (signer_info mode) (IsSignerHeld mode) (signer_held mode) m.is.value m.x.0 m.lawful m.is.reads in
     subst (IsMessageHeld mode) is (view_held mode c.x.0 d.x.0 k.x.0 m.x.0 certificate crls signer))
 
 view_message_held : (mode : Mode) → Gives mode (viewed_message mode) (IsMessageHeld mode)
 unfolding viewed_message
 view_message_held mode = gives_within mode sequence _ (IsMessageHeld mode) (λ vs w l e.
-    let a = bound _ _ w e in
-    let fa = first_is _ vs a.x a.found in
-    let la = first_lawful mode _ vs a.x fa l in
-    let b = bound _ _ w a.then' in
-    let fb = first_is _ a.x.1 b.x b.found in
-    let lb = first_lawful mode _ a.x.1 b.x fb la.1 in
+    let a = lawful_field mode _ vs _ w l e in
+    let b = lawful_field mode _ a.x.1 _ w a.rest a.then' in
     let is = done_is b.x.0 w b.x.1 b.then' in
-    subst (IsMessageHeld mode) is (gives_wrapped mode (context 0) (signed_parts mode) (IsMessageHeld mode) (parts_held mode) fb.value b.x.0 lb.0 fb.reads))
+    subst (IsMessageHeld mode) is (gives_wrapped mode (context 0) (signed_parts mode) (IsMessageHeld mode) (parts_held mode) b.is.value b.x.0 b.lawful b.is.reads))
 
 pub message_held : (mode : Mode) (v : Value) (m : MessageFields) → IsValue mode v → signed_message mode v ≡ Some m → IsHeld mode m
 unfolding signed_message so

@@ -12,13 +12,14 @@ use Rattle.rpki_der.specs.Value.{Form, Value, Primitive, Constructed, Values, En
 use Rattle.rpki_der.specs.Grammar.{within, first, wrapped}
 use Rattle.rpki_der.specs.Held.{held, with_octets}
 use Rattle.rpki_der.specs.OctetString.{octet_string}
-use Rattle.rpki_der.proofs.Firsts.{FirstIs, first_is, done_is}
+use Rattle.rpki_der.proofs.Firsts.{FirstIs, done_is}
 use Rattle.rpki_idcert.specs.IdCert.{identity_certificate}
 use Rattle.rpki_sigmsg.specs.Attributes.{signed_attributes}
 use Rattle.rpki_sigmsg.specs.Crl.{CrlFields}
 use Rattle.rpki_sigmsg.specs.Message.{ViewFields, CrlSet, crl_set_of, encapsulated_content, crl_in_der, if_any, crl_set, signed_parts, viewed_message}
 use Rattle.rpki_sigmsg.specs.Places.{StandInTurn, crls_of, parts_of}
 use Rattle.rpki_sigmsg.specs.Signer.{SignerFields, signer_info}
+use Rattle.rpki_sigmsg.proofs.Fields.{field, there_is}
 
 -- ---- parts in turn
 
@@ -72,10 +73,9 @@ shows_within tag fields pick s (Constructed i f vs) x e = inside (pick x) i f vs
 shows_wrapped : {X : Type 0} (tag : List ℕ) (grammar : Value → Option X) (pick : X → List (List ℕ)) → Shows grammar pick → Shows (wrapped tag grammar) pick
 unfolding wrapped
 shows_wrapped tag grammar pick shows = shows_within tag _ pick (λ vs y e.
-    let b = bound (first grammar vs) _ y e in
-    let f = first_is grammar vs b.x b.found in
+    let b = field grammar vs _ y e in
     let is = done_is _ y _ b.then' in
-    subst (λ z. StandInTurn (pick z) (spellings vs)) is (last grammar pick vs b.x shows f))
+    subst (λ z. StandInTurn (pick z) (spellings vs)) is (last grammar pick vs b.x shows b.is))
 
 abbrev front_of : {X : Type 0} → List ℕ × X → List (List ℕ)
 front_of p = p.0 ∷ []
@@ -99,36 +99,17 @@ shows_held {X = X} fields vs p e =
 shows_content : (mode : Mode) → Shows (encapsulated_content mode) front_of
 unfolding encapsulated_content
 shows_content mode = shows_within sequence _ front_of (λ vs y e.
-    let b = bound _ _ y e in
-    let f = first_is _ vs b.x b.found in
-    let c = bound _ _ y b.then' in
-    let g = first_is _ b.x.1 c.x c.found in
+    let b = field _ vs _ y e in
+    let c = field _ b.x.1 _ y b.then' in
     let is = done_is c.x.0 y c.x.1 c.then' in
-    pass _ (front_of y) vs b.x f (subst (λ (z : List ℕ × List ℕ). StandInTurn (front_of z) (spellings b.x.1)) is (last _ front_of b.x.1 c.x (shows_wrapped (context 0) (with_octets (octet_string mode)) front_of (shows_octets (octet_string mode))) g)))
+    pass _ (front_of y) vs b.x b.is (subst (λ (z : List ℕ × List ℕ). StandInTurn (front_of z) (spellings b.x.1)) is (last _ front_of b.x.1 c.x (shows_wrapped (context 0) (with_octets (octet_string mode)) front_of (shows_octets (octet_string mode))) c.is)))
 
 abbrev crls_in : CrlSet → List (List ℕ)
 crls_in s = crls_of s.first s.second
 
 -- the second CRL
-none_other : (other : List ℕ × CrlFields) (rest : Values) → if_any (with_octets crl_in_der) End ≡ Some (Some other, rest) → ⊥
-unfolding if_any
-none_other other rest e = no_list (ap (λ (o : Option (Option (List ℕ × CrlFields) × Values)). second o) e)
-  where
-    second : Option (Option (List ℕ × CrlFields) × Values) → Option (List ℕ × CrlFields)
-    second None = None
-    second (Some p) = p.0
-
-    no_list : None ≡ Some other → ⊥
-    no_list k = cc
-
 shows_other : (vs : Values) (other : List ℕ × CrlFields) (rest : Values) → if_any (with_octets crl_in_der) vs ≡ Some (Some other, rest) → StandInTurn (front_of other) (spellings vs)
-unfolding if_any
-shows_other End other rest e = absurd (none_other other rest e)
-shows_other (v ▸ vs) other rest e =
-    let b = bound (with_octets crl_in_der v) _ (Some other, rest) e in
-    let is : (Some b.x, vs) ≡ (Some other, rest) = same_some _ _ b.then' in
-    let same : b.x ≡ other = same_some _ _ (ap (λ (p : Option (List ℕ × CrlFields) × Values). p.0) is) in
-    subst (λ (z : List ℕ × CrlFields). StandInTurn (front_of z) (spelling v ++ spellings vs)) same (before_more (front_of b.x) (spelling v) (spellings vs) (shows_octets crl_in_der v b.x b.found))
+shows_other vs other rest e = last (with_octets crl_in_der) front_of vs (other, rest) (shows_octets crl_in_der) (there_is (with_octets crl_in_der) vs other rest e)
 
 shows_set : (vs : Values) (one : (List ℕ × CrlFields) × Values) (other : Option (List ℕ × CrlFields)) (rest : Values) → FirstIs (with_octets crl_in_der) vs one → if_any (with_octets crl_in_der) one.1 ≡ Some (other, rest)
     → StandInTurn (crls_in (crl_set_of one.0 other)) (spellings vs)
@@ -138,11 +119,10 @@ shows_set vs one (Some other) rest f e = step _ front_of (front_of other) vs one
 shows_crls : Shows crl_set crls_in
 unfolding crl_set
 shows_crls = shows_within (context 1) _ crls_in (λ vs y e.
-    let a = bound _ _ y e in
-    let f = first_is _ vs a.x a.found in
+    let a = field _ vs _ y e in
     let b = bound _ _ y a.then' in
     let is = done_is (crl_set_of a.x.0 b.x.0) y b.x.1 b.then' in
-    subst (λ (z : CrlSet). StandInTurn (crls_in z) (spellings vs)) is (shows_set vs a.x b.x.0 b.x.1 f b.found))
+    subst (λ (z : CrlSet). StandInTurn (crls_in z) (spellings vs)) is (shows_set vs a.x b.x.0 b.x.1 a.is b.found))
 
 shows_attributes : (mode : Mode) → Shows (signed_attributes mode) front_of
 unfolding signed_attributes
@@ -154,60 +134,46 @@ signed_parts_of s = s.attributes ∷ s.signature_value ∷ []
 shows_signer : (mode : Mode) → Shows (signer_info mode) signed_parts_of
 unfolding signer_info
 shows_signer mode = shows_within sequence _ signed_parts_of (λ vs y e.
-    let a = bound _ _ y e in
-    let fa = first_is _ vs a.x a.found in
-    let b = bound _ _ y a.then' in
-    let fb = first_is _ a.x.1 b.x b.found in
-    let c = bound _ _ y b.then' in
-    let fc = first_is _ b.x.1 c.x c.found in
-    let d = bound _ _ y c.then' in
-    let fd = first_is _ c.x.1 d.x d.found in
-    let k = bound _ _ y d.then' in
-    let fk = first_is _ d.x.1 k.x k.found in
-    let m = bound _ _ y k.then' in
-    let fm = first_is _ k.x.1 m.x m.found in
+    let a = field _ vs _ y e in
+    let b = field _ a.x.1 _ y a.then' in
+    let c = field _ b.x.1 _ y b.then' in
+    let d = field _ c.x.1 _ y c.then' in
+    let k = field _ d.x.1 _ y d.then' in
+    let m = field _ k.x.1 _ y k.then' in
     let is = done_is _ y m.x.1 m.then' in
-    let signature = last _ front_of k.x.1 m.x (shows_octets (octet_string mode)) fm in
+    let signature = last _ front_of k.x.1 m.x (shows_octets (octet_string mode)) m.is in
     let one = front_of m.x.0 in
     let two = front_of d.x.0 ++ one in
-    let parts = pass _ two vs a.x fa (pass _ two a.x.1 b.x fb (pass _ two b.x.1 c.x fc (step _ front_of one c.x.1 d.x (shows_attributes mode) fd (pass _ one d.x.1 k.x fk signature)))) in
+    let parts = pass _ two vs a.x a.is (pass _ two a.x.1 b.x b.is (pass _ two b.x.1 c.x c.is (step _ front_of one c.x.1 d.x (shows_attributes mode) d.is (pass _ one d.x.1 k.x k.is signature)))) in
     subst (λ (z : SignerFields). StandInTurn (signed_parts_of z) (spellings vs)) is parts)
 
 shows_parts : (mode : Mode) → Shows (signed_parts mode) parts_of
 unfolding signed_parts
 shows_parts mode = shows_within sequence _ parts_of (λ vs y e.
-    let a = bound _ _ y e in
-    let fa = first_is _ vs a.x a.found in
-    let b = bound _ _ y a.then' in
-    let fb = first_is _ a.x.1 b.x b.found in
-    let c = bound _ _ y b.then' in
-    let fc = first_is _ b.x.1 c.x c.found in
-    let d = bound _ _ y c.then' in
-    let fd = first_is _ c.x.1 d.x d.found in
-    let k = bound _ _ y d.then' in
-    let fk = first_is _ d.x.1 k.x k.found in
-    let m = bound _ _ y k.then' in
-    let fm = first_is _ k.x.1 m.x m.found in
+    let a = field _ vs _ y e in
+    let b = field _ a.x.1 _ y a.then' in
+    let c = field _ b.x.1 _ y b.then' in
+    let d = field _ c.x.1 _ y c.then' in
+    let k = field _ d.x.1 _ y d.then' in
+    let m = field _ k.x.1 _ y k.then' in
     let is = done_is _ y m.x.1 m.then' in
-    let signer = last _ signed_parts_of k.x.1 m.x (shows_wrapped set (signer_info mode) signed_parts_of (shows_signer mode)) fm in
+    let signer = last _ signed_parts_of k.x.1 m.x (shows_wrapped set (signer_info mode) signed_parts_of (shows_signer mode)) m.is in
     let two = signed_parts_of m.x.0 in
     let three = crls_in k.x.0 ++ two in
     let four = front_of d.x.0 ++ three in
     let five = front_of c.x.0 ++ four in
-    let crls = step _ crls_in two d.x.1 k.x shows_crls fk signer in
-    let certificate = step _ front_of three c.x.1 d.x (shows_wrapped (context 0) (with_octets (identity_certificate mode)) front_of (shows_octets (identity_certificate mode))) fd crls in
-    let parts = pass _ five vs a.x fa (pass _ five a.x.1 b.x fb (step _ front_of four b.x.1 c.x (shows_content mode) fc certificate)) in
+    let crls = step _ crls_in two d.x.1 k.x shows_crls k.is signer in
+    let certificate = step _ front_of three c.x.1 d.x (shows_wrapped (context 0) (with_octets (identity_certificate mode)) front_of (shows_octets (identity_certificate mode))) d.is crls in
+    let parts = pass _ five vs a.x a.is (pass _ five a.x.1 b.x b.is (step _ front_of four b.x.1 c.x (shows_content mode) c.is certificate)) in
     subst (λ (z : ViewFields). StandInTurn (parts_of z) (spellings vs)) is parts)
 
 shows_view : (mode : Mode) → Shows (viewed_message mode) parts_of
 unfolding viewed_message
 shows_view mode = shows_within sequence _ parts_of (λ vs y e.
-    let b = bound _ _ y e in
-    let f = first_is _ vs b.x b.found in
-    let c = bound _ _ y b.then' in
-    let g = first_is _ b.x.1 c.x c.found in
+    let b = field _ vs _ y e in
+    let c = field _ b.x.1 _ y b.then' in
     let is = done_is c.x.0 y c.x.1 c.then' in
-    pass _ (parts_of y) vs b.x f (subst (λ (z : ViewFields). StandInTurn (parts_of z) (spellings b.x.1)) is (last _ parts_of b.x.1 c.x (shows_wrapped (context 0) (signed_parts mode) parts_of (shows_parts mode)) g)))
+    pass _ (parts_of y) vs b.x b.is (subst (λ (z : ViewFields). StandInTurn (parts_of z) (spellings b.x.1)) is (last _ parts_of b.x.1 c.x (shows_wrapped (context 0) (signed_parts mode) parts_of (shows_parts mode)) c.is)))
 
 pub in_turn : (mode : Mode) (v : Value) (w : ViewFields) → viewed_message mode v ≡ Some w → StandInTurn (parts_of w) (spelling v)
 in_turn mode v w e = shows_view mode v w e

@@ -1,5 +1,6 @@
 pub mod Adding
 pub mod Ahead
+pub mod Fields
 pub mod Contents
 pub mod PassedOn
 pub mod Ticking

@@ -20,10 +20,15 @@ use std::sync::ledger::{Blank, Ledger};
 /// The CRL of a signed message: the exact octets that are signed with their signature, and what they say (RFC 5280, 5.1).
 ///
 /// In a clause it is these two.
-#[derive(Drop)]
 pub struct SignedMessageCrl {
     signed: SignedData<RpkiSignatureAlgorithm>,
     tbs: SignedMessageTbsCrl,
+}
+
+impl Drop for SignedMessageCrl {
+    fn drop(self) {
+        let SignedMessageCrl { signed, tbs } = self;
+    }
 }
 
 impl Model for SignedMessageCrl {

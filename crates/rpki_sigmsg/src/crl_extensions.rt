@@ -98,13 +98,6 @@ fn add_number<L: Ledger>(
     Ok(Some(number))
 }
 
-// The octets that the extension holds.
-fn held<'a>(extension: &'a Extension<'_>) -> &'a [u8]
-    ensures { result.now ≡ extension.now.value }
-{
-    &extension.value
-}
-
 impl FindsExtensions for Found {
     ghost use Rattle.rpki_sigmsg.specs.CrlGathered.{add};
 
@@ -117,7 +110,7 @@ impl FindsExtensions for Found {
         steps: &mut Steps<L>,
     ) -> Result<Found, DecodeError> {
         let Found { authority, number } = self;
-        let value = held(extension);
+        let value = extension.held();
         if extension.identifier == AUTHORITY_KEY_IDENTIFIER.as_slice() {
             let authority = add_authority(alloc, value, authority, steps)?;
             Ok(Found { authority, number })

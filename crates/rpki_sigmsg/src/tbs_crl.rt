@@ -22,7 +22,6 @@ use std::sync::ledger::{Blank, Ledger};
 /// What is signed of a CRL (RFC 5280, 5.1.2).
 ///
 /// In a clause it is the record of its fields.
-#[derive(Drop)]
 pub struct SignedMessageTbsCrl {
     algorithm: RpkiSignatureAlgorithm,
     issuer: Name,
@@ -31,6 +30,20 @@ pub struct SignedMessageTbsCrl {
     revoked: RevokedCertificates,
     authority_key_id: Option<KeyIdentifier>,
     crl_number: Option<Serial>,
+}
+
+impl Drop for SignedMessageTbsCrl {
+    fn drop(self) {
+        let SignedMessageTbsCrl {
+            algorithm,
+            issuer,
+            this_update,
+            next_update,
+            revoked,
+            authority_key_id,
+            crl_number,
+        } = self;
+    }
 }
 
 impl Model for SignedMessageTbsCrl {

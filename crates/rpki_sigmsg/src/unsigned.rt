@@ -67,12 +67,22 @@ fn write_digest(digest: &[u8; 32], out: &mut Writer) -> Result<(), OutOfMemory>
 }
 
 /// A content that is to be signed at a moment, with its attributes. In a clause it is the two.
-#[derive(Drop)]
 pub struct UnsignedContent {
     content: Bytes,
     moment: Time,
     digest: Bytes,
     covered: Bytes,
+}
+
+impl Drop for UnsignedContent {
+    fn drop(self) {
+        let UnsignedContent {
+            content,
+            moment,
+            digest,
+            covered,
+        } = self;
+    }
 }
 
 impl Model for UnsignedContent {
@@ -130,12 +140,18 @@ impl UnsignedContent {
         let signer = certificate.tbs().subject_key_identifier();
         let mut crls = Vec::with_capacity(alloc, 1)?;
         crls.push(crl)?;
+        let UnsignedContent {
+            content,
+            moment,
+            digest,
+            covered,
+        } = self;
         Ok(SignedMessage {
-            content: self.content,
+            content,
             signer,
-            digest: self.digest,
-            signing_time: Some(self.moment),
-            covered: self.covered,
+            digest,
+            signing_time: Some(moment),
+            covered,
             signature,
             certificate,
             crls,
@@ -144,10 +160,15 @@ impl UnsignedContent {
 }
 
 /// A CRL that is to be signed: its fields, and the octets that the signature covers. In a clause it is the fields.
-#[derive(Drop)]
 pub struct UnsignedCrl {
     tbs: SignedMessageTbsCrl,
     octets: Bytes,
+}
+
+impl Drop for UnsignedCrl {
+    fn drop(self) {
+        let UnsignedCrl { tbs, octets } = self;
+    }
 }
 
 impl Model for UnsignedCrl {
@@ -192,17 +213,27 @@ impl UnsignedCrl {
           tbs = self;
         } }
     {
-        SignedMessageCrl::from_parts(self.octets, signature, self.tbs)
+        let UnsignedCrl { tbs, octets } = self;
+        SignedMessageCrl::from_parts(octets, signature, tbs)
     }
 }
 
 /// What is to be signed of a message: the attributes of its content under a key for this one use; a CRL and a certificate for that
 /// key under the issuing key. In a clause it is the record of the three.
-#[derive(Drop)]
 pub struct UnsignedMessage {
     content: UnsignedContent,
     crl: UnsignedCrl,
     certificate: UnsignedIdCert,
+}
+
+impl Drop for UnsignedMessage {
+    fn drop(self) {
+        let UnsignedMessage {
+            content,
+            crl,
+            certificate,
+        } = self;
+    }
 }
 
 impl Model for UnsignedMessage {
@@ -274,9 +305,13 @@ impl UnsignedMessage {
     ) -> Result<SignedMessage, OutOfMemory>
         ensures { IfOk result (λ m. m ≡ spec.signed_message_of self attributes crl certificate) }
     {
-        let certificate = self.certificate.with_signature(certificate);
-        let crl = self.crl.with_signature(crl);
-        self.content
-            .into_message(alloc, attributes, certificate, crl)
+        let UnsignedMessage {
+            content,
+            crl: unsigned,
+            certificate: made,
+        } = self;
+        let certificate = made.with_signature(certificate);
+        let crl = unsigned.with_signature(crl);
+        content.into_message(alloc, attributes, certificate, crl)
     }
 }

@@ -37,7 +37,6 @@ pub struct ToyKey {
 /// fail, counted from 0 (`failing`), how many failed (`faults`), its keys, the key that was set for one-off signatures (`reuse`),
 /// how often that was used (`reused`), the last one-off key (`drawn`) and the octets that were drawn last (`random`). The counts
 /// stop at 2^64 - 1.
-#[derive(Drop)]
 pub struct ToySigner {
     seed: u64,
     next: u64,
@@ -49,6 +48,23 @@ pub struct ToySigner {
     reused: u64,
     drawn: Option<ToyKey>,
     random: Option<(u64, usize)>,
+}
+
+impl Drop for ToySigner {
+    fn drop(self) {
+        let ToySigner {
+            seed,
+            next,
+            calls,
+            failing,
+            faults,
+            keys,
+            reuse,
+            reused,
+            drawn,
+            random,
+        } = self;
+    }
 }
 
 impl Model for ToySigner {

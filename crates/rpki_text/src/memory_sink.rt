@@ -18,7 +18,6 @@ use std::marker::Model;
 /// (`room`), the most that a call takes (`piece`), how many calls of `write` there were (`calls`),
 /// the numbers of the calls that fail, counted from 0 (`failing`), and how many failed (`faults`).
 /// Both counts stop at 2^64 - 1.
-#[derive(Drop)]
 pub struct MemorySink {
     octets: Vec<u8>,
     room: usize,
@@ -26,6 +25,19 @@ pub struct MemorySink {
     calls: u64,
     failing: Vec<u64>,
     faults: u64,
+}
+
+impl Drop for MemorySink {
+    fn drop(self) {
+        let MemorySink {
+            octets,
+            room,
+            piece,
+            calls,
+            failing,
+            faults,
+        } = self;
+    }
 }
 
 impl Model for MemorySink {

@@ -16,7 +16,6 @@ use std::marker::Model;
 /// In a clause it is a record of the octets still to come (`rest`), the most that a call gives
 /// (`piece`), how many calls of `read` there were (`calls`), the numbers of the calls that fail,
 /// counted from 0 (`failing`), and how many failed (`faults`). Both counts stop at 2^64 - 1.
-#[derive(Drop)]
 pub struct MemorySource {
     octets: Vec<u8>,
     at: usize,
@@ -24,6 +23,19 @@ pub struct MemorySource {
     calls: u64,
     failing: Vec<u64>,
     faults: u64,
+}
+
+impl Drop for MemorySource {
+    fn drop(self) {
+        let MemorySource {
+            octets,
+            at,
+            piece,
+            calls,
+            failing,
+            faults,
+        } = self;
+    }
 }
 
 impl Model for MemorySource {

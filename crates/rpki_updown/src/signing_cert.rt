@@ -10,10 +10,16 @@ use std::marker::Model;
 
 /// The certificate of the key by which a parent issues certificates in a class: where it is published, and itself (RFC 6492, 3.3.2). In a
 /// clause it is the record of its fields.
-#[derive(Drop, PartialEq, Eq)]
+#[derive(PartialEq, Eq)]
 pub struct SigningCert {
     url: Rsync,
     cert: Cert,
+}
+
+impl Drop for SigningCert {
+    fn drop(self) {
+        let SigningCert { url, cert } = self;
+    }
 }
 
 impl Model for SigningCert {

@@ -1,4 +1,4 @@
--- Attributes of a document that is kept.
+-- Attributes of a document that is lent.
 use Rattle.std.proofs.Common.{◌≡◌, ℕ, suc, ◌<◌, List, [], ◌∷◌, ◌++◌, length, get_or, drop, Bool, true, false, cond, refl, sym, ap, ◌∙◌}
 use Rattle.std.proofs.lemmas.List.{map-append, get_or-map, drop-map}
 use Rattle.std.specs.Prelude.{filter}

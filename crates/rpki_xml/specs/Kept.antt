@@ -1,4 +1,4 @@
--- What stands at places of a document that is kept: a means for the document in memory.
+-- What stands at places of a document that is lent: a means for the document in memory.
 use Rattle.std.specs.Prelude.{ℕ, List, map, take, drop}
 use Rattle.rpki_xml.specs.declared.kept.Text.{Text}
 use Rattle.rpki_xml.specs.declared.kept.Text.TheVariants as variant

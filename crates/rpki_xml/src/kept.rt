@@ -1,4 +1,4 @@
-//! Places in the document that is kept, and the texts that stand there.
+//! Places in the document that is lent, and the texts that stand there.
 
 ghost use Rattle.std.specs.Prelude.{◌≡◌, ◌++◌, Some};
 ghost use Rattle.rpki_xml.specs.Answers.{Gives};

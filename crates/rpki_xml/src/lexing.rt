@@ -353,8 +353,8 @@ fn attributes_at<'a>(
         (λ x. (attributes_of source.now x.0.items, x.1.now)) result }
     ensures shorter { IfOk result (λ x. length x.1.now ≤ length b.now) }
 {
-    // Room for the first one alone: most elements have no second.
-    let room = if no_attribute(b) { 0 } else { 1 };
+    // Room for two, as many as most elements have that have one.
+    let room = if no_attribute(b) { 0 } else { 2 };
     let mut attributes = Vec::with_capacity(alloc, room)?;
     let mut rest = b;
     'attributes: while !no_attribute(rest) {

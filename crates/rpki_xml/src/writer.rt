@@ -16,12 +16,22 @@ use std::marker::Model;
 ///
 /// In a clause it is a record of the octets so far, the names of the open elements, the innermost first, and whether the
 /// start of the innermost one still takes attributes.
-#[derive(Drop)]
 pub struct ElementWriter {
     alloc: Global,
     octets: Vec<u8>,
     names: Vec<Vec<u8>>,
     in_start: bool,
+}
+
+impl Drop for ElementWriter {
+    fn drop(self) {
+        let ElementWriter {
+            alloc,
+            octets,
+            names,
+            in_start,
+        } = self;
+    }
 }
 
 impl Model for ElementWriter {
