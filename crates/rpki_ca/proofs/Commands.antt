@@ -19,7 +19,7 @@ use Rattle.rpki_ca.specs.declared.setup_message.SetupKind.TheVariants as setup
 use Rattle.rpki_common.proofs.Truths.{same_some}
 use Rattle.rpki_ca.specs.Words.{IsMoment, IsMomentAt, IsNumber, IsNumberAt, key_of, key_at}
 use Rattle.rpki_ca.specs.Command.{setup_kind_word, setup_kind_of, setup_kind_at, IsSetup, IsMake, AreNoMake, ReadsInput}
-use Rattle.rpki_ca.specs.Command.{kind_word, kind_of, kind_at, verb_word, verb_of, verb_in, AreKeys, IsReceive, IsCreate, AreNoCreate, AsksSigner, AskToReceive, Ask, IsCommand, IsNoCommand, AskInVain, IsLimited}
+use Rattle.rpki_ca.specs.Command.{kind_word, kind_of, kind_at, verb_word, verb_of, verb_in, AreKeys, IsReceive, IsDated, IsCreate, AreNoCreate, AsksSigner, AskToReceive, Ask, IsCommand, IsNoCommand, AskInVain, IsLimited}
 
 abbrev some_word : List ℕ → Option (List ℕ)
 some_word w = Some w
@@ -318,9 +318,12 @@ no_kind_to_create words none c a =
     never : None ≡ Some a.kind → ⊥
     never k = cc
 
+no_date : (verb about : List ℕ) (words : List (List ℕ)) (when : ℤ) → ((when : ℤ) → IsMomentAt words 2 when → ⊥) → IsDated verb about words when → ⊥
+no_date verb about words when none d =
+    none when (record { word = d.moment_word; stands = ap (λ (ws : List (List ℕ)). slice_get ws 2) d.are; moment = d.moment })
+
 pub no_moment_to_create : (words : List (List ℕ)) → ((when : ℤ) → IsMomentAt words 2 when → ⊥) → AskInVain verbs.Create words
-no_moment_to_create words none c a =
-    none a.when (record { word = a.create.moment_word; stands = ap (λ (ws : List (List ℕ)). slice_get ws 2) a.create.are; moment = a.create.moment })
+no_moment_to_create words none c a = no_date (codes "create") (kind_word a.kind) words a.when none a.create
 
 pub just_three : (words : List (List ℕ)) (first : List ℕ) (rest : List (List ℕ)) → words ≡ first ∷ rest → length words ≡ 3 → (b : List ℕ) × (c : List ℕ) × (words ≡ first ∷ b ∷ c ∷ [])
 just_three words first [] e l = absurd (never (ap length e))
@@ -337,24 +340,27 @@ just_three words first (b ∷ c ∷ d ∷ more) e l = absurd (never (ap length e
     never : length words ≡ suc (suc (suc (suc (length more)))) → ⊥
     never n = omega (arith, n, l)
 
-pub created : (words : List (List ℕ)) (kind : Kind) (when : ℤ) → verb_in words ≡ Some verbs.Create → length words ≡ 3 → Some kind ≡ kind_at words 1 → IsMomentAt words 2 when → Ask verbs.Create words (Create kind when)
-unfolding ◌>>=◌
-created words kind when e l k m =
-    let f = begin_with words verbs.Create e in
-    let w = just_three words (codes "create") f.rest f.are l in
-    let b : w.0 ≡ kind_word kind = named_kind w.0 kind (k ∙ ap (λ (ws : List (List ℕ)). kind_at ws 1) w.2) in
+dated : (words : List (List ℕ)) (verb : Verb) (about : List ℕ) (when : ℤ) → verb_in words ≡ Some verb → length words ≡ 3 → ((word : List ℕ) (rest : List (List ℕ)) → words ≡ verb_word verb ∷ word ∷ rest → word ≡ about) → IsMomentAt words 2 when
+    → IsDated (verb_word verb) about words when
+dated words verb about when e l named m =
+    let f = begin_with words verb e in
+    let w = just_three words (verb_word verb) f.rest f.are l in
     let third : some_word m.word ≡ some_word w.1 = sym m.stands ∙ ap (λ (ws : List (List ℕ)). slice_get ws 2) w.2 in
     let same : m.word ≡ w.1 = cc in
     record {
-      kind = kind;
-      when = when;
-      create = record {
-        moment_word = w.1;
-        are = w.2 ∙ ap (λ (x : List ℕ). codes "create" ∷ x ∷ w.1 ∷ []) b;
-        moment = subst (λ (w : List ℕ). IsMoment w when) same m.moment;
-      };
-      is = refl;
+      moment_word = w.1;
+      are = w.2 ∙ ap (λ (x : List ℕ). verb_word verb ∷ x ∷ w.1 ∷ []) (named w.0 (w.1 ∷ []) w.2);
+      moment = subst (λ (w : List ℕ). IsMoment w when) same m.moment;
     }
+
+pub created : (words : List (List ℕ)) (kind : Kind) (when : ℤ) → verb_in words ≡ Some verbs.Create → length words ≡ 3 → Some kind ≡ kind_at words 1 → IsMomentAt words 2 when → Ask verbs.Create words (Create kind when)
+unfolding ◌>>=◌
+created words kind when e l k m = record {
+  kind = kind;
+  when = when;
+  create = dated words verbs.Create (kind_word kind) when e l (λ word rest are. named_kind word kind (k ∙ ap (λ (ws : List (List ℕ)). kind_at ws 1) are)) m;
+  is = refl;
+}
 
 -- ---- `setup`
 
@@ -407,27 +413,16 @@ no_kind_to_set_up words none c a =
     never k = cc
 
 pub no_moment_to_set_up : (words : List (List ℕ)) → ((when : ℤ) → IsMomentAt words 2 when → ⊥) → AskInVain verbs.Setup words
-no_moment_to_set_up words none c a =
-    none a.when (record { word = a.setup_words.moment_word; stands = ap (λ (ws : List (List ℕ)). slice_get ws 2) a.setup_words.are; moment = a.setup_words.moment })
+no_moment_to_set_up words none c a = no_date (codes "setup") (setup_kind_word a.kind) words a.when none a.setup_words
 
 pub set_up : (words : List (List ℕ)) (kind : SetupKind) (when : ℤ) → verb_in words ≡ Some verbs.Setup → length words ≡ 3 → Some kind ≡ setup_kind_at words 1 → IsMomentAt words 2 when → Ask verbs.Setup words (Setup kind when)
 unfolding ◌>>=◌
-set_up words kind when e l k m =
-    let f = begin_with words verbs.Setup e in
-    let w = just_three words (codes "setup") f.rest f.are l in
-    let b : w.0 ≡ setup_kind_word kind = named_setup w.0 kind (k ∙ ap (λ (ws : List (List ℕ)). setup_kind_at ws 1) w.2) in
-    let third : some_word m.word ≡ some_word w.1 = sym m.stands ∙ ap (λ (ws : List (List ℕ)). slice_get ws 2) w.2 in
-    let same : m.word ≡ w.1 = cc in
-    record {
-      kind = kind;
-      when = when;
-      setup_words = record {
-        moment_word = w.1;
-        are = w.2 ∙ ap (λ (x : List ℕ). codes "setup" ∷ x ∷ w.1 ∷ []) b;
-        moment = subst (λ (w : List ℕ). IsMoment w when) same m.moment;
-      };
-      is = refl;
-    }
+set_up words kind when e l k m = record {
+  kind = kind;
+  when = when;
+  setup_words = dated words verbs.Setup (setup_kind_word kind) when e l (λ word rest are. named_setup word kind (k ∙ ap (λ (ws : List (List ℕ)). setup_kind_at ws 1) are)) m;
+  is = refl;
+}
 
 same_at : (i : ℕ) (a b : List ℕ) (xs ys : List (List ℕ)) → xs ≡ ys → slice_get xs i ≡ Some a → slice_get ys i ≡ Some b → a ≡ b
 same_at i a b xs ys e p q = same (sym p ∙ ap (λ (ws : List (List ℕ)). slice_get ws i) e ∙ q)
@@ -492,22 +487,23 @@ one_receive words a b s t k l p q =
     let ab : a ≡ b = one_kind a b word in
     rw (ab, st, kl) refl
 
+one_date : (words : List (List ℕ)) (verb about other : List ℕ) (s t : ℤ) → IsDated verb about words s → IsDated verb other words t → (about ≡ other) × (s ≡ t)
+one_date words verb about other s t p q =
+    let moment : p.moment_word ≡ q.moment_word = same_at 2 p.moment_word q.moment_word _ _ (sym p.are ∙ q.are) refl refl in
+    (same_at 1 about other _ _ (sym p.are ∙ q.are) refl refl, one_moment q.moment_word s t (subst (λ (w : List ℕ). IsMoment w s) moment p.moment) q.moment)
+
 one_create : (words : List (List ℕ)) (a b : Kind) (s t : ℤ) → IsCreate words a s → IsCreate words b t → Create a s ≡ Create b t
 one_create words a b s t p q =
-    let moment : p.moment_word ≡ q.moment_word = same_at 2 p.moment_word q.moment_word _ _ (sym p.are ∙ q.are) refl refl in
-    let st : s ≡ t = one_moment q.moment_word s t (subst (λ (w : List ℕ). IsMoment w s) moment p.moment) q.moment in
-    let word : kind_word a ≡ kind_word b = same_at 1 (kind_word a) (kind_word b) _ _ (sym p.are ∙ q.are) refl refl in
-    let ab : a ≡ b = one_kind a b word in
-    rw (ab, st) refl
+    let one = one_date words (codes "create") (kind_word a) (kind_word b) s t p q in
+    let ab : a ≡ b = one_kind a b one.0 in
+    rw (ab, one.1) refl
 
 one_setup : (words : List (List ℕ)) (a b : SetupKind) (s t : ℤ) → IsSetup words a s → IsSetup words b t → Setup a s ≡ Setup b t
 one_setup words a b s t p q =
-    let moment : p.moment_word ≡ q.moment_word = same_at 2 p.moment_word q.moment_word _ _ (sym p.are ∙ q.are) refl refl in
-    let st : s ≡ t = one_moment q.moment_word s t (subst (λ (w : List ℕ). IsMoment w s) moment p.moment) q.moment in
-    let word : setup_kind_word a ≡ setup_kind_word b = same_at 1 (setup_kind_word a) (setup_kind_word b) _ _ (sym p.are ∙ q.are) refl refl in
-    let some : some_setup a ≡ some_setup b = sym (same_setup_kind a) ∙ ap setup_kind_of word ∙ same_setup_kind b in
+    let one = one_date words (codes "setup") (setup_kind_word a) (setup_kind_word b) s t p q in
+    let some : some_setup a ≡ some_setup b = sym (same_setup_kind a) ∙ ap setup_kind_of one.0 ∙ same_setup_kind b in
     let ab : a ≡ b = cc in
-    rw (ab, st) refl
+    rw (ab, one.1) refl
 
 one_number : (word : List ℕ) (most a b : ℕ) → most < 2 ^ 32 → IsNumber word most a → IsNumber word most b → a ≡ b
 one_number word most a b small p q =

@@ -1,8 +1,9 @@
 -- How a run ends.
 use Rattle.std.proofs.Common.{◌≡◌, ◌≢◌, ◌^◌, ◌⊎◌, inl, inr, ℕ, ℤ, Option, Some, None, Result, Ok, Err, List, [], ◌∷◌, ◌++◌, length, ◌≤◌, refl, sym, ap, subst, ◌∙◌, arith, lit<}
-use Rattle.std.specs.Prelude.{IfSome, IfOk, IfErr, IsErrOf, MatchResult, ◌<◌}
+use Rattle.std.specs.Prelude.{IfSome, IfOk, IfErr, IsErrOf, MatchResult, ◌<◌, ◌==◌, if◌then◌else◌}
 use Rattle.std.specs.Io.KnownBytes.{Appends, IsAtEnd}
 use Rattle.std.proofs.lemmas.Bool.Decides.{leb_tells}
+use Rattle.rpki_common.proofs.Truths.{none_some, same_some}
 use Rattle.rpki_base.specs.Algorithm.{format_of}
 use Rattle.rpki_base.specs.PublicKey.{KeyFields}
 use Rattle.rpki_base.specs.declared.algorithm.SigningAlgorithm.{SigningAlgorithm}
@@ -270,28 +271,32 @@ makes items scheme count seed signer (Err e) status told (inl is) can =
 
 -- ---- faults of the source
 
-fault_alone : (r : Refusal) → 10 ≡ status_of r → r ≡ refusals.ReadFault
-fault_alone refusals.Usage k = cc
-fault_alone refusals.Hex k = cc
-fault_alone refusals.CmsDecode k = cc
-fault_alone refusals.XmlError k = cc
-fault_alone refusals.CertSyntax k = cc
-fault_alone refusals.InvalidCsrSyntax k = cc
-fault_alone refusals.InvalidTaCertEncoding k = cc
-fault_alone refusals.InvalidTaCert k = cc
-fault_alone (refusals.Validation n) k = cc
-fault_alone refusals.TooLong k = cc
-fault_alone refusals.KeyNotFound k = cc
-fault_alone refusals.IncompatibleKey k = cc
-fault_alone refusals.KeyReused k = cc
-fault_alone refusals.Signer k = cc
-fault_alone refusals.Moment k = cc
-fault_alone refusals.ReadFault k = refl
-fault_alone refusals.OutOfMemory k = cc
+-- the refusals that have a status of which a clause speaks
+abbrev with_status : ℕ → Option Refusal
+with_status s = if s == 2 then Some refusals.Usage else if s == 9 then Some refusals.TooLong else if s == 10 then Some refusals.ReadFault else None
+
+alone : (r x : Refusal) → with_status (status_of r) ≡ Some x → r ≡ x
+alone refusals.Usage x e = same_some _ x e
+alone refusals.Hex x e = absurd (none_some x e)
+alone refusals.CmsDecode x e = absurd (none_some x e)
+alone refusals.XmlError x e = absurd (none_some x e)
+alone refusals.CertSyntax x e = absurd (none_some x e)
+alone refusals.InvalidCsrSyntax x e = absurd (none_some x e)
+alone refusals.InvalidTaCertEncoding x e = absurd (none_some x e)
+alone refusals.InvalidTaCert x e = absurd (none_some x e)
+alone (refusals.Validation n) x e = absurd (none_some x e)
+alone refusals.TooLong x e = same_some _ x e
+alone refusals.KeyNotFound x e = absurd (none_some x e)
+alone refusals.IncompatibleKey x e = absurd (none_some x e)
+alone refusals.KeyReused x e = absurd (none_some x e)
+alone refusals.Signer x e = absurd (none_some x e)
+alone refusals.Moment x e = absurd (none_some x e)
+alone refusals.ReadFault x e = same_some _ x e
+alone refusals.OutOfMemory x e = absurd (none_some x e)
 
 ten : {I : Type 0} (scheme : Relation) (words : List (List ℕ)) (source sink : Seen) (signer : SignerSeen I) (a : Result (List ℕ) Refusal) → IsAdmitted scheme words source signer a → Ends a 10 sink → HasFailed source
 ten scheme words source sink signer (Ok text) h (inl w) = absurd (not_both 10 10 0 refl w.0 (inr (lit< tt)))
-ten scheme words source sink signer (Err r) h (inl w) = subst (λ (e : Refusal). IsAdmitted scheme words source signer (Err e)) (fault_alone r w.0) h
+ten scheme words source sink signer (Err r) h (inl w) = subst (λ (e : Refusal). IsAdmitted scheme words source signer (Err e)) (alone r refusals.ReadFault (ap with_status (sym w.0))) h
 ten scheme words source sink signer a h (inr w) = absurd (not_both 10 10 11 refl w.0 (inl (lit< tt)))
 
 pub read_fault : {I : Type 0} (scheme : Relation) (words : List (List ℕ)) (source sink : Seen) (signer : SignerSeen I) (status : ℕ) → Answered scheme words source sink signer status → status ≡ 10 → HasFailed source
@@ -313,29 +318,10 @@ no_read_fault scheme words source sink signer status a ten eleven = steady schem
 
 -- ---- statuses of refusals
 
-usage_alone : (r : Refusal) → status_of r ≡ 2 → r ≡ refusals.Usage
-usage_alone refusals.Usage k = refl
-usage_alone refusals.Hex k = cc
-usage_alone refusals.CmsDecode k = cc
-usage_alone refusals.XmlError k = cc
-usage_alone refusals.CertSyntax k = cc
-usage_alone refusals.InvalidCsrSyntax k = cc
-usage_alone refusals.InvalidTaCertEncoding k = cc
-usage_alone refusals.InvalidTaCert k = cc
-usage_alone (refusals.Validation n) k = cc
-usage_alone refusals.TooLong k = cc
-usage_alone refusals.KeyNotFound k = cc
-usage_alone refusals.IncompatibleKey k = cc
-usage_alone refusals.KeyReused k = cc
-usage_alone refusals.Signer k = cc
-usage_alone refusals.Moment k = cc
-usage_alone refusals.ReadFault k = cc
-usage_alone refusals.OutOfMemory k = cc
-
 pub usage : {L : Type 0} (words : List (List ℕ)) (r : Result L Refusal) (s : ℕ) → (IsErrOf r refusals.Usage → IsNoCommand words) → Status r s → s ≡ 2 → IsNoCommand words
 usage words (Ok line) s f (inl e) two = absurd (not_both s 2 0 two e (inr (lit< tt)))
 usage words (Ok line) s f (inr e) two = absurd (not_both s 2 11 two e (inl (lit< tt)))
-usage words (Err r) s f (inl e) two = f (ap (λ (x : Refusal). Err x) (usage_alone r (sym e ∙ two)))
+usage words (Err r) s f (inl e) two = f (ap (λ (x : Refusal). Err x) (alone r refusals.Usage (ap with_status (sym e ∙ two))))
 usage words (Err r) s f (inr e) two = absurd (not_both s 2 11 two e (inl (lit< tt)))
 
 pub usage_status : {L : Type 0} (r : Result L Refusal) (s : ℕ) → IsErrOf r refusals.Usage ⊎ IsErrOf r refusals.OutOfMemory → Status r s → (s ≡ 2) ⊎ ((s ≡ 11) ⊎ (s ≡ 12))
@@ -357,28 +343,9 @@ read_to_end (Ok line) s rest f st m all = f m
 read_to_end (Err r) s rest f (inl e) m all = f m (subst ReadsAll e all)
 read_to_end (Err r) s rest f (inr e) m all = absurd (neither (subst ReadsAll e all))
 
-long_alone : (r : Refusal) → status_of r ≡ 9 → r ≡ refusals.TooLong
-long_alone refusals.TooLong k = refl
-long_alone refusals.Usage k = cc
-long_alone refusals.Hex k = cc
-long_alone refusals.CmsDecode k = cc
-long_alone refusals.XmlError k = cc
-long_alone refusals.CertSyntax k = cc
-long_alone refusals.InvalidCsrSyntax k = cc
-long_alone refusals.InvalidTaCertEncoding k = cc
-long_alone refusals.InvalidTaCert k = cc
-long_alone (refusals.Validation n) k = cc
-long_alone refusals.KeyNotFound k = cc
-long_alone refusals.IncompatibleKey k = cc
-long_alone refusals.KeyReused k = cc
-long_alone refusals.Signer k = cc
-long_alone refusals.Moment k = cc
-long_alone refusals.ReadFault k = cc
-long_alone refusals.OutOfMemory k = cc
-
 pub long_to_end : {L : Type 0} (r : Result L Refusal) (s : ℕ) (before after : Option (List ℕ)) → (IsErrOf r refusals.TooLong → IfSome before (λ rest. length rest ≤ 2 ^ 26 → IsAtEnd after)) → Status r s → s ≡ 9
     → IfSome before (λ rest. length rest ≤ 2 ^ 26 → IsAtEnd after)
 long_to_end (Ok line) s before after f (inl e) nine = absurd (not_both s 9 0 nine e (inr (lit< tt)))
 long_to_end (Ok line) s before after f (inr e) nine = absurd (not_both s 9 11 nine e (inl (lit< tt)))
-long_to_end (Err r) s before after f (inl e) nine = f (ap (λ (x : Refusal). Err x) (long_alone r (sym e ∙ nine)))
+long_to_end (Err r) s before after f (inl e) nine = f (ap (λ (x : Refusal). Err x) (alone r refusals.TooLong (ap with_status (sym e ∙ nine))))
 long_to_end (Err r) s before after f (inr e) nine = absurd (not_both s 9 11 nine e (inl (lit< tt)))

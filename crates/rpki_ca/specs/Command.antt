@@ -61,17 +61,19 @@ pub record IsReceive (words : List (List ℕ)) (kind : Kind) (when : ℤ) (keys 
   pub moment : IsMoment moment_word when
   pub spell : AreKeys key_words keys
 
--- `create`, the kind and a moment
-pub record IsCreate (words : List (List ℕ)) (kind : Kind) (when : ℤ) : Type 0 where
+-- a verb, the word for what it is about, and a moment
+pub record IsDated (verb about : List ℕ) (words : List (List ℕ)) (when : ℤ) : Type 0 where
   pub moment_word : List ℕ
-  pub are : words ≡ codes "create" ∷ kind_word kind ∷ moment_word ∷ []
+  pub are : words ≡ verb ∷ about ∷ moment_word ∷ []
   pub moment : IsMoment moment_word when
 
+-- `create`, the kind and a moment
+abbrev pub IsCreate : List (List ℕ) → Kind → ℤ → Type 0
+IsCreate words kind when = IsDated (codes "create") (kind_word kind) words when
+
 -- `setup`, which message, and a moment
-pub record IsSetup (words : List (List ℕ)) (kind : SetupKind) (when : ℤ) : Type 0 where
-  pub moment_word : List ℕ
-  pub are : words ≡ codes "setup" ∷ setup_kind_word kind ∷ moment_word ∷ []
-  pub moment : IsMoment moment_word when
+abbrev pub IsSetup : List (List ℕ) → SetupKind → ℤ → Type 0
+IsSetup words kind when = IsDated (codes "setup") (setup_kind_word kind) words when
 
 -- `make`, how many elements, and a seed
 pub record IsMake (words : List (List ℕ)) (count seed : ℕ) : Type 0 where

@@ -9,10 +9,15 @@ use std::alloc::Global;
 use std::marker::Model;
 
 /// An object with its digest. In a clause it is the list of its octets.
-#[derive(Drop)]
 pub(crate) struct Object {
     content: Base64,
     hash: Hash,
+}
+
+impl Drop for Object {
+    fn drop(self) {
+        let Object { content, hash } = self;
+    }
 }
 
 impl Model for Object {

@@ -35,12 +35,22 @@ use std::marker::Model;
 ///
 /// In a clause it is the record of the base's text, the publisher's key, and the objects: pairs of a URI's
 /// text and the octets there, ascending by the texts' octets.
-#[derive(Drop)]
 pub struct Server {
     alloc: Global,
     base: uri::Rsync,
     publisher: PublicKey,
     objects: Objects,
+}
+
+impl Drop for Server {
+    fn drop(self) {
+        let Server {
+            alloc,
+            base,
+            publisher,
+            objects,
+        } = self;
+    }
 }
 
 impl Model for Server {

@@ -20,11 +20,20 @@ pub struct Peer {
 }
 
 /// Peers in the order in which they were first put, no key twice. In a clause it is the list of them.
-#[derive(Drop)]
 pub(crate) struct Peers {
     alloc: Global,
     list: Vec<Peer>,
     places: Places,
+}
+
+impl Drop for Peers {
+    fn drop(self) {
+        let Peers {
+            alloc,
+            list,
+            places,
+        } = self;
+    }
 }
 
 impl Model for Peers {

@@ -12,10 +12,15 @@ use std::collections::BTreeMap;
 
 /// A place for each key of some, by the octets of the key's bits. A look-up takes no memory, and with n
 /// keys log n comparisons.
-#[derive(Drop)]
 pub(crate) struct Places {
     rsa: BTreeMap<Vec<u8>, usize>,
     elliptic: BTreeMap<Vec<u8>, usize>,
+}
+
+impl Drop for Places {
+    fn drop(self) {
+        let Places { rsa, elliptic } = self;
+    }
 }
 
 impl Places {

@@ -32,7 +32,6 @@ const MOST_OCTETS: usize = 65000;
 /// A resource class in which a parent issues certificates to its child (RFC 6492, 3.3.2). In a clause it is the record of its name, the
 /// child's resources in it until when, the URI of the directory in which its certificates are published, the certificate of the issuing
 /// key, the certificates that were issued, and the identifiers of the keys that were revoked.
-#[derive(Drop)]
 pub struct Class {
     name: ResourceClassName,
     set: ResourceSet,
@@ -41,6 +40,20 @@ pub struct Class {
     signing: SigningCert,
     issued: Kept<Certified>,
     revoked: Kept<KeyIdentifier>,
+}
+
+impl Drop for Class {
+    fn drop(self) {
+        let Class {
+            name,
+            set,
+            not_after,
+            base,
+            signing,
+            issued,
+            revoked,
+        } = self;
+    }
 }
 
 impl Model for Class {

@@ -70,13 +70,24 @@ impl<E> From<CreateError<E>> for AnswerError<E> {
 
 /// A parent of one child, to which it issues certificates in resource classes (RFC 6492). In a clause it is the record of both handles,
 /// the child's key and the table of the classes.
-#[derive(Drop)]
 pub struct Parent {
     alloc: Global,
     me: RecipientHandle,
     child: SenderHandle,
     child_key: PublicKey,
     classes: Vec<Class>,
+}
+
+impl Drop for Parent {
+    fn drop(self) {
+        let Parent {
+            alloc,
+            me,
+            child,
+            child_key,
+            classes,
+        } = self;
+    }
 }
 
 impl Model for Parent {

@@ -28,7 +28,6 @@ use std::alloc::Global;
 use std::marker::Model;
 
 /// A certificate that was issued.
-#[derive(Drop)]
 pub struct ToyMade {
     /// In which class.
     pub class_name: ResourceClassName,
@@ -42,12 +41,23 @@ pub struct ToyMade {
     pub cert: Cert,
 }
 
+impl Drop for ToyMade {
+    fn drop(self) {
+        let ToyMade {
+            class_name,
+            key,
+            resource_set,
+            not_after,
+            cert,
+        } = self;
+    }
+}
+
 /// An issuer whose certificates are signed by a toy signer, without security. They are end entity certificates of the BPKI, which have the
 /// outer form of resource certificates, and say nothing of resources.
 ///
 /// In a clause it is the record of its signer, the identifier of its key, from when its certificates are valid, and what it issued and
 /// revoked and how often it failed, a count that stops at 2^64 - 1.
-#[derive(Drop)]
 pub struct ToyIssuer {
     alloc: Global,
     signer: ToySigner,
@@ -56,6 +66,20 @@ pub struct ToyIssuer {
     made: Vec<ToyMade>,
     gone: Vec<KeyElement>,
     faults: u64,
+}
+
+impl Drop for ToyIssuer {
+    fn drop(self) {
+        let ToyIssuer {
+            alloc,
+            signer,
+            key,
+            from,
+            made,
+            gone,
+            faults,
+        } = self;
+    }
 }
 
 impl Model for ToyIssuer {

@@ -60,8 +60,9 @@ The exit status is
      2  Usage         the words are not a moment and a key; nothing is read
      3  Hex           a line isn't hexadecimal; none is answered
      7  Signer        the signer failed
-     8  Moment        300 seconds before MOMENT it isn't 1970, or 300 seconds
-                      after it the year 9999 is over; no line is answered
+     8  Moment        300 seconds before MOMENT it isn't 1970 yet, or 300
+                      seconds after it the year 9999 is over; no line is
+                      answered
      9  TooLong       more than 67108864 octets of input, or a reply is longer
                       than 2147483648 octets
     10  ReadFault     standard input failed
