@@ -201,6 +201,16 @@ class Tests:
         return any(self.is_concrete(outer, depth + 1) for outer in self.uses[id(use.inside)])
 
 
+    def is_at(self, use, type_, wanted, depth=0):
+        """Whether this type, where the use stands, is the wanted one; a parameter is what the function in which it stands is used at."""
+        if type_ is None or type_.head is wanted:
+            return type_ is not None
+        if depth > 5 or not isinstance(type_.head, str) or not type_.head.startswith("?"):
+            return False
+        outer = self.uses[id(use.inside)]
+        return any(self.is_at(it, it.at.get(type_.head[1:]), wanted, depth + 1) for it in outer)
+
+
 def has_parameter(type_):
     if type_ is None:
         return False
@@ -408,7 +418,7 @@ class Table:
                             if function.name == call.function.name:
                                 good = good + self.tests.counted(function)[0]
         for asked in asked_for(self.tree, call.function):
-            good = good + [use for use in self.tests.counted(asked)[0] if use.on is not None and use.on.head is call.type]
+            good = good + [use for use in self.tests.counted(asked)[0] if self.tests.is_at(use, use.on, call.type)]
         return good, reasons
 
     def lines(self, call):

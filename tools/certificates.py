@@ -12,6 +12,8 @@ A line is `NAME MODE OCTETS STEP..`, with the steps of tools/stored.py; MODE is 
     tbs
         serial number, issuer, first and last second, subject; the key's format, bits and identifier; basicConstraints;
         the subject's and the authority's key identifier; what is written
+    version
+        ok, where the version is 3
     end_entity,'SEED/NUMBER/MOMENT anchor,.. within,..
         ok, or kind, number and text of the failing check; within: its number where the first of an end entity's checks has number 4
     each,.. signed,..
@@ -780,8 +782,21 @@ def made_lines():
         *[step("end_entity", DONE, argument=f"1/0/{moment}") for moment in (NOW, last)])
 
 
+def version_cases():
+    three = bytes.fromhex("a003020102")
+    yield line("only-version-3", "both", three + NULL, step("version", DONE), step("capture", NULL))
+    yield line("only-version-3-in-a-long-form", "ber", bytes.fromhex("a08103020102") + NULL, step("version", DONE), step("capture", NULL))
+    yield line("only-version-3-without-a-length", "ber", bytes.fromhex("a0800201020000") + NULL, step("version", DONE), step("capture", NULL))
+    for label, octets in (("1", "a003020100"), ("2", "a003020101"), ("4", "a003020103"), ("258", "a00402020102"), ("with-a-zero", "a00402020002"),
+            ("negative", "a0030201fe"), ("twice", "a006020102020102"), ("none", "a000"), ("cut", "a0030201"), ("bare", "020102"),
+            ("under-1", "a103020102"), ("primitive", "8003020102"), ("boolean", "a003010102")):
+        yield line(f"only-version-{label}", "both", bytes.fromhex(octets), step("version", MALFORMED))
+    yield line("only-version-of-nothing", "both", b"", step("version", MALFORMED))
+    yield line("only-version-in-a-long-form-in-der", "der", bytes.fromhex("a08103020102"), step("version", MALFORMED))
+
+
 def lines():
-    for cases in (good_cases, extension_cases, malformed_cases, ber_cases, size_cases, check_cases, each_cases, elsewhere_cases, crl_cases,
+    for cases in (good_cases, version_cases, extension_cases, malformed_cases, ber_cases, size_cases, check_cases, each_cases, elsewhere_cases, crl_cases,
             crl_size_cases, toy_cases, signer_cases, unsigned_cases, extension_writing, made_lines):
         yield from cases()
 

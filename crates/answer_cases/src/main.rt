@@ -23,12 +23,22 @@ use std::io;
 use std::io::ErrorKind;
 use stored_cases::{Cases, Fields, invalid, is_answered as is_said, octets_of, run};
 
-#[derive(Drop)]
 struct Case {
     words: Words,
     input: Vec<u8>,
     status: u8,
     output: Vec<u8>,
+}
+
+impl Drop for Case {
+    fn drop(self) {
+        let Case {
+            words,
+            input,
+            status,
+            output,
+        } = self;
+    }
 }
 
 fn out_of_memory() -> io::Error {

@@ -6,14 +6,13 @@
 #![tactic(auto)]
 
 mod asking;
+mod calls;
 mod checking;
 mod crls;
-mod long_calls;
 mod making;
 mod reading;
 mod shown;
 mod signing;
-mod toy_calls;
 mod unsigned;
 
 use rpki_der::{Cursor, DecodeError, Mode, Steps};

@@ -2,7 +2,7 @@
 
 use crate::shown::{certificate_shown, tbs_shown};
 use rpki_der::{Cursor, DecodeError, Mode, Steps};
-use rpki_idcert::{IdCert, TbsIdCert};
+use rpki_idcert::{IdCert, TbsIdCert, take_version};
 use std::alloc::Global;
 use std::sync::ledger::Ledger;
 use stored_cases::Fields;
@@ -49,6 +49,15 @@ fn tbs_counted<L: Ledger>(
     tbs_shown(alloc, &TbsIdCert::take_from_counted(alloc, cursor, steps)?)
 }
 
+fn version_counted<L: Ledger>(
+    alloc: Global,
+    cursor: &mut Cursor<'_>,
+    steps: &mut Steps<L>,
+) -> Result<Fields, DecodeError> {
+    take_version(cursor, steps)?;
+    Ok(Fields::done(alloc)?)
+}
+
 /// What a counted call answers; None where the step is none.
 pub fn counted_answer<L: Ledger>(
     alloc: Global,
@@ -59,6 +68,7 @@ pub fn counted_answer<L: Ledger>(
     match call {
         "certificate" => Some(certificate_counted(alloc, cursor, steps)),
         "tbs" => Some(tbs_counted(alloc, cursor, steps)),
+        "version" => Some(version_counted(alloc, cursor, steps)),
         _ => None,
     }
 }

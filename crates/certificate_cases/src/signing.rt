@@ -1,6 +1,6 @@
 //! Calls of the toy scheme, and of a scheme under which every signature holds.
 
-use crate::{long_calls, toy_calls};
+use crate::calls;
 use rpki_base::{PublicKey, PublicKeyFormat, SigningAlgorithm, Time, Verifier};
 use rpki_der::{DecodeError, Mode};
 use rpki_sigmsg::SignedMessageCrl;
@@ -84,8 +84,8 @@ pub fn answer(
         "crl_check" => Some(crl_check(alloc, mode, octets, &step.argument)),
         "toy_signature" => Some(toy_signature(alloc, octets, &step.argument)),
         "toy_holds" => Some(toy_holds(alloc, octets, &step.argument)),
-        "toy_signer" => Some(toy_calls::answer(alloc, octets, &step.argument)),
-        "long_signer" => Some(long_calls::answer(alloc, octets, &step.argument)),
+        "toy_signer" => Some(calls::toy_answer(alloc, octets, &step.argument)),
+        "long_signer" => Some(calls::long_answer(alloc, octets, &step.argument)),
         _ => None,
     }
 }

@@ -33,12 +33,22 @@ use std::alloc::Global;
 use std::{io, str};
 use stored_cases::{Cases, invalid, octets_of, run};
 
-#[derive(Drop)]
 struct Case {
     words: Words,
     input: Vec<u8>,
     status: u8,
     output: Vec<u8>,
+}
+
+impl Drop for Case {
+    fn drop(self) {
+        let Case {
+            words,
+            input,
+            status,
+            output,
+        } = self;
+    }
 }
 
 fn text_of(field: &str) -> &str {

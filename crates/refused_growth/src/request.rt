@@ -8,11 +8,20 @@ use rpki_signer::{ToyScheme, ToySigner, ToyVerifier};
 use rpki_text::uri::{Https, Rsync};
 use std::alloc::Global;
 
-#[derive(Drop)]
 struct Places {
     repository: Rsync,
     manifest: Rsync,
     notify: Https,
+}
+
+impl Drop for Places {
+    fn drop(self) {
+        let Places {
+            repository,
+            manifest,
+            notify,
+        } = self;
+    }
 }
 
 fn places_of(alloc: Global) -> Result<Places, Ended> {

@@ -111,11 +111,20 @@ fn refusal(error: &CsrError<ToyFault>) -> Result<&'static str, DecodeError> {
 }
 
 // Where the objects and the manifest are to be, and where changes are notified.
-#[derive(Drop)]
 struct Places {
     repository: Rsync,
     manifest: Rsync,
     notify: Option<Https>,
+}
+
+impl Drop for Places {
+    fn drop(self) {
+        let Places {
+            repository,
+            manifest,
+            notify,
+        } = self;
+    }
 }
 
 fn places_of(alloc: Global, asked: &Asked<'_>) -> Result<Places, DecodeError> {

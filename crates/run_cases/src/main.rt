@@ -25,12 +25,22 @@ use std::io;
 use std::io::ErrorKind;
 use stored_cases::{Cases, invalid, octets_of, run};
 
-#[derive(Drop)]
 struct Case {
     words: Words,
     input: Vec<u8>,
     status: u8,
     line: Vec<u8>,
+}
+
+impl Drop for Case {
+    fn drop(self) {
+        let Case {
+            words,
+            input,
+            status,
+            line,
+        } = self;
+    }
 }
 
 fn out_of_memory(_: OutOfMemory) -> io::Error {

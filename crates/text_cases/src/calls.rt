@@ -186,9 +186,14 @@ fn octets_given(alloc: Global, octets: &[u8], piece: usize) -> io::Result<Answer
 
 // The base64 text of octets, and what is told of it.
 fn of_content(alloc: Global, call: &str, content: &[u8]) -> io::Result<Answer> {
-    let Ok(held) = Base64::from_content(alloc, content) else {
-        return out_of_memory();
-    };
+    match Base64::from_content(alloc, content) {
+        Ok(held) => of_held(alloc, call, &held),
+        Err(OutOfMemory) => out_of_memory(),
+    }
+}
+
+// The same of the text of that content.
+fn of_held(alloc: Global, call: &str, held: &Base64) -> io::Result<Answer> {
     match call {
         "base64_of" => given(alloc, held.to_string(alloc)?.as_str().as_bytes()),
         "base64_size" => counted(alloc, held.size_approx()),

@@ -55,6 +55,15 @@ fn sequence(alloc: Global, call: &str, first: &[u8], second: &[u8]) -> io::Resul
     }
 }
 
+// The name of a handle that is converted, which has to be this.
+fn into_name(alloc: Global, sender: SenderHandle, name: &[u8]) -> io::Result<Answer> {
+    let parent: ParentHandle = sender.into_converted();
+    if parent.name().as_str().as_bytes() != name {
+        return refused("Differ");
+    }
+    given(alloc, parent.into_name().as_str().as_bytes())
+}
+
 // The name of a handle that is converted twice.
 fn converted(alloc: Global, text: &str) -> io::Result<Answer> {
     let child: ChildHandle = ChildHandle::new(RcStr::from_str(alloc, text)?);
@@ -63,11 +72,7 @@ fn converted(alloc: Global, text: &str) -> io::Result<Answer> {
     };
     let sender: SenderHandle = sender;
     let octets = sender.as_bytes().to_vec(alloc)?;
-    let parent: ParentHandle = sender.into_converted();
-    if parent.name().as_str().as_bytes() != octets.as_slice() {
-        return refused("Differ");
-    }
-    given(alloc, parent.into_name().as_str().as_bytes())
+    into_name(alloc, sender, &octets)
 }
 
 /// What a call answers to one or two texts.

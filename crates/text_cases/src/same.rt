@@ -23,8 +23,13 @@ fn uris<K: UriKind>(alloc: Global, first: &str, second: &str) -> io::Result<Answ
     ) else {
         return refused("Malformed");
     };
+    uris_alike(alloc, &first, &second)
+}
+
+// Of these two.
+fn uris_alike<K: UriKind>(alloc: Global, first: &Uri<K>, second: &Uri<K>) -> io::Result<Answer> {
     match first.clone(alloc) {
-        Ok(copy) => told_with(alloc, copy == second, copy.as_str(), second.as_str()),
+        Ok(copy) => told_with(alloc, copy == *second, copy.as_str(), second.as_str()),
         Err(OutOfMemory) => out_of_memory(),
     }
 }
@@ -36,8 +41,12 @@ fn base64_texts(alloc: Global, first: &str, second: &str) -> io::Result<Answer> 
     ) else {
         return refused("Malformed");
     };
+    base64_alike(alloc, &first, &second)
+}
+
+fn base64_alike(alloc: Global, first: &Base64, second: &Base64) -> io::Result<Answer> {
     match first.clone(alloc) {
-        Ok(copy) => told_with(alloc, copy == second, copy.as_str(), second.as_str()),
+        Ok(copy) => told_with(alloc, copy == *second, copy.as_str(), second.as_str()),
         Err(OutOfMemory) => out_of_memory(),
     }
 }
@@ -49,8 +58,12 @@ fn handles(alloc: Global, first: &str, second: &str) -> io::Result<Answer> {
     ) else {
         return refused("Malformed");
     };
+    handles_alike(alloc, &first, &second)
+}
+
+fn handles_alike(alloc: Global, first: &ChildHandle, second: &ChildHandle) -> io::Result<Answer> {
     match first.clone(alloc) {
-        Ok(copy) => told_with(alloc, copy == second, copy.as_str(), second.as_str()),
+        Ok(copy) => told_with(alloc, copy == *second, copy.as_str(), second.as_str()),
         Err(OutOfMemory) => out_of_memory(),
     }
 }

@@ -165,14 +165,21 @@ fn written_name(alloc: Global, name: &Name) -> Result<Writer, OutOfMemory> {
     Ok(out)
 }
 
+// The octets of the name, which a copy has to write.
+fn as_written(alloc: Global, name: &Name, copy: &Name) -> Result<Fields, DecodeError> {
+    let written = written_name(alloc, copy)?;
+    if written.as_slice() == name.as_slice() {
+        Ok(Fields::one(alloc, name.as_slice())?)
+    } else {
+        Err(DecodeError::Malformed)
+    }
+}
+
 /// What a copy of the name writes.
 pub fn name_shown(alloc: Global, taken: Result<Name, DecodeError>) -> Result<Fields, DecodeError> {
     let name = taken?;
     let copy = name.clone(alloc)?;
-    if written_name(alloc, &copy)?.as_slice() != name.as_slice() {
-        return Err(DecodeError::Malformed);
-    }
-    Ok(Fields::one(alloc, name.as_slice())?)
+    as_written(alloc, &name, &copy)
 }
 
 /// What is written of a key.

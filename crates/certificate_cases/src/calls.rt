@@ -1,18 +1,20 @@
-//! Calls of the signer of seed 1 whose signatures have any length, one after the other.
+//! Calls of a signer of seed 1, one after the other.
 
 use crate::asking::{append_key, append_within, once_within, serial};
 use rpki_base::{
-    BgpsecSignatureAlgorithm, PublicKeyFormat, RpkiSignatureAlgorithm, SignatureAlgorithm,
+    BgpsecSignatureAlgorithm, PublicKeyFormat, RpkiSignatureAlgorithm, Scheme, SignatureAlgorithm,
 };
 use rpki_der::DecodeError;
-use rpki_signer::{AnyScheme, CallError, KeyError, LongSigner, Signer, SigningError};
+use rpki_signer::{
+    AnyScheme, CallError, KeyError, LongSigner, Signer, SigningError, ToyScheme, ToySigner,
+};
 use std::alloc::Global;
 use stored_cases::Fields;
 
-fn create(
+fn create<P: Scheme, S: Signer<P, KeyId = u64>>(
     alloc: Global,
     fields: &mut Fields,
-    signer: &mut LongSigner,
+    signer: &mut S,
     format: PublicKeyFormat,
 ) -> Result<(), DecodeError> {
     match signer.create_key(alloc, format) {
@@ -22,10 +24,10 @@ fn create(
     }
 }
 
-fn info(
+fn info<P: Scheme, S: Signer<P, KeyId = u64>>(
     alloc: Global,
     fields: &mut Fields,
-    signer: &mut LongSigner,
+    signer: &mut S,
     key: u64,
 ) -> Result<(), DecodeError> {
     match signer.get_key_info(alloc, &key) {
@@ -35,10 +37,10 @@ fn info(
     }
 }
 
-fn destroy(
+fn destroy<P: Scheme, S: Signer<P, KeyId = u64>>(
     alloc: Global,
     fields: &mut Fields,
-    signer: &mut LongSigner,
+    signer: &mut S,
     key: u64,
 ) -> Result<(), DecodeError> {
     match signer.destroy_key(&key) {
@@ -47,10 +49,10 @@ fn destroy(
     }
 }
 
-fn sign<Alg: SignatureAlgorithm>(
+fn sign<P: Scheme, S: Signer<P, KeyId = u64>, Alg: SignatureAlgorithm>(
     alloc: Global,
     fields: &mut Fields,
-    signer: &mut LongSigner,
+    signer: &mut S,
     key: u64,
     algorithm: Alg,
     message: &[u8],
@@ -62,10 +64,10 @@ fn sign<Alg: SignatureAlgorithm>(
     }
 }
 
-fn sign_once<Alg: SignatureAlgorithm>(
+fn sign_once<P: Scheme, S: Signer<P, KeyId = u64>, Alg: SignatureAlgorithm>(
     alloc: Global,
     fields: &mut Fields,
-    signer: &mut LongSigner,
+    signer: &mut S,
     algorithm: Alg,
     message: &[u8],
 ) -> Result<(), DecodeError> {
@@ -80,10 +82,10 @@ fn sign_once<Alg: SignatureAlgorithm>(
 }
 
 // So many octets that are drawn.
-fn draw(
+fn draw<P: Scheme, S: Signer<P, KeyId = u64>>(
     alloc: Global,
     fields: &mut Fields,
-    signer: &mut LongSigner,
+    signer: &mut S,
     count: u64,
 ) -> Result<(), DecodeError> {
     let Ok(count) = usize::try_from(count) else {
@@ -97,44 +99,50 @@ fn draw(
 }
 
 // Appends what a call without a number answers.
-fn append_plain(
+fn append_plain<P: Scheme, S: Signer<P, KeyId = u64>>(
     alloc: Global,
     fields: &mut Fields,
-    signer: &mut LongSigner,
+    signer: &mut S,
     call: &str,
     message: &[u8],
 ) -> Result<(), DecodeError> {
     match call {
-        "create_rsa" => create(alloc, fields, signer, PublicKeyFormat::Rsa),
-        "create_ec" => create(alloc, fields, signer, PublicKeyFormat::EcdsaP256),
+        "create_rsa" => create::<P, S>(alloc, fields, signer, PublicKeyFormat::Rsa),
+        "create_ec" => create::<P, S>(alloc, fields, signer, PublicKeyFormat::EcdsaP256),
         "once" => {
             let algorithm = RpkiSignatureAlgorithm::default();
-            sign_once(alloc, fields, signer, algorithm, message)
+            sign_once::<P, S, RpkiSignatureAlgorithm>(alloc, fields, signer, algorithm, message)
         }
-        "once_ec" => sign_once(alloc, fields, signer, BgpsecSignatureAlgorithm, message),
-        "once_within" => once_within::<AnyScheme, LongSigner>(alloc, fields, signer, message),
-        "serial" => serial::<AnyScheme, LongSigner>(alloc, fields, signer),
+        "once_ec" => sign_once::<P, S, BgpsecSignatureAlgorithm>(
+            alloc,
+            fields,
+            signer,
+            BgpsecSignatureAlgorithm,
+            message,
+        ),
+        "once_within" => once_within::<P, S>(alloc, fields, signer, message),
+        "serial" => serial::<P, S>(alloc, fields, signer),
         _ => Err(DecodeError::Malformed),
     }
 }
 
 // Appends what a call with a number answers.
-fn append_numbered(
+fn append_numbered<P: Scheme, S: Signer<P, KeyId = u64>>(
     alloc: Global,
     fields: &mut Fields,
-    signer: &mut LongSigner,
+    signer: &mut S,
     call: &str,
     number: u64,
     message: &[u8],
 ) -> Result<(), DecodeError> {
     match call {
-        "info" => info(alloc, fields, signer, number),
-        "destroy" => destroy(alloc, fields, signer, number),
+        "info" => info::<P, S>(alloc, fields, signer, number),
+        "destroy" => destroy::<P, S>(alloc, fields, signer, number),
         "sign" => {
             let algorithm = RpkiSignatureAlgorithm::default();
-            sign(alloc, fields, signer, number, algorithm, message)
+            sign::<P, S, RpkiSignatureAlgorithm>(alloc, fields, signer, number, algorithm, message)
         }
-        "sign_ec" => sign(
+        "sign_ec" => sign::<P, S, BgpsecSignatureAlgorithm>(
             alloc,
             fields,
             signer,
@@ -142,33 +150,62 @@ fn append_numbered(
             BgpsecSignatureAlgorithm,
             message,
         ),
-        "rand" => draw(alloc, fields, signer, number),
-        call => append_within::<AnyScheme, LongSigner>(
-            alloc, fields, signer, call, &number, message,
-        ),
+        "rand" => draw::<P, S>(alloc, fields, signer, number),
+        call => append_within::<P, S>(alloc, fields, signer, call, &number, message),
     }
 }
 
 // Appends what a call answers: `CALL`, or `CALL:NUMBER`.
-fn append(
+fn append<P: Scheme, S: Signer<P, KeyId = u64>>(
     alloc: Global,
     fields: &mut Fields,
-    signer: &mut LongSigner,
+    signer: &mut S,
     word: &str,
     message: &[u8],
 ) -> Result<(), DecodeError> {
     let Some((call, number)) = word.split_once(':') else {
-        return append_plain(alloc, fields, signer, word, message);
+        return append_plain::<P, S>(alloc, fields, signer, word, message);
     };
     match number.parse::<u64>() {
-        Ok(number) => append_numbered(alloc, fields, signer, call, number, message),
+        Ok(number) => append_numbered::<P, S>(alloc, fields, signer, call, number, message),
         Err(_) => Err(DecodeError::Malformed),
     }
 }
 
-/// What the calls answer, and how many signatures were too long. The argument: `COUNT/CALL/CALL..`, where COUNT is how many octets a
+// A signer of seed 1 that fails at the calls with these numbers.
+fn signer_of(alloc: Global, failing: &str) -> Result<ToySigner, DecodeError> {
+    let mut numbers = Vec::new(alloc);
+    for word in failing.split(',') {
+        match word.parse::<u64>() {
+            Ok(number) => numbers.push(number)?,
+            Err(_) if word == "none" => {}
+            Err(_) => return Err(DecodeError::Malformed),
+        }
+    }
+    Ok(ToySigner::new(alloc, 1, &numbers)?)
+}
+
+/// What the calls of the toy signer answer, and how many of them failed. The argument: `FAILING/CALL/CALL..`, where FAILING are the numbers of the calls
+/// that fail, with `,` between them, or `none`.
+pub fn toy_answer(alloc: Global, message: &[u8], argument: &[u8]) -> Result<Fields, DecodeError> {
+    let Ok(text) = std::str::from_utf8(argument) else {
+        return Err(DecodeError::Malformed);
+    };
+    let Some((failing, calls)) = text.split_once('/') else {
+        return Err(DecodeError::Malformed);
+    };
+    let mut signer = signer_of(alloc, failing)?;
+    let mut fields = Fields::new(alloc);
+    for word in calls.split('/') {
+        append::<ToyScheme, ToySigner>(alloc, &mut fields, &mut signer, word, message)?;
+    }
+    fields.print(alloc, signer.faults())?;
+    Ok(fields)
+}
+
+/// What the calls of a signer whose signatures have any length answer, and how many signatures were too long. The argument: `COUNT/CALL/CALL..`, where COUNT is how many octets a
 /// signature has.
-pub fn answer(alloc: Global, message: &[u8], argument: &[u8]) -> Result<Fields, DecodeError> {
+pub fn long_answer(alloc: Global, message: &[u8], argument: &[u8]) -> Result<Fields, DecodeError> {
     let Ok(text) = std::str::from_utf8(argument) else {
         return Err(DecodeError::Malformed);
     };
@@ -181,7 +218,7 @@ pub fn answer(alloc: Global, message: &[u8], argument: &[u8]) -> Result<Fields, 
     let mut signer = LongSigner::new(alloc, 1, count)?;
     let mut fields = Fields::new(alloc);
     for word in calls.split('/') {
-        append(alloc, &mut fields, &mut signer, word, message)?;
+        append::<AnyScheme, LongSigner>(alloc, &mut fields, &mut signer, word, message)?;
     }
     fields.print(alloc, signer.overlong())?;
     Ok(fields)
