@@ -185,8 +185,8 @@ fn signer_of(alloc: Global, failing: &str) -> Result<ToySigner, DecodeError> {
     Ok(ToySigner::new(alloc, 1, &numbers)?)
 }
 
-/// What the calls of the toy signer answer, and how many of them failed. The argument: `FAILING/CALL/CALL..`, where FAILING are the numbers of the calls
-/// that fail, with `,` between them, or `none`.
+/// What the calls of the toy signer answer, and how many of them failed. The argument: `FAILING/CALL/CALL..`, where FAILING are the
+/// numbers of the calls that fail, with `,` between them, or `none`.
 pub fn toy_answer(alloc: Global, message: &[u8], argument: &[u8]) -> Result<Fields, DecodeError> {
     let Ok(text) = std::str::from_utf8(argument) else {
         return Err(DecodeError::Malformed);
@@ -203,8 +203,8 @@ pub fn toy_answer(alloc: Global, message: &[u8], argument: &[u8]) -> Result<Fiel
     Ok(fields)
 }
 
-/// What the calls of a signer whose signatures have any length answer, and how many signatures were too long. The argument: `COUNT/CALL/CALL..`, where COUNT is how many octets a
-/// signature has.
+/// What the calls of a signer whose signatures have any length answer, and how many signatures were too long. The argument:
+/// `COUNT/CALL/CALL..`, where COUNT is how many octets a signature has.
 pub fn long_answer(alloc: Global, message: &[u8], argument: &[u8]) -> Result<Fields, DecodeError> {
     let Ok(text) = std::str::from_utf8(argument) else {
         return Err(DecodeError::Malformed);
