@@ -2,6 +2,10 @@
 //! that a program writes of itself, and a toy signer with a key.
 #![tactic(auto)]
 
+ghost use Rattle.std.specs.Prelude.{◌≡◌, ◌⊎◌, ◌∷◌, [], codes, IfErr, IfOk, IfSome, IsNone};
+ghost use Rattle.rpki_base.specs.PublicKey.{KeyFields};
+ghost use Rattle.rpki_signer.specs.Signer.{Holds};
+ghost use Rattle.rpki_signer.specs.ToySigner.{state_of};
 ghost use Rattle.rpki_ca.specs.Lines.{EndsWith};
 ghost use Rattle.rpki_ca.specs.Seen.{seen};
 
@@ -24,7 +28,9 @@ pub struct Own<'a> {
 }
 
 /// The words behind the program's name. `Usage` where one isn't UTF-8, and otherwise `OutOfMemory`.
-pub fn words_of<R: Env + AllocGlobal>(rt: &R) -> Result<Words, Refusal> {
+pub fn words_of<R: Env + AllocGlobal>(rt: &R) -> Result<Words, Refusal>
+    ensures err { IfErr result (λ e. (e ≡ Refusal.Usage) ⊎ (e ≡ Refusal.OutOfMemory)) }
+{
     let mut words = Words::new(rt.alloc());
     let all = match env::args(rt) {
         Ok(all) => all,
@@ -40,7 +46,13 @@ pub fn words_of<R: Env + AllocGlobal>(rt: &R) -> Result<Words, Refusal> {
 }
 
 /// The text that the only word asks for, `--help` or `--version`; None exactly for all other words.
-pub fn own_text<'a>(words: &Words, own: Own<'a>) -> Option<&'a [u8]> {
+pub fn own_text<'a>(words: &Words, own: Own<'a>) -> Option<&'a [u8]>
+    ensures some { IfSome result (λ text.
+        ((words.now ≡ codes "--help" ∷ []) × (text.now ≡ own.entry.help.now))
+        ⊎ ((words.now ≡ codes "--version" ∷ []) × (text.now ≡ own.entry.version.now))) }
+    ensures none { IsNone result → (words.now ≡ codes "--help" ∷ [] → ⊥)
+        × (words.now ≡ codes "--version" ∷ [] → ⊥) }
+{
     if words.len() != 1 {
         return None;
     }
@@ -63,7 +75,10 @@ pub fn write_text<O: Sink>(output: &mut O, text: &[u8]) -> Status
 
 /// A signer of the toy scheme, which makes its keys from the seed, and the identifier of its one key.
 /// `Signer` where the signer makes none.
-pub fn signer_of(alloc: Global, seed: u64) -> Result<(ToySigner, u64), Refusal> {
+pub fn signer_of(alloc: Global, seed: u64) -> Result<(ToySigner, u64), Refusal>
+    ensures ok { IfOk result (λ r. (key : KeyFields) × Holds (state_of r.0).keyring r.1 key) }
+    ensures err { IfErr result (λ e. (e ≡ Refusal.Signer) ⊎ (e ≡ Refusal.OutOfMemory)) }
+{
     let mut signer = ToySigner::new(alloc, seed, &[])?;
     match Signer::<ToyScheme>::create_key(&mut signer, alloc, PublicKeyFormat::Rsa) {
         Ok(key) => Ok((signer, key)),

@@ -27,8 +27,8 @@ impl Answers for Brand {
     ghost answers = { [] };
 }
 
-/// The scheme that answers are: under RSA keys those signatures hold of which a question asked, to whose answer it was yes. It has
-/// no value.
+/// The scheme that answers are: under RSA keys those signatures hold of which a question asks, where the first that does was answered
+/// with yes. It has no value.
 pub struct AnswerScheme<A: Answers> {
     of: PhantomData<A>,
 }

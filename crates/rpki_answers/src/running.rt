@@ -80,7 +80,7 @@ fn task_in(alloc: Global, words: &Words) -> Result<Task, Refusal>
 /// `questions KEY..` and `receive KIND MOMENT ANSWERS KEY..` read a signed message in hexadecimal, as `run` of rpki_ca does.
 /// `questions` writes a line for each of [`questions`]: its name, the key in DER, the octets and the signature, in hexadecimal, with
 /// one space between. `receive` writes what `receive` of `run` does, where ANSWERS has a digit for each question, 1 where the
-/// signature holds and else 0.
+/// signature holds and else 0; Usage where it has more digits or fewer.
 ///
 /// `prepare KIND MOMENT SERIAL ISSUER-KEY ONE-OFF-KEY` reads a message in XML, and writes three lines, the octets that are to be
 /// signed of the attributes, the CRL and the certificate. `finish` with the same words and three signatures behind them, in this

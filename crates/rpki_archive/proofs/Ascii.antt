@@ -1,5 +1,5 @@
 -- The words of the command `receive` are text.
-use Rattle.std.proofs.Common.{◌≡◌, ◌&&◌, ◌<◌, ◌≤◌, ℕ, ℤ, pos, negsuc, Bool, true, false, nat_lt, None, Some, Result, Ok, Err, List, [], ◌∷◌, codes, refl, sym, subst, arith}
+use Rattle.std.proofs.Common.{◌≡◌, ◌<◌, ◌≤◌, ℕ, ℤ, pos, negsuc, true, nat_lt, None, Some, Result, Ok, Err, List, [], ◌∷◌, codes, refl, sym, subst, arith}
 use Rattle.std.specs.List.{list_all}
 use Rattle.std.specs.Result.{result_ok}
 use Rattle.std.specs.Str.{IsAscii, IsUtf8}

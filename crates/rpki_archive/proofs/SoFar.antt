@@ -1,6 +1,5 @@
 -- Lines answered one behind the other.
-use Rattle.std.proofs.Common.{◌≡◌, ◌+◌, ◌<◌, ◌≤◌, ◌^◌, ℕ, suc, Bool, true, false, List, [], ◌∷◌, ◌++◌, length, map, take, Option, None, Some, IfSome, Result, Ok, Err, IsErrAnd, is_ok, if◌then◌else◌, refl, sym, ap, subst, ◌∙◌, arith, length-append}
-use Rattle.std.specs.Prelude.{slice_get}
+use Rattle.std.proofs.Common.{◌≡◌, ◌+◌, ◌<◌, ◌≤◌, ◌^◌, ℕ, suc, Bool, true, false, List, [], ◌∷◌, ◌++◌, length, map, take, Option, Result, Ok, Err, IsErrAnd, is_ok, if◌then◌else◌, refl, sym, ap, subst, ◌∙◌, arith, length-append}
 use Rattle.std.specs.Io.KnownBytes.{Appends}
 use Rattle.std.proofs.lemmas.List.{append_assoc, append-nil, length-map}
 use Rattle.rpki_base.specs.Scheme.{Relation}
@@ -10,7 +9,7 @@ use Rattle.rpki_ca.specs.declared.lines.Stop.{Stop}
 use Rattle.rpki_ca.specs.declared.refusals.Refusal.{Refusal}
 use Rattle.rpki_archive.specs.Explanation.{AreExplanations, IsExplanation}
 use Rattle.rpki_archive.specs.Verdict.{AreLineAnswers, IsLineAnswer, accepted_of, total_of, verdict_text}
-use Rattle.rpki_archive.specs.Checking.{AreAllExplanations, AreAllVerdicts, AreFirstExplanations, AreFirstVerdicts, EndsTask, IsTask, task_word}
+use Rattle.rpki_archive.specs.Checking.{AreAllExplanations, AreAllVerdicts, AreFirstExplanations, AreFirstVerdicts, IsTask, task_word}
 use Rattle.rpki_archive.specs.declared.checking.Task.{Task}
 use Rattle.rpki_archive.specs.declared.checking.Task.TheVariants.{Batch, Explain}
 use Rattle.rpki_archive.specs.Lines.{IsLine}
@@ -195,21 +194,7 @@ few_lines scheme input line behind next counted taken old new so le step =
 pub few_accepted : (scheme : Relation) (lines behind : List (List ℕ)) (counted taken : ℕ) (old new : Option (List ℕ)) (so : JudgedSo scheme lines behind counted taken old new) → taken ≤ counted
 few_accepted scheme lines behind counted taken old new so = let count = so.count in let accepted = so.accepted in let few = accepted_few so.answers in omega (arith, count, accepted, few)
 
--- ---- the only word
-
-pub only_word : (words : List (List ℕ)) (held word : List ℕ) → length words ≡ 1 → slice_get words 0 ≡ Some held → held ≡ word → words ≡ word ∷ []
-only_word [] held word one at is = absurd (none at)
-  where
-    none : None ≡ Some held → ⊥
-    none e = cc
-only_word (w ∷ []) held word one at is = let same : w ≡ held = some_same w held at in ap (λ (x : List ℕ). x ∷ []) (same ∙ is)
-  where
-    some_same : (a b : List ℕ) → Some a ≡ Some b → a ≡ b
-    some_same a b e = cc
-only_word (w ∷ v ∷ words) held word one at is = absurd (many words one)
-  where
-    many : (ws : List (List ℕ)) → length (w ∷ v ∷ ws) ≡ 1 → ⊥
-    many ws e = omega (arith, e)
+-- ---- the task
 
 pub one_task : (words : List (List ℕ)) (one other : Task) → IsTask words one → IsTask words other → one ≡ other
 one_task words Batch Batch a b = refl

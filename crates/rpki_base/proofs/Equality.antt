@@ -2,6 +2,7 @@
 use Rattle.std.proofs.Common.{◌≡◌, ℕ, Bool, true, List, ap, ◌∙◌}
 use Rattle.std.specs.Prelude.{◌&&◌, bytes_eq}
 use Rattle.rpki_common.proofs.Truths.{both, are_true, same_octets, equal_octets}
+use Rattle.rpki_base.specs.Signature.{SignatureParts}
 use Rattle.rpki_base.specs.SignedData.{SignedParts}
 
 abbrev made : {A : Type 0} → List ℕ → A → List ℕ → SignedParts A
@@ -18,3 +19,19 @@ equal_same eq a b same e =
 
 pub same_equal : {A : Type 0} (eq : A → A → Bool) (a b : SignedParts A) → ((x : A) → eq x x ≡ true) → a ≡ b → (bytes_eq a.slice b.slice && (eq a.signature.algorithm b.signature.algorithm && bytes_eq a.signature.value b.signature.value)) ≡ true
 same_equal eq a b equal e = rw e (are_true _ _ (equal_octets b.slice) (are_true _ _ (equal b.signature.algorithm) (equal_octets b.signature.value)))
+
+-- ---- signatures
+
+abbrev signature : {A : Type 0} → A → List ℕ → SignatureParts A
+signature a v = record { algorithm = a; value = v }
+
+same_signature_parts : {A : Type 0} (a a' : A) (v v' : List ℕ) → a ≡ a' → v ≡ v' → signature a v ≡ signature a' v'
+same_signature_parts a a' v v' e f = ap (λ x. signature x v) e ∙ ap (λ x. signature a' x) f
+
+pub equal_signatures : {A : Type 0} (eq : A → A → Bool) (a b : SignatureParts A) → ((x y : A) → eq x y ≡ true → x ≡ y) → (eq a.algorithm b.algorithm && bytes_eq a.value b.value) ≡ true → a ≡ b
+equal_signatures eq a b same e =
+    let q = both _ _ e in
+    same_signature_parts _ _ _ _ (same _ _ q.0) (same_octets _ _ q.1)
+
+pub same_signatures : {A : Type 0} (eq : A → A → Bool) (a b : SignatureParts A) → ((x : A) → eq x x ≡ true) → a ≡ b → (eq a.algorithm b.algorithm && bytes_eq a.value b.value) ≡ true
+same_signatures eq a b equal e = rw e (are_true _ _ (equal b.algorithm) (equal_octets b.value))

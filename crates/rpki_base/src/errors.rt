@@ -12,7 +12,7 @@ pub struct VerificationError;
 #[derive(Clone, Copy, Debug, PartialEq, Eq)]
 pub struct SignatureVerificationError;
 
-/// A signer of the toy scheme was told to fail. It prints as `toy fault`.
+/// A signer of the toy scheme was told to fail, or has no number left. It prints as `toy fault`.
 #[derive(Clone, Copy, Debug, PartialEq, Eq)]
 pub struct ToyFault;
 

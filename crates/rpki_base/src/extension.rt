@@ -48,7 +48,7 @@ impl<'a> Extension<'a> {
 }
 
 /// The extension that stands next: a SEQUENCE of an object identifier, a BOOLEAN or none, and an OCTET STRING (RFC 5280, 4.1).
-/// What it holds isn't read. It ticks once for each header and each end mark that it reads.
+/// What it holds isn't read. It ticks each time it looks at a header, and for each end mark.
 pub fn take_extension_counted<'a, L: Ledger>(
     alloc: Global,
     cursor: &mut Cursor<'a>,
@@ -107,8 +107,8 @@ fn take_extension<F: FindsExtensions, L: Ledger>(
     found.found_with(alloc, &extension, steps)
 }
 
-/// What was found before, and what the extensions say that stand next in a SEQUENCE. It ticks once for each header and each end
-/// mark that it reads.
+/// What was found before, and what the extensions say that stand next in a SEQUENCE. It ticks each time it looks at a header, and
+/// for each end mark.
 pub fn take_extensions_counted<F: FindsExtensions, L: Ledger>(
     alloc: Global,
     cursor: &mut Cursor<'_>,

@@ -65,8 +65,8 @@ impl KeyIdentifier {
         &self.octets
     }
 
-    /// The key identifier under `tag` that stands next, as `take_under` reads it. It ticks once for each header and each end mark that it
-    /// reads.
+    /// The key identifier under `tag` that stands next, as `take_under` reads it. It ticks each time it looks at a header, and
+    /// for each end mark.
     pub fn take_under_counted<L: Ledger>(
         alloc: Global,
         cursor: &mut Cursor<'_>,
@@ -112,7 +112,7 @@ impl KeyIdentifier {
         KeyIdentifier::take_under_within::<Brand>(alloc, cursor, tag, Blank::new(1))
     }
 
-    /// The key identifier that stands next as an OCTET STRING. It ticks once for each header and each end mark that it reads.
+    /// The key identifier that stands next as an OCTET STRING. It ticks each time it looks at a header, and for each end mark.
     pub fn take_from_counted<L: Ledger>(
         alloc: Global,
         cursor: &mut Cursor<'_>,

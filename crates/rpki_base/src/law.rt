@@ -13,17 +13,23 @@ ghost use Rattle.rpki_base.specs.PublicKey.{KeyFields};
 ghost use Rattle.rpki_base.specs.RpkiSignatureAlgorithm.{RpkiAlgorithm};
 ghost use Rattle.rpki_base.specs.declared.algorithm.PublicKeyFormat.{PublicKeyFormat};
 ghost use Rattle.rpki_base.specs.declared.algorithm.SigningAlgorithm.{SigningAlgorithm};
+ghost use Rattle.rpki_base.specs.declared.errors.SignatureVerificationError.{SignatureVerificationError};
+ghost use Rattle.rpki_base.specs.declared.errors.ToyFault.{ToyFault};
+ghost use Rattle.rpki_base.specs.declared.errors.VerificationError.{VerificationError};
+ghost use Rattle.rpki_base.specs.declared.rpki_algorithm.RsaIdentifier.{RsaIdentifier};
 ghost use Rattle.rpki_base.specs.declared.validation.ValidationError.{ValidationError};
+ghost use Rattle.rpki_base.specs.declared.validation.ValidationKind.{ValidationKind};
 
 use crate::algorithm::{PublicKeyFormat, SigningAlgorithm};
 use crate::bgpsec_algorithm::BgpsecSignatureAlgorithm;
+use crate::errors::{SignatureVerificationError, ToyFault, VerificationError};
 use crate::key_identifier::KeyIdentifier;
 use crate::name::Name;
 use crate::public_key::PublicKey;
-use crate::rpki_algorithm::RpkiSignatureAlgorithm;
+use crate::rpki_algorithm::{RpkiSignatureAlgorithm, RsaIdentifier};
 use crate::serial::Serial;
 use crate::time::Time;
-use crate::validation::ValidationError;
+use crate::validation::{ValidationError, ValidationKind};
 use crate::validity::Validity;
 
 /// What `Serial::encode` writes is read as the same serial number, in both modes.
@@ -64,6 +70,15 @@ pub fn equal_values_are_the_same()
         (⟦<RpkiSignatureAlgorithm as PartialEq>⟧.eq a b ≡ true) ↔ (a ≡ b) }
     ensures bgpsec_algorithm { (a b : Unit {0})
         → (⟦<BgpsecSignatureAlgorithm as PartialEq>⟧.eq a b ≡ true) ↔ (a ≡ b) }
+    ensures rsa_identifier { (a b : RsaIdentifier)
+        → (⟦<RsaIdentifier as PartialEq>⟧.eq a b ≡ true) ↔ (a ≡ b) }
     ensures error { (a b : ValidationError)
         → (⟦<ValidationError as PartialEq>⟧.eq a b ≡ true) ↔ (a ≡ b) }
+    ensures error_kind { (a b : ValidationKind)
+        → (⟦<ValidationKind as PartialEq>⟧.eq a b ≡ true) ↔ (a ≡ b) }
+    ensures verification { (a b : VerificationError)
+        → (⟦<VerificationError as PartialEq>⟧.eq a b ≡ true) ↔ (a ≡ b) }
+    ensures signature_verification { (a b : SignatureVerificationError)
+        → (⟦<SignatureVerificationError as PartialEq>⟧.eq a b ≡ true) ↔ (a ≡ b) }
+    ensures toy_fault { (a b : ToyFault) → (⟦<ToyFault as PartialEq>⟧.eq a b ≡ true) ↔ (a ≡ b) }
 {}

@@ -67,7 +67,7 @@ pub fn extensions_are_named()
     ensures authority { AUTHORITY_KEY_IDENTIFIER ≡ spec.authority_key_identifier }
 {}
 
-/// The object identifiers that certificates, CRLs and messages name have these texts, the dotted names of the standards.
+/// The object identifiers of keys, signatures, names and extensions have these texts, the dotted names of the standards.
 pub fn identifiers_have_texts()
     ensures rsa_encryption { oid_text spec.rsa_encryption ≡ codes "1.2.840.113549.1.1.1" }
     ensures sha256_with_rsa { oid_text spec.sha256_with_rsa ≡ codes "1.2.840.113549.1.1.11" }

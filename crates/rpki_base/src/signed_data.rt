@@ -6,6 +6,7 @@ ghost use Rattle.rpki_der.specs.Value.{Value, Begins};
 ghost use Rattle.rpki_der.specs.Takes.{Takes};
 ghost use Rattle.rpki_der.specs.Ticks.{TakesCounted, TakesRestCounted};
 ghost use Rattle.rpki_der.specs.Whole.{HoldsOne};
+ghost use Rattle.rpki_base.specs.Signature.{SignatureParts};
 ghost use Rattle.rpki_base.specs.SignedData.{SignedParts, algorithm_in, signature_in, signed_data, spelled_data, CanBeSpelled};
 
 use crate::bits::{write_bits, write_constructed};
@@ -126,6 +127,8 @@ pub fn equal_data_are_the_same<Alg: SignatureAlgorithm>()
         → a ≡ b }
     ensures equal { (a b : SignedParts Alg) → a ≡ b
         → ⟦<SignedData<Alg> as PartialEq>⟧.eq a b ≡ true }
+    ensures signature { (a b : SignatureParts Alg)
+        → (⟦<Signature<Alg> as PartialEq>⟧.eq a b ≡ true) ↔ (a ≡ b) }
 {}
 
 /// # Encoding

@@ -111,7 +111,7 @@ impl Time {
         }
     }
 
-    /// The time that stands next, as `take_from` reads it. It ticks once for each header that it reads.
+    /// The time that stands next, as `take_from` reads it. It ticks each time it looks at a header.
     pub fn take_from_counted<L: Ledger>(
         cursor: &mut Cursor<'_>,
         steps: &mut Steps<L>,

@@ -6,19 +6,19 @@ ghost use Rattle.rpki_base.specs.Checks as spec;
 
 use std::fmt;
 
-/// What a check looks at.
+/// The kind of a check: each list says which of its numbers have which.
 #[derive(Clone, Copy, Debug, PartialEq, Eq)]
 pub enum ValidationKind {
-    /// What a certificate says of itself.
+    /// Mostly a look at what a value says of itself.
     Inspection,
-    /// What it says of a key or a moment.
+    /// Mostly a comparison with a key, a moment or another value.
     Verification,
 }
 
-/// The first check of a call's list that fails, by its number from 1, and its kind. It prints as `check n failed`.
+/// The first check of a call's list that fails, by its number in the list, and its kind. It prints as `check n failed`.
 #[derive(Clone, Copy, Debug, PartialEq, Eq)]
 pub struct ValidationError {
-    /// What the check looks at.
+    /// Its kind.
     pub kind: ValidationKind,
     /// Its number.
     pub check: u8,

@@ -78,7 +78,7 @@ impl Validity {
         Some(Validity::new(not_before, not_after))
     }
 
-    /// The validity that stands next, as `take_from` reads it. It ticks once for each header and each end mark that it reads.
+    /// The validity that stands next, as `take_from` reads it. It ticks each time it looks at a header, and for each end mark.
     pub fn take_from_counted<L: Ledger>(
         cursor: &mut Cursor<'_>,
         steps: &mut Steps<L>,

@@ -582,3 +582,19 @@ limited words c a = by_verb a.verb a.ask
     by_verb verbs.Create p = subst IsLimited (sym p.is) tt
     by_verb verbs.Setup p = subst IsLimited (sym p.is) tt
     by_verb verbs.Make p = subst IsLimited (sym p.is) p.make.counts.1
+
+-- ---- the only word
+
+pub only_word : (words : List (List ℕ)) (held word : List ℕ) → length words ≡ 1 → slice_get words 0 ≡ Some held → held ≡ word → words ≡ word ∷ []
+only_word [] held word one at is = absurd (none at)
+  where
+    none : None ≡ Some held → ⊥
+    none e = cc
+only_word (w ∷ []) held word one at is = let same : w ≡ held = some_same w held at in ap (λ (x : List ℕ). x ∷ []) (same ∙ is)
+  where
+    some_same : (a b : List ℕ) → Some a ≡ Some b → a ≡ b
+    some_same a b e = cc
+only_word (w ∷ v ∷ words) held word one at is = absurd (many words one)
+  where
+    many : (ws : List (List ℕ)) → length (w ∷ v ∷ ws) ≡ 1 → ⊥
+    many ws e = omega (arith, e)

@@ -1,5 +1,5 @@
 -- Messages that a program signs as its answers, and why one isn't signed.
-use Rattle.std.proofs.Common.{◌≡◌, ◌≢◌, ◌<◌, ◌^◌, ◌≤ℤ◌, ◌⊎◌, inl, inr, ℕ, ℤ, Some, Result, Ok, Err, List, [], ◌∷◌, ◌++◌, length, refl, sym, ap, subst, ◌∙◌}
+use Rattle.std.proofs.Common.{◌≡◌, ◌≢◌, ◌<◌, ◌^◌, ◌≤ℤ◌, ◌⊎◌, inl, inr, ℕ, ℤ, Some, Result, Ok, Err, List, [], ◌++◌, length, refl, sym, ap, subst, ◌∙◌}
 use Rattle.std.specs.Prelude.{IsErrOf}
 use Rattle.rpki_base.specs.PublicKey.{KeyFields}
 use Rattle.rpki_base.specs.Scheme.{Relation}
@@ -13,6 +13,7 @@ use Rattle.rpki_signer.proofs.States.{then_rose}
 use Rattle.rpki_sigmsg.specs.declared.create_error.CreateError.{CreateError}
 use Rattle.rpki_sigmsg.specs.declared.create_error.CreateError.TheVariants as create
 use Rattle.rpki_sigmsg.specs.Checks.{IsBelieved}
+use Rattle.rpki_sigmsg.specs.FirstRefusals.{IsFirstRefusal}
 use Rattle.rpki_sigmsg.specs.Making.{window, HasWindow, IsCreated, CreateFails}
 use Rattle.rpki_sigmsg.specs.Message.{MessageFields, signed_message}
 use Rattle.rpki_sigmsg.specs.Spelling.{rewritten, CanBeSpelled}
@@ -50,27 +51,28 @@ module _ {T E : Type 0} where
   told e wanted other (inl is) = cc
   told e wanted other (inr is) = let memory : e ≡ create.OutOfMemory = cc in absurd (other memory)
 
-  pub fails_to_sign : {I : Type 0} (message : Received) (when : ℤ) (signer : SignerSeen I) (e : CreateError E) → CreateFails (text_of message) when signer.id signer.before signer.after e
-      → ((HasWindow when → ⊥) → IsErrOf (err_as e) create.Moment ⊎ IsErrOf (err_as e) create.OutOfMemory) → TellsText message when (err_as e) → e ≢ create.OutOfMemory → FailsToSign when signer message e
-  fails_to_sign message when signer e cause moment long other = record {
+  pub fails_to_sign : {I : Type 0} (scheme : Relation) (message : Received) (when : ℤ) (signer : SignerSeen I) (e : CreateError E) → CreateFails (text_of message) when signer.id signer.before signer.after e
+      → ((HasWindow when → ⊥) → IsErrOf (err_as e) create.Moment ⊎ IsErrOf (err_as e) create.OutOfMemory) → TellsText message when (err_as e) → IsFirstRefusal scheme (text_of message) when signer.id signer.before signer.after e → e ≢ create.OutOfMemory → FailsToSign scheme when signer message e
+  fails_to_sign scheme message when signer e cause moment long first other = record {
     cause = cause;
     moment = λ none. told e create.Moment other (moment none);
     too_long = λ w l. told e create.TooLong other (long w l);
+    first_refusal = first;
   }
 
 -- as a program tells it
 pub not_memory : {E : Type 0} (e : CreateError E) → refusal_of_create e ≢ refusals.OutOfMemory → e ≢ create.OutOfMemory
 not_memory e other is = other (ap refusal_of_create is)
 
-pub signing_cause : {I E : Type 0} (when : ℤ) (signer : SignerSeen I) (message : Received) (e : CreateError E) → FailsToSign when signer message e → refusal_of_create e ≢ refusals.OutOfMemory → IsSigningCause when signer message (refusal_of_create e)
-signing_cause when signer message create.Moment f other = f.cause
-signing_cause when signer message create.TooLong f other = elim f.cause.1 [ inl long ↦ inr long | inr short ↦ inl short.1 ]
-signing_cause when signer message create.KeyReused f other = f.cause.1
-signing_cause when signer message (create.Signing signing.KeyNotFound) f other = f.cause.2
-signing_cause when signer message (create.Signing signing.IncompatibleKey) f other = f.cause.2
-signing_cause when signer message (create.Signing (signing.Signer s)) f other = f.cause.2
-signing_cause when signer message (create.Signing signing.OutOfMemory) f other = absurd (other refl)
-signing_cause when signer message create.OutOfMemory f other = absurd (other refl)
+pub signing_cause : {I E : Type 0} (scheme : Relation) (when : ℤ) (signer : SignerSeen I) (message : Received) (e : CreateError E) → FailsToSign scheme when signer message e → refusal_of_create e ≢ refusals.OutOfMemory → IsSigningCause when signer message (refusal_of_create e)
+signing_cause scheme when signer message create.Moment f other = f.cause
+signing_cause scheme when signer message create.TooLong f other = elim f.cause.1 [ inl long ↦ inr long | inr short ↦ inl short.1 ]
+signing_cause scheme when signer message create.KeyReused f other = f.cause.1
+signing_cause scheme when signer message (create.Signing signing.KeyNotFound) f other = f.cause.2
+signing_cause scheme when signer message (create.Signing signing.IncompatibleKey) f other = f.cause.2
+signing_cause scheme when signer message (create.Signing (signing.Signer s)) f other = f.cause.2
+signing_cause scheme when signer message (create.Signing signing.OutOfMemory) f other = absurd (other refl)
+signing_cause scheme when signer message create.OutOfMemory f other = absurd (other refl)
 
 -- ---- the messages of a run
 

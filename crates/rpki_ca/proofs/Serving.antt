@@ -10,6 +10,7 @@ use Rattle.rpki_signer.specs.Signer.{Holds}
 use Rattle.rpki_sigmsg.specs.declared.create_error.CreateError.{CreateError}
 use Rattle.rpki_sigmsg.specs.declared.create_error.CreateError.TheVariants as create
 use Rattle.rpki_sigmsg.specs.Checks.{IsBelieved}
+use Rattle.rpki_sigmsg.specs.FirstRefusals.{IsFirstRefusal}
 use Rattle.rpki_sigmsg.specs.Making.{window, HasWindow, IsCreated, CreateFails}
 use Rattle.rpki_sigmsg.specs.Message.{MessageFields, signed_message}
 use Rattle.rpki_sigmsg.specs.Spelling.{rewritten, CanBeSpelled}
@@ -37,10 +38,10 @@ module _ {I E C : Type 0} (scheme : Relation) (when : ℤ) (signer : SignerSeen 
   signed_so (Ok c) writable created believed again tells = signed_as scheme message when signer (Ok c) c (signed_of c) refl writable created believed again tells
   signed_so (Err e) writable created believed again tells = tt
 
-  pub fails_so : (r : Result C (CreateError E)) → IsCreatedOrFails r → ((HasWindow when → ⊥) → IsErrOf r create.Moment ⊎ IsErrOf r create.OutOfMemory) → TellsText message when r
-      → IfErr r (λ e. e ≢ create.OutOfMemory → FailsToSign when signer message e)
-  fails_so (Ok c) cause moment tells = tt
-  fails_so (Err e) cause moment tells = fails_to_sign message when signer e cause moment tells
+  pub fails_so : (r : Result C (CreateError E)) → IsCreatedOrFails r → ((HasWindow when → ⊥) → IsErrOf r create.Moment ⊎ IsErrOf r create.OutOfMemory) → TellsText message when r → IfErr r (IsFirstRefusal scheme (text_of message) when signer.id signer.before signer.after)
+      → IfErr r (λ e. e ≢ create.OutOfMemory → FailsToSign scheme when signer message e)
+  fails_so (Ok c) cause moment tells first = tt
+  fails_so (Err e) cause moment tells first = fails_to_sign scheme message when signer e cause moment tells first
 
 -- ---- lines, one behind the other
 

@@ -1,11 +1,12 @@
 -- Messages that a program signs as its answers, and why one isn't signed.
-use Rattle.std.specs.Prelude.{◌≡◌, ◌<◌, ◌≤◌, ◌^◌, ◌⊎◌, ⊤, ℕ, ℤ, length}
+use Rattle.std.specs.Prelude.{◌≡◌, ◌<◌, ◌≤◌, ◌^◌, ◌⊎◌, ⊤, ℤ, length}
 use Rattle.rpki_common.specs.Causes.{Rose}
 use Rattle.rpki_base.specs.declared.algorithm.SigningAlgorithm.TheVariants.{RsaSha256}
 use Rattle.rpki_base.specs.Scheme.{Relation}
 use Rattle.rpki_signer.specs.Signer.{Lacks, IsUnfit}
 use Rattle.rpki_sigmsg.specs.declared.create_error.CreateError.{CreateError}
 use Rattle.rpki_sigmsg.specs.declared.create_error.CreateError.TheVariants as create
+use Rattle.rpki_sigmsg.specs.FirstRefusals.{IsFirstRefusal}
 use Rattle.rpki_sigmsg.specs.Making.{CreateFails, HasWindow, IsCreated, IsReused}
 use Rattle.rpki_sigmsg.specs.Message.{MessageFields}
 use Rattle.rpki_sigmsg.specs.Spelling.{CanBeSpelled, rewritten}
@@ -29,12 +30,14 @@ pub record IsSignedAs {Id : Type 0} (scheme : Relation) (when : ℤ) (signer : S
       → IsReceivable scheme (protocol_of message) (rewritten signed) message when signer
 
 -- It isn't signed for this cause: that the moment has no window, and else that the message's text has
--- more than 2^31 octets, are always told.
-pub record FailsToSign {Id E : Type 0} (when : ℤ) (signer : SignerSeen Id) (message : Received)
-    (error : CreateError E) : Type 0 where
+-- more than 2^31 octets, are always told; and of the signer's refusals it is the first.
+pub record FailsToSign {Id E : Type 0} (scheme : Relation) (when : ℤ) (signer : SignerSeen Id)
+    (message : Received) (error : CreateError E) : Type 0 where
   pub cause : CreateFails (text_of message) when signer.id signer.before signer.after error
   pub moment : (HasWindow when → ⊥) → error ≡ create.Moment
   pub too_long : HasWindow when → 2 ^ 31 < length (text_of message) → error ≡ create.TooLong
+  pub first_refusal : IsFirstRefusal scheme (text_of message) when signer.id signer.before
+      signer.after error
 
 -- the same cause as a program tells it
 abbrev pub IsSigningCause : {Id : Type 0} → ℤ → SignerSeen Id → Received → Refusal → Type 0

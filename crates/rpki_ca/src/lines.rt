@@ -93,7 +93,7 @@ pub fn spelled_octets(alloc: Global, word: &[u8]) -> Result<Option<Vec<u8>>, Out
 }
 
 /// The public key whose DER a word spells, two hexadecimal digits of either case an octet. None exactly
-/// where its octets are no key, or one with something behind it.
+/// where the word spells no octets so, or its octets are no key, or one with something behind it.
 pub fn spelled_key(alloc: Global, word: &[u8]) -> Result<Option<PublicKey>, OutOfMemory>
     ensures { IfOk result (λ key. key ≡ key_of word.now) }
 {

@@ -159,9 +159,9 @@ fn receive_any_within<P: Scheme, V: Verifier<P>, L: Ledger>(
     receive_any_counted(alloc, kind, octets, keys, when, verifier, &mut steps)
 }
 
-/// As [`receive_any`], under one to eight keys. It ticks once for each header and each end mark that
-/// it reads, in the signed message, and in the certificates and the request in its content, however
-/// many keys there are.
+/// As [`receive_any`], under one to eight keys. It ticks for the headers and end marks that it reads, in
+/// the signed message, and in the certificates and the request in its content, as often however many
+/// keys there are.
 pub fn receive_any_counted<P: Scheme, V: Verifier<P>, L: Ledger>(
     alloc: Global,
     kind: Kind,
@@ -255,8 +255,8 @@ pub fn receive<P: Scheme, V: Verifier<P>>(
     without_place(receive_any(alloc, kind, octets, keys, when, verifier))
 }
 
-/// As [`receive`]. It ticks once for each header and each end mark that it reads, in the signed
-/// message, and in the certificates and the request in its content.
+/// As [`receive`]. It ticks for the headers and end marks that it reads, in the signed message, and in
+/// the certificates and the request in its content.
 pub fn receive_counted<P: Scheme, V: Verifier<P>, L: Ledger>(
     alloc: Global,
     kind: Kind,

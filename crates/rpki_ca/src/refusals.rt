@@ -13,7 +13,7 @@ use std::fmt;
 /// name, which is the line that is written.
 #[derive(Clone, Copy, Debug, PartialEq, Eq)]
 pub enum Refusal {
-    /// The words are no command.
+    /// The words are no command, or the answers in them are more or fewer than is asked.
     Usage,
     /// The input isn't hexadecimal.
     Hex,
@@ -33,16 +33,17 @@ pub enum Refusal {
     Validation(u8),
     /// The signer holds no key with the identifier.
     KeyNotFound,
-    /// The issuing key has another format than signatures need.
+    /// The issuing key, or the key for one use where it is handed in, has another format than signatures
+    /// need.
     IncompatibleKey,
-    /// The key that the signer gave for one use is the issuing key.
+    /// The key for one use is the issuing key.
     KeyReused,
     /// The signer failed.
     Signer,
     /// The 300 seconds before or after the moment leave the years 1970 to 9999.
     Moment,
-    /// There are more than 2^26 octets of input; or a message's text has more than 2^31; or the
-    /// signer gave a key or a signature of more than 2^16.
+    /// There are more than 2^26 octets of input; or a message's text has more than 2^31; or a key or a
+    /// signature, which the signer gave or which was handed in, more than 2^16.
     TooLong,
     /// The input failed.
     ReadFault,

@@ -6,8 +6,9 @@ use Rattle.rpki_text.specs.declared.uri.Error.{Error}
 use Rattle.rpki_text.specs.declared.uri.Error.TheVariants as uri
 use Rattle.rpki_signer.specs.declared.errors.MakeError.{MakeError}
 use Rattle.rpki_signer.specs.declared.errors.MakeError.TheVariants as make
-use Rattle.std.proofs.Common.{Bool, true, false, ◌≡◌, ℕ, ◌<◌, Option, None, Some, Result, Ok, Err, List, [], ◌++◌, length, refl, sym, ap, subst, ◌∙◌, arith, length-append}
-use Rattle.std.specs.Prelude.{MatchResult, nat_lt, if◌then◌else◌}
+use Rattle.rpki_signer.specs.declared.errors.SigningError.TheVariants as signing
+use Rattle.std.proofs.Common.{Bool, true, false, ◌≡◌, ◌≢◌, inl, inr, ℕ, ◌<◌, Option, None, Some, Result, Ok, Err, List, [], ◌++◌, length, refl, sym, ap, subst, ◌∙◌, arith, length-append}
+use Rattle.std.specs.Prelude.{IfErr, MatchResult, nat_lt, if◌then◌else◌}
 use Rattle.rpki_der.specs.declared.mode.Mode.TheVariants.{Der}
 use Rattle.rpki_der.specs.Tags.{sequence, context}
 use Rattle.rpki_der.specs.Takes.{BeginsAs}
@@ -33,7 +34,7 @@ use Rattle.rpki_cert.specs.declared.construct.CsrError.{CsrError}
 use Rattle.rpki_cert.specs.declared.construct.CsrError.TheVariants as csr
 use Rattle.rpki_cert.specs.Csr.{request_info, certification_request}
 use Rattle.rpki_cert.specs.CsrAttributes.{ca_attributes}
-use Rattle.rpki_cert.specs.Making.{Places, IsLawfulIfThere, AreLawful, asked_of, spelled_version, spelled_attribute, spelled_info, request_signed, CaRequest, IsRequestMade, IsSignedFor, SigningOnly, ConstructFails, IsKeyFound, slashed, csr_error_of, csr_error_of_uri}
+use Rattle.rpki_cert.specs.Making.{Places, IsLawfulIfThere, AreLawful, asked_of, spelled_version, spelled_attribute, spelled_info, request_signed, CaRequest, IsRequestMade, IsSignedFor, SigningOnly, ConstructFails, IsFirstRefusal, IsKeyFound, slashed, csr_error_of, csr_error_of_uri}
 use Rattle.rpki_cert.proofs.Asking.{IsUri, IsUriIfThere, AreUris, info_piece}
 
 abbrev request_of : KeyFields → Places → List ℕ → CaRequest
@@ -119,6 +120,32 @@ uri_refused id repository a b key uri.BadScheme e k is f = rw is (k.is.stays, ((
 uri_refused id repository a b key uri.BadUri e k is f = rw is (k.is.stays, ((λ q. cc), f (λ q. cc), found id a b key k))
 uri_refused id repository a b key uri.DotSegments e k is f = rw is (k.is.stays, ((λ q. cc), f (λ q. cc), found id a b key k))
 uri_refused id repository a b key uri.OutOfMemory e k is f = rw is (k.is.stays, tt)
+
+-- ---- which refusal was the first
+
+pub first_key : {I E : Type 0} (id : I) (repository : List ℕ) (a b : SignerState I) (m : MakeError E) (e : CsrError E) → e ≡ csr_error_of m → Stays a b × MakeFails RsaSha256 id a b m → m ≢ make.Signing signing.IncompatibleKey → IsFirstRefusal id repository a b e
+first_key id repository a b make.TooLong e is s u = rw is (inl (record { stays = s.0; fails = s.1; unsigned = u }))
+first_key id repository a b (make.Signing x) e is s u = rw is (inl (record { stays = s.0; fails = s.1; unsigned = u }))
+first_key id repository a b make.OutOfMemory e is s u = rw is tt
+
+pub first_uri : {I E : Type 0} (id : I) (repository : List ℕ) (a b : SignerState I) (key : KeyFields) (x : Error) (e : CsrError E) → IsShortKey id a b key → e ≡ csr_error_of_uri x → IsFirstRefusal id repository a b e
+first_uri id repository a b key uri.TooLong e k is = rw is (found id a b key k)
+first_uri id repository a b key uri.BadCharacter e k is = rw is (found id a b key k)
+first_uri id repository a b key uri.BadScheme e k is = rw is (found id a b key k)
+first_uri id repository a b key uri.BadUri e k is = rw is (found id a b key k)
+first_uri id repository a b key uri.DotSegments e k is = rw is (found id a b key k)
+first_uri id repository a b key uri.OutOfMemory e k is = rw is tt
+
+first_signing : {I E : Type 0} (id : I) (repository : List ℕ) (a b c : SignerState I) (key : KeyFields) (e : CsrError E) → fault_of rsync (slashed repository) ≡ None → IsShortKey id a b key → Stays b c × SigningOnly id b c e → IsFirstRefusal id repository a c e
+first_signing id repository a b c key (csr.Uri x) n k s = absurd s.1
+first_signing id repository a b c key csr.TooLong n k s = inr (n, record { between = b; key = key; given = k; refuses = s })
+first_signing id repository a b c key (csr.Signing x) n k s = inr (n, record { between = b; key = key; given = k; refuses = s })
+first_signing id repository a b c key csr.OutOfMemory n k s = tt
+
+pub first_result : {T I E : Type 0} (id : I) (repository : List ℕ) (a b c : SignerState I) (key : KeyFields) (ok : T → Type 0) (r : Result T (CsrError E)) → fault_of rsync (slashed repository) ≡ None → IsShortKey id a b key → MatchResult r ok (λ e. Stays b c × SigningOnly id b c e)
+    → IfErr r (IsFirstRefusal id repository a c)
+first_result id repository a b c key ok (Ok x) n k m = tt
+first_result id repository a b c key ok (Err e) n k m = first_signing id repository a b c key e n k m
 
 -- a lawful URI is no longer than it may be
 short_fault : (long : Bool) (rest : Option Error) → (if long then Some uri.TooLong else rest) ≡ None → long ≡ false

@@ -1,5 +1,5 @@
 -- How an authority's request is made (RFC 2986, 4.1; RFC 6487, 6.1.1 and 6.3; X.690, 10 and 11).
-use Rattle.std.specs.Prelude.{◌≡◌, ◌≢◌, ⊤, ℕ, Bool, true, false, if◌then◌else◌, Option, None, Some, List, [], ◌∷◌, ◌++◌, codes}
+use Rattle.std.specs.Prelude.{◌≡◌, ◌≢◌, ◌⊎◌, ⊤, ℕ, Bool, true, false, if◌then◌else◌, Option, None, Some, List, [], ◌∷◌, ◌++◌, codes}
 use Rattle.rpki_common.specs.Causes.{Rose}
 use Rattle.rpki_der.specs.declared.mode.Mode.TheVariants.{Der}
 use Rattle.rpki_der.specs.Tags.{sequence, set, context, oid_tag, boolean_tag, integer_tag, bit_string_tag, octet_string_tag}
@@ -19,7 +19,7 @@ use Rattle.rpki_signer.specs.declared.errors.MakeError.{MakeError}
 use Rattle.rpki_signer.specs.declared.errors.MakeError.TheVariants as make
 use Rattle.rpki_signer.specs.declared.errors.SigningError.TheVariants as signing
 use Rattle.rpki_signer.specs.Errors.{signing_text}
-use Rattle.rpki_signer.specs.Limits.{IsShort, IsShortSignature, default_algorithm}
+use Rattle.rpki_signer.specs.Limits.{IsShort, IsShortSignature, RefusesKey, StopsBehindKey, default_algorithm}
 use Rattle.rpki_signer.specs.Signer.{SignerState, Holds, Stays, SigningFails}
 use Rattle.rpki_idcert.specs.Making.{name_of_key}
 use Rattle.rpki_cert.specs.declared.construct.CsrError.{CsrError}
@@ -191,6 +191,22 @@ ConstructFails id repository before after csr.TooLong = Rose before.overlong aft
 ConstructFails id repository before after (csr.Signing error) =
     (error ≢ signing.OutOfMemory) × SigningFails RsaSha256 id before after error
 ConstructFails id repository before after csr.OutOfMemory = ⊤
+
+-- Which refusal was the first: the key was refused; or it was given, the URI with its slash is lawful, and the signature was refused.
+abbrev pub RefusesInTurn : {Id E : Type 0} → Id → List ℕ → SignerState Id → SignerState Id
+    → MakeError E → Type 0
+RefusesInTurn id repository before after error =
+    RefusesKey id before after error
+    ⊎ ((fault_of rsync (slashed repository) ≡ None) × StopsBehindKey id before after error)
+
+abbrev pub IsFirstRefusal : {Id E : Type 0} → Id → List ℕ → SignerState Id → SignerState Id
+    → CsrError E → Type 0
+IsFirstRefusal id repository before after (csr.Uri error) = IsKeyFound id before
+IsFirstRefusal {E = E} id repository before after csr.TooLong =
+    RefusesInTurn {E = E} id repository before after make.TooLong
+IsFirstRefusal id repository before after (csr.Signing error) =
+    RefusesInTurn id repository before after (make.Signing error)
+IsFirstRefusal id repository before after csr.OutOfMemory = ⊤
 
 -- ---- errors that become others
 

@@ -159,8 +159,8 @@ fn take_signed_key<L: Ledger>(
 /// # Decoding
 impl Cert {
     /// The certificate at the beginning of the octets, in DER; what stands behind it isn't read. The fields of RFC 5280, 4.1.2, have to be
-    /// there, in version 3 with the RPKI's signature algorithm and a list of extensions, whose contents aren't read. Whether the signature
-    /// holds isn't looked at, nor is the profile of RFC 6487.
+    /// there, in version 3 with the RPKI's signature algorithm, without unique identifiers and with a list of extensions, whose contents
+    /// aren't read. Whether the signature holds isn't looked at, nor is the profile of RFC 6487.
     ///
     /// Malformed exactly where no beginning of the octets is a certificate.
     pub fn decode(alloc: Global, octets: &[u8]) -> Result<Cert, DecodeError>
@@ -169,8 +169,8 @@ impl Cert {
         decode_within::<Brand>(alloc, octets, Blank::new(1))
     }
 
-    /// The same as `decode`, at a price: it ticks once for each header that it reads, at least once for each value and at most twice an
-    /// octet of the certificate; where it refuses, at most twice for each octet that it was given, and 8 times more.
+    /// The same as `decode`, at a price: it ticks at least once for each value and at most twice an octet of the certificate; where it
+    /// refuses, at most twice for each octet that it was given, and 8 times more.
     pub fn decode_counted<L: Ledger>(
         alloc: Global,
         octets: &[u8],
@@ -183,7 +183,7 @@ impl Cert {
         Cert::take_from_counted(alloc, &mut cursor, steps)
     }
 
-    /// The certificate that stands next, by the cursor's rules. It ticks once for each header and each end mark that it reads.
+    /// The certificate that stands next, by the cursor's rules. It ticks each time it looks at a header, and for each end mark.
     pub fn take_from_counted<L: Ledger>(
         alloc: Global,
         cursor: &mut Cursor<'_>,

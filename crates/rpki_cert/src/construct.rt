@@ -1,6 +1,6 @@
 //! Making requests.
 
-ghost use Rattle.std.specs.Prelude.{◌≡◌, ◌≢◌, ◌≤◌, ◌++◌, Some, None, length, IfOk, IfErr, IsOk, OnOk, MatchResult};
+ghost use Rattle.std.specs.Prelude.{◌≡◌, ◌≢◌, ◌++◌, Some, None, IfOk, IfErr, IsOk, OnOk, MatchResult};
 ghost use Rattle.std.specs.Option.{option_copied};
 ghost use Rattle.rpki_der.specs.Tags.{sequence, set};
 ghost use Rattle.rpki_der.specs.Writing.{der_primitive, der_constructed};
@@ -330,6 +330,11 @@ pub fn construct_rpki_ca<P: Scheme, S: Signer<P>>(
         (λ e. Stays (S.state signer.old) (S.state signer.new)
         × spec.ConstructFails key.now ca_repository.now
         (S.state signer.old) (S.state signer.new) e) }
+
+    // The signer gives the key, then the URI is tested, and then the signer signs; the first refusal
+    // decides.
+    ensures first_refusal { IfErr result (spec.IsFirstRefusal key.now ca_repository.now
+        (S.state signer.old) (S.state signer.new)) }
 
     // No request is made of an unlawful URI.
     ensures lawful { OnOk result (fault_of rsync (spec.slashed ca_repository.now) ≡ None) }

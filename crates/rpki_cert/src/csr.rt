@@ -4,7 +4,7 @@ ghost use Rattle.std.specs.Prelude.{◌≡◌, ◌↔◌, ◌<◌, ◌++◌, IfO
 ghost use Rattle.std.specs.Option.{option_copied};
 ghost use Rattle.rpki_der.specs.declared.mode.Mode.TheVariants.{Der};
 ghost use Rattle.rpki_der.specs.Held.{with_octets};
-ghost use Rattle.rpki_der.specs.Takes.{Takes, Decodes};
+ghost use Rattle.rpki_der.specs.Takes.{Decodes};
 ghost use Rattle.rpki_der.specs.Ticks.{TakesCounted, DecodesCounted};
 ghost use Rattle.rpki_base.specs.SignedData.{spelled_data, CanBeSpelled};
 ghost use Rattle.rpki_cert.specs.Csr.{request_info, certification_request};
@@ -213,8 +213,8 @@ impl<Alg: SignatureAlgorithm, Attributes: CsrAttributes> Csr<Alg, Attributes> {
         decode_within::<Alg, Attributes, Brand>(alloc, octets, Blank::new(1))
     }
 
-    /// The same as `decode`, at a price: it ticks once for each header that it reads, at least once for each value and at most twice an
-    /// octet of the request; where it refuses, at most twice for each octet that it was given, and 8 times more.
+    /// The same as `decode`, at a price: it ticks at least once for each value and at most twice an octet of the request; where it refuses,
+    /// at most twice for each octet that it was given, and 8 times more.
     pub fn decode_counted<L: Ledger>(
         alloc: Global,
         octets: &[u8],
@@ -227,7 +227,7 @@ impl<Alg: SignatureAlgorithm, Attributes: CsrAttributes> Csr<Alg, Attributes> {
         Csr::<Alg, Attributes>::take_from_counted(alloc, &mut cursor, steps)
     }
 
-    /// The request that stands next, by the cursor's rules. It ticks once for each header and each end mark that it reads.
+    /// The request that stands next, by the cursor's rules. It ticks each time it looks at a header, and for each end mark.
     pub fn take_from_counted<L: Ledger>(
         alloc: Global,
         cursor: &mut Cursor<'_>,

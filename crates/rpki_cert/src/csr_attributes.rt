@@ -35,7 +35,7 @@ pub trait CsrAttributes: Drop {
     fn take_from(alloc: Global, octets: &[u8]) -> Result<Self, DecodeError>
         ensures { HoldsOne (reads Der) (λ a. a) Der octets.now result };
 
-    /// The attributes that stand next under [0]. It ticks once for each header and each end mark that it reads.
+    /// The attributes that stand next under [0]. It ticks each time it looks at a header, and for each end mark.
     fn take_from_counted<L: Ledger>(
         alloc: Global,
         cursor: &mut Cursor<'_>,
@@ -45,7 +45,8 @@ pub trait CsrAttributes: Drop {
             steps.new result };
 }
 
-/// The attributes of an authority's request (RFC 6487, 6.3).
+/// The attributes of an authority's request (RFC 6487, 6.3). Of the extensions that are asked for, basicConstraints, without a path
+/// length, keyUsage and subjectInfoAccess have to be there, each once, and no other but extendedKeyUsage.
 ///
 /// In a clause it is the record of what they say.
 pub struct RpkiCaCsrAttributes {

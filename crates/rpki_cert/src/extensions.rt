@@ -1,6 +1,5 @@
 //! The extensions that a request asks for.
 
-ghost use Rattle.std.specs.Prelude.{◌≡◌};
 ghost use Rattle.rpki_common.specs.Collecting.{once};
 ghost use Rattle.rpki_der.specs.declared.mode.Mode.TheVariants.{Der};
 ghost use Rattle.rpki_der.specs.Ticks.{TakesCounted};

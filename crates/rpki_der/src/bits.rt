@@ -25,7 +25,8 @@ fn bits(octets: &[u8]) -> Option<(u8, &[u8])>
     }
 }
 
-/// The count of unused bits and the octets of the bits of the BIT STRING that stands next. It ticks once.
+/// The count of unused bits and the octets of the bits of the BIT STRING that stands next; Malformed exactly where none does. It ticks
+/// once.
 pub fn take_bits_counted<'a, L: Ledger>(
     cursor: &mut Cursor<'a>,
     steps: &mut Steps<L>,
@@ -56,7 +57,7 @@ fn take_bits_within<'a, L: Ledger>(
 
 /// The count of unused bits of the last octet, and the octets of the bits, of the BIT STRING that stands next (X.690, 8.6).
 ///
-/// It is primitive in both modes. The count is 0 to 7, and 0 where there are no octets.
+/// It is primitive in both modes. The count is 0 to 7, and 0 where there are no octets. Malformed exactly where none stands next.
 pub fn take_bits<'a>(cursor: &mut Cursor<'a>) -> Result<(u8, &'a [u8]), DecodeError>
     ensures { Takes spec.bit_string (λ x. record { unused = x.0; octets = x.1.now })
         cursor.old cursor.new result }

@@ -27,7 +27,8 @@ fn truth(mode: Mode, octets: &[u8]) -> Option<bool>
     }
 }
 
-/// The BOOLEAN that stands next (X.690, 8.2 and 11.1): 00 is false; FF is true, and in BER each other octet too. It ticks once.
+/// The BOOLEAN that stands next (X.690, 8.2 and 11.1): 00 is false; FF is true, and in BER each other octet too. Malformed exactly where
+/// none stands next. It ticks once.
 pub fn take_boolean_counted<L: Ledger>(
     cursor: &mut Cursor<'_>,
     steps: &mut Steps<L>,
@@ -54,8 +55,8 @@ fn shown(mode: Mode, item: &Item<'_>) -> Option<bool>
     }
 }
 
-/// The BOOLEAN that stands next (X.690, 8.2), which is then passed; None where no value with its tag does. A value with its
-/// tag that isn't a BOOLEAN is malformed. It ticks once at least where it reads a header.
+/// The BOOLEAN that stands next (X.690, 8.2), which is then passed; None at the end of the level, and where an identifier of
+/// another tag stands next, whatever follows it; else Malformed. It ticks once at least where it reads a header.
 pub fn take_opt_boolean_counted<L: Ledger>(
     cursor: &mut Cursor<'_>,
     steps: &mut Steps<L>,

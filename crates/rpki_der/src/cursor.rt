@@ -62,7 +62,8 @@ impl<'a> Cursor<'a> {
         self.mode
     }
 
-    /// Goes into the constructed value with this tag that stands next; Malformed exactly where none does. It ticks once.
+    /// Goes behind the header of a constructed value with this tag that stands next, whose octets are all there if its length is
+    /// definite; Malformed exactly where none stands. What is inside isn't looked at. It ticks once.
     #[tactic(auto, using(crate::proofs::Cursors::none_opens, crate::proofs::Cursors::none_opens_primitive, crate::proofs::Cursors::none_opens_other))]
     pub fn enter_counted<L: Ledger>(
         &mut self,
@@ -101,8 +102,9 @@ impl<'a> Cursor<'a> {
         self.enter_counted(tag, &mut steps)
     }
 
-    /// Goes into the constructed value with this tag that stands next; Malformed exactly where none does. Memory is taken only
-    /// for a value of definite length.
+    /// Goes behind the header of a constructed value with this tag that stands next, whose octets are all there if its length is
+    /// definite; Malformed exactly where none stands. What is inside isn't looked at. Memory is taken only for a value of
+    /// definite length.
     pub fn enter(&mut self, tag: Tag) -> Result<(), DecodeError>
         ensures place { Enters tag self.old self.new result }
         ensures err { OnErr result (self.new ≡ self.old) }
@@ -245,8 +247,8 @@ impl<'a> Cursor<'a> {
         self.take_primitive_within::<Brand>(tag, Blank::new(1))
     }
 
-    /// The octets of the value that stands next, of any tag, its header and its end mark among them. It ticks once for each header
-    /// and each end mark in it.
+    /// The octets of the value that stands next, of any tag, its header and its end mark among them; Malformed exactly where none
+    /// does. It ticks once for each header and each end mark in it.
     #[tactic(auto, using(crate::proofs::Cursors::none_any), unfolding(crate::specs::Takes::Refuses))]
     pub fn capture_counted<L: Ledger>(
         &mut self,
@@ -277,7 +279,8 @@ impl<'a> Cursor<'a> {
         self.capture_counted(&mut steps)
     }
 
-    /// The octets of the value that stands next, of any tag, its header and its end mark among them.
+    /// The octets of the value that stands next, of any tag, its header and its end mark among them; Malformed exactly where none
+    /// does.
     pub fn capture(&mut self) -> Result<&'a [u8], DecodeError>
         ensures value { Takes any (λ x. x.now) self.old self.new result }
         ensures err { OnErr result (self.new ≡ self.old) }

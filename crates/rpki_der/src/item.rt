@@ -262,8 +262,8 @@ impl<'a> Cursor<'a> {
     }
 
     /// The value that stands next, if it has this tag; None at the end of the level, and where an identifier of another
-    /// tag stands next, whatever follows it. It ticks once for each header and each end mark in the value, and once for
-    /// another identifier.
+    /// tag stands next, whatever follows it; else Malformed. It ticks once for each header and each end mark in the value,
+    /// and once for another identifier.
     pub fn take_opt_if_counted<L: Ledger>(
         &mut self,
         tag: Tag,
@@ -307,7 +307,7 @@ impl<'a> Cursor<'a> {
     }
 
     /// The value that stands next, if it has this tag; None at the end of the level, and where an identifier of another
-    /// tag stands next, whatever follows it.
+    /// tag stands next, whatever follows it; else Malformed.
     pub fn take_opt_if(&mut self, tag: Tag) -> Result<Option<Item<'a>>, DecodeError>
         ensures value { TakesOptional tag self.old self.new result }
         ensures err { OnErr result (self.new ≡ self.old) }

@@ -21,8 +21,8 @@ fn is_null(item: &Item<'_>) -> bool
     !item.constructed && item.content.is_empty()
 }
 
-/// Whether NULL stands next (X.690, 8.8), which is then passed; false where no value with its tag does. A value with its tag that
-/// isn't NULL is malformed. It ticks once at least where it reads a header.
+/// Whether NULL stands next (X.690, 8.8), which is then passed; false at the end of the level, and where an identifier of another
+/// tag stands next, whatever follows it; else Malformed. It ticks once at least where it reads a header.
 pub fn take_opt_null_counted<L: Ledger>(
     cursor: &mut Cursor<'_>,
     steps: &mut Steps<L>,

@@ -82,8 +82,8 @@ fn take_copied_counted<L: Ledger>(
     Ok(contents.to_vec(alloc)?)
 }
 
-/// The octets of the octet string under `tag` that stands next, its segments joined. It ticks once for each header and
-/// each end mark that it reads.
+/// The octets of the octet string under `tag` that stands next, its segments joined; Malformed exactly where none does. It
+/// ticks each time it looks at a header, and for each end mark.
 pub fn take_octets_counted<L: Ledger>(
     alloc: Global,
     cursor: &mut Cursor<'_>,
@@ -114,7 +114,7 @@ fn take_octets_within<L: Ledger>(
     take_octets_counted(alloc, cursor, tag, &mut steps)
 }
 
-/// The octets of the octet string under `tag` that stands next (X.690, 8.7).
+/// The octets of the octet string under `tag` that stands next (X.690, 8.7); Malformed exactly where none does.
 ///
 /// In BER it may be one primitive value or segments at any depth, whose octets are joined in their order; a segment
 /// inside has the tag of OCTET STRING. In DER it is one primitive value.

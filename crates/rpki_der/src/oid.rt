@@ -14,7 +14,8 @@ use crate::tag::Tag;
 use std::marker::Brand;
 use std::sync::ledger::{Blank, Ledger};
 
-/// The octets, if they are the contents of an object identifier (X.690, 8.19): not empty, with bit 8 of the last one clear.
+/// The octets, if they are the contents of an object identifier (X.690, 8.19): not empty, with bit 8 of the last one clear. That a
+/// number inside begins with 80, which the standard forbids, isn't looked at.
 pub fn lawful_oid_contents(octets: &[u8]) -> Option<&[u8]>
     ensures { option_copied result ≡ subidentifiers octets.now }
 {
@@ -31,7 +32,7 @@ pub(crate) fn is_exactly(octets: &[u8], wanted: &[u8]) -> Option<()>
     if octets == wanted { Some(()) } else { None }
 }
 
-/// The contents octets of the object identifier that stands next (X.690, 8.19). It ticks once.
+/// The contents octets of the object identifier that stands next (X.690, 8.19); Malformed exactly where none does. It ticks once.
 pub fn take_oid_counted<'a, L: Ledger>(
     cursor: &mut Cursor<'a>,
     steps: &mut Steps<L>,
@@ -58,7 +59,7 @@ fn take_oid_within<'a, L: Ledger>(
     take_oid_counted(cursor, &mut steps)
 }
 
-/// The contents octets of the object identifier that stands next (X.690, 8.19).
+/// The contents octets of the object identifier that stands next (X.690, 8.19); Malformed exactly where none does.
 pub fn take_oid<'a>(cursor: &mut Cursor<'a>) -> Result<&'a [u8], DecodeError>
     ensures { Takes oid (λ x. x.now) cursor.old cursor.new result }
 {

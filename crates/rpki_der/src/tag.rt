@@ -140,8 +140,8 @@ impl Tag {
 
     /// The tag of the one identifier that the octets are, of either form; None exactly where they are none.
     ///
-    /// An identifier has one to four octets. Where the five low bits of the first are all ones, further octets follow
-    /// up to the first with bit 8 clear. 00 and 20 are no identifier.
+    /// An identifier has one to four octets here; the standard has no such limit. Where the five low bits of the first are all ones,
+    /// further octets follow up to the first with bit 8 clear. 00 and 20 are no identifier.
     pub fn new(octets: &[u8]) -> Option<Tag>
         ensures some { IsSome result ↔ IsIdentifier octets.now }
         ensures value { IfSome result (λ t. t ≡ tag_of octets.now) }

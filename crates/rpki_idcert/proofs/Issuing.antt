@@ -1,8 +1,7 @@
 -- Certificates that are made: they are what they have to be, and are believed.
-use Rattle.std.proofs.Common.{◌≡◌, ℕ, ℤ, Bool, true, false, Option, None, Some, Result, Ok, Err, List, [], ◌∷◌, ◌++◌, length, refl, sym, ap, subst, ◌∙◌}
-use Rattle.std.specs.Prelude.{◌≤ℤ◌, ◌&&◌, ◌||◌, Decides, bytes_eq, int_le, is_some, not, IfOk, MatchResult}
+use Rattle.std.proofs.Common.{◌≡◌, inl, inr, ℕ, ℤ, Bool, true, false, Result, Ok, Err, List, [], ◌∷◌, length, refl, sym, ap, subst, ◌∙◌}
+use Rattle.std.specs.Prelude.{◌≤ℤ◌, ◌||◌, Decides, int_le, is_some, not, IfErr, IfOk, IsErrOf, MatchResult}
 use Rattle.std.specs.Prelude.{T}
-use Rattle.std.specs.List.{AllByRecursion}
 use Rattle.std.proofs.lemmas.Bool.Decides.{not_from_Decides}
 use Rattle.std.proofs.lemmas.List.Elements.{All-from_recursion}
 use Rattle.rpki_common.proofs.Truths.{are_true, equal_octets}
@@ -14,15 +13,18 @@ use Rattle.rpki_base.specs.PublicKey.{KeyFields}
 use Rattle.rpki_base.specs.Scheme.{Relation}
 use Rattle.rpki_base.specs.Serial.{serial_of}
 use Rattle.rpki_base.specs.Validity.{ValidityFields}
+use Rattle.rpki_signer.specs.declared.errors.CallError.{CallError}
+use Rattle.rpki_signer.specs.declared.errors.CallError.TheVariants as call
 use Rattle.rpki_signer.specs.declared.errors.MakeError.{MakeError}
-use Rattle.rpki_signer.specs.Limits.{IsShortKey, IsShortSignature, Keeps, MakeFails}
+use Rattle.rpki_signer.specs.Errors.{make_error_of, signing_error_of}
+use Rattle.rpki_signer.specs.Limits.{IsShortKey, Keeps, MakeFails, StopsInTurn}
 use Rattle.rpki_signer.specs.Serials.{IsSerialDrawn, without_first_bit}
-use Rattle.rpki_signer.specs.Signer.{SignerState, Holds, AreDistinct, Stays}
+use Rattle.rpki_signer.specs.Signer.{SignerState, Holds, AreDistinct, Stays, CallFails}
 use Rattle.rpki_signer.proofs.Keyrings.{one_key}
-use Rattle.rpki_signer.proofs.States.{stays_then, stays_keeps, keeps_then, fails_before}
+use Rattle.rpki_signer.proofs.States.{stays_then, stays_keeps, keeps_then, fails_before, call_fails, in_turn_fails}
 use Rattle.rpki_idcert.specs.Checks.{has_own_identifier, is_true, is_within, ta_checks, names_itself, IsTaBelieved}
 use Rattle.rpki_idcert.specs.IdCert.{CertificateFields}
-use Rattle.rpki_idcert.specs.Making.{made_fields, IsMadeFor, IsIssued, IsSignedAs, IsIssuedTo, IsAnchorMade, IsEndEntityMade}
+use Rattle.rpki_idcert.specs.Making.{made_fields, IsMadeFor, IsIssued, IsSignedAs, IsIssuedTo, IsAnchorMade, IsEndEntityMade, StopsAtEndEntity}
 use Rattle.rpki_der.specs.declared.mode.Mode.{Mode}
 use Rattle.rpki_base.specs.Civil.{IsMoment}
 use Rattle.rpki_idcert.specs.Making.{IsReadAgain}
@@ -112,6 +114,20 @@ pub end_entity_result : {I E : Type 0} (scheme : Relation) (key : KeyFields) (id
     → MatchResult r (IsEndEntityMade scheme key id validity a e) (λ x. Keeps a e × (e.drawn ≡ a.drawn) × MakeFails RsaSha256 id a e x)
 end_entity_result scheme key id validity a b e serial (Ok cert) n m = end_entity_made scheme key id validity a b e serial cert n m
 end_entity_result scheme key id validity a b e serial (Err x) n m = refused_behind id a b e serial x n m
+
+-- ---- which refusal was the first
+
+pub draw_refused : {T I E : Type 0} (id : I) (a b : SignerState I) (e : CallError E) → Stays a b × CallFails a b e → (IsErrOf {T = T} (Err e) call.OutOfMemory → ⊥) → StopsAtEndEntity id a b (make_error_of (signing_error_of e))
+draw_refused id a b (call.Signer e) f other = inl (record { stays = f.0; fault = e; is = refl; told = f.1 })
+draw_refused id a b call.OutOfMemory f other = absurd (other refl)
+
+pub behind_draw : {I E : Type 0} (id : I) (a b c : SignerState I) (serial : List ℕ) (r : Result CertificateFields (MakeError E)) → IsSerialDrawn a b serial → IfErr r (StopsInTurn id b c) → IfErr r (StopsAtEndEntity id a c)
+behind_draw id a b c serial (Ok x) n s = tt
+behind_draw id a b c serial (Err e) n s = inr (record { between = b; serial = serial; drawn = n; stops = s })
+
+pub end_entity_fails : {I E : Type 0} (id : I) (a b : SignerState I) (e : MakeError E) → StopsAtEndEntity id a b e → MakeFails RsaSha256 id a b e
+end_entity_fails {E = E} id a b e (inl r) = subst (λ (x : MakeError E). MakeFails RsaSha256 id a b x) (sym r.is) (call_fails RsaSha256 id a b (call.Signer r.fault) r.told)
+end_entity_fails id a b e (inr s) = fails_before RsaSha256 id a s.between b e (drew a s.between s.serial s.drawn) (in_turn_fails id s.between b e s.stops)
 
 -- ---- a trust anchor is believed at each second of its validity
 

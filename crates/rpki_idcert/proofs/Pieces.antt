@@ -1,21 +1,20 @@
 -- Octets that are one value, which a grammar reads: how the pieces of what is written are put together.
-use Rattle.std.proofs.Common.{◌≡◌, ℕ, ◌+◌, ◌<◌, Bool, true, false, Option, None, Some, List, [], ◌∷◌, ◌++◌, length, refl, sym, ap, subst, ◌∙◌, arith}
+use Rattle.std.proofs.Common.{◌≡◌, ℕ, ◌+◌, ◌<◌, true, Option, Some, List, [], ◌++◌, length, refl, sym, ap, subst, ◌∙◌}
 use Rattle.std.proofs.lemmas.List.{append-nil}
-use Rattle.std.specs.Prelude.{bytes_eq}
 use Rattle.rpki_common.specs.Chaining.{◌>>=◌}
 use Rattle.rpki_common.proofs.Truths.{equal_octets}
 use Rattle.rpki_der.specs.declared.mode.Mode.{Mode}
 use Rattle.rpki_der.specs.declared.mode.Mode.TheVariants.{Der}
 use Rattle.rpki_der.specs.Grammar.{any, so, within, first, done, wrapped}
-use Rattle.rpki_der.specs.Held.{octets_of, with_octets}
-use Rattle.rpki_der.specs.Identifier.{IsTag, has_tag, tag_of}
+use Rattle.rpki_der.specs.Held.{with_octets}
+use Rattle.rpki_der.specs.Identifier.{IsTag, has_tag}
 use Rattle.rpki_der.specs.InDer.{in_der}
 use Rattle.rpki_der.specs.Reader.{value_at, decoded}
-use Rattle.rpki_der.specs.Value.{Value, Values, End, ◌▸◌, spelling, spellings, IsValue, Begins}
+use Rattle.rpki_der.specs.Value.{Value, Values, End, ◌▸◌, spelling, Begins}
 use Rattle.rpki_der.specs.Whole.{IsWhole}
-use Rattle.rpki_der.specs.Writing.{with_bit_6, constructed_value, der_constructed, der_primitive, primitive_value, Spells}
+use Rattle.rpki_der.specs.Writing.{with_bit_6, constructed_value, der_constructed, Spells}
 use Rattle.rpki_der.proofs.Decoding.{value_at-begins}
-use Rattle.rpki_der.proofs.Written.{tagged, spells_one, spells_constructed, spells_primitive, begins_constructed}
+use Rattle.rpki_der.proofs.Written.{tagged, spells_one, spells_constructed}
 
 -- the octets are one value, which the grammar reads as x
 pub record Piece {X : Type 0} (mode : Mode) (grammar : Value → Option X) (octets : List ℕ) (x : X) : Type 0 where

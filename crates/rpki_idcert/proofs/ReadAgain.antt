@@ -1,26 +1,23 @@
 -- What is written of an identity certificate's fields is read again as these fields.
-use Rattle.std.proofs.Common.{◌≡◌, ℕ, ◌+◌, ◌*◌, ◌≤◌, ◌<◌, ◌^◌, ℤ, Bool, true, false, Option, None, Some, List, [], ◌∷◌, ◌++◌, length, refl, sym, ap, subst, ◌∙◌, arith, length-append}
-use Rattle.std.specs.Prelude.{unwrap_or, bytes_eq, if◌then◌else◌, filter}
-use Rattle.std.proofs.lemmas.List.{append-nil}
+use Rattle.std.proofs.Common.{◌≡◌, ℕ, ◌+◌, ◌*◌, ◌≤◌, ◌<◌, ℤ, Bool, true, false, Option, None, Some, List, [], ◌∷◌, ◌++◌, length, refl, sym, ap, subst, ◌∙◌, arith, length-append}
+use Rattle.std.specs.Prelude.{unwrap_or}
 use Rattle.std.proofs.lemmas.Bool.{eq-eqb}
 use Rattle.rpki_common.specs.Chaining.{◌>>=◌}
 use Rattle.rpki_common.specs.Items.{the_one, at_most_one, the_last}
 use Rattle.rpki_der.specs.declared.mode.Mode.{Mode}
 use Rattle.rpki_der.specs.declared.mode.Mode.TheVariants.{Ber, Der}
 use Rattle.rpki_der.specs.Boolean.{boolean}
-use Rattle.rpki_der.specs.Grammar.{within, first, optional, every, done, so, anything, primitive, wrapped}
+use Rattle.rpki_der.specs.Grammar.{first, optional, every, done, so, anything, wrapped}
 use Rattle.rpki_der.specs.Identifier.{IsTag}
 use Rattle.rpki_der.specs.InDer.{in_der}
 use Rattle.rpki_der.specs.Integer.{integer_is}
-use Rattle.rpki_der.specs.Number.{u64}
 use Rattle.rpki_der.specs.OctetString.{joined, octets_under, octet_string}
 use Rattle.rpki_der.specs.Oid.{oid}
 use Rattle.rpki_der.specs.Tags.{sequence, context, oid_tag, boolean_tag, integer_tag, octet_string_tag}
-use Rattle.rpki_der.specs.Value.{Value, Values, End, ◌▸◌, Begins}
-use Rattle.rpki_der.specs.Writing.{der_primitive, der_constructed, primitive_value, constructed_value, Spells}
+use Rattle.rpki_der.specs.Value.{Value, Values, End, ◌▸◌}
+use Rattle.rpki_der.specs.Writing.{der_primitive, der_constructed, primitive_value, Spells}
 use Rattle.rpki_der.specs.Writing.{followed}
 use Rattle.rpki_der.proofs.Written.{spells_none, spells_followed, spells_primitive}
-use Rattle.std.specs.Prelude.{⊤}
 use Rattle.rpki_common.proofs.Truths.{same_some}
 use Rattle.rpki_common.proofs.Bounds.{bound}
 use Rattle.rpki_base.specs.ObjectIdentifiers as names

@@ -6,7 +6,7 @@ use Rattle.rpki_der.specs.declared.mode.Mode.{Mode}
 use Rattle.rpki_der.specs.declared.mode.Mode.TheVariants.{Der}
 use Rattle.rpki_der.specs.Tags.{sequence, boolean_tag, integer_tag, context}
 use Rattle.rpki_der.specs.Value.{Value, Values}
-use Rattle.rpki_der.specs.Grammar.{within, optional, every, done, anything, so}
+use Rattle.rpki_der.specs.Grammar.{within, optional, every, done, anything}
 use Rattle.rpki_der.specs.Boolean.{boolean}
 use Rattle.rpki_der.specs.Number.{u64}
 use Rattle.rpki_der.specs.InDer.{in_der}

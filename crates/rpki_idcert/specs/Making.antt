@@ -1,5 +1,5 @@
 -- How identity certificates are made (RFC 5280, 4.1.2 and 4.2.1).
-use Rattle.std.specs.Prelude.{◌≡◌, ◌≤ℤ◌, Decides, ℕ, ℤ, Bool, true, false, Option, None, Some, Ok, List, ◌++◌, length}
+use Rattle.std.specs.Prelude.{◌≡◌, ◌⊎◌, Decides, ℕ, Bool, true, false, Option, None, Some, List, ◌++◌, length}
 use Rattle.hex.specs.Hex.{encode_upper}
 use Rattle.sha1.specs.Sha1.{sha1}
 use Rattle.rpki_der.specs.declared.mode.Mode.{Mode}
@@ -13,8 +13,12 @@ use Rattle.rpki_base.specs.Scheme.{Relation}
 use Rattle.rpki_base.specs.Serial.{serial_of}
 use Rattle.rpki_base.specs.SignedData.{spelled_data, CanBeSpelled}
 use Rattle.rpki_base.specs.Validity.{ValidityFields}
-use Rattle.rpki_signer.specs.Limits.{IsShort, IsShortSignature, Keeps, default_algorithm}
-use Rattle.rpki_signer.specs.Serials.{without_first_bit}
+use Rattle.rpki_common.specs.Causes.{Rose}
+use Rattle.rpki_signer.specs.declared.errors.MakeError.{MakeError}
+use Rattle.rpki_signer.specs.declared.errors.MakeError.TheVariants as make
+use Rattle.rpki_signer.specs.declared.errors.SigningError.TheVariants as signing
+use Rattle.rpki_signer.specs.Limits.{IsShort, IsShortSignature, Keeps, StopsInTurn, default_algorithm}
+use Rattle.rpki_signer.specs.Serials.{IsSerialDrawn, without_first_bit}
 use Rattle.rpki_signer.specs.Signer.{SignerState, Holds, Stays}
 use Rattle.rpki_idcert.specs.TbsIdCert.{TbsFields}
 use Rattle.rpki_idcert.specs.IdCert.{CertificateFields, identity_certificate}
@@ -106,6 +110,32 @@ pub record IsEndEntityMade {Id : Type 0} (scheme : Relation) (key : KeyFields) (
     pub issued : IsIssued scheme issuing c
     pub keeps : Keeps before after
     pub drawn : after.drawn ≡ before.drawn
+
+-- ---- which refusal was the first
+
+-- the serial number wasn't drawn
+pub record RefusesDraw {Id E : Type 0} (before after : SignerState Id) (error : MakeError E)
+    : Type 0 where
+  pub stays : Stays before after
+  pub fault : E
+  pub is : error ≡ make.Signing (signing.Signer fault)
+  pub told : Rose before.faults after.faults
+
+-- it was, and then the issuing key or the signature wasn't given
+pub record StopsBehindDraw {Id E : Type 0} (id : Id) (before after : SignerState Id)
+    (error : MakeError E) : Type 0 where
+  pub between : SignerState Id
+  pub serial : List ℕ
+  pub drawn : IsSerialDrawn before between serial
+  pub stops : StopsInTurn id between after error
+
+-- an end entity's certificate stops at the draw, at the issuing key or at the signature
+abbrev pub StopsAtEndEntity : {Id E : Type 0} → Id → SignerState Id → SignerState Id → MakeError E
+    → Type 0
+StopsAtEndEntity id before after error =
+    RefusesDraw before after error ⊎ StopsBehindDraw id before after error
+
+-- ---- what is written is read
 
 -- its octets begin with it, whatever stands behind them
 abbrev pub IsReadAgain : Mode → CertificateFields → Type 0

@@ -138,7 +138,7 @@ impl IdCert {
         IdCert::take_from_counted(alloc, cursor, &mut steps)
     }
 
-    /// The certificate that stands next, as `take_from` reads it. It ticks once for each header and each end mark that it reads.
+    /// The certificate that stands next, as `take_from` reads it. It ticks each time it looks at a header, and for each end mark.
     pub fn take_from_counted<L: Ledger>(
         alloc: Global,
         cursor: &mut Cursor<'_>,

@@ -1,14 +1,14 @@
 //! Making identity certificates.
 
-ghost use Rattle.std.specs.Prelude.{◌≡◌, ◌<◌, ◌≤ℤ◌, ◌++◌, ℤ, IfOk, IsOk, MatchResult};
+ghost use Rattle.std.specs.Prelude.{◌≡◌, ◌<◌, ◌≤ℤ◌, ℤ, IfErr, IfOk, IsOk, MatchResult};
 ghost use Rattle.rpki_der.specs.declared.mode.Mode.{Mode};
 ghost use Rattle.rpki_base.specs.declared.algorithm.SigningAlgorithm.TheVariants.{RsaSha256};
 ghost use Rattle.rpki_base.specs.Civil.{IsMoment};
-ghost use Rattle.rpki_signer.specs.Limits.{Keeps, MakeFails};
+ghost use Rattle.rpki_signer.specs.Limits.{Keeps, MakeFails, StopsInTurn};
 ghost use Rattle.rpki_signer.specs.Signer.{AreDistinct, Stays};
 ghost use Rattle.rpki_idcert.specs.Checks.{IsTaBelieved};
-ghost use Rattle.rpki_idcert.specs.Making.{IsSignedAs, IsIssuedTo, IsAnchorMade, IsEndEntityMade, IsReadAgain};
-ghost use Rattle.rpki_idcert.specs.Spelling.{spelled_tbs, CanBeSpelled};
+ghost use Rattle.rpki_idcert.specs.Making.{IsSignedAs, IsIssuedTo, IsAnchorMade, IsEndEntityMade, IsReadAgain, StopsAtEndEntity};
+ghost use Rattle.rpki_idcert.specs.Spelling.{spelled_tbs};
 
 use crate::id_cert::IdCert;
 use crate::tbs::TbsIdCert;
@@ -46,7 +46,8 @@ impl Model for UnsignedIdCert {
 }
 
 impl UnsignedIdCert {
-    /// A certificate with these fields, which are spelled in DER as [`TbsIdCert::encode_ref`] spells them.
+    /// A certificate with these fields, which are spelled as [`TbsIdCert::encode_ref`] spells them; want of memory too where they are too
+    /// long for length octets.
     pub fn new(alloc: Global, tbs: TbsIdCert) -> Result<UnsignedIdCert, OutOfMemory>
         ensures fields { IfOk result (λ u. u ≡ tbs) }
     {
@@ -119,11 +120,13 @@ fn issue_to<P: Scheme, S: Signer<P>>(
     issuing_key_id: &S::KeyId,
     signer: &mut S,
 ) -> Result<IdCert, MakeError<S::Error>>
-    ensures { MatchResult result
+    ensures issued { MatchResult result
         (IsIssuedTo P.checks key.now serial issuing_key_id.now validity
         (S.state signer.old) (S.state signer.new))
         (λ e. Stays (S.state signer.old) (S.state signer.new)
         × MakeFails RsaSha256 issuing_key_id.now (S.state signer.old) (S.state signer.new) e) }
+    ensures first_refusal { IfErr result (StopsInTurn issuing_key_id.now
+        (S.state signer.old) (S.state signer.new)) }
 {
     let issuing_key = key_within_limit(alloc, issuing_key_id, signer)?;
     let tbs = TbsIdCert::new(alloc, serial, validity, key, &issuing_key)?;
@@ -149,6 +152,11 @@ impl IdCert {
             (λ e. Stays (S.state signer.old) (S.state signer.new)
             × MakeFails RsaSha256 issuing_key_id.now (S.state signer.old) (S.state signer.new) e) }
 
+        // The signer gives the key and then signs, and its first refusal decides: where the signature is
+        // refused, the key has at most 2^16 octets.
+        ensures first_refusal { IfErr result (StopsInTurn issuing_key_id.now
+            (S.state signer.old) (S.state signer.new)) }
+
         // It is believed at each second of its validity.
         ensures believed { IfOk result (λ c. (when : ℤ) → validity.not_before ≤ℤ when
             → when ≤ℤ validity.not_after → IsTaBelieved P.checks c when) }
@@ -162,8 +170,9 @@ impl IdCert {
         issue(alloc, tbs, issuing_key_id, signer)
     }
 
-    /// An end entity's certificate: that of `ee_key`, signed under the signer's RSA key `issuing_key_id`, with a serial number that the
-    /// signer draws and this validity.
+    /// A certificate of `ee_key`, signed under the signer's RSA key `issuing_key_id`, with a serial number that the signer draws and this
+    /// validity. It is an end entity's unless `ee_key` is the issuing key, which isn't refused: then it is an authority's, as
+    /// [`TbsIdCert::new`] says.
     ///
     /// The signer draws, gives the issuing key and then signs; its first refusal decides. TooLong where the issuing key or the
     /// signature has more than 2^16 octets; the length of `ee_key` isn't looked at.
@@ -180,6 +189,10 @@ impl IdCert {
             (λ e. Keeps (S.state signer.old) (S.state signer.new)
             × ((S.state signer.new).drawn ≡ (S.state signer.old).drawn)
             × MakeFails RsaSha256 issuing_key_id.now (S.state signer.old) (S.state signer.new) e) }
+
+        // The signer draws, gives the issuing key and then signs, and its first refusal decides.
+        ensures first_refusal { IfErr result (StopsAtEndEntity issuing_key_id.now
+            (S.state signer.old) (S.state signer.new)) }
 
         // What is written of it is read again, in both modes.
         ensures again { IfOk result (λ c. (mode : Mode) → IsReadAgain mode c) }

@@ -141,9 +141,10 @@ impl TbsIdCert {
         self.write_tagged_extensions(out)
     }
 
-    /// Appends what is held, in DER: the algorithm with NULL; basicConstraints where cA is there, critical in both cases; the key
-    /// identifier of the subject; that of the issuer where it is there. Whatever else was read isn't written. After a refusal
-    /// nothing is appended; fields that are longer than length octets can say are refused as want of memory.
+    /// Appends what is held, in DER but for the names, which stand as they were read or made: the algorithm with NULL; basicConstraints
+    /// where cA is there, critical in both cases; the key identifier of the subject; that of the issuer where it is there. Whatever else
+    /// was read isn't written. After a refusal nothing is appended; fields that are longer than length octets can say are refused as want
+    /// of memory.
     #[tactic(auto, unfolding(crate::specs::Spelling::spelled_tbs))]
     pub fn encode_ref(&self, out: &mut Writer) -> Result<(), OutOfMemory>
         ensures ok { OnOk result (out.new ≡ out.old ++ spec.spelled_tbs self.now) }

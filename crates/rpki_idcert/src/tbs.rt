@@ -248,7 +248,7 @@ pub fn take_version<L: Ledger>(
 
 /// # Decoding
 impl TbsIdCert {
-    /// The fields that stand next, as `take_from` reads them. It ticks once for each header and each end mark that it reads.
+    /// The fields that stand next, as `take_from` reads them. It ticks each time it looks at a header, and for each end mark.
     pub fn take_from_counted<L: Ledger>(
         alloc: Global,
         cursor: &mut Cursor<'_>,
@@ -297,8 +297,8 @@ impl TbsIdCert {
     }
 
     /// The fields that stand next: a TBSCertificate (RFC 5280, 4.1.2) of version 3 with the RPKI's signature algorithm, without unique
-    /// identifiers and with extensions, among which the subject's key identifier has to be. It is read by the cursor's rules, but what the
-    /// known extensions hold is in DER.
+    /// identifiers and with extensions, among which the subject's key identifier is once and basicConstraints once at most. It is read by
+    /// the cursor's rules, but what the known extensions hold is in DER.
     pub fn take_from(alloc: Global, cursor: &mut Cursor<'_>) -> Result<TbsIdCert, DecodeError>
         ensures { Takes (tbs_certificate cursor.old.mode) (λ x. x) cursor.old cursor.new result }
     {

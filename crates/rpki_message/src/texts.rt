@@ -59,7 +59,7 @@ fn error_of(error: uri::Error) -> XmlError
     }
 }
 
-/// The attribute `tag` of an element, where it has one.
+/// The attribute `tag` of an element, where it has one; Malformed where two attributes have this local name.
 pub fn tag_in(alloc: Global, e: &ElementRef<'_>) -> Result<Option<Text>, XmlError>
     ensures { Gives (optional (codes "tag") e.now.head) (λ tag. tag) result }
 {

@@ -1,10 +1,12 @@
 //! Laws about messages and their octets.
 
-ghost use Rattle.std.specs.Prelude.{◌≡◌, ◌≤◌, ◌+◌, ◌*◌, ℕ, List, length};
+ghost use Rattle.std.specs.Prelude.{◌≡◌, ◌≤◌, ◌+◌, ◌*◌, ℕ, List, codes, length};
 ghost use Rattle.rpki_provisioning.specs.Answers.{HoldsNoCertificate, HoldsNoRequest};
 ghost use Rattle.rpki_provisioning.specs.Message.{HasShape, HasNoShape, Reads, text_of};
 ghost use Rattle.rpki_provisioning.specs.Shape.{MessageFields, MessageShape};
 ghost use Rattle.rpki_provisioning.specs.Writable.{IsWritable};
+
+use crate::message::CONTENT_TYPE;
 
 /// What is written of a writable message is read as that message.
 pub fn written_is_read()
@@ -21,6 +23,11 @@ pub fn read_is_writable()
 pub fn read_texts_are_short()
     ensures { (octets : List ℕ) (m : MessageFields) → Reads octets m
         → length (text_of m) ≤ 40 * length octets + 1024 }
+{}
+
+/// The media type is that of the protocol (RFC 6492, 3).
+pub fn content_type_is()
+    ensures { CONTENT_TYPE.now ≡ codes "application/rpki-updown" }
 {}
 
 /// Octets have at most one shape, and are at most one message.

@@ -32,8 +32,8 @@ mod writing;
 
 pub use cms::ProvisioningCms;
 pub use law::{
-    answers_exclude_each_other, at_most_one, read_is_writable, read_texts_are_short,
-    written_is_read,
+    answers_exclude_each_other, at_most_one, content_type_is, read_is_writable,
+    read_texts_are_short, written_is_read,
 };
 pub use message::{CONTENT_TYPE, Message};
 pub use payload::Payload;

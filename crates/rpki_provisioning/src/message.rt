@@ -298,8 +298,8 @@ impl Message {
         Message::decode_slice_counted(alloc, octets, &mut steps)
     }
 
-    /// As [`Message::decode_slice`]. It ticks once for each header that it reads, in certificates and requests: at most twice for each
-    /// octet that it was given, and 8 times more.
+    /// As [`Message::decode_slice`]. It ticks each time it looks at a header, in certificates and requests: at most twice for each octet
+    /// that it was given, and 8 times more.
     pub fn decode_slice_counted<L: Ledger>(
         alloc: Global,
         octets: &[u8],

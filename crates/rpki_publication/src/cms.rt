@@ -1,12 +1,13 @@
 //! Signed messages of the publication protocol.
 
 ghost use Rattle.std.specs.Prelude.{◌≡◌, ◌↔◌, ◌<◌, ◌≤◌, ◌≤ℤ◌, ◌+◌, ◌++◌, ◌*◌, ◌^◌, ◌⊎◌, ℕ, ℤ, List, length};
-ghost use Rattle.std.specs.Prelude.{Result, Ok, Err, IfOk, OnOk, IsErrOf, MatchResult};
+ghost use Rattle.std.specs.Prelude.{Result, Ok, Err, IfOk, IfErr, OnOk, IsErrOf, MatchResult};
 ghost use Rattle.rpki_base.specs.Checks.{first_failure, failing};
 ghost use Rattle.rpki_base.specs.PublicKey.{KeyFields};
 ghost use Rattle.rpki_signer.specs.Limits.{Keeps};
 ghost use Rattle.rpki_signer.specs.Signer.{Holds};
 ghost use Rattle.rpki_sigmsg.specs.Checks as checks;
+ghost use Rattle.rpki_sigmsg.specs.FirstRefusals.{IsFirstRefusal};
 ghost use Rattle.rpki_sigmsg.specs.Making as making;
 ghost use Rattle.rpki_sigmsg.specs.Message.{signed_message};
 ghost use Rattle.rpki_sigmsg.specs.Spelling.{rewritten, CanBeSpelled};
@@ -94,7 +95,7 @@ impl PublicationCms {
         PublicationCms::decode_counted(alloc, octets, &mut steps)
     }
 
-    /// As [`PublicationCms::decode`]. It ticks once for each header and each end mark that it reads, in the signed message alone.
+    /// As [`PublicationCms::decode`]. It ticks each time it looks at a header, and for each end mark, in the signed message alone.
     pub fn decode_counted<L: Ledger>(
         alloc: Global,
         octets: &[u8],
@@ -238,11 +239,16 @@ impl PublicationCms {
         ensures again { IfOk result (λ c. (mode : Mode) (rest : List ℕ) → CanBeSpelled c.signed
             → BeginsAs (signed_message mode) mode (rewritten c.signed ++ rest) c.signed) }
 
-        // Moment and a text that is too long are told in any case, before the signer is asked.
+        // Moment and a text that is too long are told, but for want of memory.
         ensures moment { (making.HasWindow now → ⊥)
             → IsErrOf result create.Moment ⊎ IsErrOf result create.OutOfMemory }
         ensures too_long { making.HasWindow now → 2 ^ 31 < length (text_of message)
             → IsErrOf result create.TooLong ⊎ IsErrOf result create.OutOfMemory }
+
+        // The signer is asked in turn, and its first refusal decides: all that it gave before has at most
+        // 2^16 octets.
+        ensures first_refusal { IfErr result (IsFirstRefusal P.checks (text_of message) now
+            issuing_key_id.now (S.state signer.old) (S.state signer.new)) }
 
         // The signer holds the same keys, whatever the answer.
         ensures keeps { Keeps (S.state signer.old) (S.state signer.new) }
@@ -253,7 +259,7 @@ impl PublicationCms {
     }
 
     /// The signed message in DER: its content and its signature are one OCTET STRING each, and what was signed stands as it was read
-    /// or made. One that is longer than length octets can say is refused as want of memory.
+    /// or made, so in BER where it was read so. One that is longer than length octets can say is refused as want of memory.
     pub fn to_bytes(&self, alloc: Global) -> Result<Bytes, OutOfMemory>
         ensures octets { IfOk result (λ octets. octets ≡ rewritten self.now.signed) }
         ensures spelled { OnOk result (CanBeSpelled self.now.signed) }

@@ -48,13 +48,13 @@ module _ {I E : Type 0} (scheme : Relation) (server : ServerFields) (octets : Li
   }
   answered_so (Err e) message next is same signed behind = tt
 
-  pub refused_so : (r : Result CmsFields (CreateError E)) (message : Message) → IsReply scheme server octets when reply → message ≡ reply.message → IfErr r (λ e. e ≢ create.OutOfMemory → FailsToSign when signer (received.Publication message) e)
+  pub refused_so : (r : Result CmsFields (CreateError E)) (message : Message) → IsReply scheme server octets when reply → message ≡ reply.message → IfErr r (λ e. e ≢ create.OutOfMemory → FailsToSign scheme when signer (received.Publication message) e)
       → IfErr r (λ e. e ≢ create.OutOfMemory → FailsReply scheme server octets when signer e)
   refused_so (Ok c) message is same fails = tt
   refused_so (Err e) message is same fails = λ other. record {
     reply = reply;
     is = is;
-    fails = subst (λ (m : Message). FailsToSign when signer (received.Publication m) e) same (fails other);
+    fails = subst (λ (m : Message). FailsToSign scheme when signer (received.Publication m) e) same (fails other);
   }
 
   -- and the objects stay

@@ -60,7 +60,7 @@ pub cant_reply : {I E : Type 0} (scheme : Relation) (when : ℤ) (signer : Signe
     → refusal_of_create e ≢ refusals.OutOfMemory → FailsLine scheme when signer server octets (refusal_of_create e)
 cant_reply scheme when signer server octets e h other =
     let f = h (not_memory e other) in
-    record { reply = f.reply; is = f.is; cause = signing_cause when signer (received.Publication f.reply.message) e f.fails other }
+    record { reply = f.reply; is = f.is; cause = signing_cause scheme when signer (received.Publication f.reply.message) e f.fails other }
 
 -- one line isn't answered, behind those that are
 module _ {I : Type 0} (scheme : Relation) (when : ℤ) (id : I) (first before after : SignerState I) (server : ServerFields) (messages : List (List ℕ)) where

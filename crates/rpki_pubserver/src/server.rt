@@ -112,9 +112,12 @@ impl Server {
 
     /// The signed reply to the octets of a received query, at a moment (RFC 8181, 2).
     ///
-    /// The query is believed under the publisher's key if all fourteen checks hold at the moment. Where it
-    /// isn't, or there is no signed message, the reply is the error `bad_cms_signature`; where its content is
-    /// no query, `xml_error`. To the query for the list the reply is [`Server::list_reply`]. Of changes all
+    /// Where there is no signed message, the reply is the error `bad_cms_signature`; where its content is no
+    /// message of the protocol, `xml_error`, whatever the checks say. A message is believed under the
+    /// publisher's key if all fourteen checks hold at the moment: where one fails, the reply is
+    /// `bad_cms_signature`, and where the message is a reply, `xml_error`.
+    ///
+    /// To the query for the list the reply is [`Server::list_reply`]. Of changes all
     /// are made, one behind the other, and the reply is `success`; or none is, and the reply is the error of
     /// the first that can't be made: `permission_failure` where its URI doesn't begin with the base,
     /// `object_already_present` for a new object where there is one, `no_object_present` and
@@ -176,7 +179,7 @@ impl Server {
         ensures signed { IfOk result (IsSigned P.checks when
             (seen_signer key.now (S.state signer.old) (S.state signer.new))
             (reply_to_delta self.old.base self.old.store delta.now).message) }
-        ensures fails { IfErr result (λ e. e ≢ create.OutOfMemory → FailsToSign when
+        ensures fails { IfErr result (λ e. e ≢ create.OutOfMemory → FailsToSign P.checks when
             (seen_signer key.now (S.state signer.old) (S.state signer.new))
             (received.Publication
             (reply_to_delta self.old.base self.old.store delta.now).message) e) }
@@ -202,7 +205,7 @@ impl Server {
         ensures signed { IfOk result (IsSigned P.checks when
             (seen_signer key.now (S.state signer.old) (S.state signer.new))
             (reply_to_delta self.old.base self.old.store delta.now).message) }
-        ensures fails { IfErr result (λ e. e ≢ create.OutOfMemory → FailsToSign when
+        ensures fails { IfErr result (λ e. e ≢ create.OutOfMemory → FailsToSign P.checks when
             (seen_signer key.now (S.state signer.old) (S.state signer.new))
             (received.Publication
             (reply_to_delta self.old.base self.old.store delta.now).message) e) }

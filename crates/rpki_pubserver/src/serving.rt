@@ -120,8 +120,9 @@ fn serve_lines<P: Scheme, O: Sink, V: Verifier<P>, S: Signer<P>>(
 ///
 /// The other exit statuses are 2 where the words are others, 3 where a line isn't hexadecimal, and 8 where
 /// the 300 seconds before or after the moment leave the years 1970 to 9999, and then no query is answered;
-/// 7 where the signer refuses, 9 where the input has more than 2^26 octets or something that is signed is
-/// too long, 10 where the input fails, 11 where a write failed, and 12 where memory ran out.
+/// 7 where the signer refuses, 9 where the input has more than 2^26 octets, a reply's text more than 2^31, or
+/// a key or a signature of the signer more than 2^16, 10 where the input fails, 11 where a write failed, and
+/// 12 where memory ran out.
 pub fn serve<P: Scheme, I: Source, O: Sink, V: Verifier<P>, S: Signer<P>>(
     alloc: Global,
     words: &Words,

@@ -31,8 +31,8 @@ impl Model for Guard {
     ghost view = { λ g. g.peers };
 }
 
-/// Why a message isn't admitted. It prints as the variant's name and what it holds, times in seconds
-/// since 1970, with one space between.
+/// Why a message isn't admitted. It prints as the variant's name, and behind it the number of the check,
+/// or the times in seconds since 1970, with one space between.
 #[derive(Clone, Copy, Debug, PartialEq, Eq)]
 pub enum GuardError {
     /// This check of the fourteen fails under the peer's key at the moment, the first that does.
@@ -108,9 +108,9 @@ impl Guard {
     }
 
     /// Admits a message of the peer with this key, if all fourteen checks hold under the key at the
-    /// moment and it was signed later than the last message that was admitted under the key: then it
-    /// answers the time of signing, which is held from now on. Every refusal leaves the guard as it
-    /// was.
+    /// moment, it says when it was signed, and that is later than of the last message that was admitted
+    /// under the key: then it answers the time of signing, which is held from now on. Every refusal
+    /// leaves the guard as it was.
     pub fn admit<P: Scheme, V: Verifier<P>>(
         &mut self,
         peer: &PublicKey,

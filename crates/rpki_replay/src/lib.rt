@@ -1,9 +1,9 @@
 //! A guard against messages that come again.
 //!
-//! A signed message is believed from 300 seconds before it was made to 300 seconds after it, so whoever
-//! keeps it can hand it in a second time. A [`Guard`] holds, for the key of each peer, the signing time
-//! of the last message that it admitted, and admits one only with a later time. So no message is admitted
-//! twice under one key, nor are two that were signed within one second.
+//! A signed message that is made as peers make it is believed from 300 seconds before its time of signing to
+//! 300 seconds after it, so whoever keeps it can hand it in a second time. A [`Guard`] holds, for the key of
+//! each peer, the signing time of the last message that it admitted, and admits one only with a later time. So
+//! no message is admitted twice under one key, nor are two that say the same second as their time of signing.
 //!
 //! - [`Guard::admit`] says whether a message of a peer is admitted at a moment, and why not.
 //! - [`Guard::to_text`] and [`Guard::from_text`] keep the state in a text.

@@ -12,7 +12,8 @@ fn is_inside(held: &Run, run: &Run) -> bool
     held.first <= run.first && run.last <= held.last
 }
 
-/// Whether the maximal runs `all` have every number of the maximal runs `part`. Each run is looked at once.
+/// Whether the maximal runs `all` have every number of the maximal runs `part`. Each step passes a run of one of
+/// the two.
 pub fn includes(all: &[Run], part: &[Run]) -> bool
     requires all_maximal { IsMaximal all.now }
     requires part_maximal { IsMaximal part.now }

@@ -3,7 +3,7 @@ use Rattle.std.proofs.Common.{◌≡◌, ℕ, ◌+◌, ◌≤◌, Option, Some, 
 use Rattle.rpki_common.proofs.Bounds.{bound, chosen}
 use Rattle.rpki_common.proofs.Truths.{none_some, same_some}
 use Rattle.rpki_der.specs.declared.mode.Mode.TheVariants.{Ber}
-use Rattle.rpki_der.specs.Grammar.{first, within, wrapped, so}
+use Rattle.rpki_der.specs.Grammar.{within, wrapped, so}
 use Rattle.rpki_der.specs.Held.{with_octets}
 use Rattle.rpki_der.specs.Identifier.{has_tag}
 use Rattle.rpki_der.specs.OctetString.{joined, joined_all, octets_under, octet_string}

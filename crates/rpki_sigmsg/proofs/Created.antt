@@ -1,8 +1,6 @@
 -- Messages that are created: they are what they have to be, and each refusal has its cause.
-use Rattle.std.proofs.Common.{◌≡◌, ◌≢◌, ◌⊎◌, inl, inr, ℕ, ◌≤◌, ◌<◌, ◌^◌, ℤ, Bool, true, false, Option, None, Some, Result, Ok, Err, List, [], ◌∷◌, length, refl, sym, ap, subst, ◌∙◌}
-use Rattle.std.specs.Prelude.{Decides, MatchResult, IsErr, IsErrAnd}
-use Rattle.std.proofs.lemmas.Bool.Decides.{not_from_Decides}
-use Rattle.rpki_common.specs.Causes.{Rose}
+use Rattle.std.proofs.Common.{◌≡◌, ◌≢◌, inl, inr, ℕ, ◌≤◌, ℤ, Bool, true, false, Some, List, length, refl, sym, ap, subst, ◌∙◌}
+use Rattle.std.specs.Prelude.{Decides}
 use Rattle.rpki_base.specs.declared.algorithm.SigningAlgorithm.TheVariants.{RsaSha256}
 use Rattle.rpki_base.specs.PublicKey.{KeyFields}
 use Rattle.rpki_base.specs.RpkiSignatureAlgorithm.{RpkiAlgorithm}
@@ -10,25 +8,25 @@ use Rattle.rpki_base.specs.Scheme.{Relation}
 use Rattle.rpki_base.specs.Signature.{SignatureParts}
 use Rattle.rpki_signer.specs.declared.errors.MakeError.{MakeError}
 use Rattle.rpki_signer.specs.declared.errors.MakeError.TheVariants as make
+use Rattle.rpki_signer.specs.declared.errors.SigningError.TheVariants as signing
 use Rattle.rpki_signer.specs.Limits.{default_algorithm, IsShortKey, IsShortOneOff, Keeps, MakeFails, OnceFails}
 use Rattle.rpki_signer.specs.Serials.{without_first_bit}
 use Rattle.rpki_signer.specs.Signer.{SignerState, Holds, AreDistinct, Stays}
 use Rattle.rpki_signer.proofs.Keyrings.{one_key}
 use Rattle.rpki_signer.proofs.States.{rose_then, stays_keeps, keeps_then, fails_before, once_fails}
 use Rattle.rpki_idcert.specs.IdCert.{CertificateFields}
-use Rattle.rpki_idcert.specs.Making.{made_fields, IsMadeFor, IsIssued, IsEndEntityMade}
-use Rattle.rpki_sigmsg.specs.declared.create_error.CreateError.{CreateError}
+use Rattle.rpki_idcert.specs.Making.{made_fields, IsMadeFor, IsIssued, IsEndEntityMade, StopsAtEndEntity}
+use Rattle.rpki_idcert.proofs.Issuing.{end_entity_fails}
 use Rattle.rpki_sigmsg.specs.declared.create_error.CreateError.TheVariants as create
 use Rattle.rpki_sigmsg.specs.Crl.{CrlFields}
 use Rattle.rpki_sigmsg.specs.Errors.{create_error_of}
-use Rattle.rpki_sigmsg.specs.Making.{window, HasWindow, made_covered, made_crl, IsCrlMade, IsCrlSigned, IsCertified, assembled, IsMessageMade, IsCreated, IsReused, CreateFails}
+use Rattle.rpki_sigmsg.specs.Making.{window, HasWindow, ContentFields, made_covered, IsCrlMade, IsCrlSigned, IsCertified, assembled, IsCreated, IsReused, CreateFails}
 use Rattle.rpki_sigmsg.specs.Message.{MessageFields}
-use Rattle.rpki_sigmsg.specs.Spelling.{spelled_tbs_crl}
+use Rattle.rpki_sigmsg.specs.FirstRefusals.{HasKeys, HasOneKey, StopsAtKeys, StopsCertifying, StopsCreating, IsFirstRefusal}
 
--- an error that is handed on
-pub handed_on : {Y E : Type 0} (r : Result Y E) (x : E) (ok : Y → Type 0) (Q : E → Type 0) → IsErr r × IsErrAnd r (λ e. e ≡ x) → Q x → MatchResult r ok Q
-handed_on (Ok y) x ok Q p q = absurd p.1
-handed_on (Err e) x ok Q p q = subst Q (sym p.1) q
+-- what is signed of a content
+pub made_message : (c : ContentFields) (content : List ℕ) (moment now : ℤ) (octets : List ℕ) → c ≡ record { content = content; moment = moment } → moment ≡ now → octets ≡ made_covered c.content c.moment → octets ≡ made_covered content now
+made_message c content moment now octets e m o = o ∙ (ap (λ (f : ContentFields). made_covered f.content f.moment) e ∙ ap (λ t. made_covered content t) m)
 
 -- ---- CRL and certificate
 
@@ -54,11 +52,47 @@ certified scheme issuing key now id a b c crl cert d e h s m =
       drawn = m.drawn ∙ s.signed.is.stays.drawn;
     }
 
-pub uncertified : {I E : Type 0} (scheme : Relation) (issuing : KeyFields) (now : ℤ) (id : I) (a b c : SignerState I) (crl : CrlFields) (e : MakeError E) → IsCrlSigned scheme issuing now id a b crl → Keeps b c × (c.drawn ≡ b.drawn) × MakeFails RsaSha256 id b c e
-    → Keeps a c × (c.drawn ≡ a.drawn) × MakeFails RsaSha256 id a c e
-uncertified scheme issuing now id a b c crl e s f =
+pub uncertified : {I E : Type 0} (scheme : Relation) (issuing : KeyFields) (now : ℤ) (id : I) (a b c : SignerState I) (crl : CrlFields) (e : MakeError E) → IsCrlSigned scheme issuing now id a b crl → Keeps b c × (c.drawn ≡ b.drawn) × MakeFails RsaSha256 id b c e → StopsAtEndEntity id b c e
+    → Keeps a c × (c.drawn ≡ a.drawn) × StopsCertifying scheme issuing now id a c e
+uncertified scheme issuing now id a b c crl e s f t =
     let k = stays_keeps a b s.signed.is.stays in
-    (keeps_then a b c k f.0, f.1 ∙ s.signed.is.stays.drawn, fails_before RsaSha256 id a b c e k f.2)
+    (keeps_then a b c k f.0, f.1 ∙ s.signed.is.stays.drawn, inr (record { between = b; crl = crl; crl_signed = s; stops = t }))
+
+pub without_crl : {I E : Type 0} (scheme : Relation) (issuing : KeyFields) (now : ℤ) (id : I) (a b : SignerState I) (e : MakeError E) → Stays a b × MakeFails RsaSha256 id a b e → Keeps a b × (b.drawn ≡ a.drawn) × StopsCertifying scheme issuing now id a b e
+without_crl scheme issuing now id a b e f = (stays_keeps a b f.0, f.0.drawn, inl f)
+
+certifying_fails : {I E : Type 0} (scheme : Relation) (issuing : KeyFields) (now : ℤ) (id : I) (a b : SignerState I) (e : MakeError E) → StopsCertifying scheme issuing now id a b e → MakeFails RsaSha256 id a b e
+certifying_fails scheme issuing now id a b e (inl f) = f.1
+certifying_fails scheme issuing now id a b e (inr s) = fails_before RsaSha256 id a s.between b e (stays_keeps a s.between s.crl_signed.signed.is.stays) (end_entity_fails id s.between b e s.stops)
+
+-- ---- keys
+
+once_keeps : {I : Type 0} (scheme : Relation) (message : List ℕ) (a b : SignerState I) (octets : List ℕ) (key : KeyFields) → IsShortOneOff scheme RsaSha256 message a b octets key → Keeps a b
+once_keeps scheme message a b octets key o = record { later = o.is.later; keyring = o.is.keyring }
+
+pub without_signature : {I E : Type 0} (scheme : Relation) (message : List ℕ) (id : I) (a b : SignerState I) (e : MakeError E) → Keeps a b × OnceFails a b e → Keeps a b × StopsAtKeys scheme message id a b e
+without_signature scheme message id a b e f = (f.0, inl f.1)
+
+pub without_key : {I E : Type 0} (scheme : Relation) (message : List ℕ) (id : I) (a b c : SignerState I) (octets : List ℕ) (key : KeyFields) (e : MakeError E) → IsShortOneOff scheme RsaSha256 message a b octets key → Stays b c × MakeFails RsaSha256 id b c e → e ≢ make.Signing signing.IncompatibleKey
+    → Keeps a c × StopsAtKeys scheme message id a c e
+without_key scheme message id a b c octets key e o f u =
+    (keeps_then a b c (once_keeps scheme message a b octets key o) (stays_keeps b c f.0), inr (record { between = b; octets = octets; key = key; once = o; refuses = record { stays = f.0; fails = f.1; unsigned = u } }))
+
+pub has_keys : {I : Type 0} (scheme : Relation) (message : List ℕ) (id : I) (a b c : SignerState I) (octets : List ℕ) (key issuing : KeyFields) → IsShortOneOff scheme RsaSha256 message a b octets key → IsShortKey id b c issuing → HasKeys scheme message id a c octets key issuing
+has_keys scheme message id a b c octets key issuing o k = record { between = b; once = o; then_key = k }
+
+keys_fail : {I E : Type 0} (scheme : Relation) (message : List ℕ) (id : I) (a b : SignerState I) (e : MakeError E) → StopsAtKeys scheme message id a b e → MakeFails RsaSha256 id a b e
+keys_fail scheme message id a b e (inl f) = once_fails RsaSha256 id a b e f
+keys_fail scheme message id a b e (inr s) = fails_before RsaSha256 id a s.between b e (once_keeps scheme message a s.between s.octets s.key s.once) s.refuses.fails
+
+pub keys_keep : {I : Type 0} (scheme : Relation) (message : List ℕ) (id : I) (a b : SignerState I) (octets : List ℕ) (key issuing : KeyFields) → HasKeys scheme message id a b octets key issuing → Keeps a b
+keys_keep scheme message id a b octets key issuing k = keeps_then a k.between b (once_keeps scheme message a k.between octets key k.once) (stays_keeps k.between b k.then_key.is.stays)
+
+pub holds_before : {I : Type 0} (scheme : Relation) (message : List ℕ) (id : I) (a b : SignerState I) (octets : List ℕ) (key issuing : KeyFields) → HasKeys scheme message id a b octets key issuing → Holds a.keyring id issuing
+holds_before scheme message id a b octets key issuing k = subst (λ r. Holds r id issuing) k.once.is.keyring k.then_key.is.holds
+
+pub holds_then : {I : Type 0} (scheme : Relation) (message : List ℕ) (id : I) (a b : SignerState I) (octets : List ℕ) (key issuing : KeyFields) → HasKeys scheme message id a b octets key issuing → Holds b.keyring id issuing
+holds_then scheme message id a b octets key issuing k = subst (λ r. Holds r id issuing) (sym k.then_key.is.stays.keyring) k.then_key.is.holds
 
 -- ---- refusals
 
@@ -67,37 +101,44 @@ create_fails content now id a b make.TooLong w h f = (w, inr (h, f))
 create_fails content now id a b (make.Signing e) w h f = (w, f.0, f.1)
 create_fails content now id a b make.OutOfMemory w h f = tt
 
--- after the signature under the key for this one use
-once_keeps : {I : Type 0} (scheme : Relation) (message : List ℕ) (a b : SignerState I) (octets : List ℕ) (key : KeyFields) → IsShortOneOff scheme RsaSha256 message a b octets key → Keeps a b
-once_keeps scheme message a b octets key o = record { later = o.is.later; keyring = o.is.keyring }
+pub no_keys : {I E : Type 0} (scheme : Relation) (message content : List ℕ) (now : ℤ) (id : I) (a b : SignerState I) (e : MakeError E) → HasWindow now → length content ≤ 2147483648 → Keeps a b × StopsAtKeys scheme message id a b e → CreateFails content now id a b (create_error_of e)
+no_keys scheme message content now id a b e w h f = create_fails content now id a b e w h (keys_fail scheme message id a b e f.1)
 
-pub no_key : {I E : Type 0} (scheme : Relation) (message content : List ℕ) (now : ℤ) (id : I) (a b c : SignerState I) (octets : List ℕ) (key : KeyFields) (e : MakeError E) → HasWindow now → length content ≤ 2147483648 → IsShortOneOff scheme RsaSha256 message a b octets key
-    → Stays b c × MakeFails RsaSha256 id b c e → CreateFails content now id a c (create_error_of e)
-no_key scheme message content now id a b c octets key e w h o f = create_fails content now id a c e w h (fails_before RsaSha256 id a b c e (once_keeps scheme message a b octets key o) f.1)
-
--- up to the issuing key
-pub to_key : {I : Type 0} (scheme : Relation) (message : List ℕ) (id : I) (a b c : SignerState I) (octets : List ℕ) (key issuing : KeyFields) → IsShortOneOff scheme RsaSha256 message a b octets key → IsShortKey id b c issuing → Keeps a c
-to_key scheme message id a b c octets key issuing o k = keeps_then a b c (once_keeps scheme message a b octets key o) (stays_keeps b c k.is.stays)
-
-pub holds_before : {I : Type 0} (scheme : Relation) (message : List ℕ) (id : I) (a b c : SignerState I) (octets : List ℕ) (key issuing : KeyFields) → IsShortOneOff scheme RsaSha256 message a b octets key → IsShortKey id b c issuing → Holds a.keyring id issuing
-holds_before scheme message id a b c octets key issuing o k = subst (λ r. Holds r id issuing) o.is.keyring k.is.holds
-
-pub holds_then : {I : Type 0} (id : I) (b c : SignerState I) (issuing : KeyFields) → IsShortKey id b c issuing → Holds c.keyring id issuing
-holds_then id b c issuing k = subst (λ r. Holds r id issuing) (sym k.is.stays.keyring) k.is.holds
-
-pub reused : {I : Type 0} (scheme : Relation) (message : List ℕ) (id : I) (a b c : SignerState I) (octets : List ℕ) (key issuing : KeyFields) → key ≡ issuing → IsShortOneOff scheme RsaSha256 message a b octets key → IsShortKey id b c issuing → IsReused id a c
-reused scheme message id a b c octets key issuing e o k =
-    let h = holds_before scheme message id a b c octets key issuing o k in
+pub reused : {I : Type 0} (scheme : Relation) (message : List ℕ) (id : I) (a b : SignerState I) (octets : List ℕ) (key issuing : KeyFields) → key ≡ issuing → HasKeys scheme message id a b octets key issuing → IsReused id a b
+reused scheme message id a b octets key issuing e k =
+    let h = holds_before scheme message id a b octets key issuing k in
     record {
       issuing = issuing;
       holds = h;
-      drawn = k.is.stays.drawn ∙ (o.is.drawn ∙ ap (λ (x : KeyFields). Some x) e);
-      told = rose_then a.reused b.reused c.reused (o.is.fresh id (subst (λ (x : KeyFields). Holds a.keyring id x) (sym e) h)) k.is.stays.later.reused;
+      drawn = k.then_key.is.stays.drawn ∙ (k.once.is.drawn ∙ ap (λ (x : KeyFields). Some x) e);
+      told = rose_then a.reused k.between.reused b.reused (k.once.is.fresh id (subst (λ (x : KeyFields). Holds a.keyring id x) (sym e) h)) k.then_key.is.stays.later.reused;
     }
 
-pub uncreated : {I E : Type 0} (scheme : Relation) (message content : List ℕ) (now : ℤ) (id : I) (a b c d : SignerState I) (octets : List ℕ) (key issuing : KeyFields) (e : MakeError E) → HasWindow now → length content ≤ 2147483648 → IsShortOneOff scheme RsaSha256 message a b octets key → IsShortKey id b c issuing
-    → Keeps c d × (d.drawn ≡ c.drawn) × MakeFails RsaSha256 id c d e → CreateFails content now id a d (create_error_of e)
-uncreated scheme message content now id a b c d octets key issuing e w h o k f = create_fails content now id a d e w h (fails_before RsaSha256 id a c d e (to_key scheme message id a b c octets key issuing o k) f.2)
+pub uncreated : {I E : Type 0} (scheme : Relation) (message content : List ℕ) (now : ℤ) (id : I) (a b c : SignerState I) (octets : List ℕ) (key issuing : KeyFields) (e : MakeError E) → HasWindow now → length content ≤ 2147483648 → HasKeys scheme message id a b octets key issuing
+    → Keeps b c × (c.drawn ≡ b.drawn) × StopsCertifying scheme issuing now id b c e → CreateFails content now id a c (create_error_of e)
+uncreated scheme message content now id a b c octets key issuing e w h k f = create_fails content now id a c e w h (fails_before RsaSha256 id a b c e (keys_keep scheme message id a b octets key issuing k) (certifying_fails scheme issuing now id b c e f.2))
+
+-- ---- which refusal was the first
+
+first_refusal : {I E : Type 0} (scheme : Relation) (content : List ℕ) (now : ℤ) (id : I) (a b : SignerState I) (e : MakeError E) → StopsCreating scheme content now id a b e → IsFirstRefusal scheme content now id a b (create_error_of e)
+first_refusal scheme content now id a b make.TooLong s = inr s
+first_refusal scheme content now id a b (make.Signing e) s = s
+first_refusal scheme content now id a b make.OutOfMemory s = tt
+
+pub first_keys : {I E : Type 0} (scheme : Relation) (message content : List ℕ) (now : ℤ) (id : I) (a b : SignerState I) (e : MakeError E) → message ≡ made_covered content now → Keeps a b × StopsAtKeys scheme message id a b e → IsFirstRefusal scheme content now id a b (create_error_of e)
+first_keys scheme message content now id a b e m f = first_refusal scheme content now id a b e (inl (subst (λ t. StopsAtKeys scheme t id a b e) m f.1))
+
+pub first_same : {I : Type 0} (scheme : Relation) (message content : List ℕ) (now : ℤ) (id : I) (a b : SignerState I) (octets : List ℕ) (key issuing : KeyFields) → message ≡ made_covered content now → key ≡ issuing → HasKeys scheme message id a b octets key issuing → HasOneKey scheme (made_covered content now) id a b
+first_same scheme message content now id a b octets key issuing m e k = record {
+  octets = octets;
+  issuing = issuing;
+  keys = subst (λ (x : KeyFields). HasKeys scheme (made_covered content now) id a b octets x issuing) e (subst (λ t. HasKeys scheme t id a b octets key issuing) m k);
+}
+
+pub first_behind : {I E : Type 0} (scheme : Relation) (message content : List ℕ) (now : ℤ) (id : I) (a b c : SignerState I) (octets : List ℕ) (key issuing : KeyFields) (e : MakeError E) → message ≡ made_covered content now → key ≢ issuing → HasKeys scheme message id a b octets key issuing
+    → Keeps b c × (c.drawn ≡ b.drawn) × StopsCertifying scheme issuing now id b c e → IsFirstRefusal scheme content now id a c (create_error_of e)
+first_behind scheme message content now id a b c octets key issuing e m n k f =
+    first_refusal scheme content now id a c e (inr (record { between = b; octets = octets; key = key; issuing = issuing; keys = subst (λ t. HasKeys scheme t id a b octets key issuing) m k; other = n; stops = f.2 }))
 
 -- ---- the message
 
@@ -105,14 +146,14 @@ own_is_false : (own : Bool) (key issuing : KeyFields) → Decides own (key ≡ i
 own_is_false true key issuing d n = absurd (n (d.0 refl))
 own_is_false false key issuing d n = refl
 
-pub created : {I : Type 0} (scheme : Relation) (content : List ℕ) (now : ℤ) (id : I) (a b c d : SignerState I) (signature : SignatureParts RpkiAlgorithm) (key issuing : KeyFields) (crl : CrlFields) (cert : CertificateFields) (m : MessageFields) → HasWindow now → signature.algorithm ≡ default_algorithm
-    → IsShortOneOff scheme RsaSha256 (made_covered content now) a b signature.value key → IsShortKey id b c issuing → key ≢ issuing → IsCertified scheme issuing key now c d crl cert → m ≡ assembled (record { content = content; moment = now }) signature cert crl → IsCreated scheme content now id a d m
-created scheme content now id a b c d signature key issuing crl cert m w g o k n t e = record {
+pub created : {I : Type 0} (scheme : Relation) (content : List ℕ) (now : ℤ) (id : I) (a b c : SignerState I) (signature : SignatureParts RpkiAlgorithm) (key issuing : KeyFields) (crl : CrlFields) (cert : CertificateFields) (m : MessageFields) → HasWindow now → signature.algorithm ≡ default_algorithm
+    → HasKeys scheme (made_covered content now) id a b signature.value key issuing → key ≢ issuing → IsCertified scheme issuing key now b c crl cert → m ≡ assembled (record { content = content; moment = now }) signature cert crl → IsCreated scheme content now id a c m
+created scheme content now id a b c signature key issuing crl cert m w g k n t e = record {
   window_is = w;
   issuing = issuing;
-  holds = holds_before scheme (made_covered content now) id a b c signature.value key issuing o k;
+  holds = holds_before scheme (made_covered content now) id a b signature.value key issuing k;
   key = key;
-  drawn = t.drawn ∙ (k.is.stays.drawn ∙ o.is.drawn);
+  drawn = t.drawn ∙ (k.then_key.is.stays.drawn ∙ k.once.is.drawn);
   other = n;
   twenty = t.twenty;
   made = record {
@@ -121,8 +162,8 @@ created scheme content now id a b c d signature key issuing crl cert m w g o k n
     crl = crl;
     is = e;
     algorithm = g;
-    signed = o.is.signed;
-    fields = t.fields.is ∙ ap (λ own. made_fields own issuing key (without_first_bit d.random) (window now)) (own_is_false t.fields.own key issuing t.fields.decides n);
+    signed = k.once.is.signed;
+    fields = t.fields.is ∙ ap (λ own. made_fields own issuing key (without_first_bit c.random) (window now)) (own_is_false t.fields.own key issuing t.fields.decides n);
     issued = t.issued;
     crl_made = t.crl_made;
   };

@@ -1,5 +1,5 @@
 -- What an extension of a CRL adds to those found so far, and what all add up to.
-use Rattle.std.proofs.Common.{◌≡◌, ℕ, true, false, None, Some, List, refl, ◌∙◌}
+use Rattle.std.proofs.Common.{◌≡◌, true, false, None, Some, List, refl, ◌∙◌}
 use Rattle.std.specs.Prelude.{bytes_eq}
 use Rattle.rpki_common.specs.Chaining.{◌>>=◌}
 use Rattle.rpki_common.specs.Collecting.{collect, once, slot, both}

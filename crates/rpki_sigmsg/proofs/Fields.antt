@@ -2,7 +2,7 @@
 use Rattle.std.proofs.Common.{◌≡◌, Option, None, Some, ap, subst, ◌∙◌}
 use Rattle.rpki_common.specs.Chaining.{◌>>=◌}
 use Rattle.rpki_common.proofs.Bounds.{bound}
-use Rattle.rpki_common.proofs.Truths.{none_some, same_some}
+use Rattle.rpki_common.proofs.Truths.{same_some}
 use Rattle.rpki_der.specs.declared.mode.Mode.{Mode}
 use Rattle.rpki_der.specs.Grammar.{first}
 use Rattle.rpki_der.specs.Value.{Value, Values, End, ◌▸◌, IsValue, AreValues}

@@ -1,5 +1,5 @@
 -- A message that was read holds what is written of it.
-use Rattle.std.proofs.Common.{◌≡◌, ℕ, ◌+◌, ◌≤◌, ◌<◌, Bool, true, false, Option, None, Some, List, [], ◌∷◌, ◌++◌, length, refl, sym, ap, subst, ◌∙◌, arith}
+use Rattle.std.proofs.Common.{◌≡◌, ℕ, Bool, true, false, Option, None, Some, List, length, refl, ap, subst, ◌∙◌, arith}
 use Rattle.std.specs.Prelude.{◌==◌, if◌then◌else◌}
 use Rattle.std.specs.List.{AllByRecursion}
 use Rattle.std.proofs.lemmas.Bool.{eqb-true}
@@ -7,16 +7,15 @@ use Rattle.rpki_common.specs.Chaining.{◌>>=◌}
 use Rattle.rpki_common.proofs.Bounds.{bound, chosen}
 use Rattle.rpki_common.proofs.Truths.{none_some, same_some}
 use Rattle.rpki_der.specs.declared.mode.Mode.{Mode}
-use Rattle.rpki_der.specs.declared.mode.Mode.TheVariants.{Ber, Der}
+use Rattle.rpki_der.specs.declared.mode.Mode.TheVariants.{Der}
 use Rattle.rpki_der.specs.Entry.{entry}
-use Rattle.rpki_der.specs.Grammar.{any, so, within, first, every, done, wrapped}
+use Rattle.rpki_der.specs.Grammar.{so, within, first, every, wrapped}
 use Rattle.rpki_der.specs.Held.{held, with_octets}
 use Rattle.rpki_der.specs.Identifier.{has_tag}
-use Rattle.rpki_der.specs.InDer.{in_der}
-use Rattle.rpki_der.specs.OctetString.{octets_under, octet_string}
+use Rattle.rpki_der.specs.OctetString.{octets_under}
 use Rattle.rpki_der.specs.Reader.{value_at, decoded}
 use Rattle.rpki_der.specs.Tags.{sequence, set, context}
-use Rattle.rpki_der.specs.Value.{Value, Primitive, Constructed, Values, End, ◌▸◌, spelling, spellings, IsValue, AreValues, Begins}
+use Rattle.rpki_der.specs.Value.{Value, Primitive, Constructed, Values, spelling, spellings, IsValue, AreValues}
 use Rattle.rpki_der.specs.Whole.{alone, whole_of}
 use Rattle.rpki_der.specs.Writing.{Spells}
 use Rattle.rpki_der.proofs.Decoding.{value_at-sound}
@@ -27,14 +26,14 @@ use Rattle.rpki_base.specs.AlgorithmLaws.{x509_named}
 use Rattle.rpki_base.specs.KeyIdentifier.{twenty, key_identifier_under}
 use Rattle.rpki_base.specs.RpkiSignatureAlgorithm.{RpkiAlgorithm, x509_algorithm}
 use Rattle.rpki_base.specs.Signature.{SignatureParts}
-use Rattle.rpki_base.specs.SignedData.{Signed, algorithm_in, signature_in, signed_as, signed_fields, signed_value}
+use Rattle.rpki_base.specs.SignedData.{Signed, algorithm_in, signature_in, signed_as, signed_value}
 use Rattle.rpki_base.proofs.Determined.{determined}
 use Rattle.rpki_idcert.specs.IdCert.{CertificateFields, identity_certificate}
 use Rattle.rpki_idcert.specs.TbsIdCert.{tbs_certificate}
 use Rattle.rpki_idcert.proofs.Pieces.{Piece, of_whole}
-use Rattle.rpki_sigmsg.specs.Attributes.{AttributeFields, attributes, signed_attributes, covered}
+use Rattle.rpki_sigmsg.specs.Attributes.{AttributeFields, attributes, signed_attributes}
 use Rattle.rpki_sigmsg.specs.Crl.{CrlFields, revocation_list}
-use Rattle.rpki_sigmsg.specs.Message.{MessageFields, ViewFields, AreOneOrTwo, encapsulated_content, crl_in_der, CrlSet, crl_set_of, if_any, crl_set, view_of, signed_parts, viewed_message, message_of, signed_message}
+use Rattle.rpki_sigmsg.specs.Message.{MessageFields, ViewFields, AreOneOrTwo, crl_in_der, CrlSet, crl_set_of, if_any, crl_set, view_of, signed_parts, viewed_message, message_of, signed_message}
 use Rattle.rpki_sigmsg.specs.Signer.{SignerFields, signer_info}
 use Rattle.rpki_sigmsg.specs.TbsCrl.{tbs_crl}
 use Rattle.rpki_sigmsg.proofs.Fields.{field, lawful_field, first_lawful, there_is}

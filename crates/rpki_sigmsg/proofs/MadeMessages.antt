@@ -1,9 +1,7 @@
 -- Messages that are made hold what is written of them, and are believed in their window.
-use Rattle.std.proofs.Common.{◌≡◌, ℕ, ◌+◌, ◌*◌, ◌≤◌, ◌<◌, ℤ, ◌≤ℤ◌, Bool, true, false, Option, None, Some, Result, Ok, Err, List, [], ◌∷◌, ◌++◌, length, refl, sym, ap, subst, ◌∙◌, arith, length-append}
-use Rattle.std.specs.Prelude.{if◌then◌else◌, nat_lt, ◌==◌, T, int_le, pos, ◌+ℤ◌, ◌-ℤ◌, unsigned_abs, bytes_eq, not, filter, unwrap_or}
-use Rattle.std.specs.List.{AllByRecursion, list_all}
+use Rattle.std.proofs.Common.{◌≡◌, ℕ, ◌+◌, ◌*◌, ◌≤◌, ◌<◌, ℤ, ◌≤ℤ◌, Bool, true, false, Option, Some, Result, Ok, Err, List, [], ◌∷◌, ◌++◌, length, refl, sym, ap, subst, ◌∙◌, arith, length-append}
+use Rattle.std.specs.Prelude.{if◌then◌else◌, nat_lt, ◌==◌, T, int_le, unsigned_abs, bytes_eq, not, unwrap_or}
 use Rattle.std.proofs.lemmas.List.Elements.{All-from_recursion}
-use Rattle.std.proofs.lemmas.List.{append-nil}
 use Rattle.sha1.specs.Sha1.{sha1}
 use Rattle.sha2.specs.Sha256.{sha256}
 use Rattle.sha2.proofs.Facts256.{length-sha256}
@@ -11,17 +9,16 @@ use Rattle.rpki_common.specs.Chaining.{◌>>=◌}
 use Rattle.rpki_common.specs.Items.{the_one, at_most_one}
 use Rattle.rpki_common.proofs.Truths.{are_true, equal_octets}
 use Rattle.rpki_der.specs.declared.mode.Mode.{Mode}
-use Rattle.rpki_der.specs.declared.mode.Mode.TheVariants.{Ber, Der}
+use Rattle.rpki_der.specs.declared.mode.Mode.TheVariants.{Der}
 use Rattle.rpki_der.specs.Entry.{entry, set_of}
 use Rattle.rpki_der.specs.Grammar.{within, first, optional, every, done, so, wrapped}
 use Rattle.rpki_der.specs.Held.{held}
-use Rattle.rpki_der.specs.Identifier.{IsTag}
 use Rattle.rpki_der.specs.InDer.{in_der}
 use Rattle.rpki_der.specs.Integer.{integer_is}
 use Rattle.rpki_der.specs.OctetString.{octet_string}
 use Rattle.rpki_der.specs.Oid.{oid, oid_is}
 use Rattle.rpki_der.specs.Tags.{sequence, set, context, oid_tag, integer_tag, octet_string_tag}
-use Rattle.rpki_der.specs.Value.{Value, Values, End, ◌▸◌, spellings}
+use Rattle.rpki_der.specs.Value.{Value, Values, End, ◌▸◌}
 use Rattle.rpki_der.specs.Writing.{der_primitive, der_constructed, primitive_value, constructed_value, Spells}
 use Rattle.rpki_der.proofs.Written.{spells_none, spells_followed, spells_primitive, spells_constructed}
 use Rattle.rpki_base.specs.Civil.{IsMoment}
@@ -39,16 +36,16 @@ use Rattle.rpki_base.specs.WritingLaws.{is_sequence, is_oid}
 use Rattle.rpki_base.specs.Checks.{first_failure}
 use Rattle.rpki_base.proofs.Checking.{passes}
 use Rattle.rpki_signer.specs.Limits.{default_algorithm}
-use Rattle.rpki_idcert.specs.Making.{name_of_key, made_fields}
-use Rattle.rpki_idcert.specs.Spelling.{spelled_extension, spelled_authority_key, spelled_tbs, CanBeSpelled, AreReadable}
+use Rattle.rpki_idcert.specs.Making.{name_of_key}
+use Rattle.rpki_idcert.specs.Spelling.{spelled_authority_key, spelled_tbs, CanBeSpelled, AreReadable}
 use Rattle.rpki_idcert.proofs.Pieces.{Piece, of_whole, constructed, wrapping, inside_is}
-use Rattle.rpki_idcert.proofs.ReadAgain.{is_integer, is_octets, is_context_0, Pieces, and_pieces, one_piece, an_extension, named_authority, key_piece, serial_piece, algorithm_piece, time_piece, name_is_read, sha1_twenty, tbs_piece, made_readable}
+use Rattle.rpki_idcert.proofs.ReadAgain.{is_integer, is_context_0, Pieces, and_pieces, one_piece, an_extension, named_authority, serial_piece, algorithm_piece, time_piece, name_is_read, sha1_twenty, tbs_piece, made_readable}
 use Rattle.rpki_idcert.proofs.Sizes.{primitive_size, constructed_size, content_within, time_size}
-use Rattle.rpki_sigmsg.specs.Attributes.{AttributeFields, type_in, digest_in, time_in, binary_in, attributes}
+use Rattle.rpki_sigmsg.specs.Attributes.{AttributeFields, type_in, digest_in, time_in, attributes}
 use Rattle.rpki_sigmsg.specs.CrlExtensions.{issuer_key, authority_in, number_in, known_extensions, extension_list}
-use Rattle.rpki_sigmsg.specs.Making.{window, HasWindow, spelled_attribute, made_attributes, made_covered, made_crl}
+use Rattle.rpki_sigmsg.specs.Making.{window, spelled_attribute, made_attributes, made_covered, made_crl}
 use Rattle.rpki_sigmsg.specs.ObjectIdentifiers.{content_type, message_digest, signing_time, xml_content}
-use Rattle.rpki_sigmsg.specs.RevokedCertificates.{RevokedFields, crl_entry, revoked_certificates, none_revoked}
+use Rattle.rpki_sigmsg.specs.RevokedCertificates.{revoked_certificates, none_revoked}
 use Rattle.rpki_sigmsg.specs.Spelling as spec
 use Rattle.rpki_sigmsg.specs.TbsCrl.{TbsCrlFields, tbs_crl}
 use Rattle.std.specs.Prelude.{◌&&◌, MatchResult, IfOk, IsOk}
@@ -71,7 +68,7 @@ use Rattle.rpki_sigmsg.specs.Making.{IsCrlMade, assembled, IsMessageMade, IsCrea
 use Rattle.rpki_sigmsg.specs.Message.{MessageFields, signed_message}
 use Rattle.rpki_sigmsg.specs.RevokedCertificates.{is_listed}
 use Rattle.rpki_sigmsg.proofs.Again.{begins_again}
-use Rattle.rpki_sigmsg.proofs.Rewriting.{a_string, is_set, signer_name, IsCrlHeld, IsHeld, Fits, all_fit, data_fits, first_fits}
+use Rattle.rpki_sigmsg.proofs.Rewriting.{a_string, is_set, signer_name, IsCrlHeld, IsHeld, all_fit, data_fits, first_fits}
 
 -- ---- attributes
 

@@ -1,6 +1,5 @@
 -- A message that is written in DER is read again as that message.
-use Rattle.std.proofs.Common.{◌≡◌, ℕ, ◌+◌, ◌≤◌, ◌<◌, ◌^◌, ℤ, Bool, true, false, Option, None, Some, List, [], ◌∷◌, ◌++◌, length, refl, sym, ap, subst, ◌∙◌, arith, length-append}
-use Rattle.std.specs.Prelude.{⊤}
+use Rattle.std.proofs.Common.{◌≡◌, ℕ, ◌+◌, ◌≤◌, ◌<◌, Option, None, Some, List, [], ◌∷◌, ◌++◌, length, refl, sym, ap, subst, ◌∙◌, arith, length-append}
 use Rattle.std.specs.List.{AllByRecursion}
 use Rattle.std.proofs.lemmas.Bool.{eq-eqb}
 use Rattle.std.proofs.lemmas.List.{append-nil}
@@ -8,7 +7,7 @@ use Rattle.rpki_common.specs.Chaining.{◌>>=◌}
 use Rattle.rpki_der.specs.declared.mode.Mode.{Mode}
 use Rattle.rpki_der.specs.declared.mode.Mode.TheVariants.{Ber, Der}
 use Rattle.rpki_der.specs.Entry.{entry}
-use Rattle.rpki_der.specs.Grammar.{any, so, within, first, optional, every, done, wrapped}
+use Rattle.rpki_der.specs.Grammar.{so, within, first, optional, every, done, wrapped}
 use Rattle.rpki_der.specs.Held.{held, with_octets}
 use Rattle.rpki_der.specs.Identifier.{IsTag}
 use Rattle.rpki_der.specs.InDer.{in_der}
@@ -19,26 +18,25 @@ use Rattle.rpki_der.specs.Oid.{oid, oid_is}
 use Rattle.rpki_der.specs.Tags.{sequence, set, context, oid_tag, integer_tag, null_tag, octet_string_tag}
 use Rattle.rpki_der.specs.Value.{Value, Values, End, ◌▸◌, spelling, spellings, IsValue}
 use Rattle.rpki_der.specs.Whole.{whole_of}
-use Rattle.rpki_der.specs.Writing.{der_length, der_primitive, der_constructed, primitive_value, constructed_value, Spells}
+use Rattle.rpki_der.specs.Writing.{der_length, der_primitive, der_constructed, primitive_value, Spells}
 use Rattle.rpki_der.proofs.Strict.{loose_value}
-use Rattle.rpki_der.proofs.Written.{spells_none, spells_one, spells_followed, spells_primitive}
+use Rattle.rpki_der.proofs.Written.{spells_one, spells_followed, spells_primitive}
 use Rattle.rpki_base.specs.declared.rpki_algorithm.RsaIdentifier.TheVariants.{RsaEncryption}
 use Rattle.rpki_base.specs.AlgorithmLaws.{cms_again, cms_value}
 use Rattle.rpki_base.specs.Bits.{spelled_bits}
-use Rattle.rpki_base.specs.KeyIdentifier.{twenty, key_identifier_under}
+use Rattle.rpki_base.specs.KeyIdentifier.{key_identifier_under}
 use Rattle.rpki_base.specs.RpkiSignatureAlgorithm.{RpkiAlgorithm, cms_algorithm, spelled_x509, spelled_cms}
-use Rattle.rpki_base.specs.Signature.{SignatureParts}
 use Rattle.rpki_base.specs.SignedData.{spelled_data, CanBeSpelled as DataCanBeSpelled}
 use Rattle.rpki_base.specs.WritingLaws.{is_sequence, is_oid}
 use Rattle.rpki_idcert.specs.IdCert.{CertificateFields, identity_certificate}
 use Rattle.rpki_idcert.specs.TbsIdCert.{tbs_certificate}
-use Rattle.rpki_idcert.proofs.Pieces.{Piece, parts_of_one, of_begins, constructed, wrapping, with_its_octets, as_octets, inside_is}
+use Rattle.rpki_idcert.proofs.Pieces.{Piece, parts_of_one, constructed, wrapping, with_its_octets, as_octets, inside_is}
 use Rattle.rpki_idcert.proofs.ReadAgain.{is_integer, is_octets, is_context_0, signed_piece, certificate_piece}
-use Rattle.rpki_idcert.proofs.Sizes.{primitive_size, constructed_size, content_within}
+use Rattle.rpki_idcert.proofs.Sizes.{content_within}
 use Rattle.rpki_sigmsg.specs.Algorithm.{digest_algorithm, signature_algorithm}
 use Rattle.rpki_sigmsg.specs.Attributes.{AttributeFields, attributes, signed_attributes, covered}
 use Rattle.rpki_sigmsg.specs.Crl.{CrlFields, revocation_list}
-use Rattle.rpki_sigmsg.specs.Message.{MessageFields, ViewFields, AreOneOrTwo, encapsulated_content, crl_in_der, CrlSet, crl_set_of, if_any, crl_set, view_of, signed_parts, viewed_message, message_of, signed_message}
+use Rattle.rpki_sigmsg.specs.Message.{MessageFields, ViewFields, AreOneOrTwo, encapsulated_content, crl_in_der, CrlSet, crl_set_of, if_any, crl_set, view_of, signed_parts, viewed_message, signed_message}
 use Rattle.rpki_sigmsg.specs.ObjectIdentifiers.{signed_data_type, xml_content, sha256_name}
 use Rattle.rpki_sigmsg.specs.Signer.{SignerFields, signer_info}
 use Rattle.rpki_sigmsg.specs.Spelling as spec

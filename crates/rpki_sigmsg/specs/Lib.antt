@@ -1,5 +1,6 @@
 -- Said in contracts, and to be believed: ObjectIdentifiers, Algorithm, Attributes, CrlExtensions, Signer, RevokedCertificates,
--- TbsCrl, Crl, Message, Beginning, Places, CrlChecks, Checks, Spelling, Making, Errors. Means for readers: Ahead, Gathered, CrlGathered.
+-- TbsCrl, Crl, Message, Beginning, Places, CrlChecks, Checks, Spelling, Making, FirstRefusals, Errors. Means for readers: Ahead, Gathered,
+-- CrlGathered.
 pub mod ObjectIdentifiers
 pub mod Algorithm
 pub mod Attributes
@@ -18,4 +19,5 @@ pub mod Checks
 pub mod Places
 pub mod Spelling
 pub mod Making
+pub mod FirstRefusals
 pub mod Errors

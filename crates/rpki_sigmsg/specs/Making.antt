@@ -1,5 +1,5 @@
 -- How signed messages are made (RFC 5652, 5.4 and 11; RFC 5280, 5.1; RFC 6492, 3.1).
-use Rattle.std.specs.Prelude.{false, ◌≡◌, ◌≢◌, ◌≤ℤ◌, ◌≤◌, ◌<◌, ◌^◌, ◌*◌, ◌⊎◌, ⊤, ℕ, ℤ, pos, ◌+ℤ◌, ◌-ℤ◌, unsigned_abs, Option, Some, List, [], ◌∷◌, ◌++◌, length}
+use Rattle.std.specs.Prelude.{false, ◌≡◌, ◌≢◌, ◌≤ℤ◌, ◌≤◌, ◌<◌, ◌^◌, ◌*◌, ◌⊎◌, ⊤, ℕ, ℤ, pos, ◌+ℤ◌, ◌-ℤ◌, unsigned_abs, Some, List, [], ◌∷◌, ◌++◌, length}
 use Rattle.sha1.specs.Sha1.{sha1}
 use Rattle.sha2.specs.Sha256.{sha256}
 use Rattle.rpki_common.specs.Causes.{Rose}
@@ -15,7 +15,7 @@ use Rattle.rpki_base.specs.Serial.{serial_of}
 use Rattle.rpki_base.specs.TimeText.{der_time}
 use Rattle.rpki_base.specs.Validity.{ValidityFields}
 use Rattle.rpki_signer.specs.declared.errors.SigningError.TheVariants as signing
-use Rattle.rpki_signer.specs.Limits.{default_algorithm, IsShort, IsShortSignature, Keeps}
+use Rattle.rpki_signer.specs.Limits.{default_algorithm, IsShortSignature, Keeps}
 use Rattle.rpki_signer.specs.Serials.{without_first_bit}
 use Rattle.rpki_signer.specs.Signer.{SignerState, Holds, SigningFails}
 use Rattle.rpki_idcert.specs.IdCert.{CertificateFields}

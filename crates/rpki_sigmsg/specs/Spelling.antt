@@ -1,6 +1,6 @@
 -- How CRLs and signed messages are written in DER (RFC 5280, 5.1; RFC 5652, 5.1 and 5.3; X.690, 10 and 11). What was signed is
 -- written as it is held.
-use Rattle.std.specs.Prelude.{ℕ, ◌^◌, ◌<◌, Option, None, Some, List, [], ◌∷◌, ◌++◌, length, true, false}
+use Rattle.std.specs.Prelude.{ℕ, ◌^◌, ◌<◌, Option, None, Some, List, [], ◌∷◌, ◌++◌, length, false}
 use Rattle.rpki_der.specs.Tags.{sequence, set, context, oid_tag, integer_tag, octet_string_tag}
 use Rattle.rpki_der.specs.Writing.{der_primitive, der_constructed}
 use Rattle.rpki_base.specs.ObjectIdentifiers as names

@@ -1,6 +1,6 @@
 //! Algorithm identifiers.
 
-ghost use Rattle.std.specs.Prelude.{◌≡◌, ◌<◌};
+ghost use Rattle.std.specs.Prelude.{◌<◌};
 ghost use Rattle.rpki_der.specs.Ticks.{TakesCounted};
 ghost use Rattle.rpki_sigmsg.specs.Algorithm.{digest_algorithm, signature_algorithm, any_sequence};
 

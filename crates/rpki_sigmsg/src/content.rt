@@ -1,6 +1,5 @@
 //! The content of a signed message.
 
-ghost use Rattle.std.specs.Prelude.{◌≡◌};
 ghost use Rattle.rpki_der.specs.Grammar.{wrapped};
 ghost use Rattle.rpki_der.specs.Held.{with_octets};
 ghost use Rattle.rpki_der.specs.OctetString.{octet_string};

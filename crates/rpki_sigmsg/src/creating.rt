@@ -1,18 +1,19 @@
 //! Creating signed messages.
 
-ghost use Rattle.std.specs.Prelude.{◌≡◌, ◌++◌, ◌≤ℤ◌, ◌<◌, ◌≤◌, ◌^◌, ◌+ℤ◌, ◌-ℤ◌, ℕ, ℤ, List, pos, length, Decides, IsOk, IfOk, OnOk, IsErrOf, MatchResult};
+ghost use Rattle.std.specs.Prelude.{◌≡◌, ◌++◌, ◌≤ℤ◌, ◌<◌, ◌≤◌, ◌^◌, ◌⊎◌, ℕ, ℤ, List, length, Decides, IsOk, IfOk, IfErr, IsErrOf, MatchResult};
 ghost use Rattle.rpki_der.specs.declared.mode.Mode.{Mode};
 ghost use Rattle.rpki_der.specs.Takes.{BeginsAs};
 ghost use Rattle.rpki_base.specs.Civil.{IsMoment};
 ghost use Rattle.rpki_base.specs.PublicKey.{KeyFields};
 ghost use Rattle.rpki_base.specs.declared.algorithm.SigningAlgorithm.TheVariants.{RsaSha256};
-ghost use Rattle.rpki_signer.specs.Limits.{Keeps, MakeFails};
+ghost use Rattle.rpki_signer.specs.Limits.{Keeps, MakeFails, default_algorithm};
 ghost use Rattle.rpki_signer.specs.Signer.{Holds, Stays, AreDistinct};
 ghost use Rattle.rpki_sigmsg.specs.Checks.{IsBelieved};
 ghost use Rattle.rpki_sigmsg.specs.Making as spec;
 ghost use Rattle.rpki_sigmsg.specs.declared.create_error.CreateError.TheVariants as create;
 ghost use Rattle.rpki_sigmsg.specs.Message.{signed_message};
 ghost use Rattle.rpki_sigmsg.specs.Spelling.{rewritten, CanBeSpelled};
+ghost use Rattle.rpki_sigmsg.specs.FirstRefusals.{HasKeys, StopsAtKeys, StopsCertifying, IsFirstRefusal};
 
 use crate::create_error::CreateError;
 use crate::crl::SignedMessageCrl;
@@ -20,7 +21,7 @@ use crate::message::SignedMessage;
 use crate::unsigned::{UnsignedContent, UnsignedCrl};
 use crate::window::Window;
 use bytes::Bytes;
-use rpki_base::{PublicKey, Scheme, Time};
+use rpki_base::{PublicKey, RpkiSignatureAlgorithm, Scheme, Signature, Time};
 use rpki_idcert::IdCert;
 use rpki_signer::{MakeError, Signer, key_within_limit, sign_once_within_limit, sign_within_limit};
 use std::alloc::Global;
@@ -51,6 +52,27 @@ fn are_moments(window: Window)
     let _ = window.moment().seconds();
     let _ = validity.not_before().seconds();
     let _ = validity.not_after().seconds();
+}
+
+// The signature of the message under a key for this one use, that key, and the issuing key.
+fn sign_once_and_get_key<P: Scheme, S: Signer<P>>(
+    alloc: Global,
+    message: &[u8],
+    issuing_key_id: &S::KeyId,
+    signer: &mut S,
+) -> Result<(Signature<RpkiSignatureAlgorithm>, PublicKey, PublicKey), MakeError<S::Error>>
+    ensures keys { MatchResult result
+        (λ r. HasKeys P.checks message.now issuing_key_id.now
+        (S.state signer.old) (S.state signer.new) r.0.value r.1 r.2)
+        (λ e. Keeps (S.state signer.old) (S.state signer.new)
+        × StopsAtKeys P.checks message.now issuing_key_id.now
+        (S.state signer.old) (S.state signer.new) e) }
+    ensures algorithm { IfOk result (λ r. r.0.algorithm ≡ default_algorithm) }
+    ensures distinct { AreDistinct (S.state signer.new).keyring }
+{
+    let (signature, key) = sign_once_within_limit(alloc, message, signer)?;
+    let issuing_key = key_within_limit(alloc, issuing_key_id, signer)?;
+    Ok((signature, key, issuing_key))
 }
 
 // The CRL of the issuing key, signed.
@@ -89,7 +111,8 @@ fn certify<P: Scheme, S: Signer<P>>(
         (S.state signer.old) (S.state signer.new) r.0 r.1)
         (λ e. Keeps (S.state signer.old) (S.state signer.new)
         × ((S.state signer.new).drawn ≡ (S.state signer.old).drawn)
-        × MakeFails RsaSha256 issuing_key_id.now (S.state signer.old) (S.state signer.new) e) }
+        × StopsCertifying P.checks issuing_key.now window issuing_key_id.now
+        (S.state signer.old) (S.state signer.new) e) }
 {
     let crl = sign_crl(alloc, issuing_key, window, issuing_key_id, signer)?;
     let certificate = IdCert::new_ee(alloc, key, window.validity(), issuing_key_id, signer)?;
@@ -111,12 +134,18 @@ fn create_within<P: Scheme, S: Signer<P>>(
         (S.state signer.old) (S.state signer.new))
         (spec.CreateFails content window issuing_key_id.now
         (S.state signer.old) (S.state signer.new)) }
+    ensures first_refusal { IfErr result (IsFirstRefusal P.checks content window issuing_key_id.now
+        (S.state signer.old) (S.state signer.new)) }
     ensures keeps { Keeps (S.state signer.old) (S.state signer.new) }
     ensures distinct { IsOk result → AreDistinct (S.state signer.old).keyring }
 {
     let content = UnsignedContent::new(alloc, content, window.moment())?;
-    let (signature, key) = sign_once_within_limit(alloc, content.as_slice(), signer)?;
-    let issuing_key = key_within_limit(alloc, issuing_key_id, signer)?;
+    let (signature, key, issuing_key) = sign_once_and_get_key(
+        alloc,
+        content.as_slice(),
+        issuing_key_id,
+        signer,
+    )?;
     if is_same(&key, &issuing_key) {
         return Err(CreateError::KeyReused);
     }
@@ -161,6 +190,14 @@ impl SignedMessage {
         ensures moment { (spec.HasWindow now → ⊥) → IsErrOf result create.Moment }
         ensures too_long { spec.HasWindow now → 2 ^ 31 < length content
             → IsErrOf result create.TooLong }
+
+        ensures unasked { (spec.HasWindow now → ⊥) ⊎ (2 ^ 31 < length content)
+            → signer.new ≡ signer.old }
+
+        // The signer is asked in turn, and its first refusal decides: all that it gave before has at most
+        // 2^16 octets.
+        ensures first_refusal { IfErr result (IsFirstRefusal P.checks content now issuing_key_id.now
+            (S.state signer.old) (S.state signer.new)) }
 
         // The signer holds the same keys, whatever the answer.
         ensures keeps { Keeps (S.state signer.old) (S.state signer.new) }

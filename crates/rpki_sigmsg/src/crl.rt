@@ -129,7 +129,7 @@ impl SignedMessageCrl {
         SignedMessageCrl::take_within::<Brand>(alloc, octets, Blank::new(1))
     }
 
-    /// The CRL that stands next: a value by the cursor's rules, whose octets are a CRL in DER.
+    /// The CRL that stands next: a value by the cursor's rules, whose octets are a CRL in DER; Malformed exactly where none does.
     pub fn take_from(
         alloc: Global,
         cursor: &mut Cursor<'_>,
@@ -155,7 +155,7 @@ impl SignedMessageCrl {
         SignedMessageCrl::take_from_counted(alloc, cursor, &mut steps)
     }
 
-    /// The CRL that stands next, as `take_from` reads it. It ticks once for each header and each end mark that it reads.
+    /// The CRL that stands next, as `take_from` reads it. It ticks each time it looks at a header, and for each end mark.
     pub fn take_from_counted<L: Ledger>(
         alloc: Global,
         cursor: &mut Cursor<'_>,

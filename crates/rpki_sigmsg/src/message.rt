@@ -1,6 +1,6 @@
 //! Signed messages.
 
-ghost use Rattle.std.specs.Prelude.{◌≡◌, ◌↔◌, ◌<◌, ◌+◌, ◌*◌, ◌≤◌, ◌∷◌, List, length, IsTrue, IfOk};
+ghost use Rattle.std.specs.Prelude.{◌≡◌, ◌↔◌, ◌<◌, ◌∷◌, List, IsTrue, IfOk};
 ghost use Rattle.sha2.specs.Sha256.{sha256};
 ghost use Rattle.rpki_der.specs.Takes.{Takes, Decodes};
 ghost use Rattle.rpki_der.specs.Ticks.{TakesCounted, DecodesCounted};
@@ -92,7 +92,7 @@ impl SignedMessage {
         SignedMessage::take_from(alloc, &mut cursor)
     }
 
-    /// The same as `decode`, and it ticks once for each header and each end mark that it reads: at most three times an octet, and eight
+    /// The same as `decode`, and it ticks each time it looks at a header, and for each end mark: at most three times an octet, and eight
     /// times more where it refuses.
     pub fn decode_counted<L: Ledger>(
         alloc: Global,
@@ -133,14 +133,14 @@ impl SignedMessage {
         SignedMessage::take_from_counted(alloc, cursor, &mut steps)
     }
 
-    /// The message that stands next, by the cursor's rules. The CRLs are in DER in both modes.
+    /// The message that stands next, by the cursor's rules; Malformed exactly where none does. The CRLs are in DER in both modes.
     pub fn take_from(alloc: Global, cursor: &mut Cursor<'_>) -> Result<SignedMessage, DecodeError>
         ensures { Takes (signed_message cursor.old.mode) (λ m. m) cursor.old cursor.new result }
     {
         SignedMessage::take_from_within::<Brand>(alloc, cursor, Blank::new(1))
     }
 
-    /// The message that stands next, as `take_from` reads it. It ticks once for each header and each end mark that it reads.
+    /// The message that stands next, as `take_from` reads it. It ticks each time it looks at a header, and for each end mark.
     pub fn take_from_counted<L: Ledger>(
         alloc: Global,
         cursor: &mut Cursor<'_>,
@@ -199,7 +199,8 @@ impl SignedMessage {
         self.signer
     }
 
-    /// The octets that the signature covers: the signed attributes in DER, in a SET (RFC 5652, 5.4).
+    /// The octets that the signature covers: the signed attributes as they stand, in a SET with a DER length (RFC 5652, 5.4). Where the
+    /// message was read in BER they may be no DER.
     pub fn covered(&self) -> &Bytes
         ensures { result.now ≡ self.now.covered }
     {

@@ -1,6 +1,5 @@
 //! OCTET STRINGs, as shared octets.
 
-ghost use Rattle.std.specs.Prelude.{◌≡◌};
 ghost use Rattle.rpki_der.specs.Held.{with_octets};
 ghost use Rattle.rpki_der.specs.OctetString.{octet_string};
 ghost use Rattle.rpki_der.specs.Ticks.{TakesCounted};

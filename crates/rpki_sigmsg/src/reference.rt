@@ -214,7 +214,8 @@ impl<'a> SignedMessageRef<'a> {
         SignedMessageRef::take_from_counted(alloc, cursor, &mut steps)
     }
 
-    /// The view of the message that stands next, by the cursor's rules. The CRLs are in DER in both modes.
+    /// The view of the message that stands next, by the cursor's rules; Malformed exactly where none does. The CRLs are in DER in both
+    /// modes.
     pub fn take_from(
         alloc: Global,
         cursor: &mut Cursor<'a>,
@@ -225,7 +226,7 @@ impl<'a> SignedMessageRef<'a> {
         SignedMessageRef::take_from_within::<Brand>(alloc, cursor, Blank::new(1))
     }
 
-    /// The view of the message that stands next, as `take_from` reads it. It ticks once for each header and each end mark that it reads.
+    /// The view of the message that stands next, as `take_from` reads it. It ticks each time it looks at a header, and for each end mark.
     pub fn take_from_counted<L: Ledger>(
         alloc: Global,
         cursor: &mut Cursor<'a>,

@@ -75,7 +75,7 @@ fn pass_entry_extensions<L: Ledger>(
 
 /// # Decoding
 impl CrlEntry {
-    /// The entry that the octets hold, with nothing behind it.
+    /// The entry that the octets hold, with nothing behind it; Malformed exactly where they hold none.
     pub fn take(alloc: Global, mode: Mode, octets: &[u8]) -> Result<CrlEntry, DecodeError>
         ensures { HoldsOne crl_entry (λ e. e) mode octets.now result }
     {
@@ -88,7 +88,7 @@ impl CrlEntry {
     }
 
     /// The entry that stands next: a SEQUENCE of a serial number, a time, and a SEQUENCE of extensions or none, which are
-    /// unread.
+    /// unread; Malformed exactly where none does.
     pub fn take_from(cursor: &mut Cursor<'_>) -> Result<CrlEntry, DecodeError>
         ensures { Takes crl_entry (λ e. e) cursor.old cursor.new result }
     {
@@ -108,7 +108,7 @@ impl CrlEntry {
         CrlEntry::take_from_counted(cursor, &mut steps)
     }
 
-    /// The entry that stands next, as `take_from` reads it. It ticks once for each header and each end mark that it reads.
+    /// The entry that stands next, as `take_from` reads it. It ticks each time it looks at a header, and for each end mark.
     pub fn take_from_counted<L: Ledger>(
         cursor: &mut Cursor<'_>,
         steps: &mut Steps<L>,
@@ -159,7 +159,7 @@ impl RevokedCertificates {
         }
     }
 
-    /// The list that the octets hold, with nothing behind it.
+    /// The list that the octets hold, with nothing behind it; Malformed exactly where they hold none.
     pub fn take(
         alloc: Global,
         mode: Mode,
@@ -175,7 +175,7 @@ impl RevokedCertificates {
         Ok(found)
     }
 
-    /// The list that stands next: a SEQUENCE of entries.
+    /// The list that stands next: a SEQUENCE of entries; Malformed exactly where none does.
     pub fn take_from(
         alloc: Global,
         cursor: &mut Cursor<'_>,
@@ -199,7 +199,7 @@ impl RevokedCertificates {
         RevokedCertificates::take_from_counted(alloc, cursor, &mut steps)
     }
 
-    /// The list that stands next, as `take_from` reads it. It ticks once for each header and each end mark that it reads.
+    /// The list that stands next, as `take_from` reads it. It ticks each time it looks at a header, and for each end mark.
     pub fn take_from_counted<L: Ledger>(
         alloc: Global,
         cursor: &mut Cursor<'_>,

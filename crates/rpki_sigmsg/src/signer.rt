@@ -1,6 +1,6 @@
 //! Signer information.
 
-ghost use Rattle.std.specs.Prelude.{◌≡◌, ◌<◌};
+ghost use Rattle.std.specs.Prelude.{◌<◌};
 ghost use Rattle.rpki_der.specs.Grammar.{wrapped};
 ghost use Rattle.rpki_der.specs.Tags.{set};
 ghost use Rattle.rpki_der.specs.Ticks.{TakesCounted};

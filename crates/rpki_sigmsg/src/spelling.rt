@@ -1,9 +1,9 @@
 //! Writing CRLs and signed messages.
 
-ghost use Rattle.std.specs.Prelude.{◌≡◌, ◌++◌, ◌∷◌, [], ◌<◌, ◌+◌, ◌^◌, length, false, IfOk, OnOk, OnErr};
-ghost use Rattle.rpki_der.specs.Tags.{sequence, set, context, oid_tag, integer_tag, octet_string_tag};
+ghost use Rattle.std.specs.Prelude.{◌≡◌, ◌++◌, [], ◌<◌, ◌+◌, ◌^◌, length, false, IfOk, OnOk, OnErr};
+ghost use Rattle.rpki_der.specs.Tags.{sequence, set, context, octet_string_tag};
 ghost use Rattle.rpki_der.specs.Writing.{der_primitive, der_constructed};
-ghost use Rattle.rpki_base.specs.RpkiSignatureAlgorithm.{spelled_x509, spelled_cms};
+ghost use Rattle.rpki_base.specs.RpkiSignatureAlgorithm.{spelled_x509};
 ghost use Rattle.rpki_base.specs.SignedData.{spelled_data, CanBeSpelled};
 ghost use Rattle.rpki_idcert.specs.Spelling.{spelled_extension};
 ghost use Rattle.rpki_sigmsg.specs.Spelling as spec;
@@ -294,7 +294,8 @@ impl SignedMessage {
     }
 
     /// Appends the message in DER. The content and the signature are one OCTET STRING each; the attributes, and what is signed of the
-    /// certificate and of each CRL, stand as they were read or made. After a refusal nothing is appended; a message that is longer
+    /// certificate and of each CRL, stand as they were read or made: where that was in BER, they may be no DER. After a refusal nothing is
+    /// appended; a message that is longer
     /// than length octets can say is refused as want of memory.
     #[tactic(auto, unfolding(crate::specs::Spelling::rewritten))]
     pub fn encode_ref(&self, out: &mut Writer) -> Result<(), OutOfMemory>

@@ -186,7 +186,7 @@ impl SignedMessageTbsCrl {
     }
 
     /// The fields that stand next: a TBSCertList (RFC 5280, 5.1.2) of version 2 with the RPKI's signature algorithm, with nextUpdate and
-    /// extensions. Where no list of entries is there, the fields have the empty one.
+    /// extensions; Malformed exactly where none does. Where no list of entries is there, the fields have the empty one.
     pub fn take_from(
         alloc: Global,
         cursor: &mut Cursor<'_>,
@@ -210,7 +210,7 @@ impl SignedMessageTbsCrl {
         SignedMessageTbsCrl::take_from_counted(alloc, cursor, &mut steps)
     }
 
-    /// The fields that stand next, as `take_from` reads them. It ticks once for each header and each end mark that it reads.
+    /// The fields that stand next, as `take_from` reads them. It ticks each time it looks at a header, and for each end mark.
     pub fn take_from_counted<L: Ledger>(
         alloc: Global,
         cursor: &mut Cursor<'_>,

@@ -1,6 +1,6 @@
 //! What is to be signed of a message, and the message with its signatures.
 
-ghost use Rattle.std.specs.Prelude.{◌≡◌, ◌++◌, ◌<◌, ◌+◌, ◌^◌, length, IfOk, OnOk, OnErr};
+ghost use Rattle.std.specs.Prelude.{◌≡◌, ◌++◌, ◌<◌, ◌+◌, ◌^◌, length, IfOk, OnOk};
 ghost use Rattle.rpki_der.specs.Tags.{oid_tag, octet_string_tag};
 ghost use Rattle.rpki_der.specs.Writing.{der_primitive};
 ghost use Rattle.rpki_base.specs.TimeText.{der_time};
@@ -66,7 +66,7 @@ fn write_digest(digest: &[u8; 32], out: &mut Writer) -> Result<(), OutOfMemory>
     write_attribute(&MESSAGE_DIGEST, &value, out)
 }
 
-/// A content that is to be signed at a moment, with its attributes. In a clause it is the two.
+/// A content that is to be signed at a moment, with its attributes. In a clause it is content and moment.
 pub struct UnsignedContent {
     content: Bytes,
     moment: Time,
@@ -126,8 +126,8 @@ impl UnsignedContent {
         self.covered.as_slice()
     }
 
-    /// The message with the signature of the attributes, the certificate of the key that they were signed with, and a CRL. None of
-    /// them is looked at.
+    /// The message with the signature of the attributes, the certificate of the key that they were signed with, by whose subject key
+    /// identifier the signer is named, and a CRL. Whether signatures hold isn't looked at.
     pub fn into_message(
         self,
         alloc: Global,

@@ -1,6 +1,6 @@
 //! The time around a moment at which a message is made.
 
-ghost use Rattle.std.specs.Prelude.{◌≡◌, ◌*◌, unsigned_abs, IfSome, IsNone, IsSome, ◌↔◌};
+ghost use Rattle.std.specs.Prelude.{◌≡◌, ◌*◌, unsigned_abs, IfSome, IsSome, ◌↔◌};
 ghost use Rattle.rpki_base.specs.Serial.{serial_of};
 ghost use Rattle.rpki_sigmsg.specs.Making as spec;
 

@@ -1,5 +1,6 @@
 -- Several calls of a signer in turn.
-use Rattle.std.proofs.Common.{◌≡◌, ◌≢◌, ℕ, ◌≤◌, refl, subst, ◌∙◌, arith}
+use Rattle.std.proofs.Common.{◌≡◌, ◌≢◌, inl, inr, ℕ, ◌≤◌, Result, Ok, Err, refl, sym, subst, ◌∙◌, arith}
+use Rattle.std.specs.Prelude.{IfErr, IsErr, IsErrAnd, MatchResult}
 use Rattle.rpki_common.specs.Causes.{Rose}
 use Rattle.rpki_base.specs.declared.algorithm.SigningAlgorithm.{SigningAlgorithm}
 use Rattle.rpki_signer.specs.declared.errors.CallError.{CallError}
@@ -9,7 +10,9 @@ use Rattle.rpki_signer.specs.declared.errors.MakeError.TheVariants as make
 use Rattle.rpki_signer.specs.declared.errors.SigningError.{SigningError}
 use Rattle.rpki_signer.specs.declared.errors.SigningError.TheVariants as signing
 use Rattle.rpki_signer.specs.Errors.{signing_error_of, make_error_of}
-use Rattle.rpki_signer.specs.Limits.{Keeps, MakeFails, OnceFails}
+use Rattle.rpki_base.specs.declared.algorithm.SigningAlgorithm.TheVariants.{RsaSha256}
+use Rattle.rpki_base.specs.PublicKey.{KeyFields}
+use Rattle.rpki_signer.specs.Limits.{IsShortKey, Keeps, MakeFails, OnceFails, StopsInTurn}
 use Rattle.rpki_signer.specs.Signer.{SignerState, Lacks, IsLater, Stays, IsUnfit, CallFails, SigningFails}
 
 -- ---- counts
@@ -86,3 +89,29 @@ once_fails kind id a b (make.Signing signing.IncompatibleKey) f = absurd f
 once_fails kind id a b (make.Signing (signing.Signer e)) f = (not_memory e, f)
 once_fails kind id a b (make.Signing signing.OutOfMemory) f = absurd f
 once_fails kind id a b make.OutOfMemory f = tt
+
+-- ---- which refusal was the first
+
+-- an error that is handed on
+pub handed_on : {Y E : Type 0} (r : Result Y E) (x : E) (ok : Y → Type 0) (Q : E → Type 0) → IsErr r × IsErrAnd r (λ e. e ≡ x) → Q x → MatchResult r ok Q
+handed_on (Ok y) x ok Q p q = absurd p.1
+handed_on (Err e) x ok Q p q = subst Q (sym p.1) q
+
+-- at the key
+pub stops_at_key : {I E : Type 0} (id : I) (a b : SignerState I) (e : MakeError E) → Stays a b × MakeFails RsaSha256 id a b e → e ≢ make.Signing signing.IncompatibleKey → StopsInTurn id a b e
+stops_at_key id a b e f u = inl (record { stays = f.0; fails = f.1; unsigned = u })
+
+-- behind it
+pub stops_behind_key : {I E : Type 0} (id : I) (a b c : SignerState I) (key : KeyFields) (e : MakeError E) → IsShortKey id a b key → Stays b c × MakeFails RsaSha256 id b c e → StopsInTurn id a c e
+stops_behind_key id a b c key e k f = inr (record { between = b; key = key; given = k; refuses = f })
+
+pub stops_for_memory : {I E : Type 0} (id : I) (a b : SignerState I) (key : KeyFields) → IsShortKey id a b key → StopsInTurn {E = E} id a b make.OutOfMemory
+stops_for_memory id a b key k = stops_behind_key id a b b key make.OutOfMemory k (stays_same b, tt)
+
+pub stops_so : {Y I E : Type 0} (id : I) (a b c : SignerState I) (key : KeyFields) (ok : Y → Type 0) (r : Result Y (MakeError E)) → IsShortKey id a b key → MatchResult r ok (λ e. Stays b c × MakeFails RsaSha256 id b c e) → IfErr r (StopsInTurn id a c)
+stops_so id a b c key ok (Ok y) k m = tt
+stops_so id a b c key ok (Err e) k m = stops_behind_key id a b c key e k m
+
+pub in_turn_fails : {I E : Type 0} (id : I) (a b : SignerState I) (e : MakeError E) → StopsInTurn id a b e → MakeFails RsaSha256 id a b e
+in_turn_fails id a b e (inl r) = r.fails
+in_turn_fails id a b e (inr s) = fails_before RsaSha256 id a s.between b e (stays_keeps a s.between s.given.is.stays) s.refuses.1

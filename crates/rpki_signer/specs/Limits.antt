@@ -1,7 +1,8 @@
 -- Keys and signatures of a signer that are not too long, and what calls answer that make something with them.
-use Rattle.std.specs.Prelude.{true, ◌≡◌, ◌≢◌, ◌≤◌, ◌^◌, ℕ, List, length, ⊤}
+use Rattle.std.specs.Prelude.{true, ◌≡◌, ◌≢◌, ◌≤◌, ◌^◌, ◌⊎◌, ℕ, List, length, ⊤}
 use Rattle.rpki_common.specs.Causes.{Rose}
 use Rattle.rpki_base.specs.declared.algorithm.SigningAlgorithm.{SigningAlgorithm}
+use Rattle.rpki_base.specs.declared.algorithm.SigningAlgorithm.TheVariants.{RsaSha256}
 use Rattle.rpki_base.specs.PublicKey.{KeyFields}
 use Rattle.rpki_base.specs.declared.rpki_algorithm.RsaIdentifier.TheVariants.{RsaEncryption}
 use Rattle.rpki_base.specs.RpkiSignatureAlgorithm.{RpkiAlgorithm}
@@ -9,7 +10,7 @@ use Rattle.rpki_base.specs.Scheme.{Relation}
 use Rattle.rpki_signer.specs.declared.errors.MakeError.{MakeError}
 use Rattle.rpki_signer.specs.declared.errors.MakeError.TheVariants as make
 use Rattle.rpki_signer.specs.declared.errors.SigningError.TheVariants as signing
-use Rattle.rpki_signer.specs.Signer.{SignerState, IsLater, IsKeyOf, IsSignature, IsOneOff, SigningFails}
+use Rattle.rpki_signer.specs.Signer.{SignerState, IsLater, Stays, IsKeyOf, IsSignature, IsOneOff, SigningFails}
 
 -- at most 2^16 octets
 abbrev pub IsShort : List ℕ → Type 0
@@ -54,6 +55,35 @@ OnceFails before after (make.Signing signing.IncompatibleKey) = ⊥
 OnceFails before after (make.Signing (signing.Signer error)) = Rose before.faults after.faults
 OnceFails before after (make.Signing signing.OutOfMemory) = ⊥
 OnceFails before after make.OutOfMemory = ⊤
+
+-- ---- which refusal was the first, where an RSA key is asked for and then signed under
+
+-- the key wasn't given, or is too long; nothing was signed
+pub record RefusesKey {Id E : Type 0} (id : Id) (before after : SignerState Id)
+    (error : MakeError E) : Type 0 where
+  pub stays : Stays before after
+  pub fails : MakeFails RsaSha256 id before after error
+  pub unsigned : error ≢ make.Signing signing.IncompatibleKey
+
+-- the signature wasn't given, or is too long
+abbrev pub RefusesSignature : {Id E : Type 0} → Id → SignerState Id → SignerState Id → MakeError E
+    → Type 0
+RefusesSignature id before after error =
+    Stays before after × MakeFails RsaSha256 id before after error
+
+-- the key was given, and is not too long
+pub record StopsBehindKey {Id E : Type 0} (id : Id) (before after : SignerState Id)
+    (error : MakeError E) : Type 0 where
+  pub between : SignerState Id
+  pub key : KeyFields
+  pub given : IsShortKey id before between key
+  pub refuses : RefusesSignature id between after error
+
+-- at one of both
+abbrev pub StopsInTurn : {Id E : Type 0} → Id → SignerState Id → SignerState Id → MakeError E
+    → Type 0
+StopsInTurn id before after error =
+    RefusesKey id before after error ⊎ StopsBehindKey id before after error
 
 -- the algorithm that is signed with: rsaEncryption and NULL
 abbrev pub default_algorithm : RpkiAlgorithm

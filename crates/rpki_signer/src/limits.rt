@@ -1,7 +1,9 @@
 //! Keys and signatures of a signer that are not too long.
 
-ghost use Rattle.std.specs.Prelude.{◌≡◌, ◌<◌, ◌^◌, length, Decides, IfOk, MatchResult};
+ghost use Rattle.std.specs.Prelude.{◌≡◌, ◌≢◌, ◌<◌, Decides, IfErr, IfOk, MatchResult};
 ghost use Rattle.rpki_signer.specs.Signer.{AreDistinct, Stays};
+ghost use Rattle.rpki_signer.specs.declared.errors.MakeError.TheVariants as make;
+ghost use Rattle.rpki_signer.specs.declared.errors.SigningError.TheVariants as signing;
 ghost use Rattle.rpki_signer.specs.Limits.{IsShort, IsShortKey, IsShortSignature, IsShortOneOff, Keeps, MakeFails, OnceFails, default_algorithm};
 
 use crate::errors::MakeError;
@@ -21,7 +23,8 @@ pub fn is_within_limit(octets: &[u8]) -> bool
     octets.len() <= LIMIT
 }
 
-/// The key with this identifier; TooLong where it has more than 2^16 octets.
+/// The key with this identifier; TooLong where it has more than 2^16 octets, and the signer's own refusals as `Signing`. Since nothing is
+/// signed, IncompatibleKey is none of these.
 pub fn key_within_limit<P: Scheme, S: Signer<P>>(
     alloc: Global,
     id: &S::KeyId,
@@ -31,6 +34,7 @@ pub fn key_within_limit<P: Scheme, S: Signer<P>>(
         (IsShortKey id.now (S.state signer.old) (S.state signer.new))
         (λ e. Stays (S.state signer.old) (S.state signer.new)
         × MakeFails SigningAlgorithm.RsaSha256 id.now (S.state signer.old) (S.state signer.new) e) }
+    ensures unsigned { IfErr result (λ e. e ≢ make.Signing signing.IncompatibleKey) }
     ensures distinct { AreDistinct (S.state signer.new).keyring }
 {
     let key = signer.get_key_info(alloc, id)?;
@@ -40,7 +44,8 @@ pub fn key_within_limit<P: Scheme, S: Signer<P>>(
     Ok(key)
 }
 
-/// The signature of a message under the RSA key with this identifier; TooLong where it has more than 2^16 octets.
+/// The signature of a message under the RSA key with this identifier; TooLong where it has more than 2^16 octets, and the signer's own
+/// refusals as `Signing`.
 pub fn sign_within_limit<P: Scheme, S: Signer<P>>(
     alloc: Global,
     id: &S::KeyId,
@@ -62,7 +67,8 @@ pub fn sign_within_limit<P: Scheme, S: Signer<P>>(
     Ok(signature)
 }
 
-/// The signature of a message under an RSA key for this one use, and that key; TooLong where one of them has more than 2^16 octets.
+/// The signature of a message under an RSA key for this one use, and that key; TooLong where one of them has more than 2^16 octets, and
+/// the signer's own refusals as `Signing`.
 pub fn sign_once_within_limit<P: Scheme, S: Signer<P>>(
     alloc: Global,
     message: &[u8],

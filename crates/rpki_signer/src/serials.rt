@@ -1,6 +1,6 @@
 //! Serial numbers that a signer draws.
 
-ghost use Rattle.std.specs.Prelude.{◌≡◌, MatchResult, IsErrOf};
+ghost use Rattle.std.specs.Prelude.{MatchResult, IsErrOf};
 ghost use Rattle.rpki_signer.specs.Signer.{Stays, CallFails, AreDistinct};
 ghost use Rattle.rpki_signer.specs.Serials.{IsSerialDrawn};
 

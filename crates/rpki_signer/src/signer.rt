@@ -1,7 +1,6 @@
 //! Who signs.
 
-ghost use Rattle.std.specs.Prelude.{◌≡◌, ◌<◌, length, IfOk, OnOk, IsErrOf, MatchResult};
-ghost use Rattle.rpki_base.specs.Serial.{serial_of};
+ghost use Rattle.std.specs.Prelude.{◌≡◌, ◌<◌, IfOk, IsErrOf, MatchResult};
 ghost use Rattle.rpki_signer.specs.declared.errors.CallError.TheVariants as call;
 ghost use Rattle.rpki_signer.specs.Signer.{SignerState, AreDistinct, Stays, CallFails, KeyFails, SigningFails};
 ghost use Rattle.rpki_signer.specs.Signer.{IsCreated, IsDestroyed, IsKeyOf, IsSignature, IsOneOff, IsDrawn};
@@ -71,7 +70,8 @@ pub trait Signer<P: Scheme> {
         ensures algorithm { IfOk result (λ s. s.algorithm ≡ algorithm) }
         ensures distinct { AreDistinct (state self.new).keyring };
 
-    /// Signs the message under a key that is made for this one use, and answers it too.
+    /// Signs the message under a key that is made for this one use, and answers it too. Where it is a key that the signer holds, its
+    /// count of these rises.
     fn sign_one_off<Alg: SignatureAlgorithm>(
         &mut self,
         alloc: Global,

@@ -1,15 +1,13 @@
 //! The signer of the toy scheme.
 
-ghost use Rattle.std.specs.Prelude.{◌≡◌, ◌≢◌, ◌+◌, ◌-◌, ◌^◌, ◌<◌, ◌≤◌, ◌++◌, ◌∷◌, [], length, take, drop, true, false, Some, None, IfOk, OnOk, OnErr, IsErrOf, IfErr, IsNone, IfSome, MatchResult, slice_index_or};
+ghost use Rattle.std.specs.Prelude.{◌≡◌, ◌+◌, ◌-◌, ◌<◌, ◌≤◌, ◌++◌, [], length, take, drop, true, false, Some, None, IfOk, OnOk, OnErr, IsErrOf, IfErr, IsNone, IfSome, MatchResult, slice_index_or};
 ghost use Rattle.sha2.specs.Sha256.{sha256};
-ghost use Rattle.rpki_base.specs.Algorithm.{format_of};
 ghost use Rattle.rpki_base.specs.declared.algorithm.PublicKeyFormat.TheVariants.{Rsa};
 ghost use Rattle.rpki_signer.specs.Toy.{ToyChecks, toy_signature};
-ghost use Rattle.rpki_signer.specs.Signer.{Holds, AreDistinct, Stays, CallFails, KeyFails, SigningFails};
+ghost use Rattle.rpki_signer.specs.Signer.{AreDistinct, Stays, CallFails, KeyFails, SigningFails};
 ghost use Rattle.rpki_signer.specs.Signer.{IsCreated, IsDestroyed, IsKeyOf, IsSignature, IsOneOff, IsDrawn};
 ghost use Rattle.rpki_signer.specs.ToySigner as spec;
 ghost use Rattle.rpki_signer.specs.declared.toy_signer.ToyKey.{ToyKey as Key};
-ghost use Rattle.rpki_text.specs.Counts.{count_after};
 
 use crate::errors::{CallError, KeyError, SigningError};
 use crate::signer::Signer;
@@ -184,7 +182,7 @@ impl ToySigner {
         self.faults
     }
 
-    /// How often a one-off signature was made with the key that was set.
+    /// How often the key that was set was chosen for a one-off signature.
     pub fn reused(&self) -> u64
         ensures { result ≡ self.now.reused }
     {

@@ -49,7 +49,8 @@ impl<T: Drop> From<AllocFailed<T>> for JsonError {
 }
 
 /// The value of a JSON text (RFC 8259), in which arrays and objects nest up to 127 deep. Of members
-/// of one name the last counts. Malformed exactly where the text is none.
+/// of one name the last counts. Malformed exactly where the text is none, a number in it is larger than a
+/// float can hold, or a surrogate stands alone in it.
 pub fn read_value(alloc: Global, text: &str) -> Result<Value, JsonError>
     ensures ok { IfOk result (λ v. read text.now ≡ Some (view v)) }
     ensures malformed { IsErrOf result JsonError.Malformed → read text.now ≡ None }
@@ -61,7 +62,7 @@ pub fn read_value(alloc: Global, text: &str) -> Result<Value, JsonError>
     }
 }
 
-/// The string that a JSON text is. Malformed exactly where it is none.
+/// The string that a JSON text is. Malformed exactly where it is none, or a surrogate stands alone in it.
 pub fn read_string(alloc: Global, text: &str) -> Result<String, JsonError>
     ensures ok { IfOk result (λ s. string_of_json text.now ≡ Some (string_bytes s)) }
     ensures malformed { IsErrOf result JsonError.Malformed → string_of_json text.now ≡ None }

@@ -37,7 +37,7 @@ pub enum Error {
     /// The text does not begin with the scheme.
     #[error("the URI has another scheme")]
     BadScheme,
-    /// The host or the module is missing.
+    /// The host is missing, or of an rsync URI the module or the slash behind it.
     #[error("the URI lacks its host or its module")]
     BadUri,
     /// A segment of the module or the path is `.` or `..`.
@@ -126,7 +126,7 @@ impl<K: UriKind> Uri<K> {
     }
 
     /// This URI with `path` behind it: a slash is put between where this one doesn't end with one, and
-    /// the first slash of `path` is left out. If the text that comes of it is no URI of this kind, the
+    /// a slash with which `path` begins is left out. If the text that comes of it is no URI of this kind, the
     /// first rule that it breaks, in the order of [`Error`].
     pub fn join(&self, alloc: Global, path: &[u8]) -> Result<Self, Error>
         ensures text { IfOk result (λ u. u ≡ joined_text self.now path.now) }

@@ -98,7 +98,7 @@ pub cant_send : {I E : Type 0} (scheme : Relation) (when : ℤ) (signer : Signer
 cant_send scheme when signer before octets after e u other = record {
   payload = u.payload;
   decided = u.decided;
-  cause = signing_cause when signer (received.Provisioning (reply before.parent u.payload)) e (u.cause (not_memory e other)) other;
+  cause = signing_cause scheme when signer (received.Provisioning (reply before.parent u.payload)) e (u.cause (not_memory e other)) other;
 }
 
 -- an issuer that did nothing

@@ -102,7 +102,7 @@ pub record IsUnsent {Id E : Type 0} (scheme : Relation) (octets : List ℕ) (whe
     pub payload : Payload
     pub decided : IsDecided scheme octets when before after payload
     pub cause : error ≢ create.OutOfMemory
-        → FailsToSign when signer (received.Provisioning (reply before.parent payload)) error
+        → FailsToSign scheme when signer (received.Provisioning (reply before.parent payload)) error
 
 -- each cause, and what it leaves
 abbrev pub SendsNothing : {Id E : Type 0} → Relation → List ℕ → ℤ → ParentAndIssuer

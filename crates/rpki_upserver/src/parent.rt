@@ -370,7 +370,7 @@ impl Parent {
             (seen_signer key.now (S.state signer.old) (S.state signer.new))
             (reply self.now payload) c) }
         ensures err { IfErr result (λ e. e ≢ create.OutOfMemory → (payload : Said)
-            → IsPayloadOf self.now.table decision.now payload → FailsToSign when
+            → IsPayloadOf self.now.table decision.now payload → FailsToSign P.checks when
             (seen_signer key.now (S.state signer.old) (S.state signer.new))
             (received.Provisioning (reply self.now payload)) e) }
         ensures keeps { Keeps (S.state signer.old) (S.state signer.new) }
@@ -386,9 +386,12 @@ impl Parent {
     /// is a signed message to the child that says what was done, or why nothing was (3.6), signed as [`ProvisioningCms::create`] does
     /// it, under the issuing key with the identifier `key`.
     ///
-    /// `Refused` where the octets are no such message: then issuer, signer and table are as before. `OutOfMemory` before anything was
-    /// issued or revoked: then the table is as before. `Unsent` where the reply was decided and couldn't be made: what it was to say is
-    /// done.
+    /// Any other message of the protocol that is believed is answered too: with error 1103 where it asks for nothing that a parent does,
+    /// and with 2001 where sender or recipient is another.
+    ///
+    /// `Refused` where the octets are no message of the protocol that is believed under the child's key: then issuer, signer and table
+    /// are as before. `OutOfMemory` before anything was issued or revoked: then the table is as before. `Unsent` where the reply was
+    /// decided and couldn't be made: what it was to say is done.
     pub fn answer<P: Scheme, V: Verifier<P>, N: Issuer, S: Signer<P>>(
         &mut self,
         octets: &[u8],

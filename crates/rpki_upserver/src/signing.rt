@@ -26,7 +26,7 @@ pub(crate) fn signed<P: Scheme, S: Signer<P>>(
     requires { IsWritable message }
     ensures ok { IfOk result (IsSigned P.checks when
         (seen_signer key.now (S.state signer.old) (S.state signer.new)) message) }
-    ensures err { IfErr result (λ e. e ≢ create.OutOfMemory → FailsToSign when
+    ensures err { IfErr result (λ e. e ≢ create.OutOfMemory → FailsToSign P.checks when
         (seen_signer key.now (S.state signer.old) (S.state signer.new))
         (received.Provisioning message) e) }
     ensures keeps { Keeps (S.state signer.old) (S.state signer.new) }

@@ -265,7 +265,7 @@ fn certificate_in(alloc: Global, octets: &[u8]) -> Result<Cert, DecodeError>
 }
 
 /// The resource certificate that the octets of an identity certificate are read as, of which it has the outer form (RFC 5280, 4.1;
-/// RFC 6487, 4).
+/// RFC 6487, 4). Malformed exactly where they are none.
 pub fn resource_certificate(alloc: Global, cert: &IdCert) -> Result<Cert, DecodeError>
     ensures decoded { Decodes (certificate Der) (λ c. c) Der
         (spelled_data spelled_x509 cert.now.signed) result }

@@ -60,7 +60,7 @@ impl<'a> Model for Element<'a> {
 }
 
 /// Reads a document: the element that the octets are a document of, which goes on lending the octets that were read. Malformed exactly
-/// where they are no document.
+/// where they are no document; 2^32 octets or more are refused as want of memory.
 pub fn read_document(alloc: Global, octets: &[u8]) -> Result<Element<'_>, XmlError>
     ensures { MatchResult result (IsDocument octets.now) (λ e. IsRefused e octets.now) }
 {

@@ -51,8 +51,8 @@ pub fn texts_are_trimmed()
     ensures { (b : List ℕ) (x : Element) → IsDocument b x → AreTrimmed (alone x) }
 {}
 
-/// A value that may be absent, written, is an attribute of the element where it is there, and nothing where it is not: the call
-/// `attr_opt` and the list of attributes say the same.
+/// Attributes that are written list by list leave what their joined list leaves. So a value that may be absent, whose list has one
+/// attribute or none, is an attribute of the element where it is there, and nothing where it is not.
 pub fn optional_attributes_follow()
     ensures { (front back : List Attribute) (d : Draft)
         → with_attributes back (with_attributes front d) ≡ with_attributes (front ++ back) d }

@@ -38,8 +38,8 @@ Each message is answered by a line, in order:
     Validation N         check N of `rpkica receive` fails, the first that does
     NoTime               it doesn't say when it was signed
     Replayed LAST TIME   it was signed at TIME, not later than LAST
-Then a line with a dash is written, and the new state. Two messages that were
-signed within one second can't both be admitted.
+Then a line with a dash is written, and the new state. Of messages that say the
+same second as their time of signing, one at most is admitted under a key.
 
 The exit status is
      0  all lines were answered

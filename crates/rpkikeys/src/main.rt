@@ -35,9 +35,9 @@ as OpenSSL, says which signatures hold, and signs. tools/rpkikeys.py does so.
 
     rpkikeys finish KIND MOMENT SERIAL ISSUER-KEY ONE-OFF-KEY \\
             ATTRIBUTES CRL CERTIFICATE < TEXT
-        Writes the signed message with these three signatures. They aren't
-        looked at: it is received where they hold, under ISSUER-KEY, from 300
-        seconds before MOMENT to 300 seconds after it.
+        Writes the signed message with these three signatures. Only their
+        lengths are looked at: it is received where they hold, under
+        ISSUER-KEY, from 300 seconds before MOMENT to 300 seconds after it.
 
     rpkikeys --help
     rpkikeys --version
@@ -57,10 +57,11 @@ The exit status is
      5  XmlError         the content, or TEXT, has not the form of a message
      5  CertSyntax       it has, and a certificate in it is none
      5  InvalidCsrSyntax it has, and the certificate request in it is none
-     6  Validation N     check N is the first that fails: `rpkica --help`
+     6  Validation N     check N fails, as `rpkica --help` says of `receive`
      7  IncompatibleKey  a key is no RSA key
      7  KeyReused        ONE-OFF-KEY is ISSUER-KEY
-     8  Moment           MOMENT is below 300 or above 253402300499
+     8  Moment           `prepare` and `finish`: MOMENT is below 300, or from
+                         253402300500 on
      9  TooLong          more than 67108864 octets of input, 2147483648 of the
                          message's text, or 65536 of a key or a signature
     10  ReadFault        standard input failed

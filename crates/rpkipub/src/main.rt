@@ -14,11 +14,12 @@ rpkipub keeps the objects of one publisher and answers its queries (RFC 8181).
 
     rpkipub MOMENT BASE KEY < QUERIES
         Answers each query by a signed reply. Objects may lie under BASE alone,
-        an rsync URI whose path is missing, is empty or ends with a slash; at
-        first there are none. A query is believed if all fourteen checks of
-        `rpkica receive` hold at MOMENT under KEY, the publisher's public key
-        in DER, in hexadecimal. MOMENT is in seconds since 1970, in decimal
-        digits without leading zeros, from 300 to 253402300499.
+        an rsync URI with a host and a module, a slash behind each, whose path
+        is empty or ends with a slash; at first there are none. A query is
+        believed if all fourteen checks of `rpkica receive` hold at MOMENT
+        under KEY, the publisher's public key in DER, in hexadecimal. MOMENT
+        is in seconds since 1970, in decimal digits without leading zeros,
+        from 300 to 253402300499.
         Replies are valid from 300 seconds before MOMENT to 300 seconds after
         it, and are issued by a toy key that everyone has.
         The signature scheme is a toy WITHOUT SECURITY: whoever knows the
@@ -37,8 +38,10 @@ case, in order. The reply in it is
     list            to a query for the list: every object's URI and SHA-256
     success         all changes of a query were made
     report_error    none was made. Its code is
-        bad_cms_signature        no signed message, or a check of it fails
-        xml_error                its content is no query
+        bad_cms_signature        no signed message; or a check of it fails, and
+                                 its content is a message of the protocol
+        xml_error                its content is none; or no check fails, and it
+                                 is a reply
         permission_failure       a URI that does not begin with BASE
         object_already_present   a publish where there is an object
         no_object_present        an update or withdraw where there is none
@@ -52,7 +55,7 @@ The exit status is
      2  Usage         the words are not MOMENT BASE KEY; nothing is read
      3  Hex           a line is not hexadecimal; none is answered
      7  KeyNotFound, IncompatibleKey, KeyReused, Signer: the signer refuses
-     8  Moment        MOMENT is below 300 or above 253402300499
+     8  Moment        MOMENT is below 300, or from 253402300500 on
      9  TooLong       more than 67108864 octets of input, or of a reply, a key
                       or a signature more than may be
     10  ReadFault     standard input failed

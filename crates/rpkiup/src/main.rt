@@ -34,9 +34,10 @@ rpkiup is a parent: it answers the provisioning messages of one child.
 
 A line of the input is a signed message (RFC 6492) in hexadecimal digits of
 either case. It is answered by a signed message, in hexadecimal digits of
-lower case, if all fourteen checks of `rpkica receive` hold at MOMENT under
-KEY, and else by what `rpkica receive provisioning` writes: CmsDecode,
-XmlError, CertSyntax, InvalidCsrSyntax, or Validation and a number.
+lower case, if it has a message of the protocol and all fourteen checks of
+`rpkica receive` hold at MOMENT under KEY, and else by what `rpkica receive
+provisioning` writes: CmsDecode, XmlError, CertSyntax, InvalidCsrSyntax, or
+Validation and a number.
 
 The parent calls itself Bob and its child Carol. It has one class, 0, in which
 the child has the AS numbers 1-10 and the addresses 10.0.0.0/8 and

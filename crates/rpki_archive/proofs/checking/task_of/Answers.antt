@@ -1,5 +1,5 @@
 use Rattle.std.proofs.Common.{◌∙◌, codes, sym}
-use Rattle.rpki_archive.proofs.SoFar.{only_word}
+use Rattle.rpki_ca.proofs.Commands.{only_word}
 use Rattle.rpki_archive.proofs.checking.task_of.Goals as goal
 
 pub returns-in-Some-batch-clause-some : goal.returns-in-Some-batch-clause-some

@@ -1,5 +1,3 @@
-use Rattle.rpki_der.specs.declared.mode.Mode.TheVariants.{Ber, Der}
-use Rattle.rpki_sigmsg.proofs.Rewriting.{held_again}
 use Rattle.rpki_sigmsg.proofs.HeldMessages.{message_held}
 use Rattle.rpki_sigmsg.proofs.Again.{begins_again, begins_loosely}
 use Rattle.rpki_sigmsg.proofs.law.rewritten_messages_are_read.Goals as goal

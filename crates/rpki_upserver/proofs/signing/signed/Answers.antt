@@ -11,4 +11,4 @@ returns-clause-ok g c =
 
 pub returns-clause-err : goal.returns-clause-err
 returns-clause-err g c =
-    fails_so g.P.Scheme.checks c.args.when _ (received.Provisioning c.args.message) (λ (c : CmsFields). c.signed) c.create.result c.create.ensures.created c.create.ensures.moment c.create.ensures.too_long
+    fails_so g.P.Scheme.checks c.args.when _ (received.Provisioning c.args.message) (λ (c : CmsFields). c.signed) c.create.result c.create.ensures.created c.create.ensures.moment c.create.ensures.too_long c.create.ensures.first_refusal

@@ -1,4 +1,5 @@
 use Rattle.std.proofs.Common.{subst}
+use Rattle.rpki_signer.proofs.States.{handed_on, stops_at_key, stops_for_memory, stops_so}
 use Rattle.rpki_idcert.specs.Making.{IsMadeFor}
 use Rattle.rpki_idcert.proofs.Issuing.{anchor_result, anchors_believed, anchors_again}
 use Rattle.rpki_idcert.proofs.id_cert.IdCert.new_ta.Goals as goal
@@ -11,3 +12,12 @@ returns-clause-believed g c = anchors_believed _ _ _ _ _ _ _ (returns-clause-mad
 
 pub returns-clause-again : goal.returns-clause-again
 returns-clause-again g c = anchors_again _ _ _ _ _ _ _ c.are_moments.ensures (returns-clause-made g c)
+
+pub returns-in_err-key-clause-first_refusal : goal.returns-in_err-key-clause-first_refusal
+returns-in_err-key-clause-first_refusal g c = handed_on _ _ _ _ c.from_residual.ensures (stops_at_key _ _ _ c.in_err-key.field-0.0 c.in_err-key.ensures.key c.in_err-key.ensures.unsigned)
+
+pub returns-in_err-tbs-clause-first_refusal : goal.returns-in_err-tbs-clause-first_refusal
+returns-in_err-tbs-clause-first_refusal g c = handed_on _ _ _ _ c.from_residual-in_err-tbs.ensures (stops_for_memory _ _ _ c.in_ok-key.key c.in_ok-key.ensures.key)
+
+pub returns-clause-first_refusal : goal.returns-clause-first_refusal
+returns-clause-first_refusal g c = stops_so _ _ _ _ c.in_ok-key.key _ _ c.in_ok-key.ensures.key c.issue.ensures.signed

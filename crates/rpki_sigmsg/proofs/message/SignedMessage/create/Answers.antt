@@ -1,4 +1,4 @@
-use Rattle.rpki_sigmsg.proofs.MadeMessages.{AreMoments, believed_within, again_result}
+use Rattle.rpki_sigmsg.proofs.MadeMessages.{believed_within, again_result}
 use Rattle.rpki_sigmsg.proofs.message.SignedMessage.create.Goals as goal
 
 pub returns-clause-believed : goal.returns-clause-believed
