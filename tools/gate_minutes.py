@@ -1,7 +1,7 @@
 #!/usr/bin/env python3
 """Says how much processor time the gate takes, crate by crate.
 
-    tools/gate_minutes.py [--watch PID] [--log FILE] [--read FILE ..]
+    tools/gate_minutes.py [--watch PID] [--log FILE] [--read FILE ..] [--edits N]
 
 Runs `rt ci --anew` at the top, or watches a gate that runs already, of which PID is the process. Every second it reads how much processor
 time each process below it has taken, and when the gate ends it prints, for each crate, the minutes of its proofs, of its wrong bodies and
@@ -9,8 +9,9 @@ of its tests and programs, and the same of all. A process counts for the crate t
 it counts as a wrong body where it works on a copy that rt makes for one, as a run where it is no `rattle`. Processes that end within the
 second are missed, so the sums are a little too low. What rt itself takes stands under `rt`.
 
-With --log each process is noted in a file as well, a line each: crate, what it counts for, seconds, place. With --read nothing runs, and
-the table is that of such files."""
+With --log each process is noted in a file as well, a line each: crate, what it counts for, seconds, place, which of a wrong body's try is
+the edit, and of the check with which they begin `seed`. With --read nothing runs, and the table is that of such files. With --edits the N
+edits that took longest are printed too."""
 
 import argparse
 import collections
@@ -55,6 +56,15 @@ def counted_for(words, folder, crates):
     return crate, "wrong bodies" if is_edit else "proofs"
 
 
+def place_noted(words, folder, crate, kind):
+    """What is noted as the place of a process: of a try the edit, which rt tells apart by its number, and of the first check `seed`."""
+    at = os.path.basename(words[words.index("--incremental") + 1]) if "--incremental" in words[:-1] else ""
+    if kind != "wrong bodies" or not at:
+        return folder
+    edits = sorted(name for name in os.listdir(os.path.join(TOP, "crates", crate, "must-fail")) if name.endswith(".edit"))
+    return edits[int(at)] if at.isdigit() and int(at) < len(edits) else at
+
+
 def below(root):
     """The processes below one, with their processor seconds."""
     stats = {pid: found for pid in map(int, filter(str.isdigit, os.listdir("/proc"))) if (found := stat_of(pid))}
@@ -73,7 +83,8 @@ def watch(root, is_over):
                 known[pid] = ("rt", "runs", "")
             elif (words_and_folder := place_of(pid))[0][:1] not in ([], [""]):
                 # What a process is can change, as rt starts one by a copy of itself.
-                known[pid] = (*counted_for(*words_and_folder, crates), words_and_folder[1])
+                found = counted_for(*words_and_folder, crates)
+                known[pid] = (*found, place_noted(*words_and_folder, *found))
             seconds[pid] = max(taken, seconds.get(pid, 0.0))
         time.sleep(1)
     return [(*known[pid], taken) for pid, taken in seconds.items() if pid in known]
@@ -93,6 +104,11 @@ def table_of(rows):
     return "\n".join(lines)
 
 
+def edits_of(rows, number):
+    tries = [(taken, crate, place) for crate, kind, place, taken in rows if kind == "wrong bodies" and place.endswith(".edit")]
+    return "\n".join(f"{taken:8.1f} s  {crate} {place}" for taken, crate, place in sorted(tries, reverse=True)[:number])
+
+
 def rows_in(path):
     with open(path, encoding="utf-8") as file:
         rows = [line.rstrip("\n").split("\t") for line in file]
@@ -104,9 +120,11 @@ def main():
     parser.add_argument("--watch", type=int, metavar="PID")
     parser.add_argument("--log", metavar="FILE")
     parser.add_argument("--read", nargs="+", metavar="FILE")
+    parser.add_argument("--edits", type=int, default=0, metavar="N")
     asked = parser.parse_args()
     if asked.read:
-        print(table_of([row for path in asked.read for row in rows_in(path)]))
+        rows = [row for path in asked.read for row in rows_in(path)]
+        print(table_of(rows), edits_of(rows, asked.edits), sep="\n")
         return
     began, status = time.monotonic(), 0
     if asked.watch:
@@ -118,7 +136,7 @@ def main():
     if asked.log:
         with open(asked.log, "w", encoding="utf-8") as file:
             file.writelines(f"{crate}\t{kind}\t{taken:.2f}\t{place}\n" for crate, kind, place, taken in rows)
-    print(table_of(rows))
+    print(table_of(rows), edits_of(rows, asked.edits), sep="\n")
     print(f"{(time.monotonic() - began) / 60:.1f} minutes by the clock")
     sys.exit(status)
 

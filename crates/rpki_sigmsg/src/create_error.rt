@@ -1,7 +1,8 @@
 //! Why no message was created.
 
-ghost use Rattle.std.specs.Prelude.{◌≡◌};
+ghost use Rattle.std.specs.Prelude.{◌≡◌, ◌↔◌, true};
 ghost use Rattle.rpki_sigmsg.specs.Errors.{create_text, create_error_of};
+ghost use Rattle.rpki_sigmsg.specs.declared.create_error.CreateError.{CreateError};
 ghost use Rattle.rpki_sigmsg.specs.declared.create_error.CreateError.TheVariants as create;
 
 use rpki_common::OutOfMemory;
@@ -24,6 +25,12 @@ pub enum CreateError<E> {
     /// Memory ran out.
     OutOfMemory,
 }
+
+/// `==` holds exactly between errors that are the same, where it does so between what the signer says.
+pub fn equal_create_errors_are_the_same<E: PartialEq>()
+    ensures { ((x y : E) → (E.eq x y ≡ true) ↔ (x ≡ y)) → (a b : CreateError E)
+        → (⟦<CreateError<E> as PartialEq>⟧.eq a b ≡ true) ↔ (a ≡ b) }
+{}
 
 impl<E> From<OutOfMemory> for CreateError<E> {
     ghost from_gives = { λ _ e. e ≡ create.OutOfMemory };

@@ -30,7 +30,7 @@ mod unsigned;
 mod validation;
 mod window;
 
-pub use create_error::CreateError;
+pub use create_error::{CreateError, equal_create_errors_are_the_same};
 pub use creating::content_is_within_limit;
 pub use crl::SignedMessageCrl;
 pub use law::{

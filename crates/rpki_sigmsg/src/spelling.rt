@@ -295,8 +295,7 @@ impl SignedMessage {
 
     /// Appends the message in DER. The content and the signature are one OCTET STRING each; the attributes, and what is signed of the
     /// certificate and of each CRL, stand as they were read or made: where that was in BER, they may be no DER. After a refusal nothing is
-    /// appended; a message that is longer
-    /// than length octets can say is refused as want of memory.
+    /// appended; a message that is longer than length octets can say is refused as want of memory.
     #[tactic(auto, unfolding(crate::specs::Spelling::rewritten))]
     pub fn encode_ref(&self, out: &mut Writer) -> Result<(), OutOfMemory>
         ensures ok { OnOk result (out.new ≡ out.old ++ spec.rewritten self.now) }

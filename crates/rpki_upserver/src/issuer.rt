@@ -34,8 +34,9 @@ pub trait Issuer {
     /// What it issued and revoked.
     ghost state: { Self → IssuerState };
 
-    /// A certificate for the key of the request in this class, for these resources and until this time, which has to be one in DER
-    /// (RFC 6487, 4). Failed only where its count rose; whatever the error, nothing was issued.
+    /// A certificate for the key of the request in this class, which has to be one in DER (RFC 6487, 4). The state notes it with these
+    /// resources and until this time; that it says so itself is the issuer's to see to. Failed only where its count rose; whatever the
+    /// error, nothing was issued.
     fn issue(
         &mut self,
         alloc: Global,

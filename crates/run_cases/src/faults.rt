@@ -1,12 +1,11 @@
 //! Runs over streams of which some calls fail.
 
-use crate::signers::signer_of;
+use crate::signers::{signer_of, status_of};
 use crate::words::words_of;
 use crate::{out_of_memory, text_of};
 use rpki_base::PublicKeyFormat;
-use rpki_ca::{Status, Words};
+use rpki_ca::Words;
 use rpki_common::OutOfMemory;
-use rpki_signer::ToyVerifier;
 use rpki_text::{MemorySink, MemorySource};
 use std::alloc::Global;
 use std::io;
@@ -47,8 +46,7 @@ fn ran(
     sink: &mut MemorySink,
 ) -> io::Result<String> {
     let (mut signer, key) = signer_of(alloc, PublicKeyFormat::Rsa, &[])?;
-    let verifier = ToyVerifier::new();
-    let Status(status) = rpki_ca::run(alloc, words, source, sink, &verifier, &mut signer, &key);
+    let status = status_of(alloc, words, source, sink, &mut signer, key);
     let Ok(written) = hex::encode(alloc, sink.written()) else {
         return Err(out_of_memory(OutOfMemory));
     };

@@ -13,12 +13,11 @@ mod parts;
 mod signers;
 mod words;
 
-use crate::signers::signer_of;
+use crate::signers::{signer_of, status_of};
 use crate::words::words_of;
 use rpki_base::PublicKeyFormat;
-use rpki_ca::{Status, Words};
+use rpki_ca::Words;
 use rpki_common::OutOfMemory;
-use rpki_signer::ToyVerifier;
 use rpki_text::{MemorySink, MemorySource};
 use std::alloc::Global;
 use std::io;
@@ -79,15 +78,7 @@ fn is_answered(alloc: Global, case: &Case, piece: usize) -> io::Result<bool> {
         return Err(out_of_memory(OutOfMemory));
     };
     let (mut signer, key) = signer_of(alloc, PublicKeyFormat::Rsa, &[])?;
-    let Status(status) = rpki_ca::run(
-        alloc,
-        &case.words,
-        &mut source,
-        &mut sink,
-        &ToyVerifier::new(),
-        &mut signer,
-        &key,
-    );
+    let status = status_of(alloc, &case.words, &mut source, &mut sink, &mut signer, key);
     Ok(status == case.status && sink.written() == case.line.as_slice())
 }
 

@@ -24,6 +24,27 @@ pub fn signer_of(
     }
 }
 
+/// The status with which a run ends.
+pub fn status_of(
+    alloc: Global,
+    words: &Words,
+    source: &mut MemorySource,
+    sink: &mut MemorySink,
+    signer: &mut ToySigner,
+    key: u64,
+) -> u8 {
+    let Status(status) = rpki_ca::run(
+        alloc,
+        words,
+        source,
+        sink,
+        &ToyVerifier::new(),
+        signer,
+        &key,
+    );
+    status
+}
+
 // The same with an RSA key, which it gives for one use too.
 fn reusing_signer(alloc: Global) -> io::Result<(ToySigner, u64)> {
     let mut signer = ToySigner::new(alloc, 1, &[]).map_err(out_of_memory)?;
@@ -62,16 +83,7 @@ fn received(alloc: Global, words: &Words, written: &[u8]) -> io::Result<String> 
     ) else {
         return Err(out_of_memory(OutOfMemory));
     };
-    let verifier = ToyVerifier::new();
-    let Status(status) = rpki_ca::run(
-        alloc,
-        words,
-        &mut source,
-        &mut sink,
-        &verifier,
-        &mut signer,
-        &key,
-    );
+    let status = status_of(alloc, words, &mut source, &mut sink, &mut signer, key);
     let Ok(line) = hex::encode(alloc, sink.written()) else {
         return Err(out_of_memory(OutOfMemory));
     };
@@ -100,16 +112,7 @@ fn created(
     let Ok(mut sink) = MemorySink::new(alloc, 1 << 20, 1 << 20, &[]) else {
         return Err(out_of_memory(OutOfMemory));
     };
-    let verifier = ToyVerifier::new();
-    let Status(status) = rpki_ca::run(
-        alloc,
-        words,
-        source,
-        &mut sink,
-        &verifier,
-        &mut signer,
-        &key,
-    );
+    let status = status_of(alloc, words, source, &mut sink, &mut signer, key);
     let mut text = format!(in alloc; "{status}/{}", signer.faults())?;
     if status != 0 {
         let Ok(line) = hex::encode(alloc, sink.written()) else {
