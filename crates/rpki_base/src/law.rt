@@ -1,6 +1,7 @@
 //! What holds of everything that is written: it is read again.
 
 ghost use Rattle.std.specs.Prelude.{◌≡◌, ◌↔◌, true, ℕ, List, ◌++◌, length, Some, ℤ};
+ghost use Rattle.std.specs.Ordering.{int_cmp};
 ghost use Rattle.rpki_der.specs.declared.mode.Mode.{Mode};
 ghost use Rattle.rpki_der.specs.Value.{Begins};
 ghost use Rattle.rpki_base.specs.Civil.{IsMoment, civil_at};
@@ -51,6 +52,11 @@ pub fn time_is_read_again()
 pub fn printed_time_is_read_again()
     ensures { (seconds : ℤ) → IsMoment seconds
         → rfc3339_time (rfc3339_text (civil_at seconds)) ≡ Some seconds }
+{}
+
+/// Times are ordered by their seconds.
+pub fn times_are_ordered_by_seconds()
+    ensures { (a b : ℤ) → ⟦<Time as Ord>⟧.cmp a b ≡ int_cmp a b }
 {}
 
 /// `==` holds exactly between values that are the same.

@@ -41,7 +41,8 @@ pub use extension::{
 };
 pub use key_identifier::KeyIdentifier;
 pub use law::{
-    equal_values_are_the_same, printed_time_is_read_again, serial_is_read_again, time_is_read_again,
+    equal_values_are_the_same, printed_time_is_read_again, serial_is_read_again,
+    time_is_read_again, times_are_ordered_by_seconds,
 };
 pub use name::{Name, made_name_is_read, read_name_is_read_again};
 pub use object_identifiers::{

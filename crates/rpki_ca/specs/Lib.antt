@@ -1,5 +1,5 @@
 -- Said in contracts, and to be believed: Refusal, Hexadecimal, Words, Keys, Command, Acceptance, Seen, Creation, Setup, Summary, Answer,
--- Lines, Steps, Sending, Sent.
+-- Lines, Steps, Sending, Sent, Errors.
 pub mod Refusal
 pub mod Hexadecimal
 pub mod Words
@@ -15,3 +15,4 @@ pub mod Lines
 pub mod Steps
 pub mod Sending
 pub mod Sent
+pub mod Errors

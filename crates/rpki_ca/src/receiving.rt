@@ -6,6 +6,7 @@ ghost use Rattle.rpki_der.specs.Ticks.{nodes};
 ghost use Rattle.rpki_der.specs.Value.{Value, Begins};
 ghost use Rattle.rpki_ca.specs.Acceptance.{IsReceived, IsReceivedUnder, FindsSigned, without_place};
 ghost use Rattle.rpki_ca.specs.Acceptance.{of_publication, of_provisioning};
+ghost use Rattle.rpki_ca.specs.Errors.{receive_text};
 ghost use Rattle.rpki_ca.specs.declared.receiving.ReceiveError.TheVariants as variant;
 
 use rpki_base::{PublicKey, Scheme, Time, Verifier};
@@ -18,10 +19,10 @@ use rpki_publication as publication;
 use rpki_publication::PublicationCms;
 use rpki_updown as updown;
 use std::alloc::Global;
-use std::array;
+use std::error::Error;
 use std::marker::Brand;
 use std::sync::ledger::{Blank, Ledger};
-use thiserror::Error;
+use std::{array, fmt};
 
 /// The protocol that a message belongs to.
 #[derive(Clone, Copy, Debug, PartialEq, Eq)]
@@ -42,27 +43,41 @@ pub enum Received {
 }
 
 /// Why nothing was received.
-#[derive(Clone, Copy, Debug, PartialEq, Eq, Error)]
+#[derive(Clone, Copy, Debug, PartialEq, Eq)]
 pub enum ReceiveError {
     /// The octets begin with no signed message.
-    #[error("Could not decode CMS")]
     CmsDecode,
     /// The content has not the form of a message of the kind.
-    #[error("malformed XML")]
     XmlError,
     /// It has, and the octets of the certificate request in it begin with none.
-    #[error("Could not decode CSR")]
     InvalidCsrSyntax,
     /// It has, and the octets of a certificate in it begin with none.
-    #[error("Could not decode certificate")]
     CertSyntax,
     /// A check of the signed message failed.
-    #[error("CMS is not valid: {0}")]
     Validation(ValidationError),
     /// Memory ran out.
-    #[error("out of memory")]
     OutOfMemory,
 }
+
+impl fmt::Display for ReceiveError {
+    ghost output = { receive_text };
+
+    fn fmt<W: fmt::Write>(&self, f: &mut fmt::Formatter<W>) -> fmt::Result {
+        match self {
+            ReceiveError::CmsDecode => f.write_str("Could not decode CMS"),
+            ReceiveError::XmlError => f.write_str("malformed XML"),
+            ReceiveError::InvalidCsrSyntax => f.write_str("Could not decode CSR"),
+            ReceiveError::CertSyntax => f.write_str("Could not decode certificate"),
+            ReceiveError::Validation(error) => {
+                f.write_str("CMS is not valid: ")?;
+                error.fmt(f)
+            }
+            ReceiveError::OutOfMemory => f.write_str("out of memory"),
+        }
+    }
+}
+
+impl Error for ReceiveError {}
 
 impl From<publication::Error> for ReceiveError {
     ghost from_gives = { λ error e. e ≡ of_publication error };

@@ -1,9 +1,10 @@
 //! An attribute that a request can't have.
 
-ghost use Rattle.std.specs.Prelude.{◌≡◌, ◌++◌, Some, codes};
+ghost use Rattle.std.specs.Prelude.{◌≡◌, ◌++◌, IfOk, Some, codes};
 ghost use Rattle.rpki_der.specs.Arcs.{oid_text};
 
-use rpki_der::Oid;
+use rpki_der::{Oid, OutOfMemory};
+use std::alloc::Global;
 use std::fmt;
 use std::marker::Model;
 
@@ -31,6 +32,14 @@ impl InvalidAttribute {
         ensures { result ≡ oid }
     {
         InvalidAttribute { oid }
+    }
+
+    /// An equal one.
+    pub fn clone(&self, alloc: Global) -> Result<InvalidAttribute, OutOfMemory>
+        ensures { IfOk result (λ a. a ≡ self.now) }
+    {
+        let oid = self.oid.clone(alloc)?;
+        Ok(InvalidAttribute { oid })
     }
 }
 

@@ -100,7 +100,7 @@ IsWritablePayload (payload.Revoke request) = IsWritableKey request
 IsWritablePayload (payload.RevokeResponse response) = IsWritableKey response
 IsWritablePayload (payload.ErrorResponse response) = IsWritableNotPerformed response
 
--- That the two are handles is kept by their type.
+-- The type of handles holds any text: that the two are handles is asked for here.
 pub record IsWritable (m : MessageFields) : Type 0 where
   pub sender : IsHandle m.sender
   pub recipient : IsHandle m.recipient

@@ -37,3 +37,9 @@ pub use law::{
 };
 pub use message::{CONTENT_TYPE, Message};
 pub use payload::Payload;
+pub use rpki_updown::{
+    Error, IssuanceRequest, IssuanceResponse, IssuedCert, KeyElement, NotPerformedResponse,
+    ParentResourceClassName, PayloadType, PayloadTypeError, RequestResourceLimit,
+    ResourceClassEntitlements, ResourceClassListResponse, ResourceClassName, RevocationRequest,
+    RevocationResponse, SigningCert,
+};

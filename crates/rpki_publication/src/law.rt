@@ -14,7 +14,10 @@ ghost use Rattle.rpki_publication.specs.declared.message.Message.{Message as Val
 ghost use Rattle.rpki_publication.specs.declared.publish_delta_element.PublishDeltaElement.{PublishDeltaElement as Change};
 ghost use Rattle.rpki_publication.specs.declared.query.Query.{Query as QueryValue};
 ghost use Rattle.rpki_publication.specs.declared.query_pdu.QueryPdu.{QueryPdu as Pdu};
+ghost use Rattle.rpki_publication.specs.declared.query_pdu.QueryPduType.{QueryPduType as PduType};
 ghost use Rattle.rpki_publication.specs.declared.reply.Reply.{Reply as ReplyValue};
+ghost use Rattle.rpki_publication.specs.declared.reply.ReplyPdu.{ReplyPdu as Answer};
+ghost use Rattle.rpki_publication.specs.declared.reply.ReplyPduType.{ReplyPduType as AnswerType};
 ghost use Rattle.rpki_publication.specs.declared.report_error_code.ReportErrorCode.{ReportErrorCode as Code};
 
 use crate::error_reply::ErrorReply;
@@ -25,8 +28,8 @@ use crate::publish::Publish;
 use crate::publish_delta::PublishDelta;
 use crate::publish_delta_element::PublishDeltaElement;
 use crate::query::Query;
-use crate::query_pdu::QueryPdu;
-use crate::reply::Reply;
+use crate::query_pdu::{QueryPdu, QueryPduType};
+use crate::reply::{Reply, ReplyPdu, ReplyPduType};
 use crate::report_error::ReportError;
 use crate::report_error_code::ReportErrorCode;
 use crate::update::Update;
@@ -83,6 +86,10 @@ pub fn equal_values_are_the_same()
     ensures pdu { (a b : Pdu) → (⟦<QueryPdu as PartialEq>⟧.eq a b ≡ true) ↔ (a ≡ b) }
     ensures object { (a b : ListElementFields)
         → (⟦<ListElement as PartialEq>⟧.eq a b ≡ true) ↔ (a ≡ b) }
+    ensures query_kind { (a b : PduType)
+        → (⟦<QueryPduType as PartialEq>⟧.eq a b ≡ true) ↔ (a ≡ b) }
+    ensures reply_kind { (a b : AnswerType)
+        → (⟦<ReplyPduType as PartialEq>⟧.eq a b ≡ true) ↔ (a ≡ b) }
 {}
 
 /// The same of errors that are reported.
@@ -91,6 +98,14 @@ pub fn equal_reports_are_the_same()
         → (⟦<ReportError as PartialEq>⟧.eq a b ≡ true) ↔ (a ≡ b) }
 {
     equal_values_are_the_same();
+}
+
+/// The same of elements of a reply.
+pub fn equal_reply_elements_are_the_same()
+    ensures { (a b : Answer) → (⟦<ReplyPdu as PartialEq>⟧.eq a b ≡ true) ↔ (a ≡ b) }
+{
+    equal_values_are_the_same();
+    equal_reports_are_the_same();
 }
 
 /// The same of lists.

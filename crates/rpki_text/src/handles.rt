@@ -1,6 +1,6 @@
 //! The names of parties.
 
-ghost use Rattle.std.specs.Prelude.{◌≡◌, ◌↔◌, Some, None, IfOk, OnOk, IsErrOf, IsTrue, nat_eq, string_bytes};
+ghost use Rattle.std.specs.Prelude.{◌≡◌, ◌↔◌, Some, None, IfOk, OnOk, IsErrOf, IsTrue, nat_eq, string_bytes, true};
 ghost use Rattle.std.specs.Rc.{rc_str_bytes};
 ghost use Rattle.std.specs.Hash as fed;
 ghost use Rattle.std.specs.Cmp.Lexicographic.{pointwise, nat_list_eq_equiv};
@@ -11,6 +11,13 @@ ghost use Rattle.serde_json.specs.Data.{string};
 ghost use Rattle.serde_json.specs.Written.{compact_text};
 ghost use Rattle.rpki_text.specs.Handle.{is_handle_octet as tells_octet, IsHandle, handle_of_json};
 ghost use Rattle.rpki_text.specs.declared.handles.InvalidHandle.TheVariants as variant;
+ghost use Rattle.rpki_text.specs.declared.handles.Myself.{Myself};
+ghost use Rattle.rpki_text.specs.declared.handles.Parent.{Parent};
+ghost use Rattle.rpki_text.specs.declared.handles.Child.{Child};
+ghost use Rattle.rpki_text.specs.declared.handles.Publisher.{Publisher};
+ghost use Rattle.rpki_text.specs.declared.handles.Repository.{Repository};
+ghost use Rattle.rpki_text.specs.declared.handles.Sender.{Sender};
+ghost use Rattle.rpki_text.specs.declared.handles.Recipient.{Recipient};
 
 use crate::json::{JsonError, read_string, write_string};
 use rpki_common::{OutOfMemory, Text};
@@ -48,6 +55,17 @@ pub struct Sender;
 /// The marker of the recipient of a provisioning message.
 #[derive(Clone, Copy, Debug, PartialEq, Eq, Hash)]
 pub struct Recipient;
+
+/// `==` holds exactly between markers that are the same: all of one kind are.
+pub fn equal_markers_are_the_same()
+    ensures myself { (a b : Myself) → (⟦<Myself as PartialEq>⟧.eq a b ≡ true) ↔ (a ≡ b) }
+    ensures parent { (a b : Parent) → (⟦<Parent as PartialEq>⟧.eq a b ≡ true) ↔ (a ≡ b) }
+    ensures child { (a b : Child) → (⟦<Child as PartialEq>⟧.eq a b ≡ true) ↔ (a ≡ b) }
+    ensures publisher { (a b : Publisher) → (⟦<Publisher as PartialEq>⟧.eq a b ≡ true) ↔ (a ≡ b) }
+    ensures repository { (a b : Repository) → (⟦<Repository as PartialEq>⟧.eq a b ≡ true) ↔ (a ≡ b) }
+    ensures sender { (a b : Sender) → (⟦<Sender as PartialEq>⟧.eq a b ≡ true) ↔ (a ≡ b) }
+    ensures recipient { (a b : Recipient) → (⟦<Recipient as PartialEq>⟧.eq a b ≡ true) ↔ (a ≡ b) }
+{}
 
 /// The handle of this party.
 pub type MyHandle = Handle<Myself>;

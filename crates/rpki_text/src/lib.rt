@@ -44,7 +44,7 @@ pub use digests::Hash;
 pub use handles::{
     CaHandle, Child, ChildHandle, Handle, InvalidHandle, MyHandle, Myself, Parent, ParentHandle,
     Publisher, PublisherHandle, Recipient, RecipientHandle, Repository, RepositoryHandle, Sender,
-    SenderHandle,
+    SenderHandle, equal_markers_are_the_same,
 };
 pub use json::{JsonError, read_string, read_value, write_string};
 pub use key_identifiers::{key_identifier_text, read_key_identifier};

@@ -1,6 +1,6 @@
 -- Said in contracts, and to be believed:
 -- documents and elements: Name, Lexing, Runs, Content, Element, Lettered, Texts, Trimmed, AttributeSpelling;
--- what is asked of an element, and answered: Tables, Answers;
+-- what is asked of an element, and answered: Tables, Answers, Errors;
 -- what is written: Spelling, Draft, PlainElement.
 -- Means for loops, proofs and the element in memory: PlainCharacter, Kept, Pieces, Stack, Nodes, DocumentNodes, Views.
 pub mod Answers
@@ -9,6 +9,7 @@ pub mod Content
 pub mod DocumentNodes
 pub mod Draft
 pub mod Element
+pub mod Errors
 pub mod Kept
 pub mod Lettered
 pub mod Lexing
