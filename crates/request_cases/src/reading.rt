@@ -37,11 +37,12 @@ fn router_attributes(alloc: Global, octets: &[u8]) -> Result<Fields, DecodeError
     router_attributes_shown(alloc, &attributes.clone(alloc)?)
 }
 
-// What is printed of an attribute that no request can have, by its object identifier.
+// What is printed of a copy of an attribute that no request can have, by its object identifier.
 fn invalid_attribute(alloc: Global, octets: &[u8]) -> Result<Fields, DecodeError> {
     let oid = Oid::take(alloc, Mode::Der, octets)?;
+    let attribute = InvalidAttribute::new(oid);
     let mut fields = Fields::new(alloc);
-    fields.print(alloc, InvalidAttribute::new(oid))?;
+    fields.print(alloc, attribute.clone(alloc)?)?;
     Ok(fields)
 }
 

@@ -1,5 +1,5 @@
 -- One command, and one answer to it.
-use Rattle.std.proofs.Common.{◌≡◌, ◌≢◌, ◌<◌, ◌≤◌, ◌^◌, ◌⊎◌, ℕ, inl, inr, Option, Some, None, Result, Ok, Err, List, length, refl, sym, ap, subst, ◌∙◌, arith}
+use Rattle.std.proofs.Common.{◌≡◌, ◌≢◌, ◌<◌, ◌≤◌, ◌^◌, ◌⊎◌, ℕ, inl, inr, Option, Some, None, Result, Ok, Err, List, [], length, refl, sym, ap, subst, ◌∙◌, arith}
 use Rattle.std.specs.Prelude.{IfSome, IfOk, IfErr, IsErrOf, MatchResult}
 use Rattle.rpki_ca.specs.declared.command.Command.{Command}
 use Rattle.rpki_ca.specs.declared.command.Command.TheVariants.{Content, Receive, Create, Setup, Make}
@@ -9,8 +9,8 @@ use Rattle.rpki_ca.specs.Command.{IsCommand, IsNoCommand, IsMake, ReadsInput}
 use Rattle.rpki_ca.specs.Summary.{IsMakeAnswer}
 use Rattle.rpki_base.specs.Scheme.{Relation}
 use Rattle.rpki_ca.specs.Refusal.{status_of}
-use Rattle.rpki_ca.specs.Seen.{Seen, SignerSeen, IsSteady}
-use Rattle.rpki_ca.specs.Answer.{octets_in, AnswersSpelled, AnswersSigned, Performs, IsAnswer, IsGiven, IsShown, IsAdmitted, IsLineOf, ReadsAll}
+use Rattle.rpki_ca.specs.Seen.{Seen, SignerSeen, IsSteady, OfInput}
+use Rattle.rpki_ca.specs.Answer.{octets_in, AnswersSpelled, AnswersSigned, Performs, IsAnswer, IsGiven, IsShown, IsAdmitted, IsLineOf, IsUnread, ReadsAll}
 use Rattle.rpki_ca.proofs.Commands.{one_command, is_make}
 
 -- ---- the answer
@@ -47,6 +47,19 @@ pub if_err : {X Y : Type 0} (r : Result X Y) (P Q : Y → Type 0) → ((e : Y) �
 if_err (Ok x) P Q f p = tt
 if_err (Err e) P Q f p = f e p
 
+pub each_input : (o : Option (List ℕ)) (P Q : List ℕ → Type 0) → ((x : List ℕ) → P x → Q x) → OfInput o P → OfInput o Q
+each_input None P Q f p = (p.0, f p.0 p.1)
+each_input (Some x) P Q f p = f x p
+
+pub any_input : (o : Option (List ℕ)) (P : List ℕ → Type 0) → ((x : List ℕ) → P x) → OfInput o P
+any_input None P f = ([], f [])
+any_input (Some x) P f = f x
+
+-- what is said of the input is said of the one that is told
+pub told_input : (o : Option (List ℕ)) (P Q : List ℕ → Type 0) → ((x : List ℕ) → P x → Q x) → OfInput o P → IfSome o Q
+told_input None P Q f p = tt
+told_input (Some x) P Q f p = f x p
+
 -- what is performed with the input is performed with what was read of it
 of_input : {I : Type 0} (scheme : Relation) (c : Command) (octets input : List ℕ) (signer : SignerSeen I) (a : Result (List ℕ) Refusal) → (ReadsInput c → octets ≡ input) → Performs scheme c octets signer a → Performs scheme c input signer a
 of_input scheme Content octets input signer a same said = subst (λ (o : List ℕ). Performs scheme Content o signer a) (same tt) said
@@ -55,20 +68,26 @@ of_input scheme (Create kind when) octets input signer a same said = subst (λ (
 of_input scheme (Setup kind when) octets input signer a same said = subst (λ (o : List ℕ). Performs scheme (Setup kind when) o signer a) (same tt) said
 of_input scheme (Make count seed) octets input signer a same said = said
 
+-- what was read, where the command reads
+abbrev pub IsRead : Command → List ℕ → Option (List ℕ) → Type 0
+IsRead c octets told = (ReadsInput c → length octets ≤ 2 ^ 26) × IfSome told (λ input. ReadsInput c → (octets ≡ input) × (length input ≤ 2 ^ 26))
+
+given_to_input : {I : Type 0} (scheme : Relation) (words : List (List ℕ)) (signer : SignerSeen I) (octets : List ℕ) (told : Option (List ℕ)) (c : Command) (a : Result (List ℕ) Refusal) → IsCommand words c → IsRead c octets told → Performs scheme c octets signer a
+    → OfInput told (λ input. IsGiven scheme words signer input a)
+given_to_input scheme words signer octets None c a is read said = (octets, given scheme words signer octets c a is read.0 said)
+given_to_input scheme words signer octets (Some input) c a is read said =
+    given scheme words signer input c a is (λ reads. (read.1 reads).1) (of_input scheme c octets input signer a (λ reads. (read.1 reads).0) said)
+
 pub shown : {I : Type 0} (scheme : Relation) (words : List (List ℕ)) (source : Seen) (signer : SignerSeen I) (octets : List ℕ) (c : Command) (a : Result (List ℕ) Refusal) → IsCommand words c
-    → IfSome source.before (λ input. ReadsInput c → (octets ≡ input) × (length input ≤ 2 ^ 26)) → IsSteady source → Performs scheme c octets signer a → IsShown scheme words source signer a
-shown scheme words source signer octets c a is within steady said =
-    record {
-      shown = if_some source.before _ _ (λ input p. given scheme words signer input c a is (λ reads. (p reads).1) (of_input scheme c octets input signer a (λ reads. (p reads).0) said)) within;
-      steady = steady;
-    }
+    → IsRead c octets source.before → IsSteady source → Performs scheme c octets signer a → IsShown scheme words source signer a
+shown scheme words source signer octets c a is read steady said = record { shown = given_to_input scheme words signer octets source.before c a is read said; steady = steady }
 
 -- words of no command
 usage_answer : (scheme : Relation) (words : List (List ℕ)) (input : List ℕ) → IsNoCommand words → IsAnswer scheme words input (Err refusals.Usage)
 usage_answer scheme words input none = record { usage = λ n. refl; long = λ c is reads l. absurd (none c is); answers = λ c is l. absurd (none c is) }
 
 pub usage_shown : {I : Type 0} (scheme : Relation) (words : List (List ℕ)) (source : Seen) (signer : SignerSeen I) → IsNoCommand words → IsSteady source → IsShown scheme words source signer (Err refusals.Usage)
-usage_shown scheme words source signer none steady = record { shown = always_some source.before _ (λ input. inl (usage_answer scheme words input none)); steady = steady }
+usage_shown scheme words source signer none steady = record { shown = any_input source.before _ (λ input. inl (usage_answer scheme words input none)); steady = steady }
 
 -- ---- what no command answers
 
@@ -281,7 +300,7 @@ to_shown scheme words source signer refusals.Signer f m s = s
 to_shown scheme words source signer refusals.Moment f m s = s
 
 pub admitted : {I : Type 0} (scheme : Relation) (words : List (List ℕ)) (source : Seen) (signer : SignerSeen I) (octets : List ℕ) (c : Command) (e : Refusal) → IsCommand words c
-    → IfSome source.before (λ input. ReadsInput c → (octets ≡ input) × (length input ≤ 2 ^ 26)) → IsSteady source → (e ≢ refusals.OutOfMemory → Performs scheme c octets signer (Err e))
+    → IsRead c octets source.before → IsSteady source → (e ≢ refusals.OutOfMemory → Performs scheme c octets signer (Err e))
     → IsAdmitted scheme words source signer (Err e)
 admitted scheme words source signer octets c e is within steady said =
     elim (sort_of e) [
@@ -292,6 +311,38 @@ admitted scheme words source signer octets c e is within steady said =
   where
     unlike : refusals.ReadFault ≡ refusals.OutOfMemory → ⊥
     unlike k = cc
+
+-- input that isn't read
+too_long : (scheme : Relation) (words : List (List ℕ)) (input : List ℕ) (c : Command) → IsCommand words c → ReadsInput c → 2 ^ 26 < length input → IsAnswer scheme words input (Err refusals.TooLong)
+too_long scheme words input c is reads longer =
+    record {
+      usage = λ n. absurd (n c is);
+      long = λ d also r m. refl;
+      answers = λ d also m. absurd (never (length input) longer (m (subst ReadsInput (one_command words c d is also) reads)));
+    }
+  where
+    never : (n : ℕ) → 2 ^ 26 < n → n ≤ 2 ^ 26 → ⊥
+    never n a b = omega (arith, a, b)
+
+pub unread_admitted : {I : Type 0} (scheme : Relation) (words : List (List ℕ)) (source : Seen) (signer : SignerSeen I) (c : Command) (e : Refusal) → IsCommand words c → ReadsInput c → IsUnread source e → IsAdmitted scheme words source signer (Err e)
+unread_admitted scheme words source signer c refusals.TooLong is reads u =
+    record { shown = each_input source.before _ _ (λ input longer. inl (too_long scheme words input c is reads longer)) u.0; steady = u.1 }
+unread_admitted scheme words source signer c refusals.ReadFault is reads u = u
+unread_admitted scheme words source signer c refusals.OutOfMemory is reads u = u
+unread_admitted scheme words source signer c refusals.Usage is reads u = absurd u
+unread_admitted scheme words source signer c refusals.Hex is reads u = absurd u
+unread_admitted scheme words source signer c refusals.CmsDecode is reads u = absurd u
+unread_admitted scheme words source signer c refusals.XmlError is reads u = absurd u
+unread_admitted scheme words source signer c refusals.CertSyntax is reads u = absurd u
+unread_admitted scheme words source signer c refusals.InvalidCsrSyntax is reads u = absurd u
+unread_admitted scheme words source signer c refusals.InvalidTaCertEncoding is reads u = absurd u
+unread_admitted scheme words source signer c refusals.InvalidTaCert is reads u = absurd u
+unread_admitted scheme words source signer c (refusals.Validation n) is reads u = absurd u
+unread_admitted scheme words source signer c refusals.KeyNotFound is reads u = absurd u
+unread_admitted scheme words source signer c refusals.IncompatibleKey is reads u = absurd u
+unread_admitted scheme words source signer c refusals.KeyReused is reads u = absurd u
+unread_admitted scheme words source signer c refusals.Signer is reads u = absurd u
+unread_admitted scheme words source signer c refusals.Moment is reads u = absurd u
 
 pub usage_of_none : {X I : Type 0} (scheme : Relation) (words : List (List ℕ)) (c : Command) (input : List ℕ) (signer : SignerSeen I) (r : Result X Refusal) → IfErr r (λ e. e ≢ refusals.OutOfMemory → Performs scheme c input signer (Err e)) → IsErrOf r refusals.Usage → IsNoCommand words
 usage_of_none {X = X} scheme words c input signer r said is = absurd (performs_no_usage scheme c input signer (subst (λ (x : Result X Refusal). IfErr x (λ e. e ≢ refusals.OutOfMemory → Performs scheme c input signer (Err e))) is said other))

@@ -3,7 +3,7 @@ use Rattle.std.proofs.Common.{◌≡◌, ◌⊎◌, ◌<◌, ◌≤◌, ◌^◌,
 use Rattle.rpki_ca.specs.Answer.{Ends, IsUnread}
 use Rattle.rpki_ca.specs.Lines.{EndsLines, EndsRun, EndsUnread, EndsWith, IsOutOfMemory, WroteAll, answer_lines}
 use Rattle.rpki_ca.specs.Refusal.{status_of}
-use Rattle.rpki_ca.specs.Seen.{HasFailed, Seen}
+use Rattle.rpki_ca.specs.Seen.{HasFailed, OfInput, Seen}
 use Rattle.rpki_ca.specs.declared.refusals.Refusal.{Refusal}
 use Rattle.rpki_ca.specs.declared.refusals.Refusal.TheVariants as refusals
 
@@ -24,8 +24,8 @@ lines_end all first may status sink alone none (inl done) = inl (with_whole 0 st
 lines_end all first may status sink alone none (inr (inl stopped)) = inr (with_whole (status_of stopped.refusal) status _ sink none stopped.ends ∙ ap status_of (alone stopped.refusal stopped.may))
 lines_end all first may status sink alone none (inr (inr failed)) = absurd (none failed.failed)
 
-some_input : (o : Option (List ℕ)) (input : List ℕ) (P : List ℕ → Type 0) → o ≡ Some input → IfSome o P → P input
-some_input o input P e h = subst (λ (x : Option (List ℕ)). IfSome x P) e h
+some_input : (o : Option (List ℕ)) (input : List ℕ) (P : List ℕ → Type 0) → o ≡ Some input → OfInput o P → P input
+some_input o input P e h = subst (λ (x : Option (List ℕ)). OfInput x P) e h
 
 memory_alone : (source : Seen) (input : List ℕ) (refusal : Refusal) → source.before ≡ Some input → length input ≤ 2 ^ 26 → ¬ (HasFailed source) → IsUnread source refusal → refusal ≡ refusals.OutOfMemory
 memory_alone source input refusals.OutOfMemory e le none u = refl
@@ -100,6 +100,6 @@ on_input_or_12 ends_on status source sink input (inr read) e le sound whole = in
 
 -- ---- what is read is the input
 
-pub ends_read : (ends_on : List ℕ → Type 0) (rest : Option (List ℕ)) (octets input : List ℕ) → input ≡ octets → IfSome rest (λ whole. (octets ≡ whole) × (length whole ≤ 2 ^ 26)) → ends_on input → IfSome rest (λ whole. (length whole ≤ 2 ^ 26) × ends_on whole)
-ends_read ends_on None octets input is read ends = tt
-ends_read ends_on (Some whole) octets input is read ends = (read.1, subst ends_on (is ∙ read.0) ends)
+pub ends_read : (ends_on : List ℕ → Type 0) (rest : Option (List ℕ)) (octets input : List ℕ) → input ≡ octets → length octets ≤ 2 ^ 26 → IfSome rest (λ whole. (octets ≡ whole) × (length whole ≤ 2 ^ 26)) → ends_on input → OfInput rest (λ whole. (length whole ≤ 2 ^ 26) × ends_on whole)
+ends_read ends_on None octets input is short read ends = (octets, (short, subst ends_on is ends))
+ends_read ends_on (Some whole) octets input is short read ends = (read.1, subst ends_on (is ∙ read.0) ends)

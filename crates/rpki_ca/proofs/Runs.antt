@@ -22,10 +22,10 @@ use Rattle.rpki_ca.specs.Hexadecimal.{hexadecimal}
 use Rattle.rpki_ca.specs.Refusal.{status_of}
 use Rattle.rpki_base.specs.Scheme.{Relation}
 use Rattle.rpki_ca.specs.Acceptance.{text_of}
-use Rattle.rpki_ca.specs.Seen.{Seen, SignerSeen, HasFailed, IsSteady}
+use Rattle.rpki_ca.specs.Seen.{Seen, SignerSeen, HasFailed, IsSteady, OfInput}
 use Rattle.rpki_ca.specs.Answer.{AnswersSpelled, AnswersSigned, IsAnswer, IsGiven, IsShown, IsAdmitted, IsLineOf, Ends, EndsAs, ReadsAll, Delivers, Holds, Succeeds}
 use Rattle.rpki_ca.proofs.Commands.{is_command, is_setup, one_command}
-use Rattle.rpki_ca.proofs.Answering.{if_some, always_some, answers, sort_of, to_shown}
+use Rattle.rpki_ca.proofs.Answering.{always_some, answers, each_input, sort_of, to_shown, told_input}
 use Rattle.rpki_ca.proofs.Laws.{one_answer_to_words, from_signer_alone}
 use Rattle.rpki_ca.proofs.Creating.{creates, text_from_signer, not_refused, no_signed}
 
@@ -55,7 +55,7 @@ Status r s = MatchResult r (λ _. (s ≡ 0) ⊎ (s ≡ 11)) (λ e. (s ≡ status
 -- an answer that ends with 0 is a text, and it was written
 pub record Written {I : Type 0} (scheme : Relation) (words : List (List ℕ)) (source sink : Seen) (signer : SignerSeen I) : Type 0 where
   pub text : List ℕ
-  pub shown : IfSome source.before (λ input. IsGiven scheme words signer input (Ok text))
+  pub shown : OfInput source.before (λ input. IsGiven scheme words signer input (Ok text))
   pub written : Appends sink.before sink.after (text ++ 10 ∷ [])
 
 no_zero : (r : Refusal) → 0 ≡ status_of r → ⊥
@@ -86,9 +86,9 @@ pub written : {I : Type 0} (scheme : Relation) (words : List (List ℕ)) (source
 written scheme words source sink signer status a zero = by_answer scheme words source sink signer a.answer a.admitted (subst (λ (s : ℕ). Ends a.answer s sink) zero a.ends)
 
 pub done : {I : Type 0} (scheme : Relation) (words : List (List ℕ)) (source sink : Seen) (signer : SignerSeen I) (status : ℕ) → Answered scheme words source sink signer status → status ≡ 0
-    → IfSome source.before (λ rest. (text : List ℕ) × IsGiven scheme words signer rest (Ok text) × Appends sink.before sink.after (text ++ 10 ∷ []))
+    → OfInput source.before (λ rest. (text : List ℕ) × IsGiven scheme words signer rest (Ok text) × Appends sink.before sink.after (text ++ 10 ∷ []))
 done scheme words source sink signer status a zero =
-    let w = written scheme words source sink signer status a zero in if_some source.before _ _ (λ rest is. (w.text, is, w.written)) w.shown
+    let w = written scheme words source sink signer status a zero in each_input source.before _ _ (λ rest is. (w.text, is, w.written)) w.shown
 
 -- ---- what `receive` delivers
 
@@ -123,10 +123,10 @@ given_delivers scheme words signer kind keys when input text sink is w (inr a) =
     absurd (unsigned scheme a.command kind when keys input signer (Ok text) (one_command words a.command (Receive kind when keys) a.is (is_command words kind when keys is)) a.answers)
 
 pub received : {I : Type 0} (scheme : Relation) (words : List (List ℕ)) (source sink : Seen) (signer : SignerSeen I) (status : ℕ) → Answered scheme words source sink signer status → (kind : Kind) (when : ℤ) (keys : List KeyFields)
-    → IsReceive words kind when keys → status ≡ 0 → IfSome source.before (λ rest. Delivers scheme kind keys when rest sink)
+    → IsReceive words kind when keys → status ≡ 0 → OfInput source.before (λ rest. Delivers scheme kind keys when rest sink)
 received scheme words source sink signer status a kind when keys is zero =
     let w = written scheme words source sink signer status a zero in
-    if_some source.before _ _ (λ rest said. given_delivers scheme words signer kind keys when rest w.text sink is w.written said) w.shown
+    each_input source.before _ _ (λ rest said. given_delivers scheme words signer kind keys when rest w.text sink is w.written said) w.shown
 
 -- ---- the answer that words and input show
 
@@ -137,14 +137,14 @@ shown_once scheme words source sink signer status here a rest ends (inr x) y = a
 
 by_admitted : {I : Type 0} (scheme : Relation) (words : List (List ℕ)) (source sink : Seen) (signer : SignerSeen I) (status : ℕ) (here a : Result (List ℕ) Refusal) → IsAdmitted scheme words source signer here → Ends here status sink
     → IfSome source.before (λ rest. IsAnswer scheme words rest a → EndsAs a status source sink)
-by_admitted scheme words source sink signer status (Ok text) a h ends = if_some source.before _ _ (λ rest x y. shown_once scheme words source sink signer status (Ok text) a rest ends x y) h.shown
+by_admitted scheme words source sink signer status (Ok text) a h ends = told_input source.before _ _ (λ rest x y. shown_once scheme words source sink signer status (Ok text) a rest ends x y) h.shown
 by_admitted scheme words source sink signer status (Err r) a h ends =
     elim (sort_of r) [
       | inl fault ↦
           always_some source.before _ (λ rest y. inr (inr (subst (λ (e : Refusal). Ends (Err e) status sink) fault ends, subst (λ (e : Refusal). IsAdmitted scheme words source signer (Err e)) fault h)))
       | inr (inl memory) ↦ always_some source.before _ (λ rest y. inr (inl (subst (λ (e : Refusal). Ends (Err e) status sink) memory ends)))
       | inr (inr other) ↦
-          if_some source.before _ _ (λ rest x y. shown_once scheme words source sink signer status (Err r) a rest ends x y)
+          told_input source.before _ _ (λ rest x y. shown_once scheme words source sink signer status (Err r) a rest ends x y)
           (to_shown scheme words source signer r other.0 other.1 h).shown
     ]
 
@@ -181,10 +181,10 @@ succeeds scheme words source sink signer status a kind when keys is =
 -- ---- what `create` creates
 
 pub created : {I : Type 0} (scheme : Relation) → ((kind : SigningAlgorithm) (key : KeyFields) (message signature : List ℕ) → scheme kind key message signature → key.format ≡ format_of kind) → (words : List (List ℕ)) (source sink : Seen) (signer : SignerSeen I) (status : ℕ)
-    → Answered scheme words source sink signer status → (kind : Kind) (when : ℤ) → IsCreate words kind when → status ≡ 0 → IfSome source.before (λ rest. Creates scheme kind when rest signer sink)
+    → Answered scheme words source sink signer status → (kind : Kind) (when : ℤ) → IsCreate words kind when → status ≡ 0 → OfInput source.before (λ rest. Creates scheme kind when rest signer sink)
 created scheme fit words source sink signer status a kind when is zero =
     let w = written scheme words source sink signer status a zero in
-    if_some source.before _ _ (λ rest said. creates scheme fit kind when rest w.text signer sink (text_from_signer scheme words kind when rest w.text signer is said) w.written) w.shown
+    each_input source.before _ _ (λ rest said. creates scheme fit kind when rest w.text signer sink (text_from_signer scheme words kind when rest w.text signer is said) w.written) w.shown
 
 ended : (text : List ℕ) (status : ℕ) (source sink : Seen) → Ends (Ok text) status sink → Succeeds status source sink
 ended text status source sink (inl w) = inl w.0
@@ -208,7 +208,7 @@ can_succeed scheme words source sink signer status (Err r) h ends kind when is =
           ended_fault status source sink (subst (λ (e : Refusal). IsAdmitted scheme words source signer (Err e)) fault h) (subst (λ (e : Refusal). Ends (Err e) status sink) fault ends))
       | inr (inl memory) ↦ always_some source.before _ (λ rest can. ended_memory status source sink (subst (λ (e : Refusal). Ends (Err e) status sink) memory ends))
       | inr (inr other) ↦
-          if_some source.before _ _ (λ rest said can. absurd (not_refused scheme words kind when rest signer r is can said))
+          told_input source.before _ _ (λ rest said can. absurd (not_refused scheme words kind when rest signer r is can said))
           (to_shown scheme words source signer r other.0 other.1 h).shown
     ]
 
@@ -231,10 +231,10 @@ set_up_text scheme words signer kind when input text is (inr a) =
     no_signer scheme c kind when input signer a e = rw e (λ h. h)
 
 pub set_up : {I : Type 0} (scheme : Relation) (words : List (List ℕ)) (source sink : Seen) (signer : SignerSeen I) (status : ℕ) → Answered scheme words source sink signer status → (kind : SetupKind) (when : ℤ)
-    → IsSetup words kind when → status ≡ 0 → IfSome source.before (λ rest. (text : List ℕ) × IsSetUp scheme kind rest when text × Appends sink.before sink.after (text ++ 10 ∷ []))
+    → IsSetup words kind when → status ≡ 0 → OfInput source.before (λ rest. (text : List ℕ) × IsSetUp scheme kind rest when text × Appends sink.before sink.after (text ++ 10 ∷ []))
 set_up scheme words source sink signer status a kind when is zero =
     let w = written scheme words source sink signer status a zero in
-    if_some source.before _ _ (λ rest said. (w.text, set_up_text scheme words signer kind when rest w.text is said, w.written)) w.shown
+    each_input source.before _ _ (λ rest said. (w.text, set_up_text scheme words signer kind when rest w.text is said, w.written)) w.shown
 
 -- ---- what `make` makes
 

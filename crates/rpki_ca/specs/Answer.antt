@@ -1,6 +1,6 @@
 -- What is answered to words and input.
 use Rattle.std.specs.Prelude.{◌≡◌, ℕ, ℤ, ◌^◌, ◌<◌, ◌≤◌, ◌⊎◌, Option, None, Some, Result, Ok, Err}
-use Rattle.std.specs.Prelude.{List, [], ◌∷◌, ◌++◌, length, IfSome}
+use Rattle.std.specs.Prelude.{List, [], ◌∷◌, ◌++◌, length}
 use Rattle.std.specs.Io.KnownBytes.{Appends}
 use Rattle.sha2.specs.Sha256.{sha256}
 use Rattle.rpki_base.specs.PublicKey.{KeyFields}
@@ -23,7 +23,7 @@ use Rattle.rpki_base.specs.Scheme.{Relation}
 use Rattle.rpki_ca.specs.Acceptance.{Accepted, HoldsNoSigned, HasNoForm, HoldsNoCertificate}
 use Rattle.rpki_ca.specs.Acceptance.{HoldsNoRequest, FailsCheck, text_of}
 use Rattle.rpki_ca.specs.Refusal.{status_of, name_of}
-use Rattle.rpki_ca.specs.Seen.{Seen, SignerSeen, HasFailed, IsSteady}
+use Rattle.rpki_ca.specs.Seen.{Seen, SignerSeen, HasFailed, IsSteady, OfInput}
 
 -- ---- the commands
 
@@ -151,7 +151,7 @@ IsGiven scheme words signer input answer =
 -- Such an answer, and the source didn't fail.
 pub record IsShown {Id : Type 0} (scheme : Relation) (words : List (List ℕ)) (source : Seen)
     (signer : SignerSeen Id) (answer : Result (List ℕ) Refusal) : Type 0 where
-  pub shown : IfSome source.before (λ input. IsGiven scheme words signer input answer)
+  pub shown : OfInput source.before (λ input. IsGiven scheme words signer input answer)
   pub steady : IsSteady source
 
 -- An answer is admitted exactly where words and input show it or it comes from the signer; that the
@@ -169,7 +169,7 @@ IsAdmitted scheme words source signer (Err refusal) =
 -- memory ran out
 abbrev pub IsUnread : Seen → Refusal → Type 0
 IsUnread source refusals.TooLong =
-    IfSome source.before (λ input. 2 ^ 26 < length input) × IsSteady source
+    OfInput source.before (λ input. 2 ^ 26 < length input) × IsSteady source
 IsUnread source refusals.ReadFault = HasFailed source
 IsUnread source refusals.OutOfMemory = IsSteady source
 IsUnread source other = ⊥

@@ -1,6 +1,6 @@
 -- Lines: an input cut into them, a line cut into words, and what a program writes that answers line
 -- by line.
-use Rattle.std.specs.Prelude.{◌≡◌, ◌==◌, ◌≤◌, ◌^◌, ◌⊎◌, ℕ, Bool, true, false, List, [], ◌∷◌, ◌++◌, Result, Ok, Err, IfSome, length}
+use Rattle.std.specs.Prelude.{◌≡◌, ◌==◌, ◌≤◌, ◌^◌, ◌⊎◌, ℕ, Bool, true, false, List, [], ◌∷◌, ◌++◌, Result, Ok, Err, length}
 use Rattle.std.specs.List.{slice_split, flat_map}
 use Rattle.std.specs.Io.KnownBytes.{Appends, IsAtEnd}
 use Rattle.rpki_text.specs.Sink.{AppendsPart}
@@ -10,7 +10,7 @@ use Rattle.rpki_ca.specs.declared.lines.Stop.{Stop}
 use Rattle.rpki_ca.specs.declared.lines.Stop.TheVariants.{Refused, WriteFault}
 use Rattle.rpki_ca.specs.Refusal.{status_of}
 use Rattle.rpki_ca.specs.Answer.{line_of, Ends, IsUnread}
-use Rattle.rpki_ca.specs.Seen.{Seen, HasFailed, IsSteady}
+use Rattle.rpki_ca.specs.Seen.{Seen, HasFailed, IsSteady, OfInput}
 
 -- ---- what is read
 
@@ -101,7 +101,7 @@ pub record EndsUnread (status : ℕ) (source sink : Seen) : Type 0 where
 pub record EndsRead (ends_on : List ℕ → Type 0) (source : Seen) : Type 0 where
   pub steady : IsSteady source
   pub whole : IsAtEnd source.after
-  pub ends : IfSome source.before (λ input. (length input ≤ 2 ^ 26) × ends_on input)
+  pub ends : OfInput source.before (λ input. (length input ≤ 2 ^ 26) × ends_on input)
 
 abbrev pub EndsRun : (List ℕ → Type 0) → ℕ → Seen → Seen → Type 0
 EndsRun ends_on status source sink = EndsUnread status source sink ⊎ EndsRead ends_on source

@@ -1,5 +1,5 @@
 -- What a call was seen to do to its source, its sink and its signer.
-use Rattle.std.specs.Prelude.{◌≡◌, ℕ, Option, List}
+use Rattle.std.specs.Prelude.{◌≡◌, ℕ, Option, None, Some, List}
 use Rattle.rpki_common.specs.Causes.{Rose}
 use Rattle.rpki_signer.specs.Signer.{SignerState}
 
@@ -26,6 +26,11 @@ HasFailed s = Rose s.faults_before s.faults_after
 -- its count stood still
 abbrev pub IsSteady : Seen → Type 0
 IsSteady s = s.faults_after ≡ s.faults_before
+
+-- The fact holds of the input: of the octets that the source tells; where it tells none, of some octets.
+abbrev pub OfInput : Option (List ℕ) → (List ℕ → Type 0) → Type 0
+OfInput (Some input) fact = fact input
+OfInput None fact = (input : List ℕ) × fact input
 
 -- ---- the signer
 

@@ -1,9 +1,13 @@
 //! What holds of every answer.
 
-ghost use Rattle.std.specs.Prelude.{◌≡◌, ◌↔◌, ◌++◌, ℕ, ℤ, List, Option, Result};
+ghost use Rattle.std.specs.Prelude.{◌≡◌, ◌↔◌, ◌++◌, ◌≤ℤ◌, ℕ, ℤ, List, Option, Result};
 ghost use Rattle.rpki_base.specs.PublicKey.{KeyFields};
-ghost use Rattle.rpki_sigmsg.specs.Checks.{SameAnswersUnder, AreAmong, IsInSpan};
-ghost use Rattle.rpki_sigmsg.specs.Message.{MessageFields};
+ghost use Rattle.rpki_der.specs.declared.mode.Mode.{Mode};
+ghost use Rattle.rpki_der.specs.Takes.{BeginsAs};
+ghost use Rattle.rpki_signer.specs.Signer.{Holds};
+ghost use Rattle.rpki_sigmsg.specs.Checks.{SameAnswersUnder, AreAmong, IsBelieved, IsInSpan};
+ghost use Rattle.rpki_sigmsg.specs.Making.{IsCreated, window};
+ghost use Rattle.rpki_sigmsg.specs.Message.{MessageFields, signed_message};
 ghost use Rattle.rpki_sigmsg.specs.Spelling.{rewritten, CanBeSpelled};
 ghost use Rattle.rpki_sigmsg.specs.Beginning.{BeginsSigned};
 ghost use Rattle.rpki_ca.specs.declared.command.Command.{Command};
@@ -12,9 +16,12 @@ ghost use Rattle.rpki_ca.specs.declared.receiving.Received.{Received};
 ghost use Rattle.rpki_ca.specs.declared.receiving.ReceiveError.{ReceiveError};
 ghost use Rattle.rpki_ca.specs.declared.refusals.Refusal.{Refusal};
 ghost use Rattle.rpki_ca.specs.Answer.{AnswersSpelled, IsAnswer};
-ghost use Rattle.rpki_ca.specs.Acceptance.{Accepted, IsReceivedUnder};
+ghost use Rattle.rpki_ca.specs.Acceptance.{Accepted, IsReceivedUnder, IsWritable, protocol_of, text_of};
+ghost use Rattle.rpki_ca.specs.Creation.{IsReceivable};
+ghost use Rattle.rpki_ca.specs.Seen.{SignerSeen};
 
 use rpki_base::Scheme;
+use rpki_signer::Signer;
 
 /// A command has one answer to octets, memory aside, as far as it asks no signer.
 pub fn one_answer<P: Scheme>()
@@ -69,4 +76,21 @@ pub fn accepted_moments_are_one_span<P: Scheme>()
         (message : Received) → Accepted P.checks kind octets keys one message
         → (m : MessageFields) × BeginsSigned octets m
         × ((when : ℤ) → Accepted P.checks kind octets keys when message ↔ IsInSpan m when) }
+{}
+
+/// What `create` of either protocol creates of a writable message is received as that message: the octets that `to_bytes` gives of
+/// it are accepted as the message's normal form, under every list of keys that holds the issuing key, at each second from 300 before
+/// the moment to 300 after it. What stands in front are the clauses `created`, `believed` and `again` of `create` and `spelled` of
+/// `to_bytes`.
+pub fn created_is_received<P: Scheme, S: Signer<P>>()
+    ensures { (message : Received) (now : ℤ) (signer : SignerSeen S.KeyId) (m : MessageFields)
+        → IsWritable message
+        → IsCreated P.checks (text_of message) now signer.id signer.before signer.after m
+        → ((key : KeyFields) → Holds signer.before.keyring signer.id key
+        → (when : ℤ) → (window now).not_before ≤ℤ when → when ≤ℤ (window now).not_after
+        → IsBelieved P.checks m key when)
+        → ((mode : Mode) (rest : List ℕ) → CanBeSpelled m
+        → BeginsAs (signed_message mode) mode (rewritten m ++ rest) m)
+        → CanBeSpelled m
+        → IsReceivable P.checks (protocol_of message) (rewritten m) message now signer }
 {}

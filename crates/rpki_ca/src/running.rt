@@ -15,7 +15,7 @@ ghost use Rattle.rpki_ca.specs.Summary.{IsMakeAnswer, Makes};
 ghost use Rattle.rpki_ca.specs.Setup.{IsSetUp};
 ghost use Rattle.rpki_ca.specs.declared.setup_message.SetupKind.{SetupKind};
 ghost use Rattle.rpki_ca.specs.Creation.{Creates, CanCreate, CanSign};
-ghost use Rattle.rpki_ca.specs.Seen.{seen, seen_signer, HasFailed, IsSteady};
+ghost use Rattle.rpki_ca.specs.Seen.{seen, seen_signer, HasFailed, IsSteady, OfInput};
 ghost use Rattle.rpki_ca.specs.Answer.{Performs, IsAnswer, IsGiven, IsShown, IsAdmitted, IsUnread};
 ghost use Rattle.rpki_ca.specs.Answer.{IsLineOf, Ends, EndsAs, ReadsAll, Delivers, Holds, Succeeds};
 ghost use Rattle.rpki_signer.specs.Limits.{Keeps};
@@ -76,6 +76,8 @@ fn perform<P: Scheme, V: Verifier<P>, S: Signer<P>>(
 fn input_for<I: Source>(alloc: Global, command: &Command, input: &mut I) -> Result<Vec<u8>, Refusal>
     ensures ok { IfOk result (λ octets. IfSome (I.rest input.old) (λ rest.
         ReadsInput command.now → (octets.items ≡ rest) × (length rest ≤ 2 ^ 26))) }
+    ensures short { IfOk result (λ octets. ReadsInput command.now
+        → length octets.items ≤ 2 ^ 26) }
     ensures steady { OnOk result (IsSteady (seen I.rest I.faults input.old input.new)) }
     ensures end { ReadsInput command.now → OnOk result (IsAtEnd (I.rest input.new)) }
     ensures err { IfErr result (λ e. IsUnread (seen I.rest I.faults input.old input.new) e) }
@@ -199,10 +201,10 @@ pub fn run<P: Scheme, I: Source, O: Sink, V: Verifier<P>, S: Signer<P>>(
     key: &S::KeyId,
 ) -> Status
     // `receive` ends with 0 only where a message was accepted, whose text is the line that was
-    // written.
+    // written. Here and below `OfInput` speaks of what the source tells, or else of some octets.
     ensures received { (kind : Kind) (when : ℤ) (keys : List KeyFields)
         → IsReceive words.now kind when keys → result.0 ≡ 0
-        → IfSome (I.rest input.old) (λ rest.
+        → OfInput (I.rest input.old) (λ rest.
         Delivers P.checks kind keys when rest (seen O.written O.faults output.old output.new)) }
 
     // And where a message is accepted it ends with 0, but for want of memory and for faults of
@@ -217,7 +219,7 @@ pub fn run<P: Scheme, I: Source, O: Sink, V: Verifier<P>, S: Signer<P>>(
     // as that message's normal form under every list of keys that holds the issuing key, at each
     // second from 300 before the moment to 300 after it.
     ensures created { (kind : Kind) (when : ℤ) → IsCreate words.now kind when → result.0 ≡ 0
-        → IfSome (I.rest input.old) (λ rest. Creates P.checks kind when rest
+        → OfInput (I.rest input.old) (λ rest. Creates P.checks kind when rest
         (seen_signer key.now (S.state signer.old) (S.state signer.new))
         (seen O.written O.faults output.old output.new)) }
 
@@ -232,7 +234,7 @@ pub fn run<P: Scheme, I: Source, O: Sink, V: Verifier<P>, S: Signer<P>>(
     // `setup` ends with 0 only where the input reads as the message that is asked for, whose
     // certificate is believed as a trust anchor's at the moment, and writes the message anew.
     ensures set_up { (kind : SetupKind) (when : ℤ) → IsSetup words.now kind when → result.0 ≡ 0
-        → IfSome (I.rest input.old) (λ rest. (text : List ℕ)
+        → OfInput (I.rest input.old) (λ rest. (text : List ℕ)
         × IsSetUp P.checks kind rest when text
         × Appends (O.written output.old) (O.written output.new) (text ++ 10 ∷ [])) }
 
@@ -264,7 +266,7 @@ pub fn run<P: Scheme, I: Source, O: Sink, V: Verifier<P>, S: Signer<P>>(
 
     // Status 0 comes only with the text that the words ask for of this input, as the line that was
     // written.
-    ensures done { result.0 ≡ 0 → IfSome (I.rest input.old) (λ rest. (text : List ℕ)
+    ensures done { result.0 ≡ 0 → OfInput (I.rest input.old) (λ rest. (text : List ℕ)
         × IsGiven P.checks words.now
         (seen_signer key.now (S.state signer.old) (S.state signer.new)) rest (Ok text)
         × Appends (O.written output.old) (O.written output.new) (text ++ 10 ∷ [])) }

@@ -14,5 +14,5 @@ returns-in-Ok-read_input-clause-ends g c = λ task is.
     inr (subst (λ (t : Task). EndsRun (λ octets. EndsTask t octets c.run_read.result.0 sink) c.run_read.result.0 source sink) (one_task c.args.words.now c.in-Ok.task task c.in-Ok.ensures.some is) (inr (record {
       steady = c.in-Ok-read_input.ensures.steady;
       whole = c.in-Ok-read_input.ensures.end;
-      ends = ends_read (λ octets. EndsTask c.in-Ok.task octets c.run_read.result.0 sink) (g.I.Source.rest c.args.input.now) c.in-Ok-read_input.octets.items c.in-Ok-read_input.octets.items refl c.in-Ok-read_input.ensures.ok c.run_read.ensures;
+      ends = ends_read (λ octets. EndsTask c.in-Ok.task octets c.run_read.result.0 sink) (g.I.Source.rest c.args.input.now) c.in-Ok-read_input.octets.items c.in-Ok-read_input.octets.items refl c.in-Ok-read_input.ensures.short c.in-Ok-read_input.ensures.ok c.run_read.ensures;
     })))

@@ -20,5 +20,5 @@ returns-in-Ok-clause-ends g c = λ task is.
     subst (λ (t : Task). EndsRun (λ octets. EndsTask g.P.Scheme.checks t (lines_of octets) c.check_read.result.0 sink) c.check_read.result.0 source sink) (one_task c.args.words.now c.in-Some.task task c.in-Some.ensures.some is) (inr (record {
       steady = c.in-Ok.ensures.steady;
       whole = c.in-Ok.ensures.end;
-      ends = ends_read (λ octets. EndsTask g.P.Scheme.checks c.in-Some.task (lines_of octets) c.check_read.result.0 sink) (g.I.Source.rest c.args.input.now) c.in-Ok.octets.items c.deref.result.now c.deref.ensures.value c.in-Ok.ensures.ok c.check_read.ensures;
+      ends = ends_read (λ octets. EndsTask g.P.Scheme.checks c.in-Some.task (lines_of octets) c.check_read.result.0 sink) (g.I.Source.rest c.args.input.now) c.in-Ok.octets.items c.deref.result.now c.deref.ensures.value c.in-Ok.ensures.short c.in-Ok.ensures.ok c.check_read.ensures;
     }))

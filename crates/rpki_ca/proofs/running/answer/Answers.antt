@@ -1,8 +1,8 @@
 use Rattle.std.proofs.Common.{Ok, refl, inl, inr}
-use Rattle.std.proofs.lemmas.Result.{IfOk-weaker}
+use Rattle.std.proofs.lemmas.Result.{err_from_is_err_and, IfOk-weaker}
 use Rattle.rpki_ca.specs.declared.command.Command.TheVariants.{Make}
 use Rattle.rpki_ca.proofs.Commands.{asks_signer, is_make, limited, reads_input, make_reads_none}
-use Rattle.rpki_ca.proofs.Answering.{if_some, if_err, always_some, at_end, shown, admitted, usage_of_none, usage_shown, made_by_words}
+use Rattle.rpki_ca.proofs.Answering.{if_err, always_some, at_end, shown, admitted, unread_admitted, usage_of_none, usage_shown, made_by_words, IsRead}
 use Rattle.rpki_ca.proofs.running.answer.Goals as goal
 
 pub returns-in_default-clause-err : goal.returns-in_default-clause-err
@@ -14,7 +14,7 @@ returns-in_default-clause-usage g c = λ u. (rw c.in_default.is at c.in_ok-comma
 pub returns-clause-ok : goal.returns-clause-ok
 returns-clause-ok g c =
     let is = rw c.in-Some.is at c.in_ok-command.ensures.command in
-    let within = if_some (g.I.Source.rest c.args.input.now) _ _ (λ input p reads. ((p reads).0, (p reads).1)) c.in_ok-octets.ensures.ok in
+    let within : IsRead c.in-Some.command c.in_ok-octets.octets.items (g.I.Source.rest c.args.input.now) = (c.in_ok-octets.ensures.short, c.in_ok-octets.ensures.ok) in
     IfOk-weaker c.perform.result _ _ (λ line t. (
       t.0,
       shown g.P.Scheme.checks c.args.words.now _ _ c.in_ok-octets.octets.items c.in-Some.command (Ok t.0) is within c.in_ok-octets.ensures.steady t.1,
@@ -24,8 +24,13 @@ returns-clause-ok g c =
 pub returns-clause-err : goal.returns-clause-err
 returns-clause-err g c =
     let is = rw c.in-Some.is at c.in_ok-command.ensures.command in
-    let within = if_some (g.I.Source.rest c.args.input.now) _ _ (λ input p reads. ((p reads).0, (p reads).1)) c.in_ok-octets.ensures.ok in
+    let within : IsRead c.in-Some.command c.in_ok-octets.octets.items (g.I.Source.rest c.args.input.now) = (c.in_ok-octets.ensures.short, c.in_ok-octets.ensures.ok) in
     if_err c.perform.result _ _ (λ e said. admitted g.P.Scheme.checks c.args.words.now _ _ c.in_ok-octets.octets.items c.in-Some.command e is within c.in_ok-octets.ensures.steady said) c.perform.ensures.err
+
+pub returns-in_err-octets-clause-err : goal.returns-in_err-octets-clause-err
+returns-in_err-octets-clause-err g c =
+    let p = err_from_is_err_and c.from_residual-in_err-octets.result c.from_residual-in_err-octets.ensures.1 in
+    rw (p.1, p.2) (unread_admitted g.P.Scheme.checks c.args.words.now _ _ c.in-Some.command c.in_err-octets.field-0.0 (rw c.in-Some.is at c.in_ok-command.ensures.command) c.in_err-octets.ensures.reads c.in_err-octets.ensures.err)
 
 pub returns-clause-usage : goal.returns-clause-usage
 returns-clause-usage g c = usage_of_none g.P.Scheme.checks c.args.words.now c.in-Some.command c.in_ok-octets.octets.items _ c.perform.result c.perform.ensures.err

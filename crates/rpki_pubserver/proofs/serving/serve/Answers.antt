@@ -30,7 +30,7 @@ returns-in-Ok-clause-ends g c = λ when base publisher are.
     ends_by g.P.Scheme.checks signer c.serve_lines.result.0 source sink c.args.words.now terms.when when terms.base base terms.publisher publisher (rw c.in-Ok-Some.field-0-is at c.in-Ok-Some.ensures.some) are (inr (record {
       steady = c.in-Ok.ensures.steady;
       whole = c.in-Ok.ensures.end;
-      ends = ends_read (λ octets. EndsServed g.P.Scheme.checks terms.when signer (new_server terms.base terms.publisher) (lines_of octets) c.serve_lines.result.0 sink) (g.I.Source.rest c.args.input.now) c.in-Ok.octets.items c.deref.result.now c.deref.ensures.value c.in-Ok.ensures.ok ends;
+      ends = ends_read (λ octets. EndsServed g.P.Scheme.checks terms.when signer (new_server terms.base terms.publisher) (lines_of octets) c.serve_lines.result.0 sink) (g.I.Source.rest c.args.input.now) c.in-Ok.octets.items c.deref.result.now c.deref.ensures.value c.in-Ok.ensures.short c.in-Ok.ensures.ok ends;
     }))
 
 pub returns-clause-usage : goal.returns-clause-usage

@@ -16,5 +16,5 @@ returns-in-Ok-clause-ends g c = λ when are.
     subst (λ (w : ℤ). EndsRun (λ octets. EndsInput g.P.Scheme.checks w octets c.run_read.result.0 sink) c.run_read.result.0 source sink) (one_moment_at c.args.words.now 0 c.in-Some.when when c.in-Some.ensures.some.moment are.moment) (inr (record {
       steady = c.in-Ok.ensures.steady;
       whole = c.in-Ok.ensures.end;
-      ends = ends_read (λ octets. EndsInput g.P.Scheme.checks c.in-Some.when octets c.run_read.result.0 sink) (g.I.Source.rest c.args.input.now) c.in-Ok.octets.items c.deref.result.now c.deref.ensures.value c.in-Ok.ensures.ok c.run_read.ensures;
+      ends = ends_read (λ octets. EndsInput g.P.Scheme.checks c.in-Some.when octets c.run_read.result.0 sink) (g.I.Source.rest c.args.input.now) c.in-Ok.octets.items c.deref.result.now c.deref.ensures.value c.in-Ok.ensures.short c.in-Ok.ensures.ok c.run_read.ensures;
     }))
