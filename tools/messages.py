@@ -411,12 +411,22 @@ def segmented(octets):
     return indefinite(0x24, octet_string(parts[0]) + nested)
 
 
+def outer_two(tag, contents):
+    """Indefinite, but for the signed data, which begin with their version."""
+    return (value if contents[:1] == b"\2" else indefinite)(tag, contents)
+
+
+# How a message is spelled with its two outer lengths indefinite and its content in three segments.
+OUTER_TWO = dict(outer=outer_two, content_string=segmented)
+
+
 def ber_cases():
     flat = lambda octets: indefinite(0x24, b"".join(octet_string(octets[i:i + 40]) for i in range(0, len(octets), 40)))
     yield "indefinite-envelope", message(outer=indefinite)
     yield "segmented-content", message(content_string=flat)
     yield "nested-segments-in-indefinite-envelope", message(outer=indefinite, content_string=segmented)
     yield "indefinite-attributes", message(attributes_tag=indefinite)
+    yield "two-outer-lengths-indefinite-and-nested-segments", created(QUERY, NOW, **OUTER_TWO)
     yield "overlong-length-in-the-certificate", message(tbs_length=overlong)
     yield "overlong-length-of-the-envelope", message(outer=lambda tag, octets: value(tag, octets, overlong))
     yield "two-crls-in-indefinite-envelope", two_crls({}, {}, outer=indefinite, content_string=segmented)

@@ -37,7 +37,8 @@ import base64
 import hashlib
 
 from messages import (
-    BREAKS, CONTENT_A, FIRST, LAST, NOW, QUERY, QUERY_MESSAGE, broken, created, indefinite, message, overlong, printable, segmented)
+    BREAKS, CONTENT_A, FIRST, LAST, NOW, OUTER_TWO, QUERY, QUERY_MESSAGE, broken, created, indefinite, message, overlong, printable,
+    segmented)
 from stored import DONE, SIZES, step, terms, write
 
 REPLY = b'<msg xmlns="http://www.hactrn.net/uris/rpki/publication-spec/" version="4" type="reply"><success/></msg>'
@@ -356,6 +357,12 @@ def rewritten_lines():
         yield line(f"rewritten-{label}", message(**held, **spelled), step("rewritten", again), step("decoded", QUERY, QUERY))
         yield line(f"rewritten-again-{label}", again + b"\0", step("rewritten", again))
         yield received(f"received-rewritten-{label}", again, QUERY)
+    again, behind = created(QUERY, NOW), b"\xff\xff"
+    loose_query = created(QUERY, NOW, **OUTER_TWO)
+    for label, left in ("with-two-outer-lengths", b""), ("with-two-outer-lengths-and-octets-behind", behind):
+        yield line(f"rewritten-{label}", loose_query + left, step("rewritten", again), step("decoded", QUERY, QUERY))
+        yield line(f"rewritten-again-{label}", again + left, step("rewritten", again), step("decoded", QUERY, QUERY))
+        yield received(f"received-rewritten-{label}", again + left, QUERY)
     yield line("rewritten-none", QUERY, step("rewritten", *NO_CMS))
 
 

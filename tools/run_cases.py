@@ -48,7 +48,8 @@ import sys
 
 from certificates import certificate, own_anchor
 from messages import (
-    CONTENT_A, NOW, NULL, QUERY, RSA, bits, built, created, indefinite, key_bits, message, own_crl, overlong, segmented, seq, value)
+    CONTENT_A, NOW, NULL, OUTER_TWO, QUERY, RSA, bits, built, created, indefinite, key_bits, message, own_crl, overlong, segmented, seq,
+    value)
 from publication import digest, element, mixed, root, shaped
 from requests import options_of, request
 from resource_certificates import certificate_of
@@ -212,8 +213,12 @@ def input_rows():
     yield "without-line-feed", receive(), INPUT.rstrip(b"\n"), RECEIVED
     yield "with-two-line-feeds", receive(), INPUT + b"\n", HEX
     yield "with-loose-lengths", receive(), line(with_loose_lengths(octets)), RECEIVED
+    yield "with-two-outer-lengths-indefinite", receive(), line(created(QUERY, NOW, **OUTER_TWO)), RECEIVED
     yield "with-another-content", receive(), CONTENT_INPUT, XML_ERROR
     yield "with-an-overlong-length-in-the-crl", receive(), line(with_crls(octets, in_ber)), CMS_DECODE
+    for label, given, answer in (("no-input", b"", CMS_DECODE), ("another-value", b"3003020100", CMS_DECODE),
+                                 ("half-a-value", b"30030201", CMS_DECODE), ("half-an-octet", b"3", HEX)):
+        yield f"receive-{label}", receive(), given, answer
 
 
 def crl_rows():
