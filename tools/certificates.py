@@ -457,18 +457,19 @@ AUTHORITY = bytes.fromhex(
     "2b7972377401db0002ca9bcb")
 
 
-def stored(label, octets, signed, signature, **options):
-    """A certificate whose fields are stated: the places of its signed octets, and how many octets its signature has."""
+def stored(label, octets, signed, signature, *more, **options):
+    """A certificate whose fields are stated: the places of its signed octets, and how many octets its signature has; more steps."""
     shown = *tbs_fields(options_of(**options)), octets[slice(*signed)], octets[-signature:], octets
     return line(
-        label, "both", octets, step("whole", *shown), step("decoded", *shown), step("certificate", *shown),
+        label, "both", octets, step("whole", *shown), step("decoded", *shown), *more, step("certificate", *shown),
         step("capture", MALFORMED))
 
 
 def elsewhere_cases():
     yield stored(
-        "of-a-message", OF_A_MESSAGE, (3, 6 + 0x82), 1, issuer=seq(), validity=(1699999700, 1700000300), subject=seq(),
-        key=("rsa", key_bits(1, 0)), subject_key=bytes(20))
+        "of-a-message", OF_A_MESSAGE, (3, 6 + 0x82), 1,
+        *[step(call, *failing("inspection", 1), argument=asked()) for call in ("anchor", "end_entity")], issuer=seq(),
+        validity=(1699999700, 1700000300), subject=seq(), key=("rsa", key_bits(1, 0)), subject_key=bytes(20))
     plain = seq(relative(attribute(oid("2.5.4.3"), value(12, b"A"))))
     key_at = OPENSSL.index(seq(RSA, NULL)) + len(seq(RSA, NULL)) + 4
     yield stored(
