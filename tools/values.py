@@ -169,7 +169,11 @@ def level_cases():
         step("enter", DONE, argument=b"\x10"), step("depth", 1), step("end", False), step("leave", MALFORMED),
         step("integer_if", DONE, argument=b"\0"), step("end", True),
         step("next", NOTHING), step("leave", DONE), step("depth", 0), step("capture", NULL), step("end", True))
+    yield case(
+        "a-level-of-one-value", "ber", octets[:-len(NULL)], step("enter", DONE, argument=b"\x10"),
+        step("next", *leaf("02", b"\0").item()), step("leave", DONE), step("end", True))
     yield from refused("an-indefinite-level-in-der", "der", octets, "enter,10")
+    yield from refused("an-indefinite-level-of-one-value-in-der", "der", octets[:-len(NULL)], "enter,10")
     yield case(
         "what-is-left", "both", seq(oid("1.2"), integer(7)) + octet_string(b""), step("enter", DONE, argument=b"\x10"),
         step("oid", b"\x2a"), step("pass", DONE), step("octets", b"", argument=b"\4"), step("end", True))
@@ -221,6 +225,8 @@ def string_cases():
             f"string-{name}-behind", "ber", octets + b"\4", step("octet_string", MALFORMED),
             step("octets", b"ab", argument=b"\4"),
             end(b"\4"))
+    yield case("string-overlong-of-one", "ber", bytes.fromhex("0482000161"), step("octet_string", b"a", 1, b"a"),
+        step("octets", b"a", argument=b"\4"), end())
     yield case("string", "both", octet_string(b"ab"), step("octet_string", b"ab", 2, b"ab"),
         step("octets", b"ab", argument=b"\4"), end())
     yield case("no-string-length", "both", octet_string(b""), step("octet_string", b"", 0, b""),
