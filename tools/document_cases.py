@@ -200,6 +200,7 @@ LAWFUL = [
     b"<a> \t\r\n</a>",
     b"<a>~</a>",
     b"<a b=\"1&amp;2\" c=\"&lt;&apos;&quot;&gt;\" e=\"\"><f/><g>x &lt; y &gt; z &amp; \"'</g></a>",
+    b"<a b=\"1&amp;2\"> x &lt; y </a>",
 ]
 
 UNLAWFUL = [
@@ -282,6 +283,8 @@ UNLAWFUL = [
     b"<a><b/>x</a>",
     b"<a><b/>&amp;</a>",
     b"<a>x<!-- c --><b/></a>",
+    # An attribute twice, in the other quotes.
+    b'<a b="1" b="2"/>',
 ]
 
 
@@ -306,6 +309,7 @@ ASKED = [
         step("enter", "d"), step("text", "x < y"), step("textless", False), step("childless", True), step("empty", False)),
     ("children-passed", A_C_D, step("pass", "c"), step("pass", "d"), step("none_left", True), step("pass", NOTHING),
         step("enter", MALFORMED)),
+    ("attribute-and-text", b"<a b=\"1&amp;2\"> x &lt; y </a>", step("attributes", "b", "1&2"), step("text", "x < y")),
     ("required", ASKED_FOR, step("required", " 1 ", argument="b"), step("required", MALFORMED, argument="d"),
         step("required", MALFORMED, argument="c")),
     ("optional", ASKED_FOR, step("optional", " 1 ", argument="b"), step("optional", NOTHING, argument="d"),
