@@ -184,6 +184,8 @@ def base64_rows():
         yield line(f"base64-to-json-{number}", "base64_to_json", json.dumps(text), octets)
         yield line(f"base64-read-{number}", "base64", octets, text)
         yield line(f"base64-spaced-{number}", "base64", octets, "\n".join(re.findall(".{1,64}", text)) + "\r\n")
+    for size, above in (0, 0), (10, 2), (16, 2), (256, 2), (1024, 2), (1025, 1), (12322, 2):
+        yield line(f"base64-size-of-{size}-octets", "base64_size", str(size + above), b"\x0c" * size)
     texts = BASE64 + [chr(octet) + "Q==" for octet in range(256)] + ["YQ=" + chr(octet) for octet in range(128)]
     texts += ["A" * size for size in SIZES] + [" " * size for size in SIZES]
     for number, text in enumerate(texts):
