@@ -51,6 +51,7 @@ import base64
 import hashlib
 import itertools
 
+import certificates
 from messages import (
     BREAKS, CONTENT_A, FIRST, LAST, NOW, NULL, bits, created, indefinite, integer, key_bits, key_identifier, message, name, overlong,
     printable, segmented, seq, value)
@@ -66,6 +67,7 @@ UNTIL, MOMENT = b"2023-11-14T22:18:20Z", 1700000300
 HERE, THERE = b"rsync://localhost/repo/ca.cer", b"rsync://localhost/repo/ta.cer"
 ISSUER, FIRST_CERT, SECOND_CERT = certificate_of(key=0, subject=name(1, 0)), certificate_of(), certificate_of(key=2)
 BARE_CERT = certificate_of(issuer=seq(), subject=seq(), key=("rsa", b""), spelled_bits=bits(b""))
+ANCHOR = certificates.certificate(certificates.own_anchor(NOW, NOW + 60))
 REQUEST, OTHER_REQUEST = request(options_of()), request(options_of(key=1))
 ROUTER_REQUEST = request(options_of(True))
 KEY = key_identifier(1, 1)
@@ -518,6 +520,9 @@ def answer_lines():
             ([on_a_curve], {1: None}), ([on_a_curve, first], {1: first}))):
         yield line(f"issued-of-{number}", root(b"list_response", class_of(*inside, issuer()), class_of(class_name=b"1")), *[
             step("issued", NOTHING if answer is None else answered(answer), argument=str(key_)) for key_, answer in answers.items()])
+    text, answer = (root(kind, class_of(certificate(ANCHOR), issuer(ANCHOR))) for kind in (b"list_response", b"issue_response"))
+    yield line("issued-of-an-anchor", text, step("text", text), step("equal", True, True, argument=text),
+        step("issued", answer, argument="0"), step("issued", NOTHING, argument="9"))
     for number, inside in enumerate((key(), key(bytes(20), b"a b"))):
         yield line(f"granted-{number}", root(b"revoke", inside), step("granted", root(b"revoke_response", inside)))
 
@@ -547,6 +552,8 @@ def made_lines():
             ("revoke", KEY, root(b"revoke", key()), None), ("revoke_response", KEY, root(b"revoke_response", key()), None),
             ("error", b"a < b", root(b"error_response", status(b"1204", b"a &lt; b")), None)):
         yield line(f"made-{label}", octets, step(f"made_{label}", True, text, argument=argument))
+    answer = root(b"list_response", class_of(certificate(ANCHOR, ipv4=b"10.0.0.0/9"), issuer(ANCHOR)))
+    yield line("made-list_response-of-an-anchor", ANCHOR, step("made_list_response", True, answer, argument=ANCHOR))
     yield line("made-error-without-words", b"\xff", step("made_error", True, root(b"error_response", status(b"18446744073709551615"))))
     yield line("made-error-with-spaces", b" a ", step("made_error", False, root(b"error_response", status(b"1204", b" a "))))
     yield line("made-error-in-letters", "é".encode(), step("made_error", *NO_XML, root(b"error_response", status(b"1204", "é".encode()))))
