@@ -20,6 +20,8 @@ use Rattle.rpki_signer.proofs.Keyrings.{one_key}
 use Rattle.rpki_sigmsg.specs.declared.create_error.CreateError.{CreateError}
 use Rattle.rpki_sigmsg.specs.declared.create_error.CreateError.TheVariants as create
 use Rattle.rpki_sigmsg.specs.Checks.{IsBelieved}
+use Rattle.rpki_sigmsg.specs.FirstRefusals.{IsFirstRefusal, StopsCreating}
+use Rattle.rpki_signer.specs.declared.errors.MakeError.TheVariants as make
 use Rattle.rpki_sigmsg.specs.Making.{window, HasWindow, IsCreated, CreateFails}
 use Rattle.rpki_sigmsg.specs.Message.{MessageFields, signed_message}
 use Rattle.rpki_sigmsg.specs.Spelling.{rewritten, CanBeSpelled}
@@ -34,13 +36,14 @@ use Rattle.rpki_ca.specs.declared.receiving.Received.TheVariants as received
 use Rattle.rpki_ca.specs.declared.refusals.Refusal.{Refusal}
 use Rattle.rpki_ca.specs.declared.refusals.Refusal.TheVariants as refusals
 use Rattle.rpki_ca.specs.Acceptance.{ReadsAs, IsWritable, protocol_of, text_of, normal_form}
-use Rattle.rpki_ca.specs.Creation.{RefusesInput, IsCreateRefusal, IsReceivable, AreCreated, IsSigned, IsSignersAnswer, IsCreateAnswer, Creates, CanCreate, CanSign, refusal_of_create}
+use Rattle.rpki_ca.specs.Creation.{RefusesInput, IsCreateRefusal, IsReceivable, AreCreated, IsFirstToRefuse, IsSigned, IsSignersAnswer, IsCreateAnswer, Creates, CanCreate, CanSign, refusal_of_create}
 use Rattle.rpki_ca.specs.Answer.{AnswersSigned, IsFromSigner, IsGiven}
 use Rattle.rpki_ca.specs.Command.{IsCreate}
 use Rattle.rpki_ca.specs.Seen.{Seen, SignerSeen}
 use Rattle.rpki_ca.proofs.Commands.{is_create, one_command}
 use Rattle.rpki_ca.proofs.Laws.{CreateView, create_view, one_reading}
 use Rattle.rpki_ca.proofs.Reasons.{Reason, reason, no_reason}
+use Rattle.rpki_ca.proofs.Retyped.{creating}
 
 -- ---- what is made of a message
 
@@ -131,29 +134,47 @@ signer_refused scheme kind message when signer signing.IncompatibleKey f other =
 signer_refused scheme kind message when signer (signing.Signer x) f other = f
 signer_refused scheme kind message when signer signing.OutOfMemory f other = absurd (other refl)
 
+-- the first refusal, told without the signer's own error
+first_of : {I E : Type 0} (scheme : Relation) (text : List ℕ) (when : ℤ) (signer : SignerSeen I) (s : SigningError E) → StopsCreating scheme text when signer.id signer.before signer.after (make.Signing s)
+    → IsFirstToRefuse scheme text when signer (refusal_of_create (create.Signing s))
+first_of scheme text when signer signing.KeyNotFound f = creating (λ x. tt) scheme text when signer.id signer.before signer.after _ f
+first_of scheme text when signer signing.IncompatibleKey f = creating (λ x. tt) scheme text when signer.id signer.before signer.after _ f
+first_of scheme text when signer (signing.Signer x) f = creating (λ y. tt) scheme text when signer.id signer.before signer.after _ f
+first_of scheme text when signer signing.OutOfMemory f = tt
+
+first_too_long : {I E : Type 0} (scheme : Relation) (text : List ℕ) (when : ℤ) (signer : SignerSeen I) → length text ≤ 2 ^ 31 → IsFirstRefusal {E = E} scheme text when signer.id signer.before signer.after create.TooLong
+    → IsFirstToRefuse scheme text when signer refusals.TooLong
+first_too_long scheme text when signer short (inl long) = absurd (never (length text) long short)
+  where
+    never : (n : ℕ) → 2 ^ 31 < n → n ≤ 2 ^ 31 → ⊥
+    never n a b = omega (arith, a, b)
+first_too_long scheme text when signer short (inr f) = creating (λ x. tt) scheme text when signer.id signer.before signer.after _ f
+
 abbrev err_as : {T E : Type 0} → CreateError E → Result T (CreateError E)
 err_as e = Err e
 
 pub refused : {T I E : Type 0} (scheme : Relation) (kind : Kind) (input : List ℕ) (message : Received) (when : ℤ) (signer : SignerSeen I) (e : CreateError E) → ReadsAs kind input message → TellsText message when (err_as {T = T} e)
-    → CreateFails (text_of message) when signer.id signer.before signer.after e → refusal_of_create e ≢ refusals.OutOfMemory → IsCreateAnswer scheme kind input when signer (Err (refusal_of_create e))
-refused scheme kind input message when signer create.Moment r t f other = inl (record { message = message; reads = r; none = f })
-refused scheme kind input message when signer create.TooLong r t (w, inl long) other = inl (record { message = message; reads = r; window_is = w; long = long })
-refused scheme kind input message when signer create.TooLong r t (w, inr short) other = inr (record { message = message; reads = r; window_is = w; fits = short.0; signed = short.1 })
-refused {T = T} {I = I} {E = E} scheme kind input message when signer create.KeyReused r t f other =
-    inr (record { message = message; reads = r; window_is = f.0; fits = fits message when (err_as {T = T} create.KeyReused) t f.0 (λ k. long k) (λ k. memory k); signed = f.1 })
+    → CreateFails (text_of message) when signer.id signer.before signer.after e → IsFirstRefusal scheme (text_of message) when signer.id signer.before signer.after e → refusal_of_create e ≢ refusals.OutOfMemory → IsCreateAnswer scheme kind input when signer (Err (refusal_of_create e))
+refused scheme kind input message when signer create.Moment r t f first other = inl (record { message = message; reads = r; none = f })
+refused scheme kind input message when signer create.TooLong r t (w, inl long) first other = inl (record { message = message; reads = r; window_is = w; long = long })
+refused scheme kind input message when signer create.TooLong r t (w, inr short) first other =
+    inr (record { message = message; reads = r; window_is = w; fits = short.0; signed = short.1; first = first_too_long scheme (text_of message) when signer short.0 first })
+refused {T = T} {I = I} {E = E} scheme kind input message when signer create.KeyReused r t f first other =
+    inr (record { message = message; reads = r; window_is = f.0; fits = fits message when (err_as {T = T} create.KeyReused) t f.0 (λ k. long k) (λ k. memory k); signed = f.1; first = first })
   where
     long : err_as {T = T} {E = E} create.KeyReused ≡ Err create.TooLong → ⊥
     long k = cc
 
     memory : err_as {T = T} {E = E} create.KeyReused ≡ Err create.OutOfMemory → ⊥
     memory k = cc
-refused {T = T} {I = I} {E = E} scheme kind input message when signer (create.Signing error) r t f other =
+refused {T = T} {I = I} {E = E} scheme kind input message when signer (create.Signing error) r t f first other =
     inr (record {
       message = message;
       reads = r;
       window_is = f.0;
       fits = fits message when (err_as {T = T} (create.Signing error)) t f.0 (λ k. long k) (λ k. memory k);
       signed = signer_refused scheme kind message when signer error f.2 other;
+      first = first_of scheme (text_of message) when signer error first;
     })
   where
     long : err_as {T = T} {E = E} (create.Signing error) ≡ Err create.TooLong → ⊥
@@ -161,7 +182,7 @@ refused {T = T} {I = I} {E = E} scheme kind input message when signer (create.Si
 
     memory : err_as {T = T} {E = E} (create.Signing error) ≡ Err create.OutOfMemory → ⊥
     memory k = cc
-refused scheme kind input message when signer create.OutOfMemory r t f other = absurd (other refl)
+refused scheme kind input message when signer create.OutOfMemory r t f first other = absurd (other refl)
 
 -- ---- the line
 
@@ -169,7 +190,7 @@ pub line_created : {I : Type 0} (scheme : Relation) (kind : Kind) (input : List 
     → AreCreated scheme (protocol_of message) message when signer octets → IsCreateAnswer scheme kind input when signer (Ok (encode_lower octets))
 line_created scheme kind input message when signer octets r l c =
     let here = subst (λ (k : Kind). AreCreated scheme k message when signer octets) (sym (of_protocol kind input message r)) c in
-    inr (record { message = message; reads = r; window_is = c.created.window_is; fits = l; signed = record { octets = octets; created = here; written = refl } })
+    inr (record { message = message; reads = r; window_is = c.created.window_is; fits = l; signed = record { octets = octets; created = here; written = refl }; first = tt })
 
 -- ---- status 0
 

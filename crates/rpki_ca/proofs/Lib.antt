@@ -2,6 +2,7 @@ pub mod Ending
 pub mod Spelled
 pub mod Commands
 pub mod Reasons
+pub mod Retyped
 pub mod Accepting
 pub mod Answering
 pub mod Laws

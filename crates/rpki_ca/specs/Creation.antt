@@ -1,5 +1,5 @@
 -- What is answered where a message is to be created, before the signer is asked and after (RFC 6492, 3.1.1; RFC 8181, 2).
-use Rattle.std.specs.Prelude.{◌≡◌, ◌≢◌, ◌≤ℤ◌, ◌<◌, ◌≤◌, ◌^◌, ◌⊎◌, ℕ, ℤ, List, [], ◌∷◌, ◌++◌, length, Some, Result, Ok, Err}
+use Rattle.std.specs.Prelude.{⊤, IfErr, ◌≡◌, ◌≢◌, ◌≤ℤ◌, ◌<◌, ◌≤◌, ◌^◌, ◌⊎◌, ℕ, ℤ, List, [], ◌∷◌, ◌++◌, length, Some, Result, Ok, Err}
 use Rattle.std.specs.Io.KnownBytes.{Appends}
 use Rattle.hex.specs.Hex.{encode_lower}
 use Rattle.rpki_common.specs.Causes.{Rose}
@@ -14,7 +14,9 @@ use Rattle.rpki_signer.specs.declared.errors.KeyError.TheVariants as keys
 use Rattle.rpki_signer.specs.declared.errors.SigningError.TheVariants as signing
 use Rattle.rpki_sigmsg.specs.declared.create_error.CreateError.{CreateError}
 use Rattle.rpki_sigmsg.specs.declared.create_error.CreateError.TheVariants as create
-use Rattle.rpki_sigmsg.specs.Making.{window, HasWindow, IsCreated, IsReused}
+use Rattle.rpki_signer.specs.declared.errors.MakeError.TheVariants as make
+use Rattle.rpki_sigmsg.specs.FirstRefusals.{HasOneKey, StopsCreating}
+use Rattle.rpki_sigmsg.specs.Making.{window, HasWindow, IsCreated, IsReused, made_covered}
 use Rattle.rpki_sigmsg.specs.Message.{MessageFields}
 use Rattle.rpki_sigmsg.specs.Spelling.{rewritten}
 use Rattle.rpki_ca.specs.declared.receiving.Kind.{Kind}
@@ -99,6 +101,25 @@ IsSigned scheme kind message when signer (Err refusals.Signer) =
     Rose signer.before.faults signer.after.faults
 IsSigned scheme kind message when signer other = ⊥
 
+-- The signer is asked in turn for the signature of the attributes, for the issuing key, for the CRL's
+-- signature and for the certificate, and this is its first refusal: all that it gave before has at most
+-- 2^16 octets. Which error of its own it had is left out.
+abbrev pub IsFirstToRefuse : {Id : Type 0} → Relation → List ℕ → ℤ → SignerSeen Id → Refusal → Type 0
+IsFirstToRefuse scheme text when signer refusals.TooLong =
+    StopsCreating {E = Unit {0}} scheme text when signer.id signer.before signer.after make.TooLong
+IsFirstToRefuse scheme text when signer refusals.KeyReused =
+    HasOneKey scheme (made_covered text when) signer.id signer.before signer.after
+IsFirstToRefuse scheme text when signer refusals.KeyNotFound =
+    StopsCreating {E = Unit {0}} scheme text when signer.id signer.before signer.after
+    (make.Signing signing.KeyNotFound)
+IsFirstToRefuse scheme text when signer refusals.IncompatibleKey =
+    StopsCreating {E = Unit {0}} scheme text when signer.id signer.before signer.after
+    (make.Signing signing.IncompatibleKey)
+IsFirstToRefuse scheme text when signer refusals.Signer =
+    StopsCreating {E = Unit {0}} scheme text when signer.id signer.before signer.after
+    (make.Signing (signing.Signer tt))
+IsFirstToRefuse scheme text when signer other = ⊤
+
 -- the input reads as a message whose text has at most 2^31 octets, and the moment has a window: so
 -- the signer was asked, and this came of it
 pub record IsSignersAnswer {Id : Type 0} (scheme : Relation) (kind : Kind) (input : List ℕ)
@@ -108,6 +129,7 @@ pub record IsSignersAnswer {Id : Type 0} (scheme : Relation) (kind : Kind) (inpu
   pub window_is : HasWindow when
   pub fits : length (text_of message) ≤ 2 ^ 31
   pub signed : IsSigned scheme kind message when signer answer
+  pub first : IfErr answer (IsFirstToRefuse scheme (text_of message) when signer)
 
 -- what is answered where a message is to be created
 abbrev pub IsCreateAnswer : {Id : Type 0} → Relation → Kind → List ℕ → ℤ → SignerSeen Id

@@ -3,6 +3,7 @@
 ghost use Rattle.std.specs.Prelude.{◌≡◌, ◌≢◌, ◌⊎◌, ◌<◌, ◌^◌, length, Err};
 ghost use Rattle.std.specs.Prelude.{IfOk, IfErr, IsErrOf, MatchResult};
 ghost use Rattle.rpki_signer.specs.Limits.{Keeps};
+ghost use Rattle.rpki_sigmsg.specs.FirstRefusals.{IsFirstRefusal};
 ghost use Rattle.rpki_sigmsg.specs.Making.{HasWindow, CreateFails};
 ghost use Rattle.rpki_sigmsg.specs.declared.create_error.CreateError.TheVariants as create;
 ghost use Rattle.rpki_ca.specs.Acceptance.{ReadsAs, IsWritable, protocol_of, text_of, refusal_of};
@@ -95,6 +96,8 @@ pub(crate) fn signed_octets<P: Scheme, S: Signer<P>>(
         (S.state signer.old) (S.state signer.new)) }
     ensures too_long { HasWindow when → 2 ^ 31 < length (text_of message)
         → IsErrOf result create.TooLong ⊎ IsErrOf result create.OutOfMemory }
+    ensures first_refusal { IfErr result (IsFirstRefusal P.checks (text_of message) when key.now
+        (S.state signer.old) (S.state signer.new)) }
     ensures keeps { Keeps (S.state signer.old) (S.state signer.new) }
 {
     let text = text_of(alloc, message)?;

@@ -258,7 +258,8 @@ pub fn run<P: Scheme, I: Source, O: Sink, V: Verifier<P>, S: Signer<P>>(
         (seen O.written O.faults output.old output.new)) }
 
     // Every status comes with an admitted answer: one that words and input show, one that comes from
-    // the signer by its cause, that the source failed, or want of memory.
+    // the signer by its cause, of `create` by its first refusal, that the source failed, or want of
+    // memory.
     ensures answered { (answer : Result (List ℕ) Refusal)
         × IsAdmitted P.checks words.now (seen I.rest I.faults input.old input.new)
         (seen_signer key.now (S.state signer.old) (S.state signer.new)) answer

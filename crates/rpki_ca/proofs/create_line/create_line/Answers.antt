@@ -13,7 +13,7 @@ returns-in_err-message-clause-err g c =
 pub returns-in_err-octets-clause-err : goal.returns-in_err-octets-clause-err
 returns-in_err-octets-clause-err g c =
     let p = err_from_is_err_and c.from_residual-in_err-octets.result c.from_residual-in_err-octets.ensures.1 in
-    rw (p.1, p.2) (λ other. refused g.P.Scheme.checks c.args.kind c.args.input.items c.in_ok-message.message c.args.when _ c.in_err-octets.field-0.0 c.in_ok-message.ensures.ok c.in_err-octets.ensures.too_long c.in_err-octets.ensures.created other)
+    rw (p.1, p.2) (λ other. refused g.P.Scheme.checks c.args.kind c.args.input.items c.in_ok-message.message c.args.when _ c.in_err-octets.field-0.0 c.in_ok-message.ensures.ok c.in_err-octets.ensures.too_long c.in_err-octets.ensures.created c.in_err-octets.ensures.first_refusal other)
 
 pub returns-clause-ok : goal.returns-clause-ok
 returns-clause-ok g c =
