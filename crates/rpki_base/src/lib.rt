@@ -33,7 +33,7 @@ mod validity;
 
 pub use algorithm::{PublicKeyFormat, SigningAlgorithm};
 pub use bgpsec_algorithm::BgpsecSignatureAlgorithm;
-pub use bits::write_constructed;
+pub use bits::{can_be_spelled, write_constructed, write_primitive};
 pub use errors::{SignatureVerificationError, ToyFault, VerificationError};
 pub use extension::{
     Extension, FindsExtensions, take_extension_counted, take_extensions_counted,

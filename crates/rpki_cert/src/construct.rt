@@ -16,7 +16,9 @@ use crate::object_identifiers::{
     CA_REPOSITORY, EXTENSION_REQUEST, KEY_USAGE, RPKI_MANIFEST, RPKI_NOTIFY, SUBJECT_INFO_ACCESS,
 };
 use bytes::Bytes;
-use rpki_base::{BASIC_CONSTRAINTS, Name, PublicKey, Scheme, SignedData, write_constructed};
+use rpki_base::{
+    BASIC_CONSTRAINTS, Name, PublicKey, Scheme, SignedData, write_constructed, write_primitive,
+};
 use rpki_der::{Captured, OutOfMemory, Tag, Writer};
 use rpki_signer::{MakeError, Signer, SigningError, key_within_limit, sign_within_limit};
 use rpki_text::uri::{self, Https, Rsync};
@@ -103,16 +105,6 @@ fn slashed(alloc: Global, uri: &Rsync) -> Result<Rsync, uri::Error>
     } else {
         uri.join(alloc, b"/")
     }
-}
-
-// Appends a primitive value. What is longer than length octets can say is refused as want of memory.
-fn write_primitive(tag: Tag, content: &[u8], out: &mut Writer) -> Result<(), OutOfMemory>
-    ensures ok { OnOk result (out.new ≡ out.old ++ der_primitive tag content.now) }
-{
-    if content.len() >= 1 << 32 {
-        return Err(OutOfMemory);
-    }
-    out.primitive(tag, content)
 }
 
 // Appends an extension, whose flag is written also where it is false.

@@ -13,7 +13,9 @@ use crate::message::SignedMessage;
 use crate::object_identifiers::{CT_XML, SIGNED_DATA};
 use crate::revoked::{CrlEntry, RevokedCertificates};
 use crate::tbs_crl::SignedMessageTbsCrl;
-use rpki_base::{CRL_NUMBER, Serial, SignatureAlgorithm, write_constructed};
+use rpki_base::{
+    CRL_NUMBER, Serial, SignatureAlgorithm, can_be_spelled, write_constructed, write_primitive,
+};
 use rpki_der::{Captured, OutOfMemory, Tag, Writer};
 use rpki_idcert::{write_authority_key, write_extension};
 use std::alloc::Global;
@@ -68,7 +70,8 @@ fn write_crl_number(number: Option<Serial>, out: &mut Writer) -> Result<(), OutO
     write_short_extension(&CRL_NUMBER, &value, out)
 }
 
-// Appends an extension that isn't critical, whose value another writer has; a value of 2^31 octets or more is refused.
+// Appends an extension that isn't critical, whose value another writer has; a value that is too long for it is refused as want of
+// memory.
 fn write_short_extension(
     identifier: &[u8; 3],
     value: &Writer,
@@ -78,7 +81,7 @@ fn write_short_extension(
         (out.new ≡ out.old ++ spelled_extension identifier.now false value.now) }
     ensures err { OnErr result (out.new ≡ out.old) }
 {
-    if value.as_slice().len() >= 1 << 31 {
+    if !can_be_spelled(identifier.len() + value.as_slice().len() + 64) {
         return Err(OutOfMemory);
     }
     write_extension(identifier, false, value.as_slice(), out)
@@ -154,10 +157,7 @@ fn write_crls(crls: &[SignedMessageCrl], out: &mut Writer) -> Result<(), OutOfMe
 fn write_octets(octets: &[u8], out: &mut Writer) -> Result<(), OutOfMemory>
     ensures ok { OnOk result (out.new ≡ out.old ++ der_primitive octet_string_tag octets.now) }
 {
-    if octets.len() >= 1 << 32 {
-        return Err(OutOfMemory);
-    }
-    out.primitive(Tag::OCTET_STRING, octets)
+    write_primitive(Tag::OCTET_STRING, octets, out)
 }
 
 // Appends the algorithm of the digest.
