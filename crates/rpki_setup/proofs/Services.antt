@@ -1,28 +1,18 @@
 -- Service URIs, and the two schemes of their texts.
-use Rattle.std.proofs.Common.{◌≡◌, ◌≢◌, ℕ, List, Option, Err, IsErrOf, true, false, Some, None, refl}
+use Rattle.std.proofs.Common.{◌≡◌, ℕ, List, Option, Err, IsErrOf, true, false, Some, None, refl}
 use Rattle.rpki_common.specs.Chaining.{◌>>=◌}
 use Rattle.rpki_text.specs.Uri.{https, fault_of}
 use Rattle.rpki_text.specs.declared.uri.Error.{Error as UriError}
-use Rattle.rpki_text.specs.declared.uri.Error.TheVariants as uri
 use Rattle.rpki_text.specs.Json.{string_of_json}
 use Rattle.rpki_text.specs.declared.json.JsonError.{JsonError}
 use Rattle.rpki_text.specs.declared.json.JsonError.TheVariants as json
 use Rattle.rpki_setup.specs.declared.error.Error.{Error}
 use Rattle.rpki_setup.specs.declared.error.Error.TheVariants as errors
-use Rattle.rpki_setup.specs.Answers.{of_uri, json_of, RefusesServiceUri}
+use Rattle.rpki_setup.specs.Answers.{json_of, RefusesServiceUri}
 use Rattle.rpki_setup.specs.ServiceUri.{is_http, service_uri_of_text, service_uri_of_json}
 use Rattle.rpki_message.specs.UriText.{uri_of_text}
 use Rattle.rpki_setup.specs.declared.service_uri.ServiceUri.{ServiceUri}
 use Rattle.rpki_setup.specs.declared.service_uri.ServiceUri.TheVariants.{Https, Http}
-
--- the first rule that is broken is passed on
-pub refused : (text : List ℕ) (e : UriError) → is_http text ≡ false → (e ≢ uri.OutOfMemory → fault_of https text ≡ Some e) → RefusesServiceUri text (of_uri e)
-refused text uri.TooLong other fault = (other, (λ h. cc), fault (λ h. cc))
-refused text uri.BadCharacter other fault = (other, (λ h. cc), fault (λ h. cc))
-refused text uri.BadScheme other fault = (other, (λ h. cc), fault (λ h. cc))
-refused text uri.BadUri other fault = (other, (λ h. cc), fault (λ h. cc))
-refused text uri.DotSegments other fault = (other, (λ h. cc), fault (λ h. cc))
-refused text uri.OutOfMemory other fault = tt
 
 -- a text with `http://` is kept
 pub kept : (text : List ℕ) → is_http text ≡ true → service_uri_of_text text ≡ Some (Http text)

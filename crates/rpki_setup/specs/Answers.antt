@@ -69,11 +69,12 @@ json_of errors.OutOfMemory = json.OutOfMemory
 json_of _ = json.Malformed
 
 -- The answer is InvalidUri exactly where the text begins with `http://` in no case and is no https URI, with the first rule that it
--- breaks. OutOfMemory says nothing, and no other one comes.
+-- breaks. OutOfMemory comes only where the text is a service URI, and no other one comes.
 abbrev pub RefusesServiceUri : List ℕ → Error → Type 0
 RefusesServiceUri text (errors.InvalidUri e) =
     (is_http text ≡ false) × (e ≢ uri.OutOfMemory) × (fault_of https text ≡ Some e)
-RefusesServiceUri text errors.OutOfMemory = ⊤
+RefusesServiceUri text errors.OutOfMemory =
+    (is_http text ≡ false) → fault_of https text ≡ None
 RefusesServiceUri text _ = ⊥
 
 -- ---- certificates

@@ -24,7 +24,7 @@ pub enum ServiceUri {
 
 impl ServiceUri {
     /// The service URI that a text is: with `http://` at its beginning, in any case, any text; else an https URI. InvalidUri, with
-    /// the first rule that the text breaks, exactly where it is neither.
+    /// the first rule that the text breaks, exactly where it is neither, and OutOfMemory only where it is one.
     pub fn from_str(alloc: Global, text: &str) -> Result<ServiceUri, Error>
         ensures value { IfOk result (λ s. service_uri_of_text text.now ≡ Some s) }
         ensures refused { IfErr result (RefusesServiceUri text.now) }
