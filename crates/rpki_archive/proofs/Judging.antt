@@ -24,14 +24,12 @@ use Rattle.rpki_archive.specs.Explanation.{AreDigits, IsExplanation, IsSaidOf, I
 use Rattle.rpki_archive.specs.Lines.{IsLine}
 use Rattle.rpki_archive.specs.Verdict.{Entry, IsLineAnswer, command_words}
 use Rattle.rpki_archive.proofs.Asking.{envelope_short, same_command, same_entry}
+use Rattle.rpki_common.proofs.Truths.{none_some}
 
 -- an error that is handed on
 pub if_err_same : {T E : Type 0} (r : Result T E) (e : E) (P : E → Type 0) → IsErrAnd r (λ given. given ≡ e) → P e → IfErr r P
 if_err_same (Ok x) e P is p = tt
 if_err_same (Err given) e P is p = subst P (sym is) p
-
-none_some : (m : MessageFields) → None ≡ Some m → ⊥
-none_some m e = cc
 
 pub no_signed : (octets : List ℕ) → RefusesOctets (signed_message Ber) Ber octets Malformed → HoldsNoSigned octets
 unfolding RefusesOctets

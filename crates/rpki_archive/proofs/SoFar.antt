@@ -15,10 +15,6 @@ use Rattle.rpki_archive.specs.declared.checking.Task.TheVariants.{Batch, Explain
 use Rattle.rpki_archive.specs.Lines.{IsLine}
 use Rattle.rpki_archive.proofs.Cut.{at_one, lines_are, lines_few}
 
-pub stopped_so : (all : List (List ℕ) → List ℕ → Type 0) (first : List (List ℕ) → Type 0) (may : Refusal → Type 0) (r : Result (Unit {0}) Stop) (stop : Stop) (sink : Seen) → IsErrAnd r (λ e. e ≡ stop) → Answered all first may (Err stop) sink → Answered all first may r sink
-stopped_so all first may (Ok u) stop sink is h = absurd is
-stopped_so all first may (Err e) stop sink is h = subst (λ (s : Stop). Answered all first may (Err s) sink) (sym is) h
-
 -- ---- the lines that are behind
 
 one_behind : (before : List (List ℕ)) (line : List ℕ) (behind next all : List (List ℕ)) → before ++ behind ≡ all → behind ≡ line ∷ next → before ++ line ∷ next ≡ all

@@ -50,6 +50,7 @@ use Rattle.rpki_message.proofs.Read.{one_message}
 use Rattle.rpki_base.specs.Scheme.{Relation}
 use Rattle.rpki_ca.specs.Acceptance.{ReadsAs, Accepted, HoldsNoSigned, RefusesReceipt, IsReceivedUnder, text_of, refusal_of}
 use Rattle.rpki_ca.proofs.Reasons.{reason, no_reason, one_reason}
+use Rattle.rpki_base.proofs.Believing.{decides_yes}
 
 -- ---- what octets begin with, and what content reads as, is one
 
@@ -78,11 +79,8 @@ not_failing scheme m keys when b none =
 
 -- ---- the check that is named is one
 
-so : {X : Type 0} → X → Decides true X
-so x = (λ _. x, λ _. refl)
-
 undecided : {X : Type 0} → ((b : Bool) → Decides b X → ⊥) → ⊥
-undecided k = k false (λ e. absurd (unlike e), λ x. absurd (k true (so x)))
+undecided k = k false (λ e. absurd (unlike e), λ x. absurd (k true (decides_yes x)))
   where
     unlike : false ≡ true → ⊥
     unlike e = cc

@@ -11,7 +11,7 @@ use Rattle.rpki_der.specs.Held.{with_octets, up_to}
 use Rattle.rpki_der.specs.Position.{Position}
 use Rattle.rpki_der.specs.Tags.{context}
 use Rattle.rpki_der.specs.InDer.{CountedLacks}
-use Rattle.rpki_der.specs.Takes.{Refuses, Lacks, Decodes}
+use Rattle.rpki_der.specs.Takes.{Refuses, Decodes}
 use Rattle.rpki_der.specs.Ticks.{left, CountedOne, CountedRefuses, TakesCounted, DecodesCounted}
 use Rattle.rpki_der.specs.Value.{Value, spelling, IsValue, Begins}
 use Rattle.rpki_der.specs.Whole.{IsWhole, RefusesWhole, HoldsOne, whole_of}
@@ -25,6 +25,7 @@ use Rattle.rpki_base.specs.RpkiSignatureAlgorithm.{x509_algorithm}
 use Rattle.rpki_base.specs.SignedData.{signed_as}
 use Rattle.rpki_cert.specs.Access.{uri_location}
 use Rattle.rpki_cert.specs.Cert.{CertFields, tbs_certificate, what_is_signed, certificate}
+use Rattle.rpki_der.proofs.Insides.{lacks}
 
 spelled_begins : (mode : Mode) (v : Value) → IsValue mode v → Begins mode (spelling v) v []
 spelled_begins mode v l = record { lawful = l; parts = sym (append-nil (spelling v)) }
@@ -86,12 +87,8 @@ captured_location p q b a octets mode o m e t = record {
 
 -- ---- nothing is there
 
-lacking : {X : Type 0} (o : Option X) → o ≡ None → Lacks o Malformed
-unfolding Lacks
-lacking o e = e
-
 pub lacks_at_once : {X : Type 0} (c : ℕ) (o : Option X) (octets : List ℕ) (b : ℕ) → o ≡ None → CountedLacks c o octets b b Malformed
-lacks_at_once c o octets b e = record { lacks = lacking o e; least = omega arith; most = omega arith }
+lacks_at_once c o octets b e = record { lacks = lacks o e; least = omega arith; most = omega arith }
 
 -- ---- what is read, seen in another way
 

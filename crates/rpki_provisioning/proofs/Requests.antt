@@ -7,7 +7,7 @@ use Rattle.std.proofs.lemmas.List.{append-nil}
 use Rattle.base64.specs.GeneralPurpose.{IsBytes}
 use Rattle.base64.proofs.EngineFacts.{front_bytes}
 use Rattle.rpki_common.specs.Chaining.{◌>>=◌}
-use Rattle.rpki_common.proofs.Bounds.{bound}
+use Rattle.rpki_common.proofs.Bounds.{bound, chosen}
 use Rattle.rpki_common.proofs.Truths.{none_some, same_some, both}
 use Rattle.rpki_der.specs.declared.mode.Mode.{Mode}
 use Rattle.rpki_der.specs.declared.mode.Mode.TheVariants.{Der}
@@ -138,16 +138,12 @@ parts_bytes {T} tbs vs c h e =
     subst (λ (q : Signed RpkiAlgorithm T). AreBytes q.signed) (same_some _ c s.then')
     (record { slice' = subst IsBytes (held_slice (tbs Der) o.value a.x.0 o.reads) own; value' = signature_bytes a.x.1 s.x more s.found })
 
-chosen_signed : {T : Type 0} (b : Bool) (o : Option T) (c : T) → (if b then o else None) ≡ Some c → o ≡ Some c
-chosen_signed true o c e = e
-chosen_signed false o c e = absurd (none_some c e)
-
 signed_bytes : {T : Type 0} (tbs : Mode → Value → Option T) (v : Value) (c : Signed RpkiAlgorithm T) → IsBytes (spelling v) → signed_value tbs (whole_of x509_algorithm) Der v ≡ Some c → AreBytes c.signed
 unfolding signed_value signed_as within
 signed_bytes tbs (Primitive i l d) c h e = absurd (none_some c e)
 signed_bytes tbs (Constructed i f vs) c h e =
     let inner = front_bytes (spellings vs) (end_mark f) (back_bytes (lengths_of f) (spellings vs ++ end_mark f) (back_bytes i (lengths_of f ++ (spellings vs ++ end_mark f)) h)) in
-    parts_bytes tbs vs c inner (chosen_signed (has_tag sequence i) _ c e)
+    parts_bytes tbs vs c inner (chosen (has_tag sequence i) _ c e)
 
 data_bytes : (d : SignedParts RpkiAlgorithm) → AreBytes d → IsBytes (spelled_data spelled_x509 d)
 data_bytes d h =

@@ -6,7 +6,6 @@ use Rattle.std.specs.Ordering.{match_ordering, nat_cmp}
 use Rattle.std.specs.declared.cmp.Ordering.{Ordering}
 use Rattle.std.specs.declared.cmp.Ordering.TheVariants.{Less, Equal, Greater}
 use Rattle.std.specs.Str.{bytes_eq}
-use Rattle.std.proofs.lemmas.Slice.Eq.{bytes_eq-Decides}
 use Rattle.hex.specs.Hex.{encode_lower}
 use Rattle.sha2.specs.Sha256.{sha256}
 use Rattle.rpki_publication.specs.declared.publish_delta_element.PublishDeltaElement.{PublishDeltaElement}
@@ -15,6 +14,7 @@ use Rattle.rpki_publication.specs.declared.report_error_code.ReportErrorCode.The
 use Rattle.rpki_publication.specs.ListReply.{withdrawal_of}
 use Rattle.rpki_pubserver.specs.Changes.{Refused, after_all, after_element, changed, code_at, code_of, uri_of}
 use Rattle.rpki_pubserver.specs.Store.{LieUnder, Store, listed, octets_at, put, without}
+use Rattle.rpki_common.proofs.Truths.{equal_octets}
 
 -- ---- one change
 
@@ -56,12 +56,9 @@ lie_made base store e none lie = lie_changed base store e (under_made base store
 
 -- ---- the list
 
-same_text : (text : List ℕ) → bytes_eq text text ≡ true
-same_text text = (bytes_eq-Decides text text).1 refl
-
 -- a withdraw of the first object is made
 first_taken : (base uri octets : List ℕ) (store : Store) → IsUnder base uri → after_element base ((uri, octets) ∷ store) (change.Withdraw (record { tag = Some (encode_lower (sha256 octets)); uri = uri; hash = sha256 octets })) ≡ Ok store
-first_taken base uri octets store under = rw under (rw (same_text uri) (rw (same_text (sha256 octets)) refl))
+first_taken base uri octets store under = rw under (rw (equal_octets uri) (rw (equal_octets (sha256 octets)) refl))
 
 pub none_left : (base : List ℕ) (store : Store) → LieUnder base store → after_all base (Ok store) (map (λ e. change.Withdraw (withdrawal_of e)) (listed store)) ≡ Ok []
 none_left base [] lie = refl

@@ -12,8 +12,8 @@ use Rattle.std.specs.declared.cmp.Ordering.TheVariants.{Less, Equal, Greater}
 use Rattle.std.specs.String.{string_cmp}
 use Rattle.std.specs.Str.{bytes_eq}
 use Rattle.std.proofs.lemmas.Map.Text.{is_eq-slice_cmp}
-use Rattle.std.proofs.lemmas.Slice.Eq.{bytes_eq-Decides}
 use Rattle.rpki_pubserver.specs.Places.{HasPlace, Places, placed}
+use Rattle.rpki_common.proofs.Truths.{equal_octets}
 
 module _ {Z : Type 0} where
   -- the test by which the map looks a text up
@@ -79,14 +79,11 @@ not_nowhere uri places has none = let no : false ≡ true = ap is_some (sym none
 
 -- ---- a new place
 
-same_text : (uri : List ℕ) → bytes_eq uri uri ≡ true
-same_text uri = (bytes_eq-Decides uri uri).1 refl
-
 equal_text : (uri key : List ℕ) → slice_cmp nat_cmp uri key ≡ Equal → bytes_eq uri key ≡ true
 equal_text uri key e = sym (is_eq-slice_cmp uri key) ∙ ap is_eq e
 
 pub new_place : (uri : List ℕ) (places : Places) (object : Option (List ℕ)) → HasPlace (insert_entry (slice_cmp nat_cmp) places uri object) uri
-new_place uri [] object = rw (same_text uri) refl
+new_place uri [] object = rw (equal_octets uri) refl
 new_place uri ((key, o) ∷ places) object = by (slice_cmp nat_cmp uri key) refl (new_place uri places object)
   where
     behind : (b c : Bool) → c ≡ true → (b || c) ≡ true
@@ -95,7 +92,7 @@ new_place uri ((key, o) ∷ places) object = by (slice_cmp nat_cmp uri key) refl
 
     by : (r : Ordering) → slice_cmp nat_cmp uri key ≡ r → HasPlace (insert_entry (slice_cmp nat_cmp) places uri object) uri
         → list_any (bytes_eq uri) (keys_of (match_ordering r ((uri, object) ∷ (key, o) ∷ places) ((key, object) ∷ places) ((key, o) ∷ insert_entry (slice_cmp nat_cmp) places uri object))) ≡ true
-    by Less e more = rw (same_text uri) refl
+    by Less e more = rw (equal_octets uri) refl
     by Equal e more = rw (equal_text uri key e) refl
     by Greater e more = behind (bytes_eq uri key) _ more
 

@@ -1,5 +1,5 @@
 -- What is answered to a message.
-use Rattle.std.proofs.Common.{◌≡◌, ◌≢◌, ℕ, ℤ, None, Some, Result, Ok, Err, List, OnErr, IfOk, codes, inl, inr, refl, subst, sym, ◌∙◌}
+use Rattle.std.proofs.Common.{◌≡◌, ◌≢◌, ℕ, ℤ, Result, Ok, Err, List, OnErr, IfOk, codes, inl, inr, refl, subst, sym, ◌∙◌}
 use Rattle.rpki_base.specs.PublicKey.{KeyFields}
 use Rattle.rpki_base.specs.Scheme.{Relation}
 use Rattle.rpki_der.specs.Takes.{RefusesOctets}
@@ -16,9 +16,7 @@ use Rattle.rpki_replay.specs.Admission.{IsAdmission, state_behind}
 use Rattle.rpki_replay.specs.Messages.{Sent}
 use Rattle.rpki_replay.specs.Shown.{answer_text}
 use Rattle.rpki_replay.specs.Answers.{IsAnswered}
-
-none_some : (m : MessageFields) → None ≡ Some m → ⊥
-none_some m e = cc
+use Rattle.rpki_common.proofs.Truths.{none_some}
 
 pub no_signed : (octets : List ℕ) → RefusesOctets (signed_message Ber) Ber octets Malformed → HoldsNoSigned octets
 unfolding RefusesOctets

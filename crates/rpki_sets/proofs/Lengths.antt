@@ -31,6 +31,7 @@ use Rattle.rpki_sets.proofs.Ipv4Laws.{ipv4_lawful}
 use Rattle.rpki_sets.proofs.Ipv6Laws.{ipv6_lawful, ipv6_number-sound}
 use Rattle.rpki_sets.proofs.PrefixLemmas.{prefix_length-sound}
 use Rattle.rpki_sets.proofs.Printed.{as_set_read, ipv4_set_read, ipv6_set_read}
+use Rattle.rpki_common.proofs.Truths.{none_some}
 
 -- ---- a union has no more runs
 
@@ -189,11 +190,8 @@ module _ (kind : Kind) (bounded : kind.width ≤ 128) (most : ℕ) (some : 3 ≤
 
 -- ---- the numbers of the three kinds
 
-none_is_some : {X : Type 0} (x : X) → ◌≡◌ {A = Option X} None (Some x) → ⊥
-none_is_some x h = cc
-
 not_empty : (kind : Kind) → IsLawful kind → (text : List ℕ) (n : ℕ) → kind.number text ≡ Some n → 1 ≤ length text
-not_empty kind lawful [] n e = absurd (none_is_some n (sym lawful.empty ∙ e))
+not_empty kind lawful [] n e = absurd (none_some n (sym lawful.empty ∙ e))
 not_empty kind lawful (c ∷ text) n e = omega arith
 
 as_length : (n : ℕ) → n < 2 ^ 32 → length (decimal n) ≤ 10

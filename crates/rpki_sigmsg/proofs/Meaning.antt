@@ -18,6 +18,7 @@ use Rattle.rpki_sigmsg.specs.Crl.{CrlFields}
 use Rattle.rpki_sigmsg.specs.CrlChecks.{same_algorithm, crl_checks, crl_kind, AreCrlsSigned, IsListBelieved}
 use Rattle.rpki_sigmsg.specs.Message.{MessageFields}
 use Rattle.rpki_sigmsg.specs.Checks.{checks, message_checks, key_checks, kind_of, is_not_revoked, AreAttributesSigned, Asked, AreSigned, IsBelieved, IsValidation, SameAnswers, Passes, IsInSpan}
+use Rattle.rpki_common.proofs.Truths.{are_true}
 
 -- ---- what is believed
 
@@ -136,9 +137,6 @@ at_most a b e = le_z_yes (T_from_true (int_le a b) e)
 is_at_most : (a b : ℤ) → a ≤ℤ b → int_le a b ≡ true
 is_at_most a b l = true_is (int_le a b) l.le
 
-both_true : (a b : Bool) → a ≡ true → b ≡ true → (a && b) ≡ true
-both_true a b x y = rw (x, y) refl
-
 left_true : (a b : Bool) → (a && b) ≡ true → a ≡ true
 left_true true b e = refl
 left_true false b e = cc
@@ -154,7 +152,7 @@ each_from f P h (x ∷ xs) e = (h x (left_true (f x) (list_all f xs) e), each_fr
 
 from_each : {X : Type 0} (f : X → Bool) (P : X → Type 0) → ((x : X) → P x → f x ≡ true) → (xs : List X) → AllByRecursion P xs → list_all f xs ≡ true
 from_each f P h [] a = refl
-from_each f P h (x ∷ xs) a = both_true (f x) (list_all f xs) (h x a.0) (from_each f P h xs a.1)
+from_each f P h (x ∷ xs) a = are_true (f x) (list_all f xs) (h x a.0) (from_each f P h xs a.1)
 
 abbrev pub IsSo : Bool → Type 0
 IsSo b = b ≡ true
@@ -204,7 +202,7 @@ span_of m k q3 q8 q10 when (a1, (a2, (a3, (a4, (a5, (a6, (a7, (a8, (a9, (a10, (a
 
 in_span : (m : MessageFields) (k : KeyFields) (q3 q8 q10 : Bool) (when : ℤ) → AreSo (others m k q3 q8 q10) → IsInSpan m when → AreSo (checks m k when q3 q8 q10)
 in_span m k q3 q8 q10 when (a1, (a2, (a3, (a4, (a6, (a7, (a8, (a9, (a10, (a13, (a14, u))))))))))) s =
-    (a1, (a2, (a3, (a4, (both_true _ _ (is_at_most _ _ s.not_before) (is_at_most _ _ s.not_after), (a6, (a7, (a8, (a9, (a10, (from_each (λ c. int_le c.tbs.this_update when) _ (λ c l. is_at_most c.tbs.this_update when l) m.crls s.this_updates, (from_each (λ c. int_le when c.tbs.next_update) _ (λ c l. is_at_most when c.tbs.next_update l) m.crls s.next_updates, (a13, (a14, u))))))))))))))
+    (a1, (a2, (a3, (a4, (are_true _ _ (is_at_most _ _ s.not_before) (is_at_most _ _ s.not_after), (a6, (a7, (a8, (a9, (a10, (from_each (λ c. int_le c.tbs.this_update when) _ (λ c l. is_at_most c.tbs.this_update when l) m.crls s.this_updates, (from_each (λ c. int_le when c.tbs.next_update) _ (λ c l. is_at_most when c.tbs.next_update l) m.crls s.next_updates, (a13, (a14, u))))))))))))))
 
 pub one_span : (m : MessageFields) (k : KeyFields) (q3 q8 q10 : Bool) → ((when : ℤ) → Passes m k q3 q8 q10 when → ⊥) ⊎ ((when : ℤ) → Passes m k q3 q8 q10 when ↔ IsInSpan m when)
 one_span m k q3 q8 q10 = ⊎_map

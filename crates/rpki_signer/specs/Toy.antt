@@ -2,7 +2,7 @@
 use Rattle.std.specs.Prelude.{◌≡◌, ℕ, List, ◌++◌}
 use Rattle.std.specs.Int.{to_be_bytes, w64}
 use Rattle.sha2.specs.Sha256.{sha256}
-use Rattle.rpki_base.specs.declared.algorithm.SigningAlgorithm.{SigningAlgorithm}
+use Rattle.rpki_base.specs.Scheme.{Relation}
 use Rattle.rpki_base.specs.declared.algorithm.PublicKeyFormat.TheVariants.{Rsa}
 use Rattle.rpki_base.specs.Algorithm.{format_of}
 use Rattle.rpki_base.specs.PublicKey.{KeyFields}
@@ -12,7 +12,7 @@ abbrev pub toy_signature : KeyFields → List ℕ → List ℕ
 toy_signature key message = sha256 (key.bits ++ message)
 
 -- The key has the kind's format, and the signature is that digest.
-abbrev pub ToyChecks : SigningAlgorithm → KeyFields → List ℕ → List ℕ → Type 0
+abbrev pub ToyChecks : Relation
 ToyChecks kind key message signature =
     (key.format ≡ format_of kind) × (signature ≡ toy_signature key message)
 

@@ -1,5 +1,5 @@
 -- Octets and their base64 text.
-use Rattle.std.proofs.Common.{◌≡◌, ℕ, zero, suc, ◌+◌, ◌*◌, ◌/◌, ◌%◌, ◌≤◌, Bool, true, ◌&&◌, List, [], ◌∷◌, length, Option, Some, None, Result, Ok, Err, replicate, filter, unwrap_or, option_and_then, refl, sym, ap, subst, ◌∙◌, arith, length-append}
+use Rattle.std.proofs.Common.{◌≡◌, ℕ, zero, suc, ◌+◌, ◌*◌, ◌/◌, ◌%◌, ◌≤◌, true, List, [], ◌∷◌, length, Option, Some, None, Result, Ok, Err, replicate, filter, unwrap_or, option_and_then, refl, sym, ap, subst, ◌∙◌, arith, length-append}
 use Rattle.std.specs.List.{list_all, slice_index}
 use Rattle.std.specs.Result.{result_ok}
 use Rattle.std.proofs.lemmas.Option.{none-some, same_Some}
@@ -15,7 +15,7 @@ use Rattle.base64.proofs.RoundTrip.{length-encode_symbols}
 use Rattle.base64.proofs.Streams.{decoded_of-ok}
 use Rattle.rpki_text.specs.Json.{string_of_json}
 use Rattle.rpki_text.specs.Base64.{is_not_space, IsBase64Text, base64_content, base64_content_of_json, octets_of_json, held_content, IsHeld}
-use Rattle.rpki_common.proofs.Truths.{both}
+use Rattle.rpki_common.proofs.Truths.{both, are_true}
 
 -- the text of octets is read as these octets
 pub decoded_of-encode : (content : List ℕ) → IsBytes content → decoded_of standard (encode_of standard content) ≡ Some content
@@ -36,9 +36,6 @@ IsHeld-encode content text fits e =
     let held = sym (held_content-encode content text fits e) in
     (e ∙ ap (λ (l : List ℕ). encode_of standard l) held, subst (λ (l : List ℕ). IsBytes l) held fits)
 
-together : (a b : Bool) → a ≡ true → b ≡ true → (a && b) ≡ true
-together a b d e = rw (d, e)
-
 -- a text with no white space is kept as it is
 pub filter_none : (xs : List ℕ) → list_all is_not_space xs ≡ true → filter is_not_space xs ≡ xs
 filter_none [] h = refl
@@ -50,7 +47,7 @@ symbol (x ∷ t) zero h = (both (is_not_space x) (list_all is_not_space t) h).0
 symbol (x ∷ t) (suc k) h = symbol t k (both (is_not_space x) (list_all is_not_space t) h).1
 
 with_symbol : (t xs : List ℕ) (k : ℕ) → list_all is_not_space t ≡ true → list_all is_not_space xs ≡ true → list_all is_not_space (slice_index t k ∷ xs) ≡ true
-with_symbol t xs k h q = together (is_not_space (slice_index t k)) (list_all is_not_space xs) (symbol t k h) q
+with_symbol t xs k h q = are_true (is_not_space (slice_index t k)) (list_all is_not_space xs) (symbol t k h) q
 
 symbols : (t m : List ℕ) → list_all is_not_space t ≡ true → list_all is_not_space (encode_symbols t m) ≡ true
 unfolding encode_symbols
@@ -77,7 +74,7 @@ padding (suc n) = padding n
 pub encode_of-spaceless : (content : List ℕ) → list_all is_not_space (encode_of standard content) ≡ true
 encode_of-spaceless content =
     list_all-append is_not_space (encode_symbols (engine_symbols standard) content) (replicate (padding_len (length content)) 61)
-    ∙ together (list_all is_not_space (encode_symbols (engine_symbols standard) content)) (list_all is_not_space (replicate (padding_len (length content)) 61))
+    ∙ are_true (list_all is_not_space (encode_symbols (engine_symbols standard) content)) (list_all is_not_space (replicate (padding_len (length content)) 61))
     (symbols (engine_symbols standard) content refl) (padding (padding_len (length content)))
 
 -- the text of octets is read as these octets, white space or not

@@ -5,10 +5,7 @@ use Rattle.std.proofs.lemmas.List.Sums.{AllPass-from_list_all, list_all-from_All
 use Rattle.std.proofs.lemmas.Bool.Decides.{nat_tests}
 use Rattle.rpki_text.specs.Json.{string_of_json}
 use Rattle.rpki_text.specs.Handle.{is_handle_octet, is_handle, IsHandle, handle_of_text, handle_of_json}
-use Rattle.rpki_common.proofs.Truths.{both}
-
-together : (a b : Bool) → a ≡ true → b ≡ true → (a && b) ≡ true
-together a b d e = rw (d, e)
+use Rattle.rpki_common.proofs.Truths.{both, are_true}
 
 -- what passes the test keeps the rule
 pub IsHandle-from_test : (text : List ℕ) → is_handle text ≡ true → IsHandle text
@@ -24,7 +21,7 @@ pub is_handle-holds : (text : List ℕ) → IsHandle text → is_handle text ≡
 is_handle-holds text (a, b, all) =
     let low : nat_le 1 (length text) ≡ true = grind (arith, nat_tests) in
     let high : nat_le (length text) 255 ≡ true = grind (arith, nat_tests) in
-    together (nat_le 1 (length text) && nat_le (length text) 255) (list_all is_handle_octet text) (together (nat_le 1 (length text)) (nat_le (length text) 255) low high)
+    are_true (nat_le 1 (length text) && nat_le (length text) 255) (list_all is_handle_octet text) (are_true (nat_le 1 (length text)) (nat_le (length text) 255) low high)
     (list_all-from_AllPass is_handle_octet text all)
 
 -- a text that keeps the rule is a handle

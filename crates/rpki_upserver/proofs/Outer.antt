@@ -7,7 +7,7 @@ use Rattle.rpki_der.specs.declared.mode.Mode.{Mode}
 use Rattle.rpki_der.specs.declared.mode.Mode.TheVariants.{Der}
 use Rattle.rpki_der.specs.Takes.{BeginsAs}
 use Rattle.rpki_der.proofs.Parts.{at_most_one}
-use Rattle.rpki_der.specs.Grammar.{done, first, within, wrapped}
+use Rattle.rpki_der.specs.Grammar.{first, within, wrapped}
 use Rattle.rpki_der.specs.Held.{with_octets}
 use Rattle.rpki_der.specs.Identifier.{has_tag}
 use Rattle.rpki_der.specs.Tags.{context, sequence}
@@ -21,6 +21,7 @@ use Rattle.rpki_idcert.specs.IdCert.{CertificateFields, identity_certificate}
 use Rattle.rpki_idcert.specs.Making.{IsReadAgain}
 use Rattle.rpki_idcert.specs.TbsIdCert.{TbsFields, tbs_certificate as tbs_identity}
 use Rattle.rpki_cert.specs.Cert.{CertFields, certificate, tbs_certificate, unread_extensions, what_is_signed}
+use Rattle.rpki_der.proofs.Firsts.{done_is}
 
 -- both go on from one value
 step : {X Y Z R : Type 0} (o : Option X) (f : X → Option Y) (g : X → Option Z) (y : Y) (z : Z) → (o >>= f) ≡ Some y → (o >>= g) ≡ Some z → ((x : X) → f x ≡ Some y → g x ≡ Some z → R) → R
@@ -63,11 +64,6 @@ first_both {A = A} {B = B} a b f g (v ▸ vs) x y h k =
     let e : (c.x, vs) ≡ s.x = cc in
     let i : (d.x, vs) ≡ t.x = cc in
     record { v = v; rest = vs; p = c.x; q = d.x; first_is = c.found; second_is = d.found; one = ap f e ∙ s.then'; other = ap g i ∙ t.then' }
-
-done_is : {X : Type 0} (x y : X) (vs : Values) → done x vs ≡ Some y → x ≡ y
-unfolding done
-done_is x y End h = cc
-done_is x y (v ▸ vs) h = cc
 
 tbs_alike : (mode : Mode) (v : Value) (t : TbsFields) (k : KeyFields) → tbs_identity mode v ≡ Some t → tbs_certificate mode v ≡ Some k → k ≡ t.key
 unfolding tbs_identity tbs_certificate

@@ -13,6 +13,7 @@ use Rattle.rpki_upserver.specs.Issuer.{IssuerState}
 use Rattle.rpki_upserver.specs.Response.{Outcome, published}
 use Rattle.rpki_upserver.specs.Table.{ClassState, ParentState, Table, change, class_named, has_key, is_named, key_of, put, with_issued, with_revoked, with_table, without}
 use Rattle.rpki_upserver.proofs.Outcomes.{HasCome, HasIssued, HasLeft, HasRevoked, IsOther, came}
+use Rattle.rpki_common.proofs.Truths.{same_octets}
 
 -- ---- tests
 
@@ -26,9 +27,6 @@ neither : (a b : Bool) → (a || b) ≡ false → (a ≡ false) × (b ≡ false)
 neither true b h = cc
 neither false b h = (refl, h)
 
-is_same : (a b : List ℕ) → bytes_eq a b ≡ true → a ≡ b
-is_same a b h = (bytes_eq-Decides a b).0 h
-
 are_same : (a b : List ℕ) → a ≡ b → bytes_eq a b ≡ true
 are_same a b e = (bytes_eq-Decides a b).1 e
 
@@ -36,9 +34,9 @@ are_same a b e = (bytes_eq-Decides a b).1 e
 turned : (a b : List ℕ) → bytes_eq a b ≡ bytes_eq b a
 turned a b =
     elim (bytes_eq a b) as (λ t. bytes_eq a b ≡ t → t ≡ bytes_eq b a) [
-      | true ↦ λ h. sym (are_same b a (sym (is_same a b h)))
+      | true ↦ λ h. sym (are_same b a (sym (same_octets a b h)))
       | false ↦ λ h. elim (bytes_eq b a) as (λ u. bytes_eq b a ≡ u → false ≡ u) [
-        | true ↦ λ k. absurd (clash (bytes_eq a b) (are_same a b (sym (is_same b a k))) h)
+        | true ↦ λ k. absurd (clash (bytes_eq a b) (are_same a b (sym (same_octets b a k))) h)
         | false ↦ λ k. refl
       ] refl
     ] refl
@@ -78,10 +76,10 @@ find_put (held ∷ more) issued key =
     elim (has_key (key_of issued) held) as (λ t. has_key (key_of issued) held ≡ t → find (has_key key) (if t then issued ∷ more else held ∷ put more issued)
     ≡ (if has_key key issued then Some issued else (if has_key key held then Some held else find (has_key key) more))) [
       | true ↦ λ same. first_kept (has_key key issued) (has_key key held) (Some issued) (Some held) (find (has_key key) more)
-          (λ other. ap (λ (k : List ℕ). bytes_eq k key) (is_same (key_of held) (key_of issued) same) ∙ other)
+          (λ other. ap (λ (k : List ℕ). bytes_eq k key) (same_octets (key_of held) (key_of issued) same) ∙ other)
       | false ↦ λ other. ap (λ (w : Option IssuedFields). if has_key key held then Some held else w) (find_put more issued key)
           ∙ in_turn (has_key key issued) (has_key key held) (Some issued) (Some held) (find (has_key key) more)
-          (λ one here. clash (has_key (key_of issued) held) (are_same (key_of held) (key_of issued) (is_same (key_of held) key here ∙ sym (is_same (key_of issued) key one))) other)
+          (λ one here. clash (has_key (key_of issued) held) (are_same (key_of held) (key_of issued) (same_octets (key_of held) key here ∙ sym (same_octets (key_of issued) key one))) other)
     ] refl
 
 find_without : (certs : List IssuedFields) (key other : List ℕ) → AreOnce certs → find (has_key other) (without certs key) ≡ (if bytes_eq key other then None else find (has_key other) certs)
@@ -90,11 +88,11 @@ find_without (held ∷ more) key other once =
     elim (has_key key held) as (λ t. has_key key held ≡ t → find (has_key other) (if t then more else held ∷ without more key)
     ≡ (if bytes_eq key other then None else (if has_key other held then Some held else find (has_key other) more))) [
       | true ↦ λ same. taken (bytes_eq key other) (has_key other held) (Some held) (find (has_key other) more) None
-          (λ is. none_found other more (subst (λ (k : List ℕ). list_any (has_key k) more ≡ false) (is_same (key_of held) key same ∙ is_same key other is) once.0))
-          (λ not. ap (λ (k : List ℕ). bytes_eq k other) (is_same (key_of held) key same) ∙ not)
+          (λ is. none_found other more (subst (λ (k : List ℕ). list_any (has_key k) more ≡ false) (same_octets (key_of held) key same ∙ same_octets key other is) once.0))
+          (λ not. ap (λ (k : List ℕ). bytes_eq k other) (same_octets (key_of held) key same) ∙ not)
       | false ↦ λ differs. ap (λ (w : Option IssuedFields). if has_key other held then Some held else w) (find_without more key other once.1)
           ∙ in_turn (bytes_eq key other) (has_key other held) None (Some held) (find (has_key other) more)
-          (λ is here. clash (has_key key held) (are_same (key_of held) key (is_same (key_of held) other here ∙ sym (is_same key other is))) differs)
+          (λ is here. clash (has_key key held) (are_same (key_of held) key (same_octets (key_of held) other here ∙ sym (same_octets key other is))) differs)
     ] refl
 
 -- ---- they stay so
@@ -114,7 +112,7 @@ once_put : (certs : List IssuedFields) (issued : IssuedFields) → AreOnce certs
 once_put [] issued once = (refl, tt)
 once_put (held ∷ more) issued once =
     elim (has_key (key_of issued) held) as (λ t. has_key (key_of issued) held ≡ t → AreOnce (if t then issued ∷ more else held ∷ put more issued)) [
-      | true ↦ λ same. (subst (λ (k : List ℕ). list_any (has_key k) more ≡ false) (is_same (key_of held) (key_of issued) same) once.0, once.1)
+      | true ↦ λ same. (subst (λ (k : List ℕ). list_any (has_key k) more ≡ false) (same_octets (key_of held) (key_of issued) same) once.0, once.1)
       | false ↦ λ other. (none_put more issued (key_of held) (turned (key_of issued) (key_of held) ∙ other) once.0, once_put more issued once.1)
     ] refl
 
@@ -162,7 +160,7 @@ pub named_name : (name : List ℕ) (table : Table) (c : ClassState) → class_na
 named_name name [] c named = cc
 named_name name (d ∷ more) c named =
     elim (is_named name d) as (λ t. is_named name d ≡ t → (if t then Some d else class_named name more) ≡ Some c → c.class_name ≡ name) [
-      | true ↦ λ is h. let e : d ≡ c = cc in subst (λ (x : ClassState). x.class_name ≡ name) e (is_same d.class_name name is)
+      | true ↦ λ is h. let e : d ≡ c = cc in subst (λ (x : ClassState). x.class_name ≡ name) e (same_octets d.class_name name is)
       | false ↦ λ other h. named_name name more c h
     ] refl named
 

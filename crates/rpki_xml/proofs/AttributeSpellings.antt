@@ -3,12 +3,11 @@ use Rattle.std.proofs.Common.{◌≡◌, ℕ, Bool, ◌&&◌, ◌||◌, not, tru
 use Rattle.std.proofs.lemmas.Bool.{eqb-true}
 use Rattle.std.proofs.lemmas.Bool.Decides.{nat_tests}
 use Rattle.std.proofs.lemmas.List.Folds.{list_all-append}
-use Rattle.std.proofs.lemmas.Slice.Eq.{bytes_eq-Decides}
 use Rattle.std.specs.List.{list_all}
 use Rattle.std.specs.Prelude.{codes}
 use Rattle.std.specs.Str.{bytes_eq}
 use Rattle.rpki_common.specs.Chaining.{◌>>=◌}
-use Rattle.rpki_common.proofs.Truths.{both}
+use Rattle.rpki_common.proofs.Truths.{both, same_octets}
 use Rattle.rpki_xml.specs.AttributeSpelling.{is_entity, is_itself, IsValueSpelling, concatenated, IsAttributeSpelling}
 use Rattle.rpki_xml.specs.Content.{is_white}
 use Rattle.rpki_xml.specs.Element.{Attribute, is_nil}
@@ -21,9 +20,6 @@ use Rattle.rpki_xml.proofs.Spelled.{Stops, front_again, past_white_name, first_g
 either : {P : Type 0} (a b : Bool) → (a ≡ true → P) → (b ≡ true → P) → (a || b) ≡ true → P
 either true b f g e = f refl
 either false b f g e = g e
-
-same_octets : (a b : List ℕ) → bytes_eq a b ≡ true → a ≡ b
-same_octets a b e = (bytes_eq-Decides a b).0 e
 
 -- ---- characters
 

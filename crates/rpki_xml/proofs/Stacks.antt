@@ -6,7 +6,7 @@ use Rattle.std.specs.List.{list_all}
 use Rattle.std.specs.Str.{bytes_eq}
 use Rattle.rpki_xml.specs.Element.{Head, Elements, none, first, Element, alone, joined}
 use Rattle.rpki_common.specs.Chaining.{◌>>=◌}
-use Rattle.rpki_common.proofs.Truths.{both}
+use Rattle.rpki_common.proofs.Truths.{both, equal_octets}
 use Rattle.rpki_xml.specs.Content.{Tag, Piece, run, passed_over, leaf, start, end, Content, nothing, and_run, and_passed_over, and_leaf, and_element, pieces, characters, elements_in, head_of, fits, is_distinct, IsLawful, IsElement, is_white}
 use Rattle.rpki_xml.specs.Stack.{Open, whole, opened, and_more, closed, with_text, add_run, add_element, begin_element, end_element, step, steps}
 
@@ -32,9 +32,6 @@ no_more o = ap (λ (x : List ℕ). made o.head x (joined o.done none)) (append-n
 abbrev pub after : Content → Open → Open
 after c o = and_more (characters c) (elements_in c) o
 
-same_bytes : (xs : List ℕ) → bytes_eq xs xs ≡ true
-same_bytes xs = (bytes_eq-Decides xs xs).1 refl
-
 -- ---- every lawful content is read
 
 pub reads : (c : Content) (rest : List Piece) (o : Open) (outer : List Open) → IsLawful c → steps (pieces c ++ rest) (o ∷ outer) ≡ steps rest (after c o ∷ outer)
@@ -51,7 +48,7 @@ reads (and_element tag inside c) rest o outer law =
     let regroup : (pieces inside ++ end tag.name ∷ pieces c) ++ rest ≡ pieces inside ++ (end tag.name ∷ (pieces c ++ rest)) = append_assoc (pieces inside) (end tag.name ∷ pieces c) rest in
     rw law.0 (ap (λ (l : List Piece). steps l (opened (head_of tag []) ∷ o ∷ outer)) regroup
     ∙ reads inside (end tag.name ∷ (pieces c ++ rest)) (opened (head_of tag [])) (o ∷ outer) law.1.0
-    ∙ rw (same_bytes tag.name, law.1.1.0) (reads c rest (and_more [] one o) outer law.1.1.1 ∙ ap (λ (x : Open). steps rest (x ∷ outer)) (more_more [] (characters c) one (elements_in c) o)))
+    ∙ rw (equal_octets tag.name, law.1.1.0) (reads c rest (and_more [] one o) outer law.1.1.1 ∙ ap (λ (x : Open). steps rest (x ∷ outer)) (more_more [] (characters c) one (elements_in c) o)))
 
 -- ---- what is read is a lawful content
 

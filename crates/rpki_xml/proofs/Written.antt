@@ -85,9 +85,6 @@ neither : (a b : Bool) → (a || b) ≡ false → (a ≡ false) × (b ≡ false)
 neither true b e = absurd cc
 neither false b e = (refl, e)
 
-same_bytes : (xs : List ℕ) → bytes_eq xs xs ≡ true
-same_bytes xs = (bytes_eq-Decides xs xs).1 refl
-
 true_false : true ≡ false → ⊥
 true_false e = cc
 

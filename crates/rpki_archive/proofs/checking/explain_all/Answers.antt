@@ -5,8 +5,9 @@ use Rattle.rpki_ca.specs.declared.lines.Stop.TheVariants.{Refused, WriteFault}
 use Rattle.rpki_ca.specs.declared.refusals.Refusal.TheVariants.{OutOfMemory}
 use Rattle.rpki_ca.proofs.Outputs.{one_more_written, part_of_more}
 use Rattle.rpki_archive.specs.Checking.{AreAllExplanations, AreFirstExplanations}
-use Rattle.rpki_archive.proofs.SoFar.{first_explained, line_is, more_explained, one_explained, stopped_so}
+use Rattle.rpki_archive.proofs.SoFar.{first_explained, line_is, more_explained, one_explained}
 use Rattle.rpki_archive.proofs.checking.explain_all.Goals as goal
+use Rattle.rpki_ca.proofs.Stepping.{stopped_so}
 
 pub explanation_line-requires : goal.explanation_line-requires
 explanation_line-requires g c =

@@ -7,8 +7,9 @@ use Rattle.rpki_ca.proofs.Outputs.{failed_later, one_more_written, part_behind, 
 use Rattle.std.proofs.KnownBytes.{Appends-trans}
 use Rattle.rpki_archive.specs.Checking.{AreAllVerdicts, AreFirstVerdicts}
 use Rattle.rpki_archive.specs.Verdict.{verdict_text}
-use Rattle.rpki_archive.proofs.SoFar.{all_judged, few_accepted, few_lines, line_is, more_judged, one_judged, so_far_judged, stopped_so}
+use Rattle.rpki_archive.proofs.SoFar.{all_judged, few_accepted, few_lines, line_is, more_judged, one_judged, so_far_judged}
 use Rattle.rpki_archive.proofs.checking.judge_all.Goals as goal
+use Rattle.rpki_ca.proofs.Stepping.{stopped_so}
 
 pub judge_line-requires : goal.judge_line-requires
 judge_line-requires g c =
