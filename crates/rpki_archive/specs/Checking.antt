@@ -53,7 +53,8 @@ AreFirstExplanations scheme lines texts =
 
 abbrev pub EndsTask : Relation → Task → List (List ℕ) → ℕ → Seen → Type 0
 EndsTask scheme Batch lines status sink =
-    EndsLines (AreAllVerdicts scheme lines) (AreFirstVerdicts scheme lines) IsOutOfMemory status sink
+    EndsLines (AreAllVerdicts scheme lines) (AreFirstVerdicts scheme lines) IsOutOfMemory status
+    sink
 EndsTask scheme Explain lines status sink =
     EndsLines (AreAllExplanations scheme lines) (AreFirstExplanations scheme lines) IsOutOfMemory
     status sink

@@ -35,8 +35,9 @@ pub fn digits_tell_the_answer<P: Scheme>()
 /// and the input is within the limit.
 pub fn ends_with_0_or_12<P: Scheme>()
     ensures { (task : TaskOf) (status : ℕ) (source sink : Seen) (input : List ℕ) →
-        EndsRun (λ octets. EndsTask P.checks task (lines_of octets) status sink) status source sink →
-        source.before ≡ Some input → length input ≤ 2 ^ 26 → ¬ (HasFailed source) → ¬ (HasFailed sink) →
+        EndsRun (λ octets. EndsTask P.checks task (lines_of octets) status sink) status source
+        sink → source.before ≡ Some input → length input ≤ 2 ^ 26
+        → ¬ (HasFailed source) → ¬ (HasFailed sink) →
         (status ≡ 0) ⊎ (status ≡ 12) }
 {}
 

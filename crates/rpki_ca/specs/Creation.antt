@@ -104,7 +104,8 @@ IsSigned scheme kind message when signer other = ⊥
 -- The signer is asked in turn for the signature of the attributes, for the issuing key, for the CRL's
 -- signature and for the certificate, and this is its first refusal: all that it gave before has at most
 -- 2^16 octets. Which error of its own it had is left out.
-abbrev pub IsFirstToRefuse : {Id : Type 0} → Relation → List ℕ → ℤ → SignerSeen Id → Refusal → Type 0
+abbrev pub IsFirstToRefuse : {Id : Type 0} → Relation → List ℕ → ℤ → SignerSeen Id → Refusal
+    → Type 0
 IsFirstToRefuse scheme text when signer refusals.TooLong =
     StopsCreating {E = Unit {0}} scheme text when signer.id signer.before signer.after make.TooLong
 IsFirstToRefuse scheme text when signer refusals.KeyReused =

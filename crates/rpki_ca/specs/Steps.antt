@@ -3,8 +3,8 @@ use Rattle.std.specs.Prelude.{◌≡◌, ℕ, List, [], ◌∷◌, length, take}
 
 -- Each text is the answer to its line: `step` says it of a state, a line, the text, and the state
 -- behind it, with which the next line is answered.
-abbrev pub AreSteps : {S L : Type 0} → (S → L → List ℕ → S → Type 0) → S → List L → List (List ℕ) → S
-    → Type 0
+abbrev pub AreSteps : {S L : Type 0} → (S → L → List ℕ → S → Type 0) → S → List L
+    → List (List ℕ) → S → Type 0
 AreSteps step state [] [] last = last ≡ state
 AreSteps step state [] (text ∷ texts) last = ⊥
 AreSteps step state (line ∷ lines) [] last = ⊥

@@ -86,7 +86,8 @@ pub fn split_word(line: &[u8]) -> Option<(&[u8], &[u8])>
 /// The octets that a word spells, two hexadecimal digits of either case an octet. None exactly where it
 /// is no even number of digits.
 pub fn spelled_octets(alloc: Global, word: &[u8]) -> Result<Option<Vec<u8>>, OutOfMemory>
-    ensures some { IfOk result (λ o. IfSome o (λ v. result_ok (decode_of word.now) ≡ Some v.items)) }
+    ensures some { IfOk result (λ o.
+        IfSome o (λ v. result_ok (decode_of word.now) ≡ Some v.items)) }
     ensures none { IfOk result (λ o. IsNone o → result_ok (decode_of word.now) ≡ None) }
 {
     octets_of(alloc, word)

@@ -155,7 +155,8 @@ pub record IsRequestMade {Id : Type 0} (scheme : Relation) (id : Id) (places : P
   pub short_signature : IsShort request.signed.signature.value
   pub octets_are : octets ≡ spelled_data spelled_x509 request.signed
   pub read : (rest : List ℕ) → BeginsAs
-      (certification_request ca_attributes (whole_of x509_algorithm) Der) Der (octets ++ rest) request
+      (certification_request ca_attributes (whole_of x509_algorithm) Der) Der (octets ++ rest)
+      request
   pub stays : Stays before after
 
 -- the same for a key that is given, as the signer's call leaves it

@@ -40,8 +40,8 @@ RefusesMessage cause_of table octets e = IsNoMessageBy table octets (cause_of e)
 
 -- ---- messages from a source
 
-abbrev pub RefusesSourceBy : {M : Type 0} → (Element → Option M) → Option (List ℕ) → ℕ → ℕ → Option Cause
-    → Type 0
+abbrev pub RefusesSourceBy : {M : Type 0} → (Element → Option M) → Option (List ℕ) → ℕ → ℕ
+    → Option Cause → Type 0
 RefusesSourceBy table rest faults now (Some causes.Malformed) = IfSome rest (IsNoMessage table)
 RefusesSourceBy table rest faults now (Some causes.Read) = Rose faults now
 RefusesSourceBy table rest faults now (Some causes.TooLong) =
@@ -62,8 +62,8 @@ IsOfAll cause_of (Err e) = cause_of e ≡ Some causes.Malformed
 
 -- What a call answers that reads a source to its end and takes what it gives for a message of the table: by what the source had still
 -- to give, before and after, and by its count of faults.
-pub record Parses {M E : Type 0} (cause_of : E → Option Cause) (table : Element → Option M) (rest left : Option (List ℕ)) (faults now : ℕ)
-    (result : Result M E) : Type 0 where
+pub record Parses {M E : Type 0} (cause_of : E → Option Cause) (table : Element → Option M)
+    (rest left : Option (List ℕ)) (faults now : ℕ) (result : Result M E) : Type 0 where
   -- all that there was is the message, or the answer has its cause
   pub message : IfOk result (λ m. IfSome rest (λ octets. ReadsAs table octets m))
   pub refused : IfErr result (RefusesSource cause_of table rest faults now)
@@ -77,7 +77,8 @@ pub record Parses {M E : Type 0} (cause_of : E → Option Cause) (table : Elemen
 
 -- ---- messages to a sink
 
-abbrev pub RefusesSinkBy : List ℕ → Option (List ℕ) → Option (List ℕ) → ℕ → ℕ → Option Cause → Type 0
+abbrev pub RefusesSinkBy : List ℕ → Option (List ℕ) → Option (List ℕ) → ℕ → ℕ → Option Cause
+    → Type 0
 RefusesSinkBy text written after faults now (Some causes.Write) =
     Rose faults now × AppendsPart written after text × (length text ≤ 2 ^ 31)
 RefusesSinkBy text written after faults now (Some causes.TooLong) =
@@ -93,8 +94,9 @@ RefusesSink cause_of text written after faults now e =
     RefusesSinkBy text written after faults now (cause_of e)
 
 -- What a call answers that writes a text to a sink: by what was written, before and after, and by the sink's count of faults.
-pub record WritesText {E : Type 0} (cause_of : E → Option Cause) (text : List ℕ) (written after : Option (List ℕ)) (faults now : ℕ)
-    (result : Result (Unit {0}) E) : Type 0 where
+pub record WritesText {E : Type 0} (cause_of : E → Option Cause) (text : List ℕ)
+    (written after : Option (List ℕ)) (faults now : ℕ) (result : Result (Unit {0}) E)
+    : Type 0 where
   -- the text was written whole, or the answer has its cause
   pub whole : OnOk result (Appends written after text)
   pub short : OnOk result (length text ≤ 2 ^ 31)

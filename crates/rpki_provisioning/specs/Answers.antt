@@ -78,9 +78,9 @@ IsOfAll (Err errors.InvalidCsrSyntax) = ⊤
 IsOfAll _ = ⊥
 
 -- What a call answers that reads a source to its end and takes what it gives for a message: by what the source had still to give, before
--- and
--- after, and by its count of faults.
-pub record Parses (rest left : Option (List ℕ)) (faults now : ℕ) (result : Result MessageFields Error) : Type 0 where
+-- and after, and by its count of faults.
+pub record Parses (rest left : Option (List ℕ)) (faults now : ℕ)
+    (result : Result MessageFields Error) : Type 0 where
   -- all that there was is the message, or the answer has its cause
   pub message : IfOk result (λ m. IfSome rest (λ octets. Reads octets m))
   pub refused : IfErr result (RefusesSource rest faults now)

@@ -5,4 +5,5 @@ use Rattle.rpki_common.specs.Chaining.{◌>>=◌}
 -- an item that passes the test is read, and stands behind those that were read before
 unfoldable pub each_slot : {A X : Type 0} → (A → Bool) → (A → Option X) → List X → A
     → Option (List X)
-each_slot test read found a = if test a then (read a >>= λ x. Some (found ++ x ∷ [])) else Some found
+each_slot test read found a =
+    if test a then (read a >>= λ x. Some (found ++ x ∷ [])) else Some found

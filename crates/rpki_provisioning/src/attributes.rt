@@ -103,7 +103,8 @@ pub(crate) fn resources_in(alloc: Global, e: &ElementRef<'_>) -> Result<Resource
 
 /// The URI where a certificate is published.
 pub(crate) fn cert_url_in(alloc: Global, e: &ElementRef<'_>) -> Result<uri::Rsync, XmlError>
-    ensures { Gives (required_by (uri_of_text rsync) (codes "cert_url") e.now.head) (λ u. u) result }
+    ensures { Gives (required_by (uri_of_text rsync) (codes "cert_url") e.now.head)
+        (λ u. u) result }
 {
     let text = e.required("cert_url")?;
     uri_of(alloc, text)

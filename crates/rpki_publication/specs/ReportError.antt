@@ -42,7 +42,8 @@ report_error_element r = record {
     name = codes "report_error";
     namespace = None;
     attributes =
-        attribute (codes "error_code") (code_text r.error_code) ∷ optional_attribute (codes "tag") r.tag;
+        attribute (codes "error_code") (code_text r.error_code)
+        ∷ optional_attribute (codes "tag") r.tag;
     text = [];
   };
   children =

@@ -41,7 +41,7 @@ pub use law::{
     added_changes_are_lists, at_most_one, content_type_is, equal_lists_are_the_same,
     equal_messages_are_the_same, equal_reply_elements_are_the_same, equal_reports_are_the_same,
     equal_values_are_the_same, normal_form_is_normal, printed_code_is_read, read_is_writable,
-    read_texts_are_short, written_is_read,
+    read_texts_are_short, small_deltas_are_short, written_is_read,
 };
 pub use list_element::ListElement;
 pub use list_reply::ListReply;

@@ -54,6 +54,6 @@ pub fn zero_answers_all<P: Scheme>()
 pub fn runs_end_for_cause<P: Scheme>()
     ensures { (when : ℤ) (status : ℕ) (source sink : Seen) (input : List ℕ) →
         EndsRun (λ octets. EndsInput P.checks when octets status sink) status source sink →
-        source.before ≡ Some input → length input ≤ 2 ^ 26 → ¬ (HasFailed source) → ¬ (HasFailed sink) →
-        EndsForCause input status }
+        source.before ≡ Some input → length input ≤ 2 ^ 26
+        → ¬ (HasFailed source) → ¬ (HasFailed sink) → EndsForCause input status }
 {}

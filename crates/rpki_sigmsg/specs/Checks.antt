@@ -167,7 +167,8 @@ without_place (Ok place) = Ok tt
 without_place (Err error) = Err error
 
 -- the answer, with its error in an error of another kind
-abbrev pub passed_on : {X E : Type 0} → (ValidationError → E) → Result X ValidationError → Result X E
+abbrev pub passed_on : {X E : Type 0} → (ValidationError → E) → Result X ValidationError
+    → Result X E
 passed_on wrap (Ok x) = Ok x
 passed_on wrap (Err error) = Err (wrap error)
 

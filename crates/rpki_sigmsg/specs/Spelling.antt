@@ -19,7 +19,8 @@ use Rattle.rpki_sigmsg.specs.TbsCrl.{TbsCrlFields}
 
 -- an entry without extensions
 abbrev pub spelled_entry : EntryFields → List ℕ
-spelled_entry e = der_constructed sequence (der_serial e.user_certificate ++ der_time e.revocation_date)
+spelled_entry e =
+    der_constructed sequence (der_serial e.user_certificate ++ der_time e.revocation_date)
 
 -- the entries as they are held, in a SEQUENCE that is there in any case
 abbrev pub spelled_revoked : RevokedFields → List ℕ

@@ -234,7 +234,8 @@ impl Signer<AnyScheme> for LongSigner {
         ensures distinct { AreDistinct (spec.long_state self.new).keyring }
 
         // Which answer, and what the signer is then.
-        ensures exact { toy_spec.IsToyRandom self.old.toy self.new.toy target.old target.new result }
+        ensures exact { toy_spec.IsToyRandom self.old.toy self.new.toy
+            target.old target.new result }
         ensures rest { self.new ≡ spec.with_toy self.new.toy self.old }
     {
         self.toy.fill(target)

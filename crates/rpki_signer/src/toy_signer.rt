@@ -192,7 +192,8 @@ impl ToySigner {
     /// From now on RSA signatures for one use are made with the key of this number, which has to be an RSA key that it holds, and draw
     /// nothing.
     pub fn reuse(&mut self, key: u64)
-        requires { spec.key_numbered self.old.keys key ≡ Some (record { number = key; format = Rsa }) }
+        requires { spec.key_numbered self.old.keys key
+            ≡ Some (record { number = key; format = Rsa }) }
         ensures { self.new ≡ spec.after_setting key self.old }
     {
         self.reuse = Some(key);

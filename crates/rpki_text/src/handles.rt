@@ -62,7 +62,8 @@ pub fn equal_markers_are_the_same()
     ensures parent { (a b : Parent) → (⟦<Parent as PartialEq>⟧.eq a b ≡ true) ↔ (a ≡ b) }
     ensures child { (a b : Child) → (⟦<Child as PartialEq>⟧.eq a b ≡ true) ↔ (a ≡ b) }
     ensures publisher { (a b : Publisher) → (⟦<Publisher as PartialEq>⟧.eq a b ≡ true) ↔ (a ≡ b) }
-    ensures repository { (a b : Repository) → (⟦<Repository as PartialEq>⟧.eq a b ≡ true) ↔ (a ≡ b) }
+    ensures repository { (a b : Repository)
+        → (⟦<Repository as PartialEq>⟧.eq a b ≡ true) ↔ (a ≡ b) }
     ensures sender { (a b : Sender) → (⟦<Sender as PartialEq>⟧.eq a b ≡ true) ↔ (a ≡ b) }
     ensures recipient { (a b : Recipient) → (⟦<Recipient as PartialEq>⟧.eq a b ≡ true) ↔ (a ≡ b) }
 {}

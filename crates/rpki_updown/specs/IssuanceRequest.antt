@@ -24,4 +24,5 @@ asked_text name limit key = codes "class name '" ++ (name ++ (codes "' limit '"
 -- What is printed: the name of the class, the limit, the identifier of the key in hexadecimal digits in upper case, and the three
 -- places, or `<none>`, each in quotation marks.
 abbrev pub issuance_request_text : IssuanceRequestFields → List ℕ
-issuance_request_text r = asked_text r.class_name r.limit (sha1 r.csr.tbs.key.bits) ++ places_text r.csr
+issuance_request_text r =
+    asked_text r.class_name r.limit (sha1 r.csr.tbs.key.bits) ++ places_text r.csr
