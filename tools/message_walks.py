@@ -3,8 +3,8 @@
 A line is `NAME DER OCTETS STEP..`, with the steps of tools/stored.py; DER is `der`, `ber` or `both`. What the calls answer:
 
     message whole decoded
-        of a copy the content, its digest, the signer's key identifier, the time of signing or `-`, the octets that are covered, their
-        signature, and the message as it is written
+        of a copy the contents octets of the content's object identifier, the content, its digest, the signer's key identifier, the time of
+        signing or `-`, the octets that are covered, their signature, and the message as it is written
     view
         the octets of the content, the certificate, the CRL, a second CRL or `-`, the attributes and the signature
     rest
@@ -14,10 +14,13 @@ A line is `NAME DER OCTETS STEP..`, with the steps of tools/stored.py; DER is `d
 from types import SimpleNamespace
 
 from messages import (
-    GOOD, NOW, NULL, OTHER, RSA_SHA256, SIGNING_TIME, SMALL, attribute, attributes_of, behind_last, broken_ber_cases, certificate, crl,
+    GOOD, NOW, NULL, OTHER, RSA_SHA256, SIGNING_TIME, attribute, attributes_of, behind_last, broken_ber_cases, certificate, crl,
     digest_of, indefinite, malformed_cases, message, octet_string, oid, overlong, own_crl, printable, segmented, seq, signature_of,
     subject_key, value, without)
 from stored import MALFORMED, SIZES, step, terms
+
+# 1.2.840.113549.1.9.16.1.28, of XML (RFC 6492, section 3.1.1.3)
+XML_TYPE = bytes.fromhex("2a864886f70d010910011c")
 
 
 def walked_line(label, mode, octets, *steps):
@@ -29,7 +32,7 @@ def walked(label, mode="both", signed_at=NOW, second=b"-", written=(), **options
     octets, o = message(**options), SimpleNamespace(**{**GOOD, **options})
     attributes, signature = attributes_of(o), signature_of(o)
     shown = (
-        o.content, digest_of(o), o.signer_id or subject_key(o), signed_at, value(0x31, attributes), signature,
+        XML_TYPE, o.content, digest_of(o), o.signer_id or subject_key(o), signed_at, value(0x31, attributes), signature,
         message(**{**options, **dict(written)}))
     view = o.content_string(o.content), certificate(o), crl(o), second, attributes, octet_string(signature)
     yield walked_line(label, mode, octets, step("whole", *shown))
@@ -67,7 +70,6 @@ def lines():
         yield from walked(f"signature-of-{n}", signature=lambda octets: b"s" * n)
         yield from walked(f"name-of-{n}", subject_text=lambda octets: printable(b"n" * n))
         yield from walked(f"entry-of-{n}", entries=(2,), entry_extensions=seq(octet_string(b"e" * n)))
-    for n in SMALL:
         yield from walked(f"of-{n}-entries", entries=(2,) * n)
     for label, octets in (*malformed_cases(), *broken_ber_cases()):
         yield from unread(label, "both", octets)

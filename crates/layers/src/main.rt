@@ -41,6 +41,3 @@ fn main(rt: HostRuntime) -> io::Result<()> {
         Outcome::OutOfMemory => println!(rt; "out of memory"),
     }
 }
-
-#[cfg(test)]
-mod tests;

@@ -1,6 +1,6 @@
 //! Decodes and validates stored signed messages, and says how many answers differ from the expected.
 //!
-//! A line of data/cases.txt is `NAME MODE FORMAT SEED MOMENT EXPECTED HEX`, `NAME built MOMENT SEED REVOKED CONTENT MESSAGE`,
+//! A line of data/cases.txt is `NAME MODE FORMAT SEED MOMENT EXPECTED MESSAGE`, `NAME built MOMENT SEED REVOKED CONTENT MESSAGE`,
 //! `NAME created MOMENT KEY FAILING CONTENT MESSAGE`, `NAME unsigned MOMENT SERIAL CONTENT MESSAGE`,
 //! `NAME long MOMENT OCTETS COUNT CONTENT MESSAGE`, `NAME checks FORMAT SEED NUMBER MOMENT DIGITS MESSAGE`, or, run twice, the second time
 //! by the counted calls, `NAME DER OCTETS STEP..`, where DER is `der`, `ber` or `both`; tools/messages.py, which writes the file by the
@@ -22,7 +22,7 @@ use rpki_signer::{ToyScheme, ToyVerifier};
 use std::alloc::Global;
 use std::io;
 use std::io::ErrorKind;
-use stored_cases::{Cases, Walks, invalid, run};
+use stored_cases::{Cases, Walks, invalid, octets_of, run};
 
 #[derive(Drop)]
 struct Case<'a> {
@@ -179,10 +179,8 @@ fn is_validated(alloc: Global, line: &str) -> io::Result<bool> {
     let Some(case) = case_of(line) else {
         return Err(invalid());
     };
-    match hex::decode(alloc, case.message) {
-        Ok(octets) => is_as_expected(alloc, &case, &octets),
-        Err(_) => Err(invalid()),
-    }
+    let octets = octets_of(alloc, case.message)?;
+    is_as_expected(alloc, &case, &octets)
 }
 
 const READINGS: Walks<Readings> = Walks { calls: Readings };

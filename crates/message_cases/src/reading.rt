@@ -21,10 +21,11 @@ fn written(alloc: Global, message: &SignedMessage) -> Result<Writer, OutOfMemory
     Ok(out)
 }
 
-// The content, its digest, the signer's key identifier, the time of signing, the octets that are covered, their signature, and what is
-// written.
+// The content's type, the content, its digest, the signer's key identifier, the time of signing, the octets that are covered, their
+// signature, and what is written.
 fn fields_shown(alloc: Global, message: &SignedMessage) -> Result<Fields, DecodeError> {
-    let mut fields = Fields::one(alloc, message.content().as_slice())?;
+    let mut fields = Fields::one(alloc, message.content_type())?;
+    fields.octets(message.content().as_slice())?;
     fields.octets(message.digest())?;
     fields.octets(message.signer_identifier().as_slice())?;
     append_time(alloc, &mut fields, message.signing_time())?;

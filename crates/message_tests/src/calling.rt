@@ -1,7 +1,11 @@
-use super::*;
+//! The example of a caller with a scheme of its own.
+
+use rpki_base::Time;
+use rpki_ca::Received;
 use rpki_publication::Message;
 use rpki_signer::ToyScheme;
 use std::test::Fail;
+use uses_receive::message_from;
 
 // The message of examples/query-list.hex, which a model made that was written apart.
 const QUERY: &str =

@@ -55,6 +55,3 @@ pub fn message_from(
         &LongKeyVerifier,
     )
 }
-
-#[cfg(test)]
-mod tests;
