@@ -3,11 +3,11 @@
 
     tools/gate_minutes.py [--watch PID] [--log FILE] [--read FILE ..] [--edits N]
 
-Runs `rt ci --anew` at the top, or watches a gate that runs already, of which PID is the process. Every second it reads how much processor
-time each process below it has taken, and when the gate ends it prints, for each crate, the minutes of its proofs, of its wrong bodies and
-of its tests and programs, and the same of all. A process counts for the crate that is named by `--crate-name`, or in whose folder it runs;
-it counts as a wrong body where it works on a copy that rt makes for one, as a run where it is no `rattle`. Processes that end within the
-second are missed, so the sums are a little too low. What rt itself takes stands under `rt`.
+Runs `rt ci` at the top, with `--anew` where rt knows that word, or watches a gate that runs already, of which PID is the process. Every
+second it reads how much processor time each process below it has taken, and when the gate ends it prints, for each crate, the minutes of
+its proofs, of its wrong bodies and of its tests and programs, and the same of all. A process counts for the crate that is named by
+`--crate-name`, or in whose folder it runs; it counts as a wrong body where it works on a copy that rt makes for one, as a run where it is
+no `rattle`. Processes that end within the second are missed, so the sums are a little too low. What rt itself takes stands under `rt`.
 
 With --log each process is noted in a file as well, a line each: crate, what it counts for, seconds, place, which of a wrong body's try is
 the edit, and of the check with which they begin `seed`. With --read nothing runs, and the table is that of such files. With --edits the N
@@ -109,6 +109,11 @@ def edits_of(rows, number):
     return "\n".join(f"{taken:8.1f} s  {crate} {place}" for taken, crate, place in sorted(tries, reverse=True)[:number])
 
 
+def gate_words():
+    said = subprocess.run(["rt", "help"], capture_output=True, text=True, check=False)
+    return ["rt", "ci", *(["--anew"] if "--anew" in said.stdout + said.stderr else [])]
+
+
 def rows_in(path):
     with open(path, encoding="utf-8") as file:
         rows = [line.rstrip("\n").split("\t") for line in file]
@@ -130,7 +135,7 @@ def main():
     if asked.watch:
         rows = watch(asked.watch, lambda: stat_of(asked.watch) is None)
     else:
-        with subprocess.Popen(["rt", "ci", "--anew"], cwd=TOP) as gate:
+        with subprocess.Popen(gate_words(), cwd=TOP) as gate:
             rows = watch(gate.pid, lambda: gate.poll() is not None)
             status = gate.wait()
     if asked.log:
