@@ -24,9 +24,15 @@ use std::sync::ledger::{Blank, Ledger};
 /// The name of an issuer or a subject (RFC 5280, 4.1.2.4), as the octets that were read or made.
 ///
 /// In a clause it is the list of the octets.
-#[derive(Drop, PartialEq, Eq)]
+#[derive(PartialEq, Eq)]
 pub struct Name {
     octets: Bytes,
+}
+
+impl Drop for Name {
+    fn drop(self) {
+        let Name { octets } = self;
+    }
 }
 
 impl Model for Name {

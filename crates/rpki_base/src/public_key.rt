@@ -31,10 +31,16 @@ use std::sync::ledger::{Blank, Ledger};
 /// A public key: its format and the octets of its bits (RFC 5280, 4.1.2.7).
 ///
 /// In a clause it is these two.
-#[derive(Debug, PartialEq, Eq, Drop)]
+#[derive(Debug, PartialEq, Eq)]
 pub struct PublicKey {
     format: PublicKeyFormat,
     bits: Bytes,
+}
+
+impl Drop for PublicKey {
+    fn drop(self) {
+        let PublicKey { format, bits } = self;
+    }
 }
 
 impl Model for PublicKey {

@@ -63,10 +63,16 @@ pub trait SignatureAlgorithm: Copy + PartialEq {
 /// A signature: its octets, and the algorithm that made them.
 ///
 /// In a clause it is these two.
-#[derive(Drop, PartialEq)]
+#[derive(PartialEq)]
 pub struct Signature<Alg: SignatureAlgorithm> {
     algorithm: Alg,
     value: Bytes,
+}
+
+impl<Alg: SignatureAlgorithm> Drop for Signature<Alg> {
+    fn drop(self) {
+        let Signature { algorithm, value } = self;
+    }
 }
 
 impl<Alg: SignatureAlgorithm> Model for Signature<Alg> {

@@ -204,9 +204,14 @@ impl CsrAttributes for RpkiCaCsrAttributes {
 /// The attributes of a router's request (RFC 8209, 3.2).
 ///
 /// In a clause it is the list of the purposes, if they are there.
-#[derive(Drop)]
 pub struct BgpsecCsrAttributes {
     extended_key_usage: Option<ExtendedKeyUsage>,
+}
+
+impl Drop for BgpsecCsrAttributes {
+    fn drop(self) {
+        let BgpsecCsrAttributes { extended_key_usage } = self;
+    }
 }
 
 impl Model for BgpsecCsrAttributes {

@@ -15,9 +15,14 @@ use std::sync::ledger::Ledger;
 /// For what purposes a key is used (RFC 5280, 4.2.1.12): at least one.
 ///
 /// In a clause it is the list of the object identifiers, each by its contents octets.
-#[derive(Drop)]
 pub struct ExtendedKeyUsage {
     oids: Sequence<Oid>,
+}
+
+impl Drop for ExtendedKeyUsage {
+    fn drop(self) {
+        let ExtendedKeyUsage { oids } = self;
+    }
 }
 
 impl Model for ExtendedKeyUsage {

@@ -18,9 +18,15 @@ use std::marker::Model;
 use std::rc::RcStr;
 
 /// A text whose copies share its octets. In a clause it is the list of its octets.
-#[derive(Debug, Drop)]
+#[derive(Debug)]
 pub struct Text {
     text: RcStr,
+}
+
+impl Drop for Text {
+    fn drop(self) {
+        let Text { text } = self;
+    }
 }
 
 impl Model for Text {

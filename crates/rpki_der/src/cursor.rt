@@ -22,12 +22,22 @@ use std::sync::ledger::{Blank, Ledger};
 
 /// A place in the values that octets spell. After each of its own calls that is refused it stands where it stood before; the
 /// functions that take a cursor don't say where they leave it then.
-#[derive(Drop)]
 pub struct Cursor<'a> {
     pub(crate) alloc: Global,
     pub(crate) mode: Mode,
     pub(crate) here: &'a [u8],
     opened: Levels<'a>,
+}
+
+impl Drop for Cursor<'_> {
+    fn drop(self) {
+        let Cursor {
+            alloc,
+            mode,
+            here,
+            opened,
+        } = self;
+    }
 }
 
 impl<'a> Model for Cursor<'a> {

@@ -21,9 +21,15 @@ use std::marker::Model;
 /// An OCTET STRING (X.690, 8.7).
 ///
 /// In a clause it is the list of its octets, those of its segments joined.
-#[derive(Drop, PartialEq, Eq)]
+#[derive(PartialEq, Eq)]
 pub struct OctetString {
     octets: Bytes,
+}
+
+impl Drop for OctetString {
+    fn drop(self) {
+        let OctetString { octets } = self;
+    }
 }
 
 impl Model for OctetString {
@@ -83,10 +89,16 @@ impl OctetString {
 /// A BIT STRING (X.690, 8.6).
 ///
 /// In a clause it is its count of unused bits and its octets.
-#[derive(Drop, PartialEq, Eq)]
+#[derive(PartialEq, Eq)]
 pub struct BitString {
     unused: u8,
     octets: Bytes,
+}
+
+impl Drop for BitString {
+    fn drop(self) {
+        let BitString { unused, octets } = self;
+    }
 }
 
 impl Model for BitString {
@@ -142,9 +154,15 @@ impl BitString {
 /// An OBJECT IDENTIFIER (X.690, 8.19).
 ///
 /// In a clause it is the list of its contents octets.
-#[derive(Drop, PartialEq, Eq)]
+#[derive(PartialEq, Eq)]
 pub struct Oid {
     octets: Bytes,
+}
+
+impl Drop for Oid {
+    fn drop(self) {
+        let Oid { octets } = self;
+    }
 }
 
 impl Model for Oid {

@@ -146,10 +146,15 @@ impl<'a> Iterator for Children<'a> {
 /// A value with all that is in it.
 ///
 /// In a clause it is that value. Its nodes stand in one list, so that neither reading nor dropping it recurses.
-#[derive(Drop)]
 pub struct Tree {
     pub(crate) octets: Vec<u8>,
     pub(crate) entries: Vec<Entry>,
+}
+
+impl Drop for Tree {
+    fn drop(self) {
+        let Tree { octets, entries } = self;
+    }
 }
 
 impl Model for Tree {

@@ -154,9 +154,14 @@ impl Writer {
 /// Octets of values, as they were written.
 ///
 /// In a clause it is the list of the octets.
-#[derive(Drop)]
 pub struct Captured {
     octets: Bytes,
+}
+
+impl Drop for Captured {
+    fn drop(self) {
+        let Captured { octets } = self;
+    }
 }
 
 impl Model for Captured {
@@ -179,7 +184,8 @@ impl Captured {
     pub fn into_bytes(self) -> Bytes
         ensures { result ≡ self }
     {
-        self.octets
+        let Captured { octets } = self;
+        octets
     }
 
     /// Equal octets.

@@ -8,10 +8,16 @@ use std::alloc::Global;
 use std::marker::Model;
 
 /// An object that is published, by where it is and its digest (RFC 8181, 2.3). In a clause it is the record of its fields.
-#[derive(Debug, Drop, PartialEq, Eq, std::hash::Hash)]
+#[derive(Debug, PartialEq, Eq, std::hash::Hash)]
 pub struct ListElement {
     uri: uri::Rsync,
     hash: Hash,
+}
+
+impl Drop for ListElement {
+    fn drop(self) {
+        let ListElement { uri, hash } = self;
+    }
 }
 
 impl Model for ListElement {

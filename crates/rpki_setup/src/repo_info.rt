@@ -12,10 +12,19 @@ use std::alloc::{AllocError, Global};
 use std::marker::Model;
 
 /// Where a repository's objects are found (RFC 8183, 5.2.4). In a clause it is the record of its fields.
-#[derive(Debug, Drop, PartialEq, Eq)]
+#[derive(Debug, PartialEq, Eq)]
 pub struct RepoInfo {
     sia_base: uri::Rsync,
     rrdp_notification_uri: Option<uri::Https>,
+}
+
+impl Drop for RepoInfo {
+    fn drop(self) {
+        let RepoInfo {
+            sia_base,
+            rrdp_notification_uri,
+        } = self;
+    }
 }
 
 impl Model for RepoInfo {

@@ -131,10 +131,15 @@ impl CrlEntry {
 /// The certificates that a CRL revokes, as the octets of their entries and as a list (RFC 5280, 5.1.2.6).
 ///
 /// In a clause it is these two.
-#[derive(Drop)]
 pub struct RevokedCertificates {
     octets: Bytes,
     entries: Sequence<CrlEntry>,
+}
+
+impl Drop for RevokedCertificates {
+    fn drop(self) {
+        let RevokedCertificates { octets, entries } = self;
+    }
 }
 
 impl Model for RevokedCertificates {

@@ -52,9 +52,15 @@ impl From<OutOfMemory> for Base64Error {
 
 /// Octets, held as their base64 text (RFC 4648, section 4): the standard alphabet, padded, with no
 /// white space. In a clause it is the list of the octets.
-#[derive(Debug, Drop)]
+#[derive(Debug)]
 pub struct Base64 {
     text: Text,
+}
+
+impl Drop for Base64 {
+    fn drop(self) {
+        let Base64 { text } = self;
+    }
 }
 
 impl Model for Base64 {

@@ -128,10 +128,16 @@ impl From<OutOfMemory> for InvalidHandle {
 
 /// The name of a party. The marker `T` says in which part it is named, and takes no place. In a
 /// clause a handle is the list of its octets.
-#[derive(Debug, Drop)]
+#[derive(Debug)]
 pub struct Handle<T> {
     name: Text,
     marker: PhantomData<T>,
+}
+
+impl<T> Drop for Handle<T> {
+    fn drop(self) {
+        let Handle { name, marker: _ } = self;
+    }
 }
 
 impl<T> Model for Handle<T> {

@@ -85,10 +85,16 @@ pub trait UriKind {
 }
 
 /// A URI of the kind `K`. In a clause it is the list of its octets.
-#[derive(Debug, Drop)]
+#[derive(Debug)]
 pub struct Uri<K: UriKind> {
     text: Text,
     kind: PhantomData<K>,
+}
+
+impl<K: UriKind> Drop for Uri<K> {
+    fn drop(self) {
+        let Uri { text, kind: _ } = self;
+    }
 }
 
 /// An rsync URI, with a host, a module and a path (RFC 5781).

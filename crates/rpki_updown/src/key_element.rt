@@ -12,10 +12,16 @@ use std::marker::Model;
 
 /// A key and the resource class in which it is certified: the element `key` (RFC 6492, 3.5.1 and 3.5.2). In a clause it is the record of
 /// its fields.
-#[derive(Debug, Drop, PartialEq, Eq, Hash)]
+#[derive(Debug, PartialEq, Eq, Hash)]
 pub struct KeyElement {
     class_name: ResourceClassName,
     key: KeyIdentifier,
+}
+
+impl Drop for KeyElement {
+    fn drop(self) {
+        let KeyElement { class_name, key } = self;
+    }
 }
 
 impl Model for KeyElement {

@@ -13,10 +13,19 @@ use std::marker::Model;
 use std::rc::RcStr;
 
 /// A request was not performed (RFC 6492, 3.6): a status, and words that say why where there are any. In a clause it is the record of both.
-#[derive(Debug, Drop, PartialEq, Eq)]
+#[derive(Debug, PartialEq, Eq)]
 pub struct NotPerformedResponse {
     status: u64,
     description: Option<Text>,
+}
+
+impl Drop for NotPerformedResponse {
+    fn drop(self) {
+        let NotPerformedResponse {
+            status,
+            description,
+        } = self;
+    }
 }
 
 impl Model for NotPerformedResponse {

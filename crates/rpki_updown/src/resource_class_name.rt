@@ -21,9 +21,15 @@ use std::hash::{Hash, Hasher};
 use std::marker::Model;
 
 /// The name by which a parent calls a resource class (RFC 6492, 3.3.2): any text. In a clause it is the list of its octets.
-#[derive(Debug, Drop)]
+#[derive(Debug)]
 pub struct ResourceClassName {
     name: Text,
+}
+
+impl Drop for ResourceClassName {
+    fn drop(self) {
+        let ResourceClassName { name } = self;
+    }
 }
 
 /// The name by which a class is called at the parent.

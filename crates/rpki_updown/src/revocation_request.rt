@@ -10,9 +10,15 @@ use std::alloc::Global;
 use std::marker::Model;
 
 /// Asks that the certificates of a key in a resource class be revoked (RFC 6492, 3.5.1). In a clause it is the record of both.
-#[derive(Debug, Drop, PartialEq, Eq, Hash)]
+#[derive(Debug, PartialEq, Eq, Hash)]
 pub struct RevocationRequest {
     key: KeyElement,
+}
+
+impl Drop for RevocationRequest {
+    fn drop(self) {
+        let RevocationRequest { key } = self;
+    }
 }
 
 impl Model for RevocationRequest {

@@ -9,9 +9,15 @@ use std::alloc::Global;
 use std::marker::Model;
 
 /// The certificates of a key in a resource class are revoked (RFC 6492, 3.5.2). In a clause it is the record of both.
-#[derive(Debug, Drop, PartialEq, Eq)]
+#[derive(Debug, PartialEq, Eq)]
 pub struct RevocationResponse {
     key: KeyElement,
+}
+
+impl Drop for RevocationResponse {
+    fn drop(self) {
+        let RevocationResponse { key } = self;
+    }
 }
 
 impl Model for RevocationResponse {
