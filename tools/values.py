@@ -25,6 +25,7 @@ A line is `NAME MODE OCTETS STEP..`, with the steps of tools/stored.py; MODE is 
     data_algorithm signature          as algorithm; what a certificate writes of the algorithm, and the signature, of data that were entered
     extensions extensions_under,TAG   identifier and value of each, one behind the other; two_extensions: the same without what is round them
     append_constructed,TAG            the octets, and behind them the constructed value whose contents they are
+    append_primitive,TAG              the same with a primitive value
 """
 
 import calendar
@@ -848,7 +849,8 @@ def written_sizes(n, part):
     yield case(
         f"written-{n}", "der", part, step("write_primitive", octet_string(part), argument=b"\4"),
         step("write_constructed", *[value(0x30, part)] * 2, argument=b"\x10"),
-        step("append_constructed", part + value(0x30, part), argument=b"\x10"), step("write_rsa_key", rsa_key(part)),
+        step("append_constructed", part + value(0x30, part), argument=b"\x10"),
+        step("append_primitive", part + value(4, part), argument=b"\4"), step("write_rsa_key", rsa_key(part)),
         step("write_ec_key", seq(seq(EC, P256), bits(part))),
         step("write_rsa_data", seq(part, ALGORITHM, bits(part)), argument=part),
         step("write_ec_data", seq(part, ROUTER, bits(part)), argument=part))
@@ -860,6 +862,8 @@ def written_cases():
     yield case("appended-constructed", "der", inner, step("append_constructed", inner + value(0xA0, inner), argument=b"\x80"),
         step("append_constructed", inner + value(0x31, inner), argument=b"\x11"),
         step("append_constructed", MALFORMED, argument=b"\0"))
+    yield case("appended-primitive", "der", b"ab", step("append_primitive", b"ab\x80\2ab", argument=b"\x80"),
+        step("append_primitive", b"ab\4\2ab", argument=b"\4"), step("append_primitive", MALFORMED, argument=b"\0"))
     yield case("written-under-a-long-tag", "der", b"x",
         step("write_primitive", b"\x9f\x81\x82\3\1x", argument=bytes.fromhex("9f818203")))
     yield case("written-constructed-under-a-long-tag", "der", NULL,

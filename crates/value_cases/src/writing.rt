@@ -4,7 +4,7 @@ use crate::shown::{tag_of, written_data, written_key};
 use bytes::Bytes;
 use rpki_base::{
     BgpsecSignatureAlgorithm, PublicKey, PublicKeyFormat, RpkiSignatureAlgorithm, Signature,
-    SignatureAlgorithm, SignedData, write_constructed,
+    SignatureAlgorithm, SignedData, write_constructed, write_primitive,
 };
 use rpki_der::{Captured, DecodeError, OutOfMemory, Writer};
 use std::alloc::Global;
@@ -53,6 +53,14 @@ fn appended(alloc: Global, octets: &[u8], tag: &[u8]) -> Result<Fields, DecodeEr
     Ok(Fields::one(alloc, out.as_slice())?)
 }
 
+// The octets, and behind them a primitive value whose contents they are.
+fn appended_primitive(alloc: Global, octets: &[u8], tag: &[u8]) -> Result<Fields, DecodeError> {
+    let mut out = Writer::new(alloc);
+    out.raw(octets)?;
+    write_primitive(tag_of(tag)?, octets, &mut out)?;
+    Ok(Fields::one(alloc, out.as_slice())?)
+}
+
 fn key(alloc: Global, bits: &[u8], format: PublicKeyFormat) -> Result<Fields, DecodeError> {
     let key = PublicKey::new(alloc, format, bits)?;
     Ok(Fields::one(alloc, written_key(alloc, &key)?.as_slice())?)
@@ -91,6 +99,7 @@ pub fn answer(
         "write_primitive" => Some(primitive(alloc, octets, &step.argument)),
         "write_constructed" => Some(constructed(alloc, octets, &step.argument)),
         "append_constructed" => Some(appended(alloc, octets, &step.argument)),
+        "append_primitive" => Some(appended_primitive(alloc, octets, &step.argument)),
         "write_rsa_key" => Some(key(alloc, octets, PublicKeyFormat::Rsa)),
         "write_ec_key" => Some(key(alloc, octets, PublicKeyFormat::EcdsaP256)),
         "write_rsa_data" => Some(rsa_data(alloc, octets, &step.argument)),
