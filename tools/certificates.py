@@ -556,18 +556,26 @@ def crl_lines(label, octets, **fields):
         step("capture", NULL))
 
 
-def entry(number, *behind):
-    """An entry of the first second."""
-    return seq(integer(number), time(FIRST), *behind)
+def entry(number, *behind, second=FIRST):
+    return seq(integer(number), time(second), *behind)
 
 
-def list_lines(label, *entries, behind=()):
-    """A list of these numbers, with this behind each date, and its first entry."""
-    spelled = [entry(number, *behind) for number in entries]
-    shown = b"".join(spelled), seq(*spelled), *(part for number in entries for part in (number.to_bytes(20, "big"), FIRST))
+def list_lines(label, *entries, behind=(), second=FIRST):
+    """A list of these numbers, each of this second, with this behind each date, and its first entry."""
+    spelled = [entry(number, *behind, second=second) for number in entries]
+    shown = b"".join(spelled), seq(*spelled), *(part for number in entries for part in (number.to_bytes(20, "big"), second))
     yield line(label, "both", seq(*spelled) + NULL, step("whole_list", MALFORMED), step("list", *shown), step("capture", NULL))
-    first = entries[0].to_bytes(20, "big"), FIRST, entry(entries[0])
+    first = entries[0].to_bytes(20, "big"), second, entry(entries[0], second=second)
     yield line(f"{label}-entry", "both", spelled[0] + NULL, step("whole_entry", MALFORMED), step("entry", *first), step("capture", NULL))
+
+
+def listed_lines(n):
+    """So many entries, of which the last alone has another number, whole; and a list of so many that are the same or short."""
+    entries = entry(2) * (n - 1), entry(3)
+    yield line(f"list-of-{n}-whole", "both", seq(*entries), *[step("lists", number in (2, 3), False, argument=str(number))
+        for number in range(1, 5)], *[step("last_entry", number == 3, argument=entry(number)) for number in (2, 3)])
+    # each entry is told, so that the longest lists are of 0 at second 0
+    yield from list_lines(f"list-of-{n}", *range(1, n + 1)) if n < 1000 else list_lines(f"list-of-{n}", *[0] * n, second=0)
 
 
 def crl_size_cases():
@@ -580,9 +588,8 @@ def crl_size_cases():
         yield from crl_lines(f"crl-entry-of-{n}", crl_of(entries=listed), listed=listed)
         yield from crl_lines(f"crl-signature-of-{n}", crl_of(signature=part), signature=part)
         yield from list_lines(f"list-with-extensions-of-{n}", 2, behind=[seq(octet_string(part))])
-        if n < 1000:
-            yield from crl_lines(f"crl-of-{n}-entries", crl_of(entries=entry(2) * n), listed=entry(2) * n)
-            yield from list_lines(f"list-of-{n}", *range(1, n + 1))
+        yield from crl_lines(f"crl-of-{n}-entries", crl_of(entries=entry(2) * n), listed=entry(2) * n)
+        yield from listed_lines(n)
     yield from list_lines("list-of-a-long-number", (1 << 160) - 1, 0, 1 << 159)
 
 

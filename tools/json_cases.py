@@ -20,10 +20,11 @@ import base64
 import json
 from hashlib import sha1
 
-from certificates import certificate, own_anchor
+import sets
+from certificates import certificate, options_of as certificate_options, own_anchor
 from messages import NOW, NULL, indefinite, key_bits
 from requests import MANIFEST, REPOSITORY, access, description, constraints, options_of, request, usage, HERE, TRUE
-from stored import MALFORMED, step, terms, write
+from stored import MALFORMED, SIZES, repeated, step, terms, within, write
 
 # JSON texts, and what their limits print.
 LIMITS = [
@@ -168,8 +169,41 @@ def issuance_lines():
         yield line(f"issuance-{name}", request(options), step("issuance", printed.encode(), argument=limit.encode()))
 
 
+def size_lines():
+    """Parts of the sizes where a length or a count takes one octet more."""
+    for n in SIZES:
+        for label, text in ("letters", "A" * n), ("quotes", '"' * n):
+            yield line(f"name-of-{n}-{label}", text.encode(), step("class_name_to_json", json.dumps(text).encode()))
+            yield line(f"name-of-{n}-{label}-spelled", json.dumps(text).encode(), step("class_name", text.encode()))
+        for scheme in "https", "http":
+            text, is_one = f"{scheme}://localhost/".ljust(n, "a").encode(), scheme == "http" or n <= 65535
+            spelled = b'"' + text + b'"'
+            yield line(f"service-of-{n}-{scheme}", text, step("service_to_json", spelled if is_one else MALFORMED))
+            yield line(f"service-of-{n}-{scheme}-spelled", spelled, step("service", text if is_one else MALFORMED))
+        bits = b"k" * n
+        for call, octets in (
+                ("certificate", certificate(certificate_options(key=("rsa", bits)))), ("authority", request(options_of(key=("rsa", bits)))),
+                ("router", request(options_of(router=True, key=("ec", bits))))):
+            yield line(f"{call}-with-a-key-of-{n}", octets, step(f"{call}_to_json", json_of(octets)))
+            yield line(f"{call}-with-a-key-of-{n}-json", json_of(octets), step(call, octets))
+        yield from limit_size_lines(n)
+
+
+def limit_size_lines(n):
+    """Limits of so many items of one run, and of so many runs; the text of a long set is long, so that one of 65536 runs stands here."""
+    for kind in sets.RULES:
+        member = "asn" if kind == "as" else kind
+        front, items = f"{member}: ".encode(), sets.singles(kind, n)
+        stated = within(b'{"%s":"#"}' % member.encode(), b"#", repeated(items[1].encode() + b",", n - 1), terms(items[1].encode()))
+        yield f"limit-of-{n}-items-of-{kind} {stated} limit={terms(front + sets.printed(kind, items[1]).encode())}"
+        if n < 1000 or (kind, n) == ("ipv6", 65536):
+            text = ",".join(items)
+            stated = within(b'{"%s":"#"}' % member.encode(), b"#", "'" + text)
+            yield f"limit-of-{n}-runs-of-{kind} {stated} limit={terms(front)}|'{sets.printed(kind, text)}"
+
+
 def lines():
-    for cases in (limit_lines, string_lines, signed_lines, issuance_lines):
+    for cases in (limit_lines, string_lines, signed_lines, issuance_lines, size_lines):
         yield from cases()
 
 

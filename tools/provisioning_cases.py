@@ -57,8 +57,8 @@ from messages import (
     printable, segmented, seq, value)
 from requests import options_of, request, signature_of
 from resource_certificates import certificate_of, loose
-from sets import printed_numbers, runs
-from stored import DONE, NOTHING, SIZES, step, terms, write
+from sets import printed, singles
+from stored import DONE, NOTHING, SIZES, repeated, step, terms, within, write
 
 NO_XML, NO_REQUEST, NO_CERTIFICATE, NO_CMS = (("refused", text) for text in (
     "malformed XML", "Could not decode CSR", "Could not decode certificate", "Could not decode CMS"))
@@ -712,20 +712,9 @@ def of_length(n):
         "<description/>"))))
 
 
-def spelled_line(label, pieces, call="text"):
-    """A text that is written as it stands, of octets as they are or as terms of tools/stored.py."""
-    word = "|".join(piece if isinstance(piece, str) else terms(piece) for piece in pieces if piece)
-    return f"{label} ber {word} {call}={word}"
-
-
-def many_of(part, n):
-    return f"{part.hex()}*{n}"
-
-
-def around(whole_, part):
-    """What stands before the part and behind it."""
-    at = whole_.index(part)
-    return whole_[:at], whole_[at + len(part):]
+def spelled_line(label, given, written=None):
+    """A text that is written as the other one, or as it stands, both in terms of tools/stored.py."""
+    return f"{label} ber {given} text={written or given}"
 
 
 def size_lines():
@@ -753,27 +742,26 @@ def size_lines():
 
 
 def count_lines(n):
-    """So many classes, certificates and runs in sets; items that make one run."""
-    if n < 1000:
-        bare_class = element(b"class", issuer(BARE_CERT), class_name=b"", cert_url=b"rsync://h/m/", resource_set_as=b"",
-            resource_set_ipv4=b"", resource_set_ipv6=b"", resource_set_notafter=UNTIL)
-        before, behind = around(root(b"list_response", bare_class), bare_class)
-        yield spelled_line(f"{n}-classes", [before, many_of(bare_class, n), behind])
-        bare = certificate(BARE_CERT, b"rsync://h/m/")
-        before, behind = around(root(b"list_response", class_of(bare, issuer(BARE_CERT))), bare)
-        yield spelled_line(f"{n}-certificates", [before, many_of(bare, n), behind])
-    numbers = ",".join(printed_numbers(*run) for run in runs((2 * i, 2 * i) for i in range(n)))
+    """So many classes, certificates and runs in sets; items that make one run. Many classes take seconds, so that there are not 65535. Runs
+    have to differ, so that the texts of the longest sets are long: two are of AS numbers, one of IPv4 addresses."""
+    bare_class = class_of(issuer(BARE_CERT), class_name=b"", url=b"rsync://h/m/", asn=b"", ipv4=b"", ipv6=b"")
+    if n != 65535:
+        yield spelled_line(f"{n}-classes", within(root(b"list_response", bare_class), bare_class, repeated(bare_class, n)))
+    bare = certificate(BARE_CERT, b"rsync://h/m/")
+    yield spelled_line(f"{n}-certificates", within(root(b"list_response", class_of(bare, issuer(BARE_CERT))), bare, repeated(bare, n)))
+    numbers = ",".join(singles("as", n))
     for label, whole_ in (("set", root(b"list_response", class_of(asn=b"#"))), ("limit", root(b"issue", asked(asn=b"#")))):
-        before, behind = around(whole_, b"#")
         if label == "set" or n < 1000:
-            yield spelled_line(f"{n}-runs-in-a-{label}", [before, "'" + numbers, behind])
-        one = [before, b"7", behind]
-        many = "|".join([terms(before), many_of(b"7,", n - 1), terms(b"7" + behind)])
-        yield f"{n}-items-in-a-{label} ber {many} text={terms(b''.join(one))}"
+            yield spelled_line(f"{n}-runs-in-a-{label}", within(whole_, b"#", "'" + numbers))
+        one = within(whole_, b"#", terms(b"7"))
+        yield spelled_line(f"{n}-items-in-a-{label}", within(whole_, b"#", repeated(b"7,", n - 1), terms(b"7")), one)
     if n < 1000:
         for kind, texts in ("ipv4", [f"10.0.{2 * i // 256}.{2 * i % 256}/32" for i in range(n)]), ("ipv6", [
                 f"2001:db8:{2 * i + 1:x}::/48" for i in range(n)]):
             yield read(f"{n}-runs-of-{kind}", root(b"list_response", class_of(**{kind: ",".join(texts).encode()})))
+    elif n == 65536:
+        whole_, addresses = root(b"list_response", class_of(ipv4=b"#")), ",".join(singles("ipv4", n))
+        yield spelled_line(f"{n}-runs-of-ipv4", within(whole_, b"#", "'" + addresses), within(whole_, b"#", "'" + printed("ipv4", addresses)))
 
 
 def lines():

@@ -39,7 +39,7 @@ import hashlib
 from messages import (
     BREAKS, CONTENT_A, FIRST, LAST, NOW, OUTER_TWO, QUERY, QUERY_MESSAGE, broken, created, indefinite, message, overlong, printable,
     segmented)
-from stored import DONE, SIZES, step, terms, write
+from stored import DONE, NOTHING, SIZES, repeated, step, terms, within, write
 
 REPLY = b'<msg xmlns="http://www.hactrn.net/uris/rpki/publication-spec/" version="4" type="reply"><success/></msg>'
 
@@ -265,7 +265,10 @@ def part_lines():
     empty_tag = element(b"publish", tag=b"", uri=URI)
     yield line("parts-without-tag", root(b"query", bare), step("lent", 1, False, "publish", "-", URI, b""),
         step("handed", "publish", "-", URI, b""), step("text", root(b"query", empty_tag)))
-    yield line("parts-of-no-change", root(b"query"), step("lent", 0, True), step("query", root(b"query")))
+    yield line("parts-of-no-change", root(b"query"), step("lent", 0, True), step("handed", NOTHING), step("query", root(b"query")),
+        step("copied", root(b"query")))
+    yield line("parts-of-no-object", root(b"reply"), step("lent", NOTHING), step("handed", NOTHING), step("reply", root(b"reply")),
+        step("copied", root(b"reply")))
     code, words = b"other_error", "error reply including: error code: other_error error code: xml_error "
     errors = root(b"reply", element(b"report_error", element(b"failed_pdu", element(b"list")), error_code=code),
         element(b"report_error", error_code=b"xml_error", tag=b"b"))
@@ -303,9 +306,18 @@ def size_lines():
                 ("failed-tag", b"reply", report(b"other_error", b"a", withdraw), (*withdrawn, printed % b"a"))):
             yield line(f"text-with-{label}-of-{n}", root(kind, part), step("text", root(kind, part)),
                 step("copied", root(kind, part), *copied))
-        if n < 1000:
-            listed = root(b"reply", *[element(b"list", uri=URI, hash=digest(b""))] * n)
-            yield line(f"text-of-{n}-objects", listed, step("text", listed), step("copied", listed))
+        yield from count_lines(n)
+
+
+def count_lines(n):
+    """So many objects, changes and errors."""
+    hash_ = digest(b"")
+    for label, kind, part, calls in (
+            ("objects", b"reply", element(b"list", uri=URI, hash=hash_), ("text", "copied")),
+            ("changes", b"query", element(b"withdraw", tag=b"", uri=URI, hash=hash_), ("text",)),
+            ("errors", b"reply", report(b"other_error", b"a"), ("text",))):
+        word = within(root(kind, part), part, repeated(part, n))
+        yield " ".join((f"text-of-{n}-{label} ber {word}", *(f"{call}={word}" for call in calls)))
 
 
 def text_lines():

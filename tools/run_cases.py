@@ -53,7 +53,7 @@ from messages import (
 from publication import digest, element, mixed, root, shaped
 from requests import options_of, request
 from resource_certificates import certificate_of
-from stored import terms
+from stored import SIZES, terms
 
 ROOT = pathlib.Path(__file__).resolve().parent.parent
 CRATE = ROOT / "crates" / "run_cases"
@@ -482,6 +482,19 @@ def built_rows():
             ("query-under-another-seed", QUERY, (), 2, validation(6)), ("another-content", b"<msg/>", (), 1, XML_ERROR)):
         message = built(content, NOW, 1, revoked)
         yield f"built-{label}", receive(key_word(seed)), message.hex().encode(), answer
+    octets = built(QUERY, NOW, 1, ())
+    for moment in NOW - 301, NOW - 300, NOW, NOW + 300, NOW + 301:
+        answer = RECEIVED if abs(moment - NOW) <= 300 else validation(5)
+        yield f"built-at-{moment}", receive(moment=str(moment)), octets.hex().encode(), answer
+    yield "built-under-another-key", receive(OTHER_KEY), octets.hex().encode(), validation(6)
+    yield "built-under-keys", receive(OTHER_KEY, KEY), octets.hex().encode(), RECEIVED
+    for label, given, answer in (
+            ("without-the-last-octet", octets[:-1], CMS_DECODE), ("and-octets-behind", octets + b"\xff\xff", RECEIVED),
+            ("with-content-in-segments", changed(octets, CONTENT, lambda content: segmented(contents(content))), RECEIVED),
+            ("with-loose-lengths", with_loose_lengths(octets), RECEIVED),
+            ("with-an-overlong-length-in-the-crl", with_crls(octets, in_ber), CMS_DECODE),
+            ("with-gttp-in-the-content", octets.replace(b"http", b"gttp", 1), validation(2))):
+        yield f"built-{label}", receive(), given.hex().encode(), answer
 
 
 # ---- what words say by themselves: name, call, words, answer
@@ -536,7 +549,7 @@ REFUSED = {
     "Usage": 2, "Hex": 3, "CmsDecode": 4, "XmlError": 5, "CertSyntax": 5, "InvalidCsrSyntax": 5, "InvalidTaCertEncoding": 5,
     "InvalidTaCert": 5, "Validation": 6, "KeyNotFound": 7, "IncompatibleKey": 7, "KeyReused": 7, "Signer": 7, "Moment": 8, "TooLong": 9,
     "ReadFault": 10, "OutOfMemory": 12}
-PARTS = 0, 127, 128, 256, 65536
+PARTS = 0, *SIZES
 
 
 def line_parts():

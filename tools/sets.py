@@ -1,4 +1,4 @@
-"""Texts of sets of AS numbers and of IP addresses, and what they print, for tools/text_cases.py.
+"""Texts of sets of AS numbers and of IP addresses, and what they print, for the scripts that write stored cases.
 
 What a text of addresses prints is what Python's `ipaddress` says: a run of addresses that it sums up as one network is that
 network, another is its two ends; texts that it reads otherwise have their prints beside them. Of AS numbers it is what a few
@@ -122,11 +122,30 @@ def is_address(text, address):
     return True
 
 
+# Of each kind what an item's ends are, and what prints a run.
+RULES = {
+    "as": (numbers_of, printed_numbers), "ipv4": (addresses_of, printer(ipaddress.IPv4Address)),
+    "ipv6": (addresses_of, printer(ipaddress.IPv6Address))}
+
+
+def singles(kind, n):
+    """So many items of one number each, up to 66000, in ascending order, of which no two touch. Their texts are short."""
+    if kind == "as":
+        return [str(2 * i) for i in range(n)]
+    if kind == "ipv4":
+        return [f"{i // 6600}.{i // 660 % 10}.{i // 66 % 10}.{2 * (i % 66)}" for i in range(n)]
+    return [f"{i:x}::" for i in range(n)]
+
+
+def printed(kind, text):
+    return print_of(text, *RULES[kind])
+
+
 def kinds():
     """Of each kind the name of its call, the texts with their prints, and texts that stand for no set."""
-    yield "as", [(text, print_of(text, numbers_of, printed_numbers)) for text in ASNS], NO_ASNS
+    yield "as", [(text, printed("as", text)) for text in ASNS], NO_ASNS
     for name, texts, by_the_rule, none, address in (
             ("ipv4", IPV4, IPV4_BY_THE_RULE, NO_IPV4, ipaddress.IPv4Address),
             ("ipv6", IPV6, IPV6_BY_THE_RULE, NO_IPV6, ipaddress.IPv6Address)):
         assert not any(is_address(text, address) for text in none if "%" not in text)
-        yield name, [(text, print_of(text, addresses_of, printer(address))) for text in texts] + by_the_rule, none
+        yield name, [(text, printed(name, text)) for text in texts] + by_the_rule, none

@@ -19,6 +19,17 @@ def terms(octets):
     return "|".join(parts + ([octets[at:].hex()] if at < len(octets) else []))
 
 
+def repeated(part, n):
+    """The term of a part that stands so often, however long it is."""
+    return f"{part.hex()}*{n}"
+
+
+def within(octets, part, *instead):
+    """The terms of octets with other terms in the place of a part, which stands in them once."""
+    before, behind = octets.split(part)
+    return "|".join(filter(None, (terms(before), *instead, terms(behind))))
+
+
 def octets_of(spelled_terms):
     """The octets that such terms spell; `-` spells none."""
     if spelled_terms == "-":

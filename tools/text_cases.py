@@ -305,6 +305,26 @@ def set_rows():
         yield line(f"resources-same-{number}", "resources_same", holds, one, other)
 
 
+def run_rows():
+    """Sets of so many runs, and of so many items, of which two runs come. A set of 65536 runs stands here once, since its text is long."""
+    for kind in sets.RULES:
+        for n in SIZES:
+            items = sets.singles(kind, n)
+            text, all_but_one = ",".join(items), ",".join(items[:-1])
+            if n < 1000:
+                printed = sets.printed(kind, text)
+                yield line(f"{kind}-of-{n}-runs", kind, printed, text)
+                yield line(f"{kind}-of-{n}-runs-is-its-print", f"{kind}_same", "true", ",".join(reversed(items)), printed)
+                yield line(f"{kind}-of-{n}-runs-is-not-one-less", f"{kind}_same", "false", text, all_but_one)
+                yield line(f"{kind}-runs-of-{n}", f"{kind}_runs", str(n), text)
+                yield line(f"{kind}-of-{n}-runs-contains-one-less", f"{kind}_contains", "true", text, all_but_one)
+                yield line(f"{kind}-of-{n}-runs-contains-one-more", f"{kind}_contains", "false", all_but_one, text)
+            elif (kind, n) == ("as", 65536):
+                yield line(f"{kind}-of-{n}-runs-contains-its-last", f"{kind}_contains", "true", text, items[-1])
+            two = items[1::-1]
+            yield line(f"{kind}-of-{n}-items", kind, sets.printed(kind, ",".join(two)), ",".join((two * n)[:n]))
+
+
 def same_rows():
     """Of two values whether they are equal."""
     for number, (call, one, other, holds) in enumerate(SAME):
@@ -430,7 +450,7 @@ SAME = [
 def main():
     lines = [
         *uri_rows(), *hash_rows(), *base64_rows(), *handle_rows(), *ski_rows(), *piece_rows(), *source_rows(), *json_rows(),
-        *number_rows(), *set_rows(), *same_rows(), *kept_rows()]
+        *number_rows(), *set_rows(), *run_rows(), *same_rows(), *kept_rows()]
     names = [line.split(" ")[0] for line in lines]
     assert len(names) == len(set(names))
     (CRATE / "data" / "cases.txt").write_text("".join(line + "\n" for line in lines))
