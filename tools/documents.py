@@ -192,7 +192,7 @@ SAID = {
     "years": "1970 9999",
     "bits of numbers, and of RSA keys": "32 2048",
     "of a word on Linux": "131071",
-    "minutes that a gate took, on the machine that CONTRIBUTING.md tells of": "90 192 320",
+    "minutes that a gate took, on the machine that CONTRIBUTING.md tells of": "90 102 192 243 320",
 }
 OUTSIDE = {int(number): place for place, numbers in SAID.items() for number in numbers.split()}
 POWERS = {32: "numbers in 32 bits", 63: "longer than memory", 64: "counts"}
