@@ -1,12 +1,13 @@
 -- The characters of a value or a text, and what they are spelled as.
 use Rattle.std.proofs.Common.{◌≡◌, ◌≢◌, ℕ, ◌+◌, ◌/◌, ◌%◌, ◌<◌, ◌≤◌, Bool, true, false, cond, List, [], ◌∷◌, ◌++◌, refl, sym, ap, ◌∙◌, arith}
-use Rattle.std.specs.Prelude.{nat_eq, nat_le, nat_lt}
+use Rattle.std.specs.Prelude.{◌||◌, not, nat_eq, nat_le, nat_lt}
 use Rattle.std.specs.List.{list_all, flat_map}
 use Rattle.std.proofs.Math.Utf8.{encode}
 use Rattle.std.proofs.lemmas.Str.{encode_ascii}
 use Rattle.std.proofs.lemmas.Bool.Decides.{nat_tests}
 use Rattle.std.proofs.lemmas.Grind.{flat_map-append}
 use Rattle.rpki_common.proofs.Truths.{both}
+use Rattle.rpki_text.proofs.Base64Laws.{has}
 use Rattle.rpki_xml.specs.Spelling.{text_character, spelled_text, value_character, spelled_value}
 
 -- a value or a text in two parts
@@ -106,3 +107,34 @@ text_low c d e f = rw (d, e, f) refl
 pub other_in_text : (c : ℕ) → c ≢ 38 → c ≢ 60 → c ≢ 62 → encode c ≡ spelled_text (encode c)
 unfolding spelled_text
 other_in_text c d e f = alone text_character text_stands c (λ low. text_low c (unequal c 38 d) (unequal c 60 e) (unequal c 62 f))
+
+-- ---- a value without characters that become entities is spelled as it is
+
+neither : (a b : Bool) → (a || b) ≡ false → (a ≡ false) × (b ≡ false)
+neither true b h = absurd cc
+neither false b h = (refl, h)
+
+bare_value : (value : List ℕ) → has 34 value ≡ false → has 39 value ≡ false → has 38 value ≡ false → has 60 value ≡ false → has 62 value ≡ false → spelled_value value ≡ value
+unfolding spelled_value
+bare_value [] a b d e f = refl
+bare_value (c ∷ value) a b d e f =
+    let p = neither (nat_eq c 34) (has 34 value) a in
+    let q = neither (nat_eq c 39) (has 39 value) b in
+    let r = neither (nat_eq c 38) (has 38 value) d in
+    let s = neither (nat_eq c 60) (has 60 value) e in
+    let t = neither (nat_eq c 62) (has 62 value) f in
+    rw (p.0, q.0, r.0, s.0, t.0) (ap (λ (l : List ℕ). c ∷ l) (bare_value value p.1 q.1 r.1 s.1 t.1))
+
+none_of : (a b d e f : Bool) → not ((((a || b) || d) || e) || f) ≡ true → (a ≡ false) × (b ≡ false) × (d ≡ false) × (e ≡ false) × (f ≡ false)
+none_of true b d e f h = absurd cc
+none_of false true d e f h = absurd cc
+none_of false false true e f h = absurd cc
+none_of false false false true f h = absurd cc
+none_of false false false false true h = absurd cc
+none_of false false false false false h = (refl, refl, refl, refl, refl)
+
+pub bare_spelled : (value : List ℕ) (quote apostrophe ampersand less greater : Bool) → quote ≡ has 34 value → apostrophe ≡ has 39 value → ampersand ≡ has 38 value → less ≡ has 60 value → greater ≡ has 62 value
+    → not ((((quote || apostrophe) || ampersand) || less) || greater) ≡ true → spelled_value value ≡ value
+bare_spelled value quote apostrophe ampersand less greater a b d e f h =
+    let n = none_of quote apostrophe ampersand less greater h in
+    bare_value value (sym a ∙ n.0) (sym b ∙ n.1) (sym d ∙ n.2) (sym e ∙ n.3) (sym f ∙ n.4)

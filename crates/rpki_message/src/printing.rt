@@ -1,5 +1,6 @@
 //! The parts of elements are printed in their one spelling, in pieces and without memory. Nothing here knows a message.
 
+ghost use Rattle.std.specs.Prelude.{◌≡◌, IsTrue};
 ghost use Rattle.std.specs.Char.{encode_utf8};
 ghost use Rattle.std.specs.Fmt.{WritesOnOk};
 ghost use Rattle.std.specs.Option.{option_copied};
@@ -34,10 +35,25 @@ fn write_character<W: fmt::Write>(f: &mut fmt::Formatter<W>, c: char) -> fmt::Re
     f.write_char(c)
 }
 
+// Whether no octet of a value becomes an entity: then it is spelled as it is.
+fn is_bare(value: &[u8]) -> bool
+    ensures { IsTrue result → spelled_value value.now ≡ value.now }
+{
+    let quote = value.contains(&b'"');
+    let apostrophe = value.contains(&b'\'');
+    let ampersand = value.contains(&b'&');
+    let less = value.contains(&b'<');
+    let greater = value.contains(&b'>');
+    !(quote | apostrophe | ampersand | less | greater)
+}
+
 // A value.
 fn write_value<W: fmt::Write>(f: &mut fmt::Formatter<W>, value: &str) -> fmt::Result
     ensures { WritesOnOk W.write_str_gives f.old result (spelled_value value.now) f.new }
 {
+    if is_bare(value.as_bytes()) {
+        return f.write_str(value);
+    }
     for c in value.chars() {
         write_character(f, c)?;
     }

@@ -1,6 +1,6 @@
 -- Octets and their base64 text.
-use Rattle.std.proofs.Common.{◌≡◌, ℕ, zero, suc, ◌+◌, ◌*◌, ◌/◌, ◌%◌, ◌≤◌, true, List, [], ◌∷◌, length, Option, Some, None, Result, Ok, Err, replicate, filter, unwrap_or, option_and_then, refl, sym, ap, subst, ◌∙◌, arith, length-append}
-use Rattle.std.specs.List.{list_all, slice_index}
+use Rattle.std.proofs.Common.{◌≡◌, ℕ, zero, suc, ◌+◌, ◌*◌, ◌/◌, ◌%◌, ◌≤◌, Bool, true, false, not, ◌&&◌, ◌||◌, eqb, List, [], ◌∷◌, length, Option, Some, None, Result, Ok, Err, replicate, filter, unwrap_or, option_and_then, refl, sym, ap, subst, ◌∙◌, arith, length-append}
+use Rattle.std.specs.List.{list_all, list_any, slice_index}
 use Rattle.std.specs.Result.{result_ok}
 use Rattle.std.proofs.lemmas.Option.{none-some, same_Some}
 use Rattle.std.proofs.lemmas.List.Folds.{list_all-append}
@@ -35,6 +35,41 @@ pub IsHeld-encode : (content text : List ℕ) → IsBytes content → text ≡ e
 IsHeld-encode content text fits e =
     let held = sym (held_content-encode content text fits e) in
     (e ∙ ap (λ (l : List ℕ). encode_of standard l) held, subst (λ (l : List ℕ). IsBytes l) held fits)
+
+-- an octet is no white space where it is none of the four
+each_space : (a b d e p q r s : Bool) → (not (a || b || d || e) && not (((p || q) || r) || s)) ≡ not ((((a || p) || (b || q)) || (d || r)) || (e || s))
+each_space true b d e p q r s = refl
+each_space false true d e true q r s = refl
+each_space false false d e true q r s = go d e
+  where
+    go : (d e : Bool) → (not (false || false || d || e) && false) ≡ false
+    go true e = refl
+    go false true = refl
+    go false false = refl
+each_space false true d e false q r s = refl
+each_space false false true e false true r s = refl
+each_space false false false true false true r s = refl
+each_space false false false false false true r s = refl
+each_space false false true e false false r s = refl
+each_space false false false true false false true s = refl
+each_space false false false true false false false s = refl
+each_space false false false false false false true s = refl
+each_space false false false false false false false true = refl
+each_space false false false false false false false false = refl
+
+-- whether an octet occurs
+abbrev pub has : ℕ → List ℕ → Bool
+has octet text = list_any (λ c. eqb c octet) text
+
+-- a text is without white space where it has none of the four
+without_spaces : (text : List ℕ) → not (((has 9 text || has 10 text) || has 13 text) || has 32 text) ≡ list_all is_not_space text
+without_spaces [] = refl
+without_spaces (c ∷ text) =
+    sym (ap (λ (b : Bool). is_not_space c && b) (sym (without_spaces text)) ∙ each_space (eqb c 9) (eqb c 10) (eqb c 13) (eqb c 32) (has 9 text) (has 10 text) (has 13 text) (has 32 text))
+
+pub without_any : (text : List ℕ) (tab feed back space : Bool) → tab ≡ has 9 text → feed ≡ has 10 text → back ≡ has 13 text → space ≡ has 32 text
+    → not (((tab || feed) || back) || space) ≡ list_all is_not_space text
+without_any text tab feed back space a b d e = rw (a, b, d, e) (without_spaces text)
 
 -- a text with no white space is kept as it is
 pub filter_none : (xs : List ℕ) → list_all is_not_space xs ≡ true → filter is_not_space xs ≡ xs

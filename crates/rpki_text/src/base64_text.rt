@@ -231,8 +231,11 @@ pub fn write_octets(alloc: Global, octets: &[u8]) -> Result<String, OutOfMemory>
 fn is_without_space(text: &[u8]) -> bool
     ensures { result ≡ list_all is_not_space text.now }
 {
-    text.iter()
-        .all(|octet| !matches!(*octet, b'\t' | b'\n' | b'\r' | b' '))
+    let tab = text.contains(&b'\t');
+    let line_feed = text.contains(&b'\n');
+    let carriage_return = text.contains(&b'\r');
+    let space = text.contains(&b' ');
+    !(tab | line_feed | carriage_return | space)
 }
 
 /// `text` without the octets that are white space.

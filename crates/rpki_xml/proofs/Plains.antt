@@ -1,8 +1,9 @@
 -- Characters that stand for themselves, read many at a time.
-use Rattle.std.proofs.Common.{◌≡◌, ℕ, ◌<◌, ◌≤◌, ◌+◌, List, [], ◌∷◌, ◌++◌, length, Bool, ◌&&◌, not, true, false, cond, eqb, Some, refl, sym, ap, subst, ◌∙◌, append_assoc, arith}
+use Rattle.std.proofs.Common.{◌≡◌, ℕ, zero, suc, ◌<◌, ◌≤◌, ◌+◌, List, [], ◌∷◌, ◌++◌, length, take, drop, get_or, Bool, ◌&&◌, ◌||◌, not, true, false, cond, eqb, Some, None, refl, sym, ap, subst, ◌∙◌, append_assoc, arith}
 use Rattle.std.proofs.lemmas.List.{append-nil, length-append}
 use Rattle.std.proofs.lemmas.Bool.{eqb-true, eqb-false}
 use Rattle.std.specs.List.{list_all}
+use Rattle.memchr.specs.Find.{IsFirstByte, Nowhere, Passes, is_byte3}
 use Rattle.rpki_common.proofs.Truths.{both}
 use Rattle.rpki_common.proofs.Truths.{same_some}
 use Rattle.rpki_xml.specs.Lexing.{character_at, ends_at, front_of, back_of, until}
@@ -33,6 +34,45 @@ front_passes passes (c ∷ b) = go (passes c) refl (front_passes passes b)
 
 pub front_back_length : (passes : ℕ → Bool) (b : List ℕ) → length (front_of passes b) + length (back_of passes b) ≡ length b
 front_back_length passes b = sym (length-append (front_of passes b) (back_of passes b)) ∙ ap length (front_back passes b)
+
+-- where all pass before a place, and the octet there doesn't, the front ends there
+front_ends : (passes : ℕ → Bool) (b : List ℕ) (k : ℕ) → ((j : ℕ) → j < k → passes (get_or b j 0) ≡ true) → k < length b → passes (get_or b k 0) ≡ false → (front_of passes b ≡ take k b) × (back_of passes b ≡ drop k b)
+front_ends passes [] k all within off = absurd (omega (arith, within))
+front_ends passes (c ∷ b) zero all within off = rw off (refl, refl)
+front_ends passes (c ∷ b) (suc k) all within off =
+    let next = front_ends passes b k (λ j before. all (suc j) (omega (arith, before))) (omega (arith, within)) off in
+    rw (all 0 (omega arith)) (ap (λ (l : List ℕ). c ∷ l) next.0, next.1)
+
+-- where all pass, nothing is left
+front_all : (passes : ℕ → Bool) (b : List ℕ) → ((j : ℕ) → j < length b → passes (get_or b j 0) ≡ true) → (front_of passes b ≡ b) × (back_of passes b ≡ [])
+front_all passes [] all = (refl, refl)
+front_all passes (c ∷ b) all =
+    let next = front_all passes b (λ j before. all (suc j) (omega (arith, before))) in
+    rw (all 0 (omega arith)) (ap (λ (l : List ℕ). c ∷ l) next.0, next.1)
+
+-- a character is plain where the search for the others doesn't find it
+plain_or_found : (a b c : Bool) → (not a && not b && not c) ≡ not (a || b || c)
+plain_or_found true b c = refl
+plain_or_found false true c = refl
+plain_or_found false false true = refl
+plain_or_found false false false = refl
+
+passed_over : (found : Bool) → ¬ (found ≡ true) → not found ≡ true
+passed_over true h = absurd (h refl)
+passed_over false h = refl
+
+plain_before : (stop : ℕ) (b : List ℕ) (end : ℕ) → Nowhere (Passes (is_byte3 stop 60 38) b) 0 end → (j : ℕ) → j < end → is_plain stop (get_or b j 0) ≡ true
+plain_before stop b end none j before =
+    let c = get_or b j 0 in
+    plain_or_found (eqb c stop) (eqb c 60) (eqb c 38) ∙ passed_over (is_byte3 stop 60 38 c) (none j (omega arith) before)
+
+pub plain_ends : (stop : ℕ) (b : List ℕ) (end : ℕ) → IsFirstByte (is_byte3 stop 60 38) b (Some end) → (front_of (is_plain stop) b ≡ take end b) × (back_of (is_plain stop) b ≡ drop end b)
+plain_ends stop b end first =
+    let c = get_or b end 0 in
+    front_ends (is_plain stop) b end (plain_before stop b end first.0.before) first.0.high (plain_or_found (eqb c stop) (eqb c 60) (eqb c 38) ∙ ap not first.1)
+
+pub plain_all : (stop : ℕ) (b : List ℕ) → IsFirstByte (is_byte3 stop 60 38) b None → (front_of (is_plain stop) b ≡ b) × (back_of (is_plain stop) b ≡ [])
+plain_all stop b none = front_all (is_plain stop) b (plain_before stop b (length b) none)
 
 -- where nothing passes, all is left
 pub back_same : (passes : ℕ → Bool) (b : List ℕ) → length (back_of passes b) ≡ length b → back_of passes b ≡ b

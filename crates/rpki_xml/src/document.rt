@@ -22,6 +22,7 @@ use crate::kept::name_place;
 use crate::lexing::{Piece, are_octets, is_letter, piece_at};
 use crate::stack::{add_element, add_run, begin_element, end_element, is_all_white};
 use crate::tag::node_of;
+use memchr::memchr_iter;
 use rpki_common::OutOfMemory;
 use std::alloc::Global;
 use std::marker::Model;
@@ -112,12 +113,12 @@ fn nodes_of(alloc: Global, octets: &[u8]) -> Result<Vec<Node>, XmlError>
 // so much room never grows.
 fn starts_in(octets: &[u8]) -> usize {
     let mut count = 0usize;
-    let mut before = 0u8;
-    for c in octets {
-        if before == b'<' && (is_letter(*c) || *c == b'_') {
-            count = count.saturating_add(1);
+    for start in memchr_iter(b'<', octets) {
+        if let Some(c) = octets.get(start.saturating_add(1)) {
+            if is_letter(*c) || *c == b'_' {
+                count = count.saturating_add(1);
+            }
         }
-        before = *c;
     }
     count
 }

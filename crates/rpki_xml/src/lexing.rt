@@ -14,6 +14,7 @@ ghost use Rattle.rpki_xml.specs.Answers.{Gives};
 use crate::error::XmlError;
 use crate::kept::{Named, Text, name_place, placed};
 use crate::stack::is_white;
+use memchr::memchr3;
 use std::alloc::Global;
 
 /// The start of an element: its whole name and all its attributes.
@@ -194,24 +195,16 @@ fn ends_at(at_end: bool, stop: u8, b: &[u8]) -> bool
     }
 }
 
-fn is_plain(stop: u8, c: u8) -> bool
-    ensures { result ≡ is_plain stop c }
-{
-    c != stop && c != b'<' && c != b'&'
-}
-
 // The characters that stand for themselves, up to the first other one, and what follows them.
 fn split_plain(stop: u8, b: &[u8]) -> (&[u8], &[u8])
     ensures front { result.0.now ≡ front_of (is_plain stop) b.now }
     ensures back { result.1.now ≡ back_of (is_plain stop) b.now }
     ensures shorter { length result.1.now ≤ length b.now }
 {
-    for (i, c) in b.iter().enumerate() {
-        if !is_plain(stop, *c) {
-            return b.split_at(i);
-        }
+    match memchr3(stop, b'<', b'&', b) {
+        Some(end) => b.split_at(end),
+        None => (b, &[]),
     }
-    (b, &[])
 }
 
 // The characters up to `stop`, or to the end where `at_end` says so.
@@ -458,11 +451,15 @@ pub(crate) fn piece_at<'a>(
     }
 }
 
-/// Whether all are octets that a document may have.
+/// Whether all are octets that a document may have. It looks at each octet, so that several are tested at once.
 pub(crate) fn are_octets(b: &[u8]) -> bool
     ensures { result ≡ list_all is_octet b.now }
 {
-    b.iter().all(|c| is_octet(*c))
+    let mut all = true;
+    for c in b {
+        all &= is_octet(*c);
+    }
+    all
 }
 
 fn is_octet(c: u8) -> bool

@@ -1,8 +1,7 @@
 use Rattle.std.specs.Prelude.{Some, string_bytes}
 use Rattle.std.proofs.Common.{◌≡◌, sym, ◌∙◌, arith}
 use Rattle.std.proofs.lemmas.Result.{IfOk-weaker}
-use Rattle.base64.specs.Engines.{standard}
-use Rattle.base64.specs.GeneralPurpose.{IsBytes, decoded_of}
+use Rattle.base64.specs.GeneralPurpose.{IsBytes}
 use Rattle.rpki_text.specs.Json.{string_of_json}
 use Rattle.rpki_text.specs.Base64.{octets_of_json}
 use Rattle.rpki_text.proofs.Base64Laws.{decoded_of-encode, octets_of_json-is}
