@@ -1,7 +1,7 @@
 #!/usr/bin/env python3
 """Says how much processor time the gate takes, crate by crate.
 
-    tools/gate_minutes.py [--watch PID] [--log FILE] [--read FILE ..] [--edits N]
+    tools/gate_minutes.py [--watch PID] [--log FILE] [--read FILE ..] [--edits N] [--markdown]
 
 Runs `rt ci` at the top, with `--anew` where rt knows that word, or watches a gate that runs already, of which PID is the process. Every
 second it reads how much processor time each process below it has taken, and when the gate ends it prints, for each crate, the minutes of
@@ -11,7 +11,7 @@ no `rattle`. Processes that end within the second are missed, so the sums are a 
 
 With --log each process is noted in a file as well, a line each: crate, what it counts for, seconds, place, which of a wrong body's try is
 the edit, and of the check with which they begin `seed`. With --read nothing runs, and the table is that of such files. With --edits the N
-edits that took longest are printed too."""
+edits that took longest are printed too. With --markdown the table is the one of CONTRIBUTING.md."""
 
 import argparse
 import collections
@@ -90,14 +90,31 @@ def watch(root, is_over):
     return [(*known[pid], taken) for pid, taken in seconds.items() if pid in known]
 
 
-def table_of(rows):
+def sums_of(rows):
+    """The minutes of each kind, by crate, in the order of crates.txt."""
     sums = collections.defaultdict(lambda: dict.fromkeys(KINDS, 0.0))
     for crate, kind, _, taken in rows:
         sums[crate][kind] += taken / 60
     order = [crate for crate in crates_in_order() if crate in sums] + sorted(set(sums) - set(crates_in_order()))
+    return {crate: sums[crate] for crate in order}
+
+
+def markdown_of(rows):
+    """The table of CONTRIBUTING.md, two crates a line; runs of less than three seconds are left out, and so is what rt itself takes."""
+    sums = sums_of(rows)
+    sums.pop("rt", None)
+    cells = [f"| {crate} | " + " | ".join(f"{of[kind]:.1f}" if of[kind] >= 0.05 else "" for kind in KINDS) + " " for crate, of in sums.items()]
+    half = (len(cells) + 1) // 2
+    cells += ["| " * (len(KINDS) + 1)] * (2 * half - len(cells))
+    head = "| Crate | " + " | ".join(KINDS) + " "
+    lines = [head * 2 + "|", "|---" * (2 * len(KINDS) + 2) + "|"]
+    return "\n".join(lines + [cells[at] + cells[at + half] + "|" for at in range(half)])
+
+
+def table_of(rows):
+    sums = sums_of(rows)
     lines = [f"{'minutes':20}" + "".join(f"{kind:>14}" for kind in KINDS) + f"{'all':>8}"]
-    for crate in order:
-        of = sums[crate]
+    for crate, of in sums.items():
         lines.append(f"{crate:20}" + "".join(f"{of[kind]:14.1f}" for kind in KINDS) + f"{sum(of.values()):8.1f}")
     whole = {kind: sum(of[kind] for of in sums.values()) for kind in KINDS}
     lines.append(f"{'all':20}" + "".join(f"{whole[kind]:14.1f}" for kind in KINDS) + f"{sum(whole.values()):8.1f}")
@@ -126,10 +143,12 @@ def main():
     parser.add_argument("--log", metavar="FILE")
     parser.add_argument("--read", nargs="+", metavar="FILE")
     parser.add_argument("--edits", type=int, default=0, metavar="N")
+    parser.add_argument("--markdown", action="store_true")
     asked = parser.parse_args()
+    table = markdown_of if asked.markdown else table_of
     if asked.read:
         rows = [row for path in asked.read for row in rows_in(path)]
-        print(table_of(rows), edits_of(rows, asked.edits), sep="\n")
+        print(table(rows), edits_of(rows, asked.edits), sep="\n")
         return
     began, status = time.monotonic(), 0
     if asked.watch:
@@ -141,7 +160,7 @@ def main():
     if asked.log:
         with open(asked.log, "w", encoding="utf-8") as file:
             file.writelines(f"{crate}\t{kind}\t{taken:.2f}\t{place}\n" for crate, kind, place, taken in rows)
-    print(table_of(rows), edits_of(rows, asked.edits), sep="\n")
+    print(table(rows), edits_of(rows, asked.edits), sep="\n")
     print(f"{(time.monotonic() - began) / 60:.1f} minutes by the clock")
     sys.exit(status)
 
