@@ -1,5 +1,5 @@
 -- Several calls of a signer in turn.
-use Rattle.std.proofs.Common.{◌≡◌, ◌≢◌, inl, inr, ℕ, ◌≤◌, Result, Ok, Err, refl, sym, subst, ◌∙◌, arith}
+use Rattle.std.proofs.Common.{◌≡◌, ◌≢◌, ◌⊎◌, inl, inr, ℕ, ◌≤◌, ◌<◌, List, length, Result, Ok, Err, refl, sym, subst, ◌∙◌, arith}
 use Rattle.std.specs.Prelude.{IfErr, IsErr, IsErrAnd, MatchResult}
 use Rattle.rpki_common.specs.Causes.{Rose}
 use Rattle.rpki_base.specs.declared.algorithm.SigningAlgorithm.{SigningAlgorithm}
@@ -12,8 +12,9 @@ use Rattle.rpki_signer.specs.declared.errors.SigningError.TheVariants as signing
 use Rattle.rpki_signer.specs.Errors.{signing_error_of, make_error_of}
 use Rattle.rpki_base.specs.declared.algorithm.SigningAlgorithm.TheVariants.{RsaSha256}
 use Rattle.rpki_base.specs.PublicKey.{KeyFields}
-use Rattle.rpki_signer.specs.Limits.{IsShortKey, Keeps, MakeFails, OnceFails, StopsInTurn}
-use Rattle.rpki_signer.specs.Signer.{SignerState, Lacks, IsLater, Stays, IsUnfit, CallFails, SigningFails}
+use Rattle.rpki_base.specs.Scheme.{Relation}
+use Rattle.rpki_signer.specs.Limits.{IsShortKey, Keeps, MakeFails, RefusesKey, RefusesSignature, RefusesOneOff, StopsInTurn}
+use Rattle.rpki_signer.specs.Signer.{SignerState, Lacks, IsLater, Stays, IsUnfit, IsOneOff, CallFails, SigningFails}
 
 -- ---- counts
 
@@ -62,14 +63,6 @@ fails_before kind id a b c make.TooLong k f = then_rose a.overlong b.overlong c.
 fails_before kind id a b c (make.Signing e) k f = (f.0, signing_before kind id a b c e k f.1)
 fails_before kind id a b c make.OutOfMemory k f = tt
 
-pub once_before : {I E : Type 0} (a b c : SignerState I) (e : MakeError E) → Keeps a b → OnceFails b c e → OnceFails a c e
-once_before a b c make.TooLong k f = then_rose a.overlong b.overlong c.overlong k.later.overlong f
-once_before a b c (make.Signing signing.KeyNotFound) k f = absurd f
-once_before a b c (make.Signing signing.IncompatibleKey) k f = absurd f
-once_before a b c (make.Signing (signing.Signer e)) k f = then_rose a.faults b.faults c.faults k.later.faults f
-once_before a b c (make.Signing signing.OutOfMemory) k f = absurd f
-once_before a b c make.OutOfMemory k f = tt
-
 not_memory : {E : Type 0} (e : E) → ◌≢◌ {A = SigningError E} (signing.Signer e) signing.OutOfMemory
 not_memory {E = E} e p = tell p
   where
@@ -81,15 +74,6 @@ pub call_fails : {I E : Type 0} (kind : SigningAlgorithm) (id : I) (a b : Signer
 call_fails kind id a b (call.Signer e) f = (not_memory e, f)
 call_fails kind id a b call.OutOfMemory f = tt
 
--- and one under a key for one use
-pub once_fails : {I E : Type 0} (kind : SigningAlgorithm) (id : I) (a b : SignerState I) (e : MakeError E) → OnceFails a b e → MakeFails kind id a b e
-once_fails kind id a b make.TooLong f = f
-once_fails kind id a b (make.Signing signing.KeyNotFound) f = absurd f
-once_fails kind id a b (make.Signing signing.IncompatibleKey) f = absurd f
-once_fails kind id a b (make.Signing (signing.Signer e)) f = (not_memory e, f)
-once_fails kind id a b (make.Signing signing.OutOfMemory) f = absurd f
-once_fails kind id a b make.OutOfMemory f = tt
-
 -- ---- which refusal was the first
 
 -- an error that is handed on
@@ -97,21 +81,43 @@ pub handed_on : {Y E : Type 0} (r : Result Y E) (x : E) (ok : Y → Type 0) (Q :
 handed_on (Ok y) x ok Q p q = absurd p.1
 handed_on (Err e) x ok Q p q = subst Q (sym p.1) q
 
--- at the key
-pub stops_at_key : {I E : Type 0} (id : I) (a b : SignerState I) (e : MakeError E) → Stays a b × MakeFails RsaSha256 id a b e → e ≢ make.Signing signing.IncompatibleKey → StopsInTurn id a b e
-stops_at_key id a b e f u = inl (record { stays = f.0; fails = f.1; unsigned = u })
+-- ---- what a refusal means
 
--- behind it
-pub stops_behind_key : {I E : Type 0} (id : I) (a b c : SignerState I) (key : KeyFields) (e : MakeError E) → IsShortKey id a b key → Stays b c × MakeFails RsaSha256 id b c e → StopsInTurn id a c e
+pub key_refused : {I E : Type 0} (id : I) (a b : SignerState I) (e : MakeError E) → RefusesKey id a b e → Stays a b × MakeFails RsaSha256 id a b e
+key_refused id a b make.TooLong r = (r.is.stays, r.is.told r.long)
+key_refused id a b (make.Signing e) r = (r.0.stays, (r.0.known, r.0.fails))
+key_refused id a b make.OutOfMemory r = (r, tt)
+
+pub signature_refused : {I E : Type 0} (id : I) (a b : SignerState I) (e : MakeError E) → RefusesSignature id a b e → Stays a b × MakeFails RsaSha256 id a b e
+signature_refused id a b make.TooLong r = r
+signature_refused id a b (make.Signing e) r = (r.stays, (r.known, r.fails))
+signature_refused id a b make.OutOfMemory r = (r, tt)
+
+once_told : {I : Type 0} (scheme : Relation) (message : List ℕ) (a b : SignerState I) (octets : List ℕ) (key : KeyFields) → IsOneOff scheme RsaSha256 message a b octets key → (65536 < length octets) ⊎ (65536 < length key.bits) → Rose a.overlong b.overlong
+once_told scheme message a b octets key o (inl h) = o.told h
+once_told scheme message a b octets key o (inr h) = o.key_told h
+
+pub one_off_refused : {I E : Type 0} (scheme : Relation) (message : List ℕ) (id : I) (a b : SignerState I) (e : MakeError E) → RefusesOneOff scheme message a b e → Keeps a b × MakeFails RsaSha256 id a b e
+one_off_refused scheme message id a b make.TooLong r = (record { later = r.is.later; keyring = r.is.keyring }, once_told scheme message a b r.octets r.key r.is r.long)
+one_off_refused scheme message id a b (make.Signing signing.KeyNotFound) r = absurd r
+one_off_refused scheme message id a b (make.Signing signing.IncompatibleKey) r = absurd r
+one_off_refused scheme message id a b (make.Signing (signing.Signer e)) r = (stays_keeps a b r.stays, (not_memory e, r.told))
+one_off_refused scheme message id a b (make.Signing signing.OutOfMemory) r = absurd r
+one_off_refused scheme message id a b make.OutOfMemory r = (r, tt)
+
+-- ---- in turn
+
+-- behind the key
+pub stops_behind_key : {I E : Type 0} (id : I) (a b c : SignerState I) (key : KeyFields) (e : MakeError E) → IsShortKey id a b key → RefusesSignature id b c e → StopsInTurn id a c e
 stops_behind_key id a b c key e k f = inr (record { between = b; key = key; given = k; refuses = f })
 
 pub stops_for_memory : {I E : Type 0} (id : I) (a b : SignerState I) (key : KeyFields) → IsShortKey id a b key → StopsInTurn {E = E} id a b make.OutOfMemory
-stops_for_memory id a b key k = stops_behind_key id a b b key make.OutOfMemory k (stays_same b, tt)
+stops_for_memory id a b key k = stops_behind_key id a b b key make.OutOfMemory k (stays_same b)
 
-pub stops_so : {Y I E : Type 0} (id : I) (a b c : SignerState I) (key : KeyFields) (ok : Y → Type 0) (r : Result Y (MakeError E)) → IsShortKey id a b key → MatchResult r ok (λ e. Stays b c × MakeFails RsaSha256 id b c e) → IfErr r (StopsInTurn id a c)
+pub stops_so : {Y I E : Type 0} (id : I) (a b c : SignerState I) (key : KeyFields) (ok : Y → Type 0) (r : Result Y (MakeError E)) → IsShortKey id a b key → MatchResult r ok (RefusesSignature id b c) → IfErr r (StopsInTurn id a c)
 stops_so id a b c key ok (Ok y) k m = tt
 stops_so id a b c key ok (Err e) k m = stops_behind_key id a b c key e k m
 
 pub in_turn_fails : {I E : Type 0} (id : I) (a b : SignerState I) (e : MakeError E) → StopsInTurn id a b e → MakeFails RsaSha256 id a b e
-in_turn_fails id a b e (inl r) = r.fails
-in_turn_fails id a b e (inr s) = fails_before RsaSha256 id a s.between b e (stays_keeps a s.between s.given.is.stays) s.refuses.1
+in_turn_fails id a b e (inl r) = (key_refused id a b e r).1
+in_turn_fails id a b e (inr s) = fails_before RsaSha256 id a s.between b e (stays_keeps a s.between s.given.is.stays) (signature_refused id s.between b e s.refuses).1

@@ -1,5 +1,5 @@
 -- Keys and signatures of a signer that are not too long, and what calls answer that make something with them.
-use Rattle.std.specs.Prelude.{true, ◌≡◌, ◌≢◌, ◌≤◌, ◌^◌, ◌⊎◌, ℕ, List, length, ⊤}
+use Rattle.std.specs.Prelude.{true, ◌≡◌, ◌≢◌, ◌≤◌, ◌<◌, ◌^◌, ◌⊎◌, ℕ, List, length, ⊤}
 use Rattle.rpki_common.specs.Causes.{Rose}
 use Rattle.rpki_base.specs.declared.algorithm.SigningAlgorithm.{SigningAlgorithm}
 use Rattle.rpki_base.specs.declared.algorithm.SigningAlgorithm.TheVariants.{RsaSha256}
@@ -9,6 +9,7 @@ use Rattle.rpki_base.specs.RpkiSignatureAlgorithm.{RpkiAlgorithm}
 use Rattle.rpki_base.specs.Scheme.{Relation}
 use Rattle.rpki_signer.specs.declared.errors.MakeError.{MakeError}
 use Rattle.rpki_signer.specs.declared.errors.MakeError.TheVariants as make
+use Rattle.rpki_signer.specs.declared.errors.SigningError.{SigningError}
 use Rattle.rpki_signer.specs.declared.errors.SigningError.TheVariants as signing
 use Rattle.rpki_signer.specs.Signer.{SignerState, IsLater, Stays, IsKeyOf, IsSignature, IsOneOff, SigningFails}
 
@@ -47,29 +48,37 @@ MakeFails kind id before after (make.Signing error) =
     (error ≢ signing.OutOfMemory) × SigningFails kind id before after error
 MakeFails kind id before after make.OutOfMemory = ⊤
 
--- the same of a signature under a key for one use, which asks for no identifier
-abbrev pub OnceFails : {Id E : Type 0} → SignerState Id → SignerState Id → MakeError E → Type 0
-OnceFails before after make.TooLong = Rose before.overlong after.overlong
-OnceFails before after (make.Signing signing.KeyNotFound) = ⊥
-OnceFails before after (make.Signing signing.IncompatibleKey) = ⊥
-OnceFails before after (make.Signing (signing.Signer error)) = Rose before.faults after.faults
-OnceFails before after (make.Signing signing.OutOfMemory) = ⊥
-OnceFails before after make.OutOfMemory = ⊤
-
 -- ---- which refusal was the first, where an RSA key is asked for and then signed under
 
--- the key wasn't given, or is too long; nothing was signed
-pub record RefusesKey {Id E : Type 0} (id : Id) (before after : SignerState Id)
-    (error : MakeError E) : Type 0 where
+-- a call was refused: it gave nothing, so it counted nothing that is too long
+pub record IsRefused {Id E : Type 0} (id : Id) (before after : SignerState Id)
+    (error : SigningError E) : Type 0 where
   pub stays : Stays before after
-  pub fails : MakeFails RsaSha256 id before after error
-  pub unsigned : error ≢ make.Signing signing.IncompatibleKey
+  pub uncounted : after.overlong ≡ before.overlong
+  pub known : error ≢ signing.OutOfMemory
+  pub fails : SigningFails RsaSha256 id before after error
+
+-- the key was given, and is too long
+pub record GivesLongKey {Id : Type 0} (id : Id) (before after : SignerState Id) : Type 0 where
+  pub key : KeyFields
+  pub is : IsKeyOf id before after key
+  pub long : 2 ^ 16 < length key.bits
+
+-- the key wasn't given, or is too long; nothing was signed
+abbrev pub RefusesKey : {Id E : Type 0} → Id → SignerState Id → SignerState Id → MakeError E
+    → Type 0
+RefusesKey id before after make.TooLong = GivesLongKey id before after
+RefusesKey id before after (make.Signing error) =
+    IsRefused id before after error × (error ≢ signing.IncompatibleKey)
+RefusesKey id before after make.OutOfMemory = Stays before after
 
 -- the signature wasn't given, or is too long
 abbrev pub RefusesSignature : {Id E : Type 0} → Id → SignerState Id → SignerState Id → MakeError E
     → Type 0
-RefusesSignature id before after error =
-    Stays before after × MakeFails RsaSha256 id before after error
+RefusesSignature id before after make.TooLong =
+    Stays before after × Rose before.overlong after.overlong
+RefusesSignature id before after (make.Signing error) = IsRefused id before after error
+RefusesSignature id before after make.OutOfMemory = Stays before after
 
 -- the key was given, and is not too long
 pub record StopsBehindKey {Id E : Type 0} (id : Id) (before after : SignerState Id)
@@ -84,6 +93,34 @@ abbrev pub StopsInTurn : {Id E : Type 0} → Id → SignerState Id → SignerSta
     → Type 0
 StopsInTurn id before after error =
     RefusesKey id before after error ⊎ StopsBehindKey id before after error
+
+-- ---- the same of a signature under a key for one use, which asks for no identifier
+
+-- the signature and its key were given, and one of them is too long
+pub record GivesLongOneOff {Id : Type 0} (scheme : Relation) (message : List ℕ)
+    (before after : SignerState Id) : Type 0 where
+  pub octets : List ℕ
+  pub key : KeyFields
+  pub is : IsOneOff scheme RsaSha256 message before after octets key
+  pub long : (2 ^ 16 < length octets) ⊎ (2 ^ 16 < length key.bits)
+
+-- the signer failed, and gave no key
+pub record IsFaulted {Id : Type 0} (before after : SignerState Id) : Type 0 where
+  pub stays : Stays before after
+  pub uncounted : after.overlong ≡ before.overlong
+  pub told : Rose before.faults after.faults
+
+-- they weren't given, or are too long
+abbrev pub RefusesOneOff : {Id E : Type 0} → Relation → List ℕ → SignerState Id → SignerState Id
+    → MakeError E → Type 0
+RefusesOneOff scheme message before after make.TooLong =
+    GivesLongOneOff scheme message before after
+RefusesOneOff scheme message before after (make.Signing signing.KeyNotFound) = ⊥
+RefusesOneOff scheme message before after (make.Signing signing.IncompatibleKey) = ⊥
+RefusesOneOff scheme message before after (make.Signing (signing.Signer error)) =
+    IsFaulted before after
+RefusesOneOff scheme message before after (make.Signing signing.OutOfMemory) = ⊥
+RefusesOneOff scheme message before after make.OutOfMemory = Keeps before after
 
 -- the algorithm that is signed with: rsaEncryption and NULL
 abbrev pub default_algorithm : RpkiAlgorithm

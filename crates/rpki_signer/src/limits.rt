@@ -1,10 +1,8 @@
 //! Keys and signatures of a signer that are not too long.
 
-ghost use Rattle.std.specs.Prelude.{◌≡◌, ◌≢◌, ◌<◌, Decides, IfErr, IfOk, MatchResult};
-ghost use Rattle.rpki_signer.specs.Signer.{AreDistinct, Stays};
-ghost use Rattle.rpki_signer.specs.declared.errors.MakeError.TheVariants as make;
-ghost use Rattle.rpki_signer.specs.declared.errors.SigningError.TheVariants as signing;
-ghost use Rattle.rpki_signer.specs.Limits.{IsShort, IsShortKey, IsShortSignature, IsShortOneOff, Keeps, MakeFails, OnceFails, default_algorithm};
+ghost use Rattle.std.specs.Prelude.{◌≡◌, ◌<◌, Decides, IfOk, MatchResult};
+ghost use Rattle.rpki_signer.specs.Signer.{AreDistinct};
+ghost use Rattle.rpki_signer.specs.Limits.{IsShort, IsShortKey, IsShortSignature, IsShortOneOff, RefusesKey, RefusesSignature, RefusesOneOff, default_algorithm};
 
 use crate::errors::MakeError;
 use crate::signer::Signer;
@@ -32,9 +30,7 @@ pub fn key_within_limit<P: Scheme, S: Signer<P>>(
 ) -> Result<PublicKey, MakeError<S::Error>>
     ensures key { MatchResult result
         (IsShortKey id.now (S.state signer.old) (S.state signer.new))
-        (λ e. Stays (S.state signer.old) (S.state signer.new)
-        × MakeFails SigningAlgorithm.RsaSha256 id.now (S.state signer.old) (S.state signer.new) e) }
-    ensures unsigned { IfErr result (λ e. e ≢ make.Signing signing.IncompatibleKey) }
+        (RefusesKey id.now (S.state signer.old) (S.state signer.new)) }
     ensures distinct { AreDistinct (S.state signer.new).keyring }
 {
     let key = signer.get_key_info(alloc, id)?;
@@ -55,8 +51,7 @@ pub fn sign_within_limit<P: Scheme, S: Signer<P>>(
     ensures signed { MatchResult result
         (λ s. IsShortSignature P.checks SigningAlgorithm.RsaSha256 id.now message.now
         (S.state signer.old) (S.state signer.new) s.value)
-        (λ e. Stays (S.state signer.old) (S.state signer.new)
-        × MakeFails SigningAlgorithm.RsaSha256 id.now (S.state signer.old) (S.state signer.new) e) }
+        (RefusesSignature id.now (S.state signer.old) (S.state signer.new)) }
     ensures algorithm { IfOk result (λ s. s.algorithm ≡ default_algorithm) }
     ensures distinct { AreDistinct (S.state signer.new).keyring }
 {
@@ -77,8 +72,7 @@ pub fn sign_once_within_limit<P: Scheme, S: Signer<P>>(
     ensures signed { MatchResult result
         (λ r. IsShortOneOff P.checks SigningAlgorithm.RsaSha256 message.now
         (S.state signer.old) (S.state signer.new) r.0.value r.1)
-        (λ e. Keeps (S.state signer.old) (S.state signer.new)
-        × OnceFails (S.state signer.old) (S.state signer.new) e) }
+        (RefusesOneOff P.checks message.now (S.state signer.old) (S.state signer.new)) }
     ensures algorithm { IfOk result (λ r. r.0.algorithm ≡ default_algorithm) }
     ensures distinct { AreDistinct (S.state signer.new).keyring }
 {

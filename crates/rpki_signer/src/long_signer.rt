@@ -1,6 +1,6 @@
 //! The signer whose signatures have any length.
 
-ghost use Rattle.std.specs.Prelude.{◌≡◌, ◌<◌, ◌^◌, IfOk, OnOk, IsErrOf, MatchResult};
+ghost use Rattle.std.specs.Prelude.{◌≡◌, ◌<◌, ◌^◌, IfOk, OnOk, OnErr, IsErrOf, MatchResult};
 ghost use Rattle.rpki_signer.specs.Any.{AnyChecks};
 ghost use Rattle.rpki_signer.specs.Signer.{AreDistinct, Stays, CallFails, KeyFails, SigningFails};
 ghost use Rattle.rpki_signer.specs.Signer.{IsCreated, IsDestroyed, IsKeyOf, IsSignature, IsOneOff, IsDrawn};
@@ -153,6 +153,8 @@ impl Signer<AnyScheme> for LongSigner {
             (IsKeyOf key.now (spec.long_state self.old) (spec.long_state self.new))
             (λ e. Stays (spec.long_state self.old) (spec.long_state self.new)
             × KeyFails key.now (spec.long_state self.old) (spec.long_state self.new) e) }
+        ensures uncounted { OnErr result
+            ((spec.long_state self.new).overlong ≡ (spec.long_state self.old).overlong) }
         ensures distinct { AreDistinct (spec.long_state self.new).keyring }
 
         // Which answer, and what the signer is then.
@@ -193,6 +195,8 @@ impl Signer<AnyScheme> for LongSigner {
             × SigningFails (Alg.kind algorithm) key.now
             (spec.long_state self.old) (spec.long_state self.new) e) }
         ensures algorithm { IfOk result (λ s. s.algorithm ≡ algorithm) }
+        ensures uncounted { OnErr result
+            ((spec.long_state self.new).overlong ≡ (spec.long_state self.old).overlong) }
         ensures distinct { AreDistinct (spec.long_state self.new).keyring }
 
         // Which answer, and what the signer is then.
@@ -215,6 +219,8 @@ impl Signer<AnyScheme> for LongSigner {
             (λ e. Stays (spec.long_state self.old) (spec.long_state self.new)
             × CallFails (spec.long_state self.old) (spec.long_state self.new) e) }
         ensures algorithm { IfOk result (λ r. r.0.algorithm ≡ algorithm) }
+        ensures uncounted { OnErr result
+            ((spec.long_state self.new).overlong ≡ (spec.long_state self.old).overlong) }
         ensures distinct { AreDistinct (spec.long_state self.new).keyring }
 
         // Which answer, and what the signer is then.

@@ -1,6 +1,6 @@
 //! Who signs.
 
-ghost use Rattle.std.specs.Prelude.{◌≡◌, ◌<◌, IfOk, IsErrOf, MatchResult};
+ghost use Rattle.std.specs.Prelude.{◌≡◌, ◌<◌, IfOk, OnErr, IsErrOf, MatchResult};
 ghost use Rattle.rpki_signer.specs.declared.errors.CallError.TheVariants as call;
 ghost use Rattle.rpki_signer.specs.Signer.{SignerState, AreDistinct, Stays, CallFails, KeyFails, SigningFails};
 ghost use Rattle.rpki_signer.specs.Signer.{IsCreated, IsDestroyed, IsKeyOf, IsSignature, IsOneOff, IsDrawn};
@@ -11,7 +11,8 @@ use std::alloc::Global;
 use std::fmt::Display;
 
 /// Holds keys under identifiers of its own, and signs under them, by one scheme. One value that no code holds gives it its
-/// meaning: `state`, the keys that it holds and what it has done.
+/// meaning: `state`, the keys that it holds and what it has done. A refused call gives no key and no signature, so it counts none that
+/// is too long.
 pub trait Signer<P: Scheme> {
     /// By what a key is asked for.
     type KeyId: Drop;
@@ -42,6 +43,8 @@ pub trait Signer<P: Scheme> {
         ensures key { MatchResult result (IsKeyOf key.now (state self.old) (state self.new))
             (λ e. Stays (state self.old) (state self.new)
             × KeyFails key.now (state self.old) (state self.new) e) }
+        ensures uncounted { OnErr result
+            ((state self.new).overlong ≡ (state self.old).overlong) }
         ensures distinct { AreDistinct (state self.new).keyring };
 
     /// Takes the key with this identifier out; KeyNotFound only where there is none. It takes no memory.
@@ -68,6 +71,8 @@ pub trait Signer<P: Scheme> {
             (λ e. Stays (state self.old) (state self.new)
             × SigningFails (Alg.kind algorithm) key.now (state self.old) (state self.new) e) }
         ensures algorithm { IfOk result (λ s. s.algorithm ≡ algorithm) }
+        ensures uncounted { OnErr result
+            ((state self.new).overlong ≡ (state self.old).overlong) }
         ensures distinct { AreDistinct (state self.new).keyring };
 
     /// Signs the message under a key that is made for this one use, and answers it too. Where it is a key that the signer holds, its
@@ -84,6 +89,8 @@ pub trait Signer<P: Scheme> {
             (λ e. Stays (state self.old) (state self.new)
             × CallFails (state self.old) (state self.new) e) }
         ensures algorithm { IfOk result (λ r. r.0.algorithm ≡ algorithm) }
+        ensures uncounted { OnErr result
+            ((state self.new).overlong ≡ (state self.old).overlong) }
         ensures distinct { AreDistinct (state self.new).keyring };
 
     /// Draws random octets, as many as there is room for in `target`. It takes no memory.

@@ -476,6 +476,8 @@ impl Signer<ToyScheme> for ToySigner {
             (IsKeyOf key.now (spec.state_of self.old) (spec.state_of self.new))
             (λ e. Stays (spec.state_of self.old) (spec.state_of self.new)
             × KeyFails key.now (spec.state_of self.old) (spec.state_of self.new) e) }
+        ensures uncounted { OnErr result
+            ((spec.state_of self.new).overlong ≡ (spec.state_of self.old).overlong) }
         ensures distinct { AreDistinct (spec.state_of self.new).keyring }
 
         // Which answer, and what the signer is then.
@@ -514,6 +516,8 @@ impl Signer<ToyScheme> for ToySigner {
             × SigningFails (Alg.kind algorithm) key.now
             (spec.state_of self.old) (spec.state_of self.new) e) }
         ensures algorithm { IfOk result (λ s. s.algorithm ≡ algorithm) }
+        ensures uncounted { OnErr result
+            ((spec.state_of self.new).overlong ≡ (spec.state_of self.old).overlong) }
         ensures distinct { AreDistinct (spec.state_of self.new).keyring }
 
         // Which answer, and what the signer is then.
@@ -536,6 +540,8 @@ impl Signer<ToyScheme> for ToySigner {
             (λ e. Stays (spec.state_of self.old) (spec.state_of self.new)
             × CallFails (spec.state_of self.old) (spec.state_of self.new) e) }
         ensures algorithm { IfOk result (λ r. r.0.algorithm ≡ algorithm) }
+        ensures uncounted { OnErr result
+            ((spec.state_of self.new).overlong ≡ (spec.state_of self.old).overlong) }
         ensures distinct { AreDistinct (spec.state_of self.new).keyring }
 
         // Which answer, and what the signer is then.
