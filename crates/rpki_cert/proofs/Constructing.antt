@@ -6,7 +6,6 @@ use Rattle.rpki_text.specs.declared.uri.Error.{Error}
 use Rattle.rpki_text.specs.declared.uri.Error.TheVariants as uri
 use Rattle.rpki_signer.specs.declared.errors.MakeError.{MakeError}
 use Rattle.rpki_signer.specs.declared.errors.MakeError.TheVariants as make
-use Rattle.rpki_signer.specs.declared.errors.SigningError.TheVariants as signing
 use Rattle.std.proofs.Common.{Bool, true, false, ◌≡◌, ◌≢◌, inl, inr, ℕ, ◌<◌, Option, None, Some, Result, Ok, Err, List, [], ◌++◌, length, refl, sym, ap, subst, ◌∙◌, arith, length-append}
 use Rattle.std.specs.Prelude.{IfErr, MatchResult, nat_lt, if◌then◌else◌}
 use Rattle.rpki_der.specs.declared.mode.Mode.TheVariants.{Der}
@@ -22,10 +21,10 @@ use Rattle.rpki_base.specs.RpkiSignatureAlgorithm.{RpkiAlgorithm, x509_algorithm
 use Rattle.rpki_base.specs.Scheme.{Relation}
 use Rattle.rpki_base.specs.Signature.{SignatureParts}
 use Rattle.rpki_base.specs.SignedData.{SignedParts, spelled_data, CanBeSpelled}
-use Rattle.rpki_signer.specs.Limits.{MakeFails, IsShortKey, IsShortSignature, default_algorithm}
+use Rattle.rpki_signer.specs.Limits.{MakeFails, IsShortKey, IsShortSignature, RefusesKey, RefusesSignature, default_algorithm}
 use Rattle.rpki_signer.specs.Signer.{SignerState, Holds, AreDistinct, Stays}
 use Rattle.rpki_signer.proofs.Keyrings.{one_key}
-use Rattle.rpki_signer.proofs.States.{stays_then, stays_keeps, fails_before}
+use Rattle.rpki_signer.proofs.States.{stays_then, stays_keeps, fails_before, key_refused}
 use Rattle.rpki_idcert.specs.Making.{name_of_key}
 use Rattle.rpki_idcert.proofs.Pieces.{Piece, begins_as}
 use Rattle.rpki_idcert.proofs.ReadAgain.{signed_piece}
@@ -89,23 +88,26 @@ request_made scheme id places a b c key octets u d k s =
 
 -- ---- results
 
-pub fails_result : {I E : Type 0} (id : I) (repository : List ℕ) (a b c : SignerState I) (e : CsrError E) → Stays a b → Stays b c × SigningOnly id b c e → Stays a c × ConstructFails id repository a c e
-fails_result id repository a b c (csr.Uri x) k s = absurd s.1
+pub fails_result : {I E : Type 0} (id : I) (repository : List ℕ) (a b c : SignerState I) (e : CsrError E) → Stays a b → SigningOnly id b c e → Stays a c × ConstructFails id repository a c e
+fails_result id repository a b c (csr.Uri x) k s = absurd s
 fails_result {E = E} id repository a b c csr.TooLong k s = (stays_then a b c k s.0, fails_before {E = E} RsaSha256 id a b c make.TooLong (stays_keeps a b k) s.1)
-fails_result id repository a b c (csr.Signing x) k s = (stays_then a b c k s.0, fails_before RsaSha256 id a b c (make.Signing x) (stays_keeps a b k) s.1)
-fails_result id repository a b c csr.OutOfMemory k s = (stays_then a b c k s.0, tt)
+fails_result id repository a b c (csr.Signing x) k s = (stays_then a b c k s.stays, fails_before RsaSha256 id a b c (make.Signing x) (stays_keeps a b k) (s.known, s.fails))
+fails_result id repository a b c csr.OutOfMemory k s = (stays_then a b c k s, tt)
 
 pub construct_result : {I E : Type 0} (scheme : Relation) (id : I) (repository : List ℕ) (places : Places) (a b c : SignerState I) (key : KeyFields) (r : Result (List ℕ) (CsrError E)) → AreUris places → AreDistinct b.keyring → IsShortKey id a b key
-    → MatchResult r (IsSignedFor scheme id key places b c) (λ e. Stays b c × SigningOnly id b c e) → MatchResult r (IsRequestMade scheme id places a c) (λ e. Stays a c × ConstructFails id repository a c e)
+    → MatchResult r (IsSignedFor scheme id key places b c) (SigningOnly id b c) → MatchResult r (IsRequestMade scheme id places a c) (λ e. Stays a c × ConstructFails id repository a c e)
 construct_result scheme id repository places a b c key (Ok octets) u d k s = request_made scheme id places a b c key octets u d k s
 construct_result scheme id repository places a b c key (Err e) u d k s = fails_result id repository a b c e k.is.stays s
 
-pub key_refused : {I E : Type 0} (id : I) (repository : List ℕ) (a b : SignerState I) (m : MakeError E) (e : CsrError E) → e ≡ csr_error_of m → Stays a b × MakeFails RsaSha256 id a b m → Stays a b × ConstructFails id repository a b e
-key_refused id repository a b make.TooLong e is s = rw is s
-key_refused id repository a b (make.Signing x) e is s = rw is s
-key_refused id repository a b make.OutOfMemory e is s = rw is s
+fails_as : {I E : Type 0} (id : I) (repository : List ℕ) (a b : SignerState I) (m : MakeError E) (e : CsrError E) → e ≡ csr_error_of m → Stays a b × MakeFails RsaSha256 id a b m → Stays a b × ConstructFails id repository a b e
+fails_as id repository a b make.TooLong e is s = rw is s
+fails_as id repository a b (make.Signing x) e is s = rw is s
+fails_as id repository a b make.OutOfMemory e is s = rw is s
 
-pub signing_refused : {I E : Type 0} (id : I) (a b : SignerState I) (m : MakeError E) (e : CsrError E) → e ≡ csr_error_of m → Stays a b × MakeFails RsaSha256 id a b m → Stays a b × SigningOnly id a b e
+pub key_fails : {I E : Type 0} (id : I) (repository : List ℕ) (a b : SignerState I) (m : MakeError E) (e : CsrError E) → e ≡ csr_error_of m → RefusesKey id a b m → Stays a b × ConstructFails id repository a b e
+key_fails id repository a b m e is s = fails_as id repository a b m e is (key_refused id a b m s)
+
+pub signing_refused : {I E : Type 0} (id : I) (a b : SignerState I) (m : MakeError E) (e : CsrError E) → e ≡ csr_error_of m → RefusesSignature id a b m → SigningOnly id a b e
 signing_refused id a b make.TooLong e is s = rw is s
 signing_refused id a b (make.Signing x) e is s = rw is s
 signing_refused id a b make.OutOfMemory e is s = rw is s
@@ -123,10 +125,10 @@ uri_refused id repository a b key uri.OutOfMemory e k is f = rw is (k.is.stays, 
 
 -- ---- which refusal was the first
 
-pub first_key : {I E : Type 0} (id : I) (repository : List ℕ) (a b : SignerState I) (m : MakeError E) (e : CsrError E) → e ≡ csr_error_of m → Stays a b × MakeFails RsaSha256 id a b m → m ≢ make.Signing signing.IncompatibleKey → IsFirstRefusal id repository a b e
-first_key id repository a b make.TooLong e is s u = rw is (inl (record { stays = s.0; fails = s.1; unsigned = u }))
-first_key id repository a b (make.Signing x) e is s u = rw is (inl (record { stays = s.0; fails = s.1; unsigned = u }))
-first_key id repository a b make.OutOfMemory e is s u = rw is tt
+pub first_key : {I E : Type 0} (id : I) (repository : List ℕ) (a b : SignerState I) (m : MakeError E) (e : CsrError E) → e ≡ csr_error_of m → RefusesKey id a b m → IsFirstRefusal id repository a b e
+first_key id repository a b make.TooLong e is s = rw is (inl s)
+first_key id repository a b (make.Signing x) e is s = rw is (inl s)
+first_key id repository a b make.OutOfMemory e is s = rw is tt
 
 pub first_uri : {I E : Type 0} (id : I) (repository : List ℕ) (a b : SignerState I) (key : KeyFields) (x : Error) (e : CsrError E) → IsShortKey id a b key → e ≡ csr_error_of_uri x → IsFirstRefusal id repository a b e
 first_uri id repository a b key uri.TooLong e k is = rw is (found id a b key k)
@@ -136,13 +138,13 @@ first_uri id repository a b key uri.BadUri e k is = rw is (found id a b key k)
 first_uri id repository a b key uri.DotSegments e k is = rw is (found id a b key k)
 first_uri id repository a b key uri.OutOfMemory e k is = rw is tt
 
-first_signing : {I E : Type 0} (id : I) (repository : List ℕ) (a b c : SignerState I) (key : KeyFields) (e : CsrError E) → fault_of rsync (slashed repository) ≡ None → IsShortKey id a b key → Stays b c × SigningOnly id b c e → IsFirstRefusal id repository a c e
-first_signing id repository a b c key (csr.Uri x) n k s = absurd s.1
+first_signing : {I E : Type 0} (id : I) (repository : List ℕ) (a b c : SignerState I) (key : KeyFields) (e : CsrError E) → fault_of rsync (slashed repository) ≡ None → IsShortKey id a b key → SigningOnly id b c e → IsFirstRefusal id repository a c e
+first_signing id repository a b c key (csr.Uri x) n k s = absurd s
 first_signing id repository a b c key csr.TooLong n k s = inr (n, record { between = b; key = key; given = k; refuses = s })
 first_signing id repository a b c key (csr.Signing x) n k s = inr (n, record { between = b; key = key; given = k; refuses = s })
 first_signing id repository a b c key csr.OutOfMemory n k s = tt
 
-pub first_result : {T I E : Type 0} (id : I) (repository : List ℕ) (a b c : SignerState I) (key : KeyFields) (ok : T → Type 0) (r : Result T (CsrError E)) → fault_of rsync (slashed repository) ≡ None → IsShortKey id a b key → MatchResult r ok (λ e. Stays b c × SigningOnly id b c e)
+pub first_result : {T I E : Type 0} (id : I) (repository : List ℕ) (a b c : SignerState I) (key : KeyFields) (ok : T → Type 0) (r : Result T (CsrError E)) → fault_of rsync (slashed repository) ≡ None → IsShortKey id a b key → MatchResult r ok (SigningOnly id b c)
     → IfErr r (IsFirstRefusal id repository a c)
 first_result id repository a b c key ok (Ok x) n k m = tt
 first_result id repository a b c key ok (Err e) n k m = first_signing id repository a b c key e n k m

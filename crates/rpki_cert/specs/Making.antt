@@ -19,7 +19,7 @@ use Rattle.rpki_signer.specs.declared.errors.MakeError.{MakeError}
 use Rattle.rpki_signer.specs.declared.errors.MakeError.TheVariants as make
 use Rattle.rpki_signer.specs.declared.errors.SigningError.TheVariants as signing
 use Rattle.rpki_signer.specs.Errors.{signing_text}
-use Rattle.rpki_signer.specs.Limits.{IsShort, IsShortSignature, RefusesKey, StopsBehindKey, default_algorithm}
+use Rattle.rpki_signer.specs.Limits.{IsShort, IsShortSignature, RefusesKey, RefusesSignature, StopsBehindKey, default_algorithm}
 use Rattle.rpki_signer.specs.Signer.{SignerState, Holds, Stays, SigningFails}
 use Rattle.rpki_idcert.specs.Making.{name_of_key}
 use Rattle.rpki_cert.specs.declared.construct.CsrError.{CsrError}
@@ -167,13 +167,16 @@ pub record IsSignedFor {Id : Type 0} (scheme : Relation) (id : Id) (key : KeyFie
   pub spelled : CanBeSpelled spelled_x509 (request_signed key places value)
   pub signed : IsShortSignature scheme RsaSha256 id (spelled_info key places) before after value
 
+-- the signature was refused
 abbrev pub SigningOnly : {Id E : Type 0} → Id → SignerState Id → SignerState Id → CsrError E
     → Type 0
 SigningOnly id before after (csr.Uri error) = ⊥
-SigningOnly id before after csr.TooLong = Rose before.overlong after.overlong
+SigningOnly {E = E} id before after csr.TooLong =
+    RefusesSignature {E = E} id before after make.TooLong
 SigningOnly id before after (csr.Signing error) =
-    (error ≢ signing.OutOfMemory) × SigningFails RsaSha256 id before after error
-SigningOnly id before after csr.OutOfMemory = ⊤
+    RefusesSignature id before after (make.Signing error)
+SigningOnly {E = E} id before after csr.OutOfMemory =
+    RefusesSignature {E = E} id before after make.OutOfMemory
 
 -- the signer held a key for the identifier, which was not too long
 pub record IsKeyFound {Id : Type 0} (id : Id) (before : SignerState Id) : Type 0 where

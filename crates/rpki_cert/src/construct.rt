@@ -285,8 +285,7 @@ fn sign_request<P: Scheme, S: Signer<P>>(
     ensures signed { MatchResult result
         (spec.IsSignedFor P.checks key.now public_key.now places.now
         (S.state signer.old) (S.state signer.new))
-        (λ e. Stays (S.state signer.old) (S.state signer.new)
-        × spec.SigningOnly key.now (S.state signer.old) (S.state signer.new) e) }
+        (spec.SigningOnly key.now (S.state signer.old) (S.state signer.new)) }
     ensures distinct { IsOk result → AreDistinct (S.state signer.new).keyring }
 {
     let info = request_info(alloc, public_key, places)?;

@@ -17,11 +17,11 @@ use Rattle.rpki_signer.specs.declared.errors.CallError.{CallError}
 use Rattle.rpki_signer.specs.declared.errors.CallError.TheVariants as call
 use Rattle.rpki_signer.specs.declared.errors.MakeError.{MakeError}
 use Rattle.rpki_signer.specs.Errors.{make_error_of, signing_error_of}
-use Rattle.rpki_signer.specs.Limits.{IsShortKey, Keeps, MakeFails, StopsInTurn}
+use Rattle.rpki_signer.specs.Limits.{IsShortKey, Keeps, MakeFails, RefusesSignature, StopsInTurn}
 use Rattle.rpki_signer.specs.Serials.{IsSerialDrawn, without_first_bit}
 use Rattle.rpki_signer.specs.Signer.{SignerState, Holds, AreDistinct, Stays, CallFails}
 use Rattle.rpki_signer.proofs.Keyrings.{one_key}
-use Rattle.rpki_signer.proofs.States.{stays_then, stays_keeps, keeps_then, fails_before, call_fails, in_turn_fails}
+use Rattle.rpki_signer.proofs.States.{stays_then, stays_keeps, keeps_then, fails_before, call_fails, signature_refused, in_turn_fails}
 use Rattle.rpki_idcert.specs.Checks.{has_own_identifier, is_true, is_within, ta_checks, names_itself, IsTaBelieved}
 use Rattle.rpki_idcert.specs.IdCert.{CertificateFields}
 use Rattle.rpki_idcert.specs.Making.{made_fields, IsMadeFor, IsIssued, IsSignedAs, IsIssuedTo, IsAnchorMade, IsEndEntityMade, StopsAtEndEntity}
@@ -92,9 +92,11 @@ end_entity_made scheme key id validity a b e serial cert n m =
 -- ---- results
 
 pub anchor_result : {I E : Type 0} (scheme : Relation) (id : I) (validity : ValidityFields) (a b c : SignerState I) (key : KeyFields) (t : TbsFields) (r : Result CertificateFields (MakeError E)) → AreDistinct b.keyring → IsShortKey id a b key
-    → IsMadeFor key key (serial_of 1) validity t → MatchResult r (IsSignedAs scheme t id b c) (λ e. Stays b c × MakeFails RsaSha256 id b c e) → MatchResult r (IsAnchorMade scheme id validity a c) (λ e. Stays a c × MakeFails RsaSha256 id a c e)
+    → IsMadeFor key key (serial_of 1) validity t → MatchResult r (IsSignedAs scheme t id b c) (RefusesSignature id b c) → MatchResult r (IsAnchorMade scheme id validity a c) (λ e. Stays a c × MakeFails RsaSha256 id a c e)
 anchor_result scheme id validity a b c key t (Ok cert) d k m s = anchor_made scheme id validity a b c key t cert d k m s
-anchor_result scheme id validity a b c key t (Err e) d k m s = (stays_then a b c k.is.stays s.0, fails_before RsaSha256 id a b c e (stays_keeps a b k.is.stays) s.1)
+anchor_result scheme id validity a b c key t (Err e) d k m s =
+    let f = signature_refused id b c e s in
+    (stays_then a b c k.is.stays f.0, fails_before RsaSha256 id a b c e (stays_keeps a b k.is.stays) f.1)
 
 -- the first call drew a serial number
 drew : {I : Type 0} (a b : SignerState I) (serial : List ℕ) → IsSerialDrawn a b serial → Keeps a b
@@ -104,10 +106,12 @@ pub refused_behind : {I E : Type 0} (id : I) (a b c : SignerState I) (serial : L
 refused_behind id a b c serial e n f = (keeps_then a b c (drew a b serial n) (stays_keeps b c f.0), f.0.drawn ∙ n.drawn.drawn, fails_before RsaSha256 id a b c e (drew a b serial n) f.1)
 
 pub issued_result : {I E : Type 0} (scheme : Relation) (key : KeyFields) (serial : List ℕ) (id : I) (validity : ValidityFields) (b c e : SignerState I) (issuing : KeyFields) (t : TbsFields) (r : Result CertificateFields (MakeError E)) → AreDistinct c.keyring
-    → IsShortKey id b c issuing → IsMadeFor issuing key serial validity t → MatchResult r (IsSignedAs scheme t id c e) (λ x. Stays c e × MakeFails RsaSha256 id c e x)
+    → IsShortKey id b c issuing → IsMadeFor issuing key serial validity t → MatchResult r (IsSignedAs scheme t id c e) (RefusesSignature id c e)
     → MatchResult r (IsIssuedTo scheme key serial id validity b e) (λ x. Stays b e × MakeFails RsaSha256 id b e x)
 issued_result scheme key serial id validity b c e issuing t (Ok cert) d k m s = issued_to scheme key serial id validity b c e issuing t cert d k m s
-issued_result scheme key serial id validity b c e issuing t (Err x) d k m s = (stays_then b c e k.is.stays s.0, fails_before RsaSha256 id b c e x (stays_keeps b c k.is.stays) s.1)
+issued_result scheme key serial id validity b c e issuing t (Err x) d k m s =
+    let f = signature_refused id c e x s in
+    (stays_then b c e k.is.stays f.0, fails_before RsaSha256 id b c e x (stays_keeps b c k.is.stays) f.1)
 
 pub end_entity_result : {I E : Type 0} (scheme : Relation) (key : KeyFields) (id : I) (validity : ValidityFields) (a b e : SignerState I) (serial : List ℕ) (r : Result CertificateFields (MakeError E))
     → IsSerialDrawn a b serial → MatchResult r (IsIssuedTo scheme key serial id validity b e) (λ x. Stays b e × MakeFails RsaSha256 id b e x)

@@ -4,7 +4,7 @@ ghost use Rattle.std.specs.Prelude.{◌≡◌, ◌<◌, ◌≤ℤ◌, ℤ, IfErr
 ghost use Rattle.rpki_der.specs.declared.mode.Mode.{Mode};
 ghost use Rattle.rpki_base.specs.declared.algorithm.SigningAlgorithm.TheVariants.{RsaSha256};
 ghost use Rattle.rpki_base.specs.Civil.{IsMoment};
-ghost use Rattle.rpki_signer.specs.Limits.{Keeps, MakeFails, StopsInTurn};
+ghost use Rattle.rpki_signer.specs.Limits.{Keeps, MakeFails, RefusesSignature, StopsInTurn};
 ghost use Rattle.rpki_signer.specs.Signer.{AreDistinct, Stays};
 ghost use Rattle.rpki_idcert.specs.Checks.{IsTaBelieved};
 ghost use Rattle.rpki_idcert.specs.Making.{IsSignedAs, IsIssuedTo, IsAnchorMade, IsEndEntityMade, IsReadAgain, StopsAtEndEntity};
@@ -102,8 +102,7 @@ fn issue<P: Scheme, S: Signer<P>>(
     ensures signed { MatchResult result
         (IsSignedAs P.checks tbs issuing_key_id.now
         (S.state signer.old) (S.state signer.new))
-        (λ e. Stays (S.state signer.old) (S.state signer.new)
-        × MakeFails RsaSha256 issuing_key_id.now (S.state signer.old) (S.state signer.new) e) }
+        (RefusesSignature issuing_key_id.now (S.state signer.old) (S.state signer.new)) }
     ensures distinct { IsOk result → AreDistinct (S.state signer.new).keyring }
 {
     let unsigned = UnsignedIdCert::new(alloc, tbs)?;

@@ -8,12 +8,11 @@ use Rattle.rpki_base.specs.Scheme.{Relation}
 use Rattle.rpki_base.specs.Signature.{SignatureParts}
 use Rattle.rpki_signer.specs.declared.errors.MakeError.{MakeError}
 use Rattle.rpki_signer.specs.declared.errors.MakeError.TheVariants as make
-use Rattle.rpki_signer.specs.declared.errors.SigningError.TheVariants as signing
-use Rattle.rpki_signer.specs.Limits.{default_algorithm, IsShortKey, IsShortOneOff, Keeps, MakeFails, OnceFails}
+use Rattle.rpki_signer.specs.Limits.{default_algorithm, IsShortKey, IsShortOneOff, Keeps, MakeFails, RefusesKey, RefusesOneOff, RefusesSignature}
 use Rattle.rpki_signer.specs.Serials.{without_first_bit}
 use Rattle.rpki_signer.specs.Signer.{SignerState, Holds, AreDistinct, Stays}
 use Rattle.rpki_signer.proofs.Keyrings.{one_key}
-use Rattle.rpki_signer.proofs.States.{rose_then, stays_keeps, keeps_then, fails_before, once_fails}
+use Rattle.rpki_signer.proofs.States.{rose_then, stays_keeps, keeps_then, fails_before, key_refused, one_off_refused, signature_refused}
 use Rattle.rpki_idcert.specs.IdCert.{CertificateFields}
 use Rattle.rpki_idcert.specs.Making.{made_fields, IsMadeFor, IsIssued, IsEndEntityMade, StopsAtEndEntity}
 use Rattle.rpki_idcert.proofs.Issuing.{end_entity_fails}
@@ -50,6 +49,7 @@ certified scheme issuing key now id a b c crl cert d e h s m =
       issued = subst (λ (i : KeyFields). IsIssued scheme i cert) same m.issued;
       keeps = keeps_then a b c (stays_keeps a b s.signed.is.stays) m.keeps;
       drawn = m.drawn ∙ s.signed.is.stays.drawn;
+      short = s.signed.short;
     }
 
 pub uncertified : {I E : Type 0} (scheme : Relation) (issuing : KeyFields) (now : ℤ) (id : I) (a b c : SignerState I) (crl : CrlFields) (e : MakeError E) → IsCrlSigned scheme issuing now id a b crl → Keeps b c × (c.drawn ≡ b.drawn) × MakeFails RsaSha256 id b c e → StopsAtEndEntity id b c e
@@ -58,11 +58,13 @@ uncertified scheme issuing now id a b c crl e s f t =
     let k = stays_keeps a b s.signed.is.stays in
     (keeps_then a b c k f.0, f.1 ∙ s.signed.is.stays.drawn, inr (record { between = b; crl = crl; crl_signed = s; stops = t }))
 
-pub without_crl : {I E : Type 0} (scheme : Relation) (issuing : KeyFields) (now : ℤ) (id : I) (a b : SignerState I) (e : MakeError E) → Stays a b × MakeFails RsaSha256 id a b e → Keeps a b × (b.drawn ≡ a.drawn) × StopsCertifying scheme issuing now id a b e
-without_crl scheme issuing now id a b e f = (stays_keeps a b f.0, f.0.drawn, inl f)
+pub without_crl : {I E : Type 0} (scheme : Relation) (issuing : KeyFields) (now : ℤ) (id : I) (a b : SignerState I) (e : MakeError E) → RefusesSignature id a b e → Keeps a b × (b.drawn ≡ a.drawn) × StopsCertifying scheme issuing now id a b e
+without_crl scheme issuing now id a b e f =
+    let s = signature_refused id a b e f in
+    (stays_keeps a b s.0, s.0.drawn, inl f)
 
 certifying_fails : {I E : Type 0} (scheme : Relation) (issuing : KeyFields) (now : ℤ) (id : I) (a b : SignerState I) (e : MakeError E) → StopsCertifying scheme issuing now id a b e → MakeFails RsaSha256 id a b e
-certifying_fails scheme issuing now id a b e (inl f) = f.1
+certifying_fails scheme issuing now id a b e (inl f) = (signature_refused id a b e f).1
 certifying_fails scheme issuing now id a b e (inr s) = fails_before RsaSha256 id a s.between b e (stays_keeps a s.between s.crl_signed.signed.is.stays) (end_entity_fails id s.between b e s.stops)
 
 -- ---- keys
@@ -70,20 +72,19 @@ certifying_fails scheme issuing now id a b e (inr s) = fails_before RsaSha256 id
 once_keeps : {I : Type 0} (scheme : Relation) (message : List ℕ) (a b : SignerState I) (octets : List ℕ) (key : KeyFields) → IsShortOneOff scheme RsaSha256 message a b octets key → Keeps a b
 once_keeps scheme message a b octets key o = record { later = o.is.later; keyring = o.is.keyring }
 
-pub without_signature : {I E : Type 0} (scheme : Relation) (message : List ℕ) (id : I) (a b : SignerState I) (e : MakeError E) → Keeps a b × OnceFails a b e → Keeps a b × StopsAtKeys scheme message id a b e
-without_signature scheme message id a b e f = (f.0, inl f.1)
+pub without_signature : {I E : Type 0} (scheme : Relation) (message : List ℕ) (id : I) (a b : SignerState I) (e : MakeError E) → RefusesOneOff scheme message a b e → Keeps a b × StopsAtKeys scheme message id a b e
+without_signature scheme message id a b e f = ((one_off_refused scheme message id a b e f).0, inl f)
 
-pub without_key : {I E : Type 0} (scheme : Relation) (message : List ℕ) (id : I) (a b c : SignerState I) (octets : List ℕ) (key : KeyFields) (e : MakeError E) → IsShortOneOff scheme RsaSha256 message a b octets key → Stays b c × MakeFails RsaSha256 id b c e → e ≢ make.Signing signing.IncompatibleKey
-    → Keeps a c × StopsAtKeys scheme message id a c e
-without_key scheme message id a b c octets key e o f u =
-    (keeps_then a b c (once_keeps scheme message a b octets key o) (stays_keeps b c f.0), inr (record { between = b; octets = octets; key = key; once = o; refuses = record { stays = f.0; fails = f.1; unsigned = u } }))
+pub without_key : {I E : Type 0} (scheme : Relation) (message : List ℕ) (id : I) (a b c : SignerState I) (octets : List ℕ) (key : KeyFields) (e : MakeError E) → IsShortOneOff scheme RsaSha256 message a b octets key → RefusesKey id b c e → Keeps a c × StopsAtKeys scheme message id a c e
+without_key scheme message id a b c octets key e o f =
+    (keeps_then a b c (once_keeps scheme message a b octets key o) (stays_keeps b c (key_refused id b c e f).0), inr (record { between = b; octets = octets; key = key; once = o; refuses = f }))
 
 pub has_keys : {I : Type 0} (scheme : Relation) (message : List ℕ) (id : I) (a b c : SignerState I) (octets : List ℕ) (key issuing : KeyFields) → IsShortOneOff scheme RsaSha256 message a b octets key → IsShortKey id b c issuing → HasKeys scheme message id a c octets key issuing
 has_keys scheme message id a b c octets key issuing o k = record { between = b; once = o; then_key = k }
 
 keys_fail : {I E : Type 0} (scheme : Relation) (message : List ℕ) (id : I) (a b : SignerState I) (e : MakeError E) → StopsAtKeys scheme message id a b e → MakeFails RsaSha256 id a b e
-keys_fail scheme message id a b e (inl f) = once_fails RsaSha256 id a b e f
-keys_fail scheme message id a b e (inr s) = fails_before RsaSha256 id a s.between b e (once_keeps scheme message a s.between s.octets s.key s.once) s.refuses.fails
+keys_fail scheme message id a b e (inl f) = (one_off_refused scheme message id a b e f).1
+keys_fail scheme message id a b e (inr s) = fails_before RsaSha256 id a s.between b e (once_keeps scheme message a s.between s.octets s.key s.once) (key_refused id s.between b e s.refuses).1
 
 pub keys_keep : {I : Type 0} (scheme : Relation) (message : List ℕ) (id : I) (a b : SignerState I) (octets : List ℕ) (key issuing : KeyFields) → HasKeys scheme message id a b octets key issuing → Keeps a b
 keys_keep scheme message id a b octets key issuing k = keeps_then a k.between b (once_keeps scheme message a k.between octets key k.once) (stays_keeps k.between b k.then_key.is.stays)
@@ -167,4 +168,8 @@ created scheme content now id a b c signature key issuing crl cert m w g k n t e
     issued = t.issued;
     crl_made = t.crl_made;
   };
+  short_key = k.once.short_key;
+  short_issuing = k.then_key.short;
+  short_signature = k.once.short;
+  short_crl = t.short;
 }

@@ -7,7 +7,7 @@ use Rattle.rpki_base.specs.PublicKey.{KeyFields}
 use Rattle.rpki_base.specs.Scheme.{Relation}
 use Rattle.rpki_signer.specs.declared.errors.MakeError.{MakeError}
 use Rattle.rpki_signer.specs.declared.errors.MakeError.TheVariants as make
-use Rattle.rpki_signer.specs.Limits.{IsShortKey, IsShortOneOff, OnceFails, RefusesKey, RefusesSignature}
+use Rattle.rpki_signer.specs.Limits.{IsShortKey, IsShortOneOff, RefusesKey, RefusesOneOff, RefusesSignature}
 use Rattle.rpki_signer.specs.Signer.{SignerState}
 use Rattle.rpki_idcert.specs.Making.{StopsAtEndEntity}
 use Rattle.rpki_sigmsg.specs.declared.create_error.CreateError.{CreateError}
@@ -39,7 +39,8 @@ pub record StopsAtKey {Id E : Type 0} (scheme : Relation) (message : List ℕ) (
 abbrev pub StopsAtKeys : {Id E : Type 0} → Relation → List ℕ → Id → SignerState Id
     → SignerState Id → MakeError E → Type 0
 StopsAtKeys scheme message id before after error =
-    OnceFails before after error ⊎ StopsAtKey scheme message id before after error
+    RefusesOneOff scheme message before after error
+    ⊎ StopsAtKey scheme message id before after error
 
 -- at the certificate, behind the CRL of this issuing key
 pub record StopsAtCertificate {Id E : Type 0} (scheme : Relation) (issuing : KeyFields) (now : ℤ)

@@ -15,7 +15,7 @@ use Rattle.rpki_base.specs.Serial.{serial_of}
 use Rattle.rpki_base.specs.TimeText.{der_time}
 use Rattle.rpki_base.specs.Validity.{ValidityFields}
 use Rattle.rpki_signer.specs.declared.errors.SigningError.TheVariants as signing
-use Rattle.rpki_signer.specs.Limits.{default_algorithm, IsShortSignature, Keeps}
+use Rattle.rpki_signer.specs.Limits.{default_algorithm, IsShort, IsShortSignature, Keeps}
 use Rattle.rpki_signer.specs.Serials.{without_first_bit}
 use Rattle.rpki_signer.specs.Signer.{SignerState, Holds, SigningFails}
 use Rattle.rpki_idcert.specs.IdCert.{CertificateFields}
@@ -99,6 +99,7 @@ pub record IsCertified {Id : Type 0} (scheme : Relation) (issuing key : KeyField
     pub issued : IsIssued scheme issuing certificate
     pub keeps : Keeps before after
     pub drawn : after.drawn ≡ before.drawn
+    pub short : IsShort crl.signed.signature.value
 
 -- a content, and the moment at which it is signed
 pub record ContentFields : Type 0 where
@@ -157,7 +158,8 @@ pub record IsMessageMade (scheme : Relation) (content : List ℕ) (now : ℤ)
   pub issued : IsIssued scheme issuing certificate
   pub crl_made : IsCrlMade scheme issuing now crl
 
--- The key for this one use is the one that the signer drew, and not the issuing key; the serial number is what it drew last.
+-- The key for this one use is the one that the signer drew, and not the issuing key; the serial number is what it drew last. The keys
+-- and the signatures have at most 2^16 octets each, the certificate's as it is issued.
 pub record IsCreated {Id : Type 0} (scheme : Relation) (content : List ℕ) (now : ℤ) (id : Id)
     (before after : SignerState Id) (m : MessageFields) : Type 0 where
   pub window_is : HasWindow now
@@ -168,6 +170,10 @@ pub record IsCreated {Id : Type 0} (scheme : Relation) (content : List ℕ) (now
   pub other : key ≢ issuing
   pub twenty : length after.random ≡ 20
   pub made : IsMessageMade scheme content now issuing key (without_first_bit after.random) m
+  pub short_key : IsShort key.bits
+  pub short_issuing : IsShort issuing.bits
+  pub short_signature : IsShort made.signature.value
+  pub short_crl : IsShort made.crl.signed.signature.value
 
 -- ---- why nothing is created
 

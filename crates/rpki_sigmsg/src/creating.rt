@@ -5,9 +5,8 @@ ghost use Rattle.rpki_der.specs.declared.mode.Mode.{Mode};
 ghost use Rattle.rpki_der.specs.Takes.{BeginsAs};
 ghost use Rattle.rpki_base.specs.Civil.{IsMoment};
 ghost use Rattle.rpki_base.specs.PublicKey.{KeyFields};
-ghost use Rattle.rpki_base.specs.declared.algorithm.SigningAlgorithm.TheVariants.{RsaSha256};
-ghost use Rattle.rpki_signer.specs.Limits.{Keeps, MakeFails, default_algorithm};
-ghost use Rattle.rpki_signer.specs.Signer.{Holds, Stays, AreDistinct};
+ghost use Rattle.rpki_signer.specs.Limits.{Keeps, RefusesSignature, default_algorithm};
+ghost use Rattle.rpki_signer.specs.Signer.{Holds, AreDistinct};
 ghost use Rattle.rpki_sigmsg.specs.Checks.{IsBelieved};
 ghost use Rattle.rpki_sigmsg.specs.Making as spec;
 ghost use Rattle.rpki_sigmsg.specs.declared.create_error.CreateError.TheVariants as create;
@@ -86,8 +85,7 @@ fn sign_crl<P: Scheme, S: Signer<P>>(
     ensures signed { MatchResult result
         (spec.IsCrlSigned P.checks issuing_key.now window issuing_key_id.now
         (S.state signer.old) (S.state signer.new))
-        (λ e. Stays (S.state signer.old) (S.state signer.new)
-        × MakeFails RsaSha256 issuing_key_id.now (S.state signer.old) (S.state signer.new) e) }
+        (RefusesSignature issuing_key_id.now (S.state signer.old) (S.state signer.new)) }
     ensures distinct { IsOk result → AreDistinct (S.state signer.new).keyring }
 {
     let crl = UnsignedCrl::new(alloc, issuing_key, window)?;

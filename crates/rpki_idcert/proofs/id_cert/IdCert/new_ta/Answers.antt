@@ -1,5 +1,5 @@
-use Rattle.std.proofs.Common.{subst}
-use Rattle.rpki_signer.proofs.States.{handed_on, stops_at_key, stops_for_memory, stops_so}
+use Rattle.std.proofs.Common.{inl, subst}
+use Rattle.rpki_signer.proofs.States.{handed_on, key_refused, stops_for_memory, stops_so}
 use Rattle.rpki_idcert.specs.Making.{IsMadeFor}
 use Rattle.rpki_idcert.proofs.Issuing.{anchor_result, anchors_believed, anchors_again}
 use Rattle.rpki_idcert.proofs.id_cert.IdCert.new_ta.Goals as goal
@@ -13,8 +13,11 @@ returns-clause-believed g c = anchors_believed _ _ _ _ _ _ _ (returns-clause-mad
 pub returns-clause-again : goal.returns-clause-again
 returns-clause-again g c = anchors_again _ _ _ _ _ _ _ c.are_moments.ensures (returns-clause-made g c)
 
+pub returns-in_err-key-clause-made : goal.returns-in_err-key-clause-made
+returns-in_err-key-clause-made g c = handed_on _ _ _ _ c.from_residual.ensures (key_refused _ _ _ c.in_err-key.field-0.0 c.in_err-key.ensures.key)
+
 pub returns-in_err-key-clause-first_refusal : goal.returns-in_err-key-clause-first_refusal
-returns-in_err-key-clause-first_refusal g c = handed_on _ _ _ _ c.from_residual.ensures (stops_at_key _ _ _ c.in_err-key.field-0.0 c.in_err-key.ensures.key c.in_err-key.ensures.unsigned)
+returns-in_err-key-clause-first_refusal g c = handed_on _ _ _ _ c.from_residual.ensures (inl c.in_err-key.ensures.key)
 
 pub returns-in_err-tbs-clause-first_refusal : goal.returns-in_err-tbs-clause-first_refusal
 returns-in_err-tbs-clause-first_refusal g c = handed_on _ _ _ _ c.from_residual-in_err-tbs.ensures (stops_for_memory _ _ _ c.in_ok-key.key c.in_ok-key.ensures.key)
