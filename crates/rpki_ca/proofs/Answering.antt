@@ -110,7 +110,7 @@ no_usage_signed scheme Content input signer said = said
 no_usage_signed scheme (Receive kind when keys) input signer said = said
 no_usage_signed scheme (Create kind when) input signer said = said.signed
 no_usage_signed scheme (Setup kind when) input signer said = said
-no_usage_signed scheme (Make count seed) input signer said = said
+no_usage_signed scheme (Make count seed) input signer said = said.0
 
 no_fault : (scheme : Relation) (c : Command) (o : Option (List ℕ)) → AnswersSpelled scheme c o (Err refusals.ReadFault) → ⊥
 no_fault scheme c None said = never said
@@ -128,7 +128,7 @@ no_fault_signed scheme Content input signer said = said
 no_fault_signed scheme (Receive kind when keys) input signer said = said
 no_fault_signed scheme (Create kind when) input signer said = said.signed
 no_fault_signed scheme (Setup kind when) input signer said = said
-no_fault_signed scheme (Make count seed) input signer said = said
+no_fault_signed scheme (Make count seed) input signer said = said.0
 
 performs_no_usage : {I : Type 0} (scheme : Relation) (c : Command) (input : List ℕ) (signer : SignerSeen I) → Performs scheme c input signer (Err refusals.Usage) → ⊥
 performs_no_usage scheme c input signer (inl said) = no_usage scheme c (octets_in c input) said

@@ -150,6 +150,15 @@ first_too_long scheme text when signer short (inl long) = absurd (never (length 
     never n a b = omega (arith, a, b)
 first_too_long scheme text when signer short (inr f) = creating (λ x. tt) scheme text when signer.id signer.before signer.after _ f
 
+-- of a text that fits, each by its own
+pub first_told : {I E : Type 0} (scheme : Relation) (text : List ℕ) (when : ℤ) (signer : SignerSeen I) (e : CreateError E) → length text ≤ 2 ^ 31 → IsFirstRefusal scheme text when signer.id signer.before signer.after e
+    → IsFirstToRefuse scheme text when signer (refusal_of_create e)
+first_told scheme text when signer create.Moment short f = tt
+first_told scheme text when signer create.TooLong short f = first_too_long scheme text when signer short f
+first_told scheme text when signer create.KeyReused short f = f
+first_told scheme text when signer (create.Signing error) short f = first_of scheme text when signer error f
+first_told scheme text when signer create.OutOfMemory short f = tt
+
 abbrev err_as : {T E : Type 0} → CreateError E → Result T (CreateError E)
 err_as e = Err e
 

@@ -19,3 +19,4 @@ pub mod Sending
 pub mod Keys
 pub mod SentLines
 pub mod Serving
+pub mod Unasked

@@ -34,10 +34,11 @@ use Rattle.rpki_base.specs.Scheme.{Relation}
 use Rattle.rpki_signer.specs.declared.errors.KeyError.{KeyError}
 use Rattle.rpki_signer.specs.declared.errors.KeyError.TheVariants as keys
 use Rattle.rpki_signer.specs.Limits.{Keeps}
-use Rattle.rpki_signer.specs.Signer.{SignerState, HeldKey, Holds, KeyFails, IsKeyOf}
+use Rattle.rpki_signer.specs.Signer.{SignerState, HeldKey, Holds, Stays, KeyFails, IsKeyOf}
 use Rattle.rpki_signer.proofs.States.{then_rose}
 use Rattle.rpki_sigmsg.specs.declared.create_error.CreateError.{CreateError}
 use Rattle.rpki_sigmsg.specs.declared.create_error.CreateError.TheVariants as create
+use Rattle.rpki_sigmsg.specs.FirstRefusals.{IsFirstRefusal}
 use Rattle.rpki_sigmsg.specs.Making.{HasWindow, CreateFails}
 use Rattle.rpki_ca.specs.declared.receiving.Received.TheVariants as received
 use Rattle.rpki_ca.specs.declared.make_line.Action.{Action}
@@ -47,11 +48,11 @@ use Rattle.rpki_ca.specs.declared.receiving.Received.{Received}
 use Rattle.rpki_ca.specs.declared.refusals.Refusal.TheVariants as refusals
 use Rattle.rpki_ca.specs.Acceptance.{IsWritable, Accepted, RefusesReceipt, protocol_of, text_of, normal_form, refusal_of}
 use Rattle.rpki_ca.specs.Answer.{IsLineOf}
-use Rattle.rpki_ca.specs.Creation.{AreCreated, IsSigned, refusal_of_create, refusal_of_key}
+use Rattle.rpki_ca.specs.Creation.{AreCreated, IsSigned, IsFirstToRefuse, refusal_of_create, refusal_of_key}
 use Rattle.rpki_ca.specs.Seen.{SignerSeen, seen_signer}
-use Rattle.rpki_ca.proofs.Creating.{signer_refused, drawn_other}
+use Rattle.rpki_ca.proofs.Creating.{signer_refused, first_told, drawn_other}
 use Rattle.rpki_ca.proofs.Laws.{one_accepted, accepted_alone}
-use Rattle.rpki_ca.specs.Summary.{made_at, object_at, uri_at, tag_at, publish_at, update_at, withdraw_at, change_at, changes, made_message, changes_in, does, summary, IsMakeAnswer}
+use Rattle.rpki_ca.specs.Summary.{made_at, object_at, uri_at, tag_at, publish_at, update_at, withdraw_at, change_at, changes, made_message, changes_in, does, summary, FailsToGiveKey, IsMakeAnswer}
 
 -- ---- the changes
 
@@ -192,11 +193,13 @@ held_after {I = I} id before middle key keeps holds = subst (λ (k : List (HeldK
 
 -- the issuing key wasn't given then
 pub key_refused : {I E : Type 0} (scheme : Relation) (message : Received) (when : ℤ) (id : I) (before middle after : SignerState I) (octets : List ℕ) (e : KeyError E)
-    → AreCreated scheme kinds.Publication message when (seen_signer id before middle) octets → Keeps before middle → KeyFails id middle after e → refusal_of_key e ≢ refusals.OutOfMemory
+    → AreCreated scheme kinds.Publication message when (seen_signer id before middle) octets → Keeps before middle → Stays middle after × KeyFails id middle after e → refusal_of_key e ≢ refusals.OutOfMemory
     → IsSigned scheme kinds.Publication message when (seen_signer id before after) (Err (refusal_of_key e))
+    × (IsFirstToRefuse scheme (text_of message) when (seen_signer id before after) (refusal_of_key e) ⊎ FailsToGiveKey scheme (text_of message) when (seen_signer id before after) (refusal_of_key e))
 key_refused scheme message when id before middle after octets keys.KeyNotFound created keeps f other =
-    absurd (f created.created.issuing (held_after id before middle created.created.issuing keeps created.created.holds))
-key_refused scheme message when id before middle after octets (keys.Signer x) created keeps f other = then_rose before.faults middle.faults after.faults keeps.later.faults f
+    absurd (f.1 created.created.issuing (held_after id before middle created.created.issuing keeps created.created.holds))
+key_refused scheme message when id before middle after octets (keys.Signer x) created keeps f other =
+    (then_rose before.faults middle.faults after.faults keeps.later.faults f.1, inr (record { between = middle; signed = created.signed; created = created.created; stays = f.0; is = refl; told = f.1 }))
 key_refused scheme message when id before middle after octets keys.OutOfMemory created keeps f other = absurd (other refl)
 
 -- under the issuing key the octets are accepted as the message
@@ -239,10 +242,13 @@ created_here scheme seed count m when signer octets is at created =
     subst (λ (t : ℤ). AreCreated scheme kinds.Publication (made_message seed count) t signer octets) at (subst (λ (x : Received). AreCreated scheme (protocol_of x) x when signer octets) is created)
 
 pub octets_refused : {I E : Type 0} (scheme : Relation) (seed count : ℕ) (m : Received) (when : ℤ) (signer : SignerSeen I) (e : CreateError E) → m ≡ made_message seed count → when ≡ made_at → count ≤ 10000
-    → CreateFails (text_of m) when signer.id signer.before signer.after e → refusal_of_create e ≢ refusals.OutOfMemory → IsMakeAnswer scheme count seed signer (Err (refusal_of_create e))
-octets_refused scheme seed count m when signer e is at few f other =
+    → CreateFails (text_of m) when signer.id signer.before signer.after e → IsFirstRefusal scheme (text_of m) when signer.id signer.before signer.after e → refusal_of_create e ≢ refusals.OutOfMemory → IsMakeAnswer scheme count seed signer (Err (refusal_of_create e))
+octets_refused scheme seed count m when signer e is at few f first other =
     let here = subst (λ (x : Received). CreateFails (text_of x) when signer.id signer.before signer.after e) is f in
-    made_refused scheme (made_message seed count) made_at signer e made_window (fits seed count few) (subst (λ (t : ℤ). CreateFails (text_of (made_message seed count)) t signer.id signer.before signer.after e) at here) other
+    let turn = subst (λ (x : Received). IsFirstRefusal scheme (text_of x) when signer.id signer.before signer.after e) is first in (
+      made_refused scheme (made_message seed count) made_at signer e made_window (fits seed count few) (subst (λ (t : ℤ). CreateFails (text_of (made_message seed count)) t signer.id signer.before signer.after e) at here) other,
+      inl (first_told scheme (text_of (made_message seed count)) made_at signer e (fits seed count few) (subst (λ (t : ℤ). IsFirstRefusal scheme (text_of (made_message seed count)) t signer.id signer.before signer.after e) at turn)),
+    )
 
 pub receipt_refused : {I : Type 0} (scheme : Relation) (seed count : ℕ) (id : I) (before middle after : SignerState I) (octets held : List ℕ) (issuing : KeyFields) (when : ℤ) (e : ReceiveError)
     → AreCreated scheme kinds.Publication (made_message seed count) made_at (seen_signer id before middle) octets → Keeps before middle → Holds middle.keyring id issuing → held ≡ octets → when ≡ made_at

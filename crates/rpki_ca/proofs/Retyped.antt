@@ -1,13 +1,12 @@
 -- The first refusal of a signer stays the first where the type of the signer's own errors is another.
 use Rattle.std.proofs.Common.{◌≡◌, inl, inr, ℕ, ℤ, List, refl, ap}
-use Rattle.rpki_base.specs.declared.algorithm.SigningAlgorithm.TheVariants.{RsaSha256}
 use Rattle.rpki_base.specs.PublicKey.{KeyFields}
 use Rattle.rpki_base.specs.Scheme.{Relation}
 use Rattle.rpki_signer.specs.declared.errors.MakeError.{MakeError}
 use Rattle.rpki_signer.specs.declared.errors.MakeError.TheVariants as make
 use Rattle.rpki_signer.specs.declared.errors.SigningError.{SigningError}
 use Rattle.rpki_signer.specs.declared.errors.SigningError.TheVariants as signing
-use Rattle.rpki_signer.specs.Limits.{MakeFails, OnceFails, RefusesKey, RefusesSignature, StopsBehindKey, StopsInTurn}
+use Rattle.rpki_signer.specs.Limits.{IsRefused, RefusesKey, RefusesOneOff, RefusesSignature, StopsBehindKey, StopsInTurn}
 use Rattle.rpki_signer.specs.Signer.{SignerState}
 use Rattle.rpki_idcert.specs.Making.{RefusesDraw, StopsAtEndEntity}
 use Rattle.rpki_sigmsg.specs.FirstRefusals.{StopsAtKeys, StopsCertifying, StopsCreating}
@@ -23,45 +22,45 @@ retyped g make.TooLong = make.TooLong
 retyped g (make.Signing s) = make.Signing (retyped_signing g s)
 retyped g make.OutOfMemory = make.OutOfMemory
 
-make_fails : {I A B : Type 0} (g : A → B) (id : I) (a b : SignerState I) (e : MakeError A) → MakeFails RsaSha256 id a b e → MakeFails RsaSha256 id a b (retyped g e)
-make_fails g id a b make.TooLong f = f
-make_fails {B = B} g id a b (make.Signing signing.KeyNotFound) f = (unlike, f.1)
+refused : {I A B : Type 0} (g : A → B) (id : I) (a b : SignerState I) (e : SigningError A) → IsRefused id a b e → IsRefused id a b (retyped_signing g e)
+refused {B = B} g id a b signing.KeyNotFound r = record { stays = r.stays; uncounted = r.uncounted; known = unlike; fails = r.fails }
   where
     unlike : ◌≡◌ {A = SigningError B} signing.KeyNotFound signing.OutOfMemory → ⊥
     unlike k = cc
-make_fails {B = B} g id a b (make.Signing signing.IncompatibleKey) f = (unlike, f.1)
+refused {B = B} g id a b signing.IncompatibleKey r = record { stays = r.stays; uncounted = r.uncounted; known = unlike; fails = r.fails }
   where
     unlike : ◌≡◌ {A = SigningError B} signing.IncompatibleKey signing.OutOfMemory → ⊥
     unlike k = cc
-make_fails {B = B} g id a b (make.Signing (signing.Signer x)) f = (unlike, f.1)
+refused {B = B} g id a b (signing.Signer x) r = record { stays = r.stays; uncounted = r.uncounted; known = unlike; fails = r.fails }
   where
     unlike : ◌≡◌ {A = SigningError B} (signing.Signer (g x)) signing.OutOfMemory → ⊥
     unlike k = cc
-make_fails g id a b (make.Signing signing.OutOfMemory) f = absurd (f.0 refl)
-make_fails g id a b make.OutOfMemory f = f
+refused g id a b signing.OutOfMemory r = absurd (r.known refl)
 
-once_fails : {I A B : Type 0} (g : A → B) (a b : SignerState I) (e : MakeError A) → OnceFails a b e → OnceFails a b (retyped g e)
-once_fails g a b make.TooLong f = f
-once_fails g a b (make.Signing signing.KeyNotFound) f = f
-once_fails g a b (make.Signing signing.IncompatibleKey) f = f
-once_fails g a b (make.Signing (signing.Signer x)) f = f
-once_fails g a b (make.Signing signing.OutOfMemory) f = f
-once_fails g a b make.OutOfMemory f = f
+once : {I A B : Type 0} (g : A → B) (scheme : Relation) (message : List ℕ) (a b : SignerState I) (e : MakeError A) → RefusesOneOff scheme message a b e → RefusesOneOff scheme message a b (retyped g e)
+once g scheme message a b make.TooLong r = r
+once g scheme message a b (make.Signing signing.KeyNotFound) r = r
+once g scheme message a b (make.Signing signing.IncompatibleKey) r = r
+once g scheme message a b (make.Signing (signing.Signer x)) r = r
+once g scheme message a b (make.Signing signing.OutOfMemory) r = r
+once g scheme message a b make.OutOfMemory r = r
 
 -- what is incompatible was so
-was_unfit : {A B : Type 0} (g : A → B) (e : MakeError A) → retyped g e ≡ make.Signing signing.IncompatibleKey → e ≡ make.Signing signing.IncompatibleKey
-was_unfit g make.TooLong k = cc
-was_unfit g (make.Signing signing.KeyNotFound) k = cc
-was_unfit g (make.Signing signing.IncompatibleKey) k = refl
-was_unfit g (make.Signing (signing.Signer x)) k = cc
-was_unfit g (make.Signing signing.OutOfMemory) k = cc
-was_unfit g make.OutOfMemory k = cc
+was_unfit : {A B : Type 0} (g : A → B) (e : SigningError A) → retyped_signing g e ≡ signing.IncompatibleKey → e ≡ signing.IncompatibleKey
+was_unfit g signing.KeyNotFound k = cc
+was_unfit g signing.IncompatibleKey k = refl
+was_unfit g (signing.Signer x) k = cc
+was_unfit g signing.OutOfMemory k = cc
 
 refuses_key : {I A B : Type 0} (g : A → B) (id : I) (a b : SignerState I) (e : MakeError A) → RefusesKey id a b e → RefusesKey id a b (retyped g e)
-refuses_key g id a b e r = record { stays = r.stays; fails = make_fails g id a b e r.fails; unsigned = λ k. r.unsigned (was_unfit g e k) }
+refuses_key g id a b make.TooLong r = r
+refuses_key g id a b (make.Signing e) r = (refused g id a b e r.0, λ k. r.1 (was_unfit g e k))
+refuses_key g id a b make.OutOfMemory r = r
 
 refuses_signature : {I A B : Type 0} (g : A → B) (id : I) (a b : SignerState I) (e : MakeError A) → RefusesSignature id a b e → RefusesSignature id a b (retyped g e)
-refuses_signature g id a b e r = (r.0, make_fails g id a b e r.1)
+refuses_signature g id a b make.TooLong r = r
+refuses_signature g id a b (make.Signing e) r = refused g id a b e r
+refuses_signature g id a b make.OutOfMemory r = r
 
 behind_key : {I A B : Type 0} (g : A → B) (id : I) (a b : SignerState I) (e : MakeError A) → StopsBehindKey id a b e → StopsBehindKey id a b (retyped g e)
 behind_key g id a b e s = record { between = s.between; key = s.key; given = s.given; refuses = refuses_signature g id s.between b e s.refuses }
@@ -78,7 +77,7 @@ at_end_entity g id a b e (inl r) = inl (draw g a b e r)
 at_end_entity g id a b e (inr s) = inr (record { between = s.between; serial = s.serial; drawn = s.drawn; stops = in_turn g id s.between b e s.stops })
 
 at_keys : {I A B : Type 0} (g : A → B) (scheme : Relation) (message : List ℕ) (id : I) (a b : SignerState I) (e : MakeError A) → StopsAtKeys scheme message id a b e → StopsAtKeys scheme message id a b (retyped g e)
-at_keys g scheme message id a b e (inl f) = inl (once_fails g a b e f)
+at_keys g scheme message id a b e (inl f) = inl (once g scheme message a b e f)
 at_keys g scheme message id a b e (inr s) = inr (record { between = s.between; octets = s.octets; key = s.key; once = s.once; refuses = refuses_key g id s.between b e s.refuses })
 
 certifying : {I A B : Type 0} (g : A → B) (scheme : Relation) (issuing : KeyFields) (now : ℤ) (id : I) (a b : SignerState I) (e : MakeError A) → StopsCertifying scheme issuing now id a b e → StopsCertifying scheme issuing now id a b (retyped g e)

@@ -261,9 +261,9 @@ makes items scheme count seed signer (Ok line) status told (inr is) can = inr (i
 makes items scheme count seed signer (Err e) status told (inr is) can = inr (inr is)
 makes items scheme count seed signer (Err e) status told (inl is) can =
     elim (sort_of e) [
-      | inl fault ↦ absurd (subst (λ (x : Refusal). IsMakeAnswer scheme count seed signer (Err x)) fault (told (λ k. unlike_memory (sym fault ∙ k))))
+      | inl fault ↦ absurd (subst (λ (x : Refusal). IsMakeAnswer scheme count seed signer (Err x)) fault (told (λ k. unlike_memory (sym fault ∙ k)))).0
       | inr (inl memory) ↦ inr (inl (is ∙ ap status_of memory))
-      | inr (inr other) ↦ absurd (no_signed scheme kinds.Publication made_at signer (made_message seed count) e can (told other.1))
+      | inr (inr other) ↦ absurd (no_signed scheme kinds.Publication made_at signer (made_message seed count) e can (told other.1).0)
     ]
   where
     unlike_memory : refusals.ReadFault ≡ refusals.OutOfMemory → ⊥

@@ -1,5 +1,5 @@
 -- What `make` makes of two numbers, and what it says of it.
-use Rattle.std.specs.Prelude.{◌≡◌, ◌≢◌, ◌++◌, ◌∷◌, [], ◌%◌, ◌==◌, ℕ, ℤ, pos, Bool, true, false, if◌then◌else◌, List, length, map, count_by, codes, Some, Result, Ok, Err}
+use Rattle.std.specs.Prelude.{◌≡◌, ◌≢◌, ◌⊎◌, ◌++◌, ◌∷◌, [], ◌%◌, ◌==◌, ℕ, ℤ, pos, Bool, true, false, if◌then◌else◌, List, length, map, count_by, codes, Some, Result, Ok, Err}
 use Rattle.std.specs.Fmt.{decimal}
 use Rattle.std.specs.Int.{to_be_bytes, w64}
 use Rattle.std.specs.List.{range_with_len}
@@ -10,7 +10,10 @@ use Rattle.rpki_base.specs.declared.algorithm.SigningAlgorithm.TheVariants.{RsaS
 use Rattle.rpki_base.specs.Algorithm.{format_of}
 use Rattle.rpki_base.specs.PublicKey.{KeyFields}
 use Rattle.rpki_base.specs.Scheme.{Relation}
-use Rattle.rpki_signer.specs.Signer.{Holds}
+use Rattle.rpki_common.specs.Causes.{Rose}
+use Rattle.rpki_signer.specs.Signer.{SignerState, Holds, Stays}
+use Rattle.rpki_sigmsg.specs.Making.{IsCreated}
+use Rattle.rpki_sigmsg.specs.Message.{MessageFields}
 use Rattle.rpki_publication.specs.declared.message.Message.TheVariants as messages
 use Rattle.rpki_publication.specs.declared.query.Query.TheVariants as queries
 use Rattle.rpki_publication.specs.Publish.{PublishFields, UpdateFields, WithdrawFields}
@@ -22,7 +25,9 @@ use Rattle.rpki_ca.specs.declared.receiving.Kind.TheVariants as kinds
 use Rattle.rpki_ca.specs.declared.receiving.Received.{Received}
 use Rattle.rpki_ca.specs.declared.receiving.Received.TheVariants as received
 use Rattle.rpki_ca.specs.declared.refusals.Refusal.{Refusal}
-use Rattle.rpki_ca.specs.Creation.{IsReceivable, IsSigned}
+use Rattle.rpki_ca.specs.declared.refusals.Refusal.TheVariants as refusals
+use Rattle.rpki_ca.specs.Acceptance.{text_of}
+use Rattle.rpki_ca.specs.Creation.{IsReceivable, IsSigned, IsFirstToRefuse}
 use Rattle.rpki_ca.specs.Seen.{Seen, SignerSeen}
 
 -- ---- the message
@@ -130,12 +135,30 @@ pub record IsSummed {Id : Type 0} (scheme : Relation) (count seed : ℕ) (signer
       signer
   pub written : text ≡ summary (changes seed count) octets
 
+-- behind the signed message that was created with this text, the signer failed to give the issuing key
+-- once more, under which the message is to be received
+pub record FailsToGiveKey {Id : Type 0} (scheme : Relation) (text : List ℕ) (when : ℤ)
+    (signer : SignerSeen Id) (refusal : Refusal) : Type 0 where
+  pub between : SignerState Id
+  pub signed : MessageFields
+  pub created : IsCreated scheme text when signer.id signer.before between signed
+  pub stays : Stays between signer.after
+  pub is : refusal ≡ refusals.Signer
+  pub told : Rose between.faults signer.after.faults
+
+-- the signer's first refusal: where the message is created, or behind that
+abbrev pub IsFirstOfMake : {Id : Type 0} → Relation → List ℕ → SignerSeen Id → Refusal → Type 0
+IsFirstOfMake scheme text signer refusal =
+    IsFirstToRefuse scheme text made_at signer refusal
+    ⊎ FailsToGiveKey scheme text made_at signer refusal
+
 -- `make`: the summary, or why the signer gave nothing
 abbrev pub IsMakeAnswer : {Id : Type 0} → Relation → ℕ → ℕ → SignerSeen Id
     → Result (List ℕ) Refusal → Type 0
 IsMakeAnswer scheme count seed signer (Ok text) = IsSummed scheme count seed signer text
 IsMakeAnswer scheme count seed signer (Err refusal) =
     IsSigned scheme kinds.Publication (made_message seed count) made_at signer (Err refusal)
+    × IsFirstOfMake scheme (text_of (made_message seed count)) signer refusal
 
 -- ---- at the end of a call
 

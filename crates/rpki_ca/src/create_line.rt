@@ -1,6 +1,6 @@
 //! The command `create`.
 
-ghost use Rattle.std.specs.Prelude.{◌≡◌, ◌≢◌, ◌⊎◌, ◌<◌, ◌^◌, length, Err};
+ghost use Rattle.std.specs.Prelude.{◌≡◌, ◌≢◌, ◌⊎◌, ◌<◌, ◌^◌, ℕ, List, length, Result, Err};
 ghost use Rattle.std.specs.Prelude.{IfOk, IfErr, IsErrOf, MatchResult};
 ghost use Rattle.rpki_signer.specs.Limits.{Keeps};
 ghost use Rattle.rpki_sigmsg.specs.FirstRefusals.{IsFirstRefusal};
@@ -8,7 +8,7 @@ ghost use Rattle.rpki_sigmsg.specs.Making.{HasWindow, CreateFails};
 ghost use Rattle.rpki_sigmsg.specs.declared.create_error.CreateError.TheVariants as create;
 ghost use Rattle.rpki_ca.specs.Acceptance.{ReadsAs, IsWritable, protocol_of, text_of, refusal_of};
 ghost use Rattle.rpki_ca.specs.Answer.{IsLineOf};
-ghost use Rattle.rpki_ca.specs.Creation.{AreCreated, IsCreateAnswer, RefusesInput};
+ghost use Rattle.rpki_ca.specs.Creation.{AreCreated, IsCreateAnswer, IsCreateRefusal, RefusesInput};
 ghost use Rattle.rpki_ca.specs.Creation.{refusal_of_create};
 ghost use Rattle.rpki_ca.specs.Seen.{seen_signer};
 
@@ -96,6 +96,8 @@ pub(crate) fn signed_octets<P: Scheme, S: Signer<P>>(
         (S.state signer.old) (S.state signer.new)) }
     ensures too_long { HasWindow when → 2 ^ 31 < length (text_of message)
         → IsErrOf result create.TooLong ⊎ IsErrOf result create.OutOfMemory }
+    ensures unasked { (HasWindow when → ⊥) ⊎ (2 ^ 31 < length (text_of message))
+        → signer.new ≡ signer.old }
     ensures first_refusal { IfErr result (IsFirstRefusal P.checks (text_of message) when key.now
         (S.state signer.old) (S.state signer.new)) }
     ensures keeps { Keeps (S.state signer.old) (S.state signer.new) }
@@ -120,6 +122,8 @@ pub(crate) fn create_line<P: Scheme, S: Signer<P>>(
     ensures err { IfErr result (λ e. e ≢ Refusal.OutOfMemory
         → IsCreateAnswer P.checks kind input.items when
         (seen_signer key.now (S.state signer.old) (S.state signer.new)) (Err e)) }
+    ensures unasked { (answer : Result (List ℕ) Refusal)
+        → IsCreateRefusal kind input.items when answer → signer.new ≡ signer.old }
     ensures keeps { Keeps (S.state signer.old) (S.state signer.new) }
 {
     let message = message_of(alloc, kind, input)?;

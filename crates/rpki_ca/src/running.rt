@@ -56,6 +56,9 @@ fn perform<P: Scheme, V: Verifier<P>, S: Signer<P>>(
         (seen_signer key.now (S.state signer.old) (S.state signer.new)) (Err e)) }
     ensures keeps { Keeps (S.state signer.old) (S.state signer.new) }
     ensures untouched { AsksSigner command.now ⊎ (signer.new ≡ signer.old) }
+    ensures unasked { (answer : Result (List ℕ) Refusal)
+        → AnswersSpelled P.checks command.now (octets_in command.now input.items) answer
+        → signer.new ≡ signer.old }
 {
     match command {
         Command::Content => {
@@ -108,6 +111,8 @@ fn answer<P: Scheme, I: Source, V: Verifier<P>, S: Signer<P>>(
         (seen_signer key.now (S.state signer.old) (S.state signer.new)) (Err e)) }
     ensures keeps { Keeps (S.state signer.old) (S.state signer.new) }
     ensures untouched { AreNoCreate words.now → AreNoMake words.now → signer.new ≡ signer.old }
+    ensures unasked { (answer : Result (List ℕ) Refusal) → IfSome (I.rest input.old) (λ rest.
+        IsAnswer P.checks words.now rest answer → signer.new ≡ signer.old) }
     ensures usage { IsErrOf result Refusal.Usage → IsNoCommand words.now }
     ensures usage_always { IsNoCommand words.now
         → IsErrOf result Refusal.Usage ⊎ IsErrOf result Refusal.OutOfMemory }
@@ -258,8 +263,7 @@ pub fn run<P: Scheme, I: Source, O: Sink, V: Verifier<P>, S: Signer<P>>(
         (seen O.written O.faults output.old output.new)) }
 
     // Every status comes with an admitted answer: one that words and input show, one that comes from
-    // the signer by its cause, of `create` by its first refusal, that the source failed, or want of
-    // memory.
+    // the signer by its cause and by its first refusal, that the source failed, or want of memory.
     ensures answered { (answer : Result (List ℕ) Refusal)
         × IsAdmitted P.checks words.now (seen I.rest I.faults input.old input.new)
         (seen_signer key.now (S.state signer.old) (S.state signer.new)) answer
@@ -273,9 +277,11 @@ pub fn run<P: Scheme, I: Source, O: Sink, V: Verifier<P>, S: Signer<P>>(
         × Appends (O.written output.old) (O.written output.new) (text ++ 10 ∷ [])) }
 
     // The signer holds the same keys, and words other than those of `create` and `make` leave it
-    // untouched.
+    // untouched. So do words and input that show an answer, as where `create` refuses its input.
     ensures keeps { Keeps (S.state signer.old) (S.state signer.new) }
     ensures untouched { AreNoCreate words.now → AreNoMake words.now → signer.new ≡ signer.old }
+    ensures unasked { (answer : Result (List ℕ) Refusal) → IfSome (I.rest input.old) (λ rest.
+        IsAnswer P.checks words.now rest answer → signer.new ≡ signer.old) }
 
     // A fault of the source or of the sink is told, and nothing else is told as one.
     ensures read_fault { result.0 ≡ 10 → HasFailed (seen I.rest I.faults input.old input.new) }

@@ -1,5 +1,6 @@
 //! Octets are written to a sink within the limit of messages.
 
+ghost use Rattle.std.specs.Prelude.{IsErrOf};
 ghost use Rattle.rpki_message.specs.Answers.{WritesText, itself};
 
 use crate::cause::Cause;
@@ -8,10 +9,11 @@ use rpki_text::{Failed, Sink, write_all};
 /// The most octets of a message.
 pub const MOST_OCTETS: u64 = 0x8000_0000;
 
-/// Writes a text of at most 2^31 octets. TooLong exactly where it is longer, Write only where the sink failed.
+/// Writes a text of at most 2^31 octets. TooLong exactly where it is longer, Write only where the sink failed. It takes no memory.
 pub fn write_octets<O: Sink>(sink: &mut O, octets: &[u8]) -> Result<(), Cause>
-    ensures { WritesText itself octets.now (O.written sink.old) (O.written sink.new)
+    ensures writes { WritesText itself octets.now (O.written sink.old) (O.written sink.new)
         (O.faults sink.old) (O.faults sink.new) result }
+    ensures no_memory { IsErrOf result Cause.OutOfMemory → ⊥ }
 {
     if octets.len() as u64 > MOST_OCTETS {
         return Err(Cause::TooLong);

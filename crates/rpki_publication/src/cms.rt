@@ -245,6 +245,10 @@ impl PublicationCms {
         ensures too_long { making.HasWindow now → 2 ^ 31 < length (text_of message)
             → IsErrOf result create.TooLong ⊎ IsErrOf result create.OutOfMemory }
 
+        // Then the signer isn't asked.
+        ensures unasked { (making.HasWindow now → ⊥) ⊎ (2 ^ 31 < length (text_of message))
+            → signer.new ≡ signer.old }
+
         // The signer is asked in turn, and its first refusal decides: all that it gave before has at most
         // 2^16 octets.
         ensures first_refusal { IfErr result (IsFirstRefusal P.checks (text_of message) now

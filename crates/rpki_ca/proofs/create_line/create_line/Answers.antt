@@ -2,6 +2,7 @@ use Rattle.std.proofs.Common.{Ok, ◌++◌, ◌∷◌, [], refl, ap, ◌∙◌}
 use Rattle.std.proofs.lemmas.Result.{err_from_is_err_and}
 use Rattle.hex.specs.Hex.{encode_lower}
 use Rattle.rpki_ca.specs.Acceptance.{refusal_of}
+use Rattle.rpki_ca.proofs.Unasked.{create_unasked}
 use Rattle.rpki_ca.proofs.Creating.{input_refused, refused, line_created, fits_ok}
 use Rattle.rpki_ca.proofs.create_line.create_line.Goals as goal
 

@@ -8,7 +8,7 @@ pub returns-in_err-octets-clause-err : goal.returns-in_err-octets-clause-err
 returns-in_err-octets-clause-err g c =
     let p = err_from_is_err_and c.from_residual-in_err-octets.result c.from_residual-in_err-octets.ensures.1 in
     rw (p.1, p.2) (λ other. octets_refused g.P.Scheme.checks c.args.seed c.args.count c.in_ok-message.message c.made_at.result _ c.in_err-octets.field-0.0 c.in_ok-message.ensures.message
-    c.made_at.ensures c.requires c.in_err-octets.ensures.created other)
+    c.made_at.ensures c.requires c.in_err-octets.ensures.created c.in_err-octets.ensures.first_refusal other)
 
 pub returns-in_err-issuing-clause-err : goal.returns-in_err-issuing-clause-err
 returns-in_err-issuing-clause-err g c =
@@ -16,7 +16,7 @@ returns-in_err-issuing-clause-err g c =
     let made = created_here g.P.Scheme.checks c.args.seed c.args.count c.in_ok-message.message c.made_at.result _ c.in_ok-octets.octets c.in_ok-message.ensures.message c.made_at.ensures
     c.in_ok-octets.ensures.created in
     rw (p.1, p.2) (λ other. key_refused g.P.Scheme.checks (made_message c.args.seed c.args.count) made_at c.args.key.now _ _ _ c.in_ok-octets.octets c.in_err-issuing.field-0.0 made
-    c.in_ok-octets.ensures.keeps c.in_err-issuing.ensures.key.1 other)
+    c.in_ok-octets.ensures.keeps c.in_err-issuing.ensures.key other)
 
 pub returns-in_err-received-clause-err : goal.returns-in_err-received-clause-err
 returns-in_err-received-clause-err g c =

@@ -5,10 +5,10 @@ use Rattle.rpki_publication.proofs.Causes.{caused}
 use Rattle.rpki_publication.proofs.message.Message.write_xml.Goals as goal
 
 pub returns : goal.returns
-returns g c = written cause_of _ _ _ _ _ _ (rw (c.as_bytes.ensures.value, c.in_ok-text.ensures) at c.in_ok-write_octets.ensures)
+returns g c = written cause_of _ _ _ _ _ _ (rw (c.as_bytes.ensures.value, c.in_ok-text.ensures) at c.in_ok-write_octets.ensures.writes)
 
 pub returns-in_err-write_octets : goal.returns-in_err-write_octets
 returns-in_err-write_octets g c =
     let p = err_from_is_err_and c.from_residual-in_err-write_octets.result c.from_residual-in_err-write_octets.ensures.1 in
     rw (p.1, p.2) (unwritten cause_of _ _ _ _ _ c.in_err-write_octets.field-0.0 _ (caused c.in_err-write_octets.field-0.0)
-    (rw (c.as_bytes.ensures.value, c.in_ok-text.ensures) at c.in_err-write_octets.ensures))
+    (rw (c.as_bytes.ensures.value, c.in_ok-text.ensures) at c.in_err-write_octets.ensures.writes))
