@@ -26,7 +26,7 @@ pub record SpellsAt (words : List (List ℕ)) (index : ℕ) (octets : List ℕ) 
   pub stands : slice_get words index ≡ Some word
   pub spells : result_ok (decode_of word) ≡ Some octets
 
--- twenty octets, of which the first bit is 0 (RFC 5280, 4.1.2.2)
+-- twenty octets, of which the first bit is 0 (RFC 5280, 4.1.2.2); they may all be 0
 pub record IsSerial (octets : List ℕ) : Type 0 where
   pub twenty : length octets ≡ 20
   pub positive : slice_index_or octets 0 0 < 128

@@ -41,11 +41,12 @@ pub record Places : Type 0 where
   pub rpki_manifest : List ℕ
   pub rpki_notify : Option (List ℕ)
 
--- each is a lawful URI
+-- it is a lawful URI, if it is there
 abbrev pub IsLawfulIfThere : Option (List ℕ) → Type 0
 IsLawfulIfThere None = ⊤
 IsLawfulIfThere (Some uri) = fault_of https uri ≡ None
 
+-- each is a lawful URI
 pub record AreLawful (places : Places) : Type 0 where
   pub ca_repository : fault_of rsync places.ca_repository ≡ None
   pub rpki_manifest : fault_of rsync places.rpki_manifest ≡ None

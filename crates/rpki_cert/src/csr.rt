@@ -94,7 +94,8 @@ impl<Alg: SignatureAlgorithm, Attributes: CsrAttributes> Csr<Alg, Attributes> {
         &self.content.subject
     }
 
-    /// The key for which a certificate is requested. That the sender has its private key is what `verify_signature` tells.
+    /// The key for which a certificate is requested. That who signed the request had its private key is what `verify_signature` tells;
+    /// of who sent it, it tells nothing.
     pub fn public_key(&self) -> &PublicKey
         ensures { result.now ≡ self.now.tbs.key }
     {

@@ -223,7 +223,7 @@ impl Model for BgpsecCsrAttributes {
 }
 
 impl BgpsecCsrAttributes {
-    /// For what purposes the key is used, if that is said: that of a router is among them.
+    /// For what purposes the key is used, if that is said. Where it was read, that of a router is among them.
     pub fn extended_key_usage(&self) -> Option<&ExtendedKeyUsage>
         ensures { option_copied result ≡ self.now }
     {

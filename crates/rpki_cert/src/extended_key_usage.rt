@@ -12,7 +12,7 @@ use std::alloc::Global;
 use std::marker::Model;
 use std::sync::ledger::Ledger;
 
-/// For what purposes a key is used (RFC 5280, 4.2.1.12): at least one.
+/// For what purposes a key is used (RFC 5280, 4.2.1.12). Where it was read, there is at least one.
 ///
 /// In a clause it is the list of the object identifiers, each by its contents octets.
 pub struct ExtendedKeyUsage {

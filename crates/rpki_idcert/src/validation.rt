@@ -80,7 +80,7 @@ impl IdCert {
     }
 
     /// Refused exactly where the signature, of the kind sha256WithRSAEncryption, is none of the octets that are signed under the
-    /// issuer's key. The key's name and the moment aren't asked. It takes no memory.
+    /// issuer's key. The issuer's name and the moment aren't asked. It takes no memory.
     pub fn verify_signature<P: Scheme, V: Verifier<P>>(
         &self,
         verifier: &V,

@@ -1,6 +1,5 @@
 -- The messages of the provisioning protocol, as elements (RFC 6492, 3.2). Names are compared by their local parts, and the root's
--- namespace is
--- not looked at.
+-- namespace is not looked at.
 use Rattle.std.specs.Prelude.{ℕ, List, [], ◌∷◌, Option, Some, codes}
 use Rattle.rpki_common.specs.Chaining.{◌>>=◌}
 use Rattle.rpki_message.specs.Parts.{attribute, required_by}

@@ -1,4 +1,4 @@
--- Answers that a request was not performed, as elements (RFC 6492, 3.6).
+-- Answers that a request was not performed, as elements (RFC 6492, 3.6); but `xml:lang` of a description is neither asked for nor written.
 use Rattle.std.specs.Prelude.{ℕ, ◌^◌, List, [], Option, None, Some, codes}
 use Rattle.std.specs.Fmt.{decimal}
 use Rattle.std.specs.Str.Parse.{without_leading_plus}

@@ -65,6 +65,7 @@ impl Payload {
             Payload::ErrorResponse(response) => Ok(Payload::ErrorResponse(response.clone(alloc)?)),
         }
     }
+
     /// Whether the two say the same: certificates are compared by their octets, a request by the octets that are written of it.
     #[tactic(auto, unfolding(crate::specs::Shape::payload_shape))]
     pub fn equals(&self, alloc: Global, other: &Payload) -> Result<bool, OutOfMemory>

@@ -34,7 +34,7 @@ abbrev pub is_not_revoked : MessageFields → Bool
 is_not_revoked m =
     list_all (λ c. not (is_listed m.certificate.tbs.serial c.tbs.revoked.entries)) m.crls
 
--- 4 to 14, which ask for the issuer's key; 4 to 8 are those of the end entity's certificate, 9 to 13 those of the CRLs
+-- 4 to 14, of which some ask for the issuer's key; 4 to 8 are those of the end entity's certificate, 9 to 13 those of the CRLs
 abbrev pub key_checks : MessageFields → KeyFields → ℤ → Bool → Bool → List Bool
 key_checks m issuer when q8 q10 =
     ee_checks m.certificate issuer when q8

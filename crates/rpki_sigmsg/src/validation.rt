@@ -180,8 +180,8 @@ impl SignedMessage {
 
 /// # Validation under a list of keys
 impl SignedMessage {
-    // The place of the first key under which no check fails; else the greatest of the first checks that fail under each. What doesn't
-    // ask for the key is checked once.
+    // The place of the first key under which no check fails; else the greatest of the first checks that fail under each. Checks 1 to 3
+    // are made once; of the others some ask for no key either.
     fn any_failure<P: Scheme, V: Verifier<P>>(
         &self,
         verifier: &V,

@@ -11,7 +11,7 @@ is_handle_octet octet =
     (nat_le 65 octet && nat_le octet 90) || (nat_le 97 octet && nat_le octet 122)
     || (nat_le 48 octet && nat_le octet 57) || (octet == 45) || (octet == 95) || (octet == 47)
 
--- RFC 8183, appendix A: 1 to 255 of these octets.
+-- 1 to 255 of these octets. RFC 8183, appendix A, has the empty text too; here it is none.
 abbrev pub IsHandle : List ℕ → Type 0
 IsHandle text = (1 ≤ length text) × (length text ≤ 255) × AllPass is_handle_octet text
 

@@ -51,7 +51,7 @@ abbrev pub is_dot_segment : List ℕ → Bool
 is_dot_segment segment =
     pointwise nat_eq segment (codes ".") || pointwise nat_eq segment (codes "..")
 
--- Whether a part behind the host is one.
+-- Whether a part behind the host is one. A query is cut at its slashes too.
 abbrev pub has_dot_segment : List (List ℕ) → Bool
 has_dot_segment [] = false
 has_dot_segment (host ∷ segments) = list_any is_dot_segment segments
@@ -79,7 +79,7 @@ pub record Kind : Type 0 where
   pub scheme : List ℕ
   -- whether what stands behind the scheme, cut at each slash, has the parts that it must have
   pub has_parts : List (List ℕ) → Bool
-  -- the path in what stands behind the scheme
+  -- the path in what stands behind the scheme, up to its end, a query included
   pub path : List ℕ → List ℕ
 
 -- RFC 5781: the path of an rsync URI begins behind the slash after its module.
@@ -119,6 +119,6 @@ abbrev pub without_slash : List ℕ → List ℕ
 without_slash [] = []
 without_slash (octet ∷ more) = if is_slash octet then more else octet ∷ more
 
--- A text with a path behind it, and exactly one slash added or kept between the two.
+-- A text, a slash where it doesn't end with one, and a path without its first slash.
 abbrev pub joined : List ℕ → List ℕ → List ℕ
 joined base path = (if ends_with_slash base then base else base ++ codes "/") ++ without_slash path

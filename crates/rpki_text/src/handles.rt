@@ -160,7 +160,8 @@ impl<T> Handle<T> {
     }
 
     /// The handle that `text` is: 1 to 255 octets, each a letter, a digit, `-`, `_` or `/` (RFC 8183,
-    /// appendix A). Pattern exactly where it is none, and then no memory is taken.
+    /// appendix A, which has the empty text too). Pattern exactly where it is none, and then no memory is
+    /// taken.
     pub fn from_str(alloc: Global, text: &str) -> Result<Handle<T>, InvalidHandle>
         ensures name { IfOk result (λ h. h ≡ text.now) }
         ensures accepted { OnOk result (IsHandle text.now) }

@@ -1,6 +1,7 @@
 //! The leaves that all messages share, and where octets come from and go to.
 //!
-//! Texts, each read exactly by its rule and printed as it stands:
+//! Texts, each read exactly by its rule. URIs and handles are printed as they stand, a hash in lower
+//! case, base64 text without white space, a key identifier without padding:
 //!
 //! - [`uri::Rsync`] and [`uri::Https`]: the two kinds of URIs that messages hold.
 //! - [`Hash`]: a SHA-256 digest, as 64 hexadecimal digits.

@@ -380,7 +380,7 @@ fn names_directory(path: &[u8]) -> bool
     path.is_empty() || path.ends_with(b"/")
 }
 
-/// `base` with `path` behind it and exactly one slash between the two.
+/// `base`, a slash where it doesn't end with one, and `path` without its first slash.
 fn joined(alloc: Global, base: &[u8], path: &[u8]) -> Result<Vec<u8>, AllocError>
     ensures { IfOk result (λ v. v.items ≡ joined_text base.now path.now) }
 {

@@ -60,12 +60,12 @@ The exit status is
      0  all lines were answered
      2  Usage         the words are not a moment and a key; nothing is read
      3  Hex           a line isn't hexadecimal; none is answered
-     7  Signer        the signer failed
+     7  KeyNotFound, IncompatibleKey, KeyReused, Signer: the signer refuses
      8  Moment        300 seconds before MOMENT it isn't 1970 yet, or 300
                       seconds after it the year 9999 is over; no line is
                       answered
-     9  TooLong       more than 67108864 octets of input, or a reply is longer
-                      than 2147483648 octets
+     9  TooLong       more than 67108864 octets of input, or of a reply, a key
+                      or a signature more than may be
     10  ReadFault     standard input failed
     11                standard output failed
     12  OutOfMemory   memory ran out; lines may have been answered before
