@@ -16,7 +16,7 @@ ghost use Rattle.rpki_ca.specs.Setup.{IsSetUp};
 ghost use Rattle.rpki_ca.specs.declared.setup_message.SetupKind.{SetupKind};
 ghost use Rattle.rpki_ca.specs.Creation.{Creates, CanCreate, CanSign};
 ghost use Rattle.rpki_ca.specs.Seen.{seen, seen_signer, HasFailed, IsSteady, OfInput};
-ghost use Rattle.rpki_ca.specs.Answer.{Performs, IsAnswer, IsGiven, IsShown, IsAdmitted, IsUnread};
+ghost use Rattle.rpki_ca.specs.Answer.{AnswersSpelled, octets_in, Performs, IsAnswer, IsGiven, IsShown, IsAdmitted, IsUnread};
 ghost use Rattle.rpki_ca.specs.Answer.{IsLineOf, Ends, EndsAs, ReadsAll, Delivers, Holds, Succeeds};
 ghost use Rattle.rpki_signer.specs.Limits.{Keeps};
 

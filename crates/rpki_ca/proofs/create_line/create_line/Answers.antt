@@ -24,3 +24,12 @@ returns-clause-ok g c =
       line_created g.P.Scheme.checks c.args.kind c.args.input.items c.in_ok-message.message c.args.when _ c.in_ok-octets.octets c.in_ok-message.ensures.ok fits made,
       c.in_ok-hexadecimal_line.ensures ∙ ap (λ o. encode_lower o ++ 10 ∷ []) c.as_slice.ensures,
     )
+
+pub returns-in_err-octets-clause-unasked : goal.returns-in_err-octets-clause-unasked
+returns-in_err-octets-clause-unasked g c = λ a refused. create_unasked c.args.kind c.args.input.items c.args.when _ a c.in_ok-message.ensures.ok c.signed_octets.ensures.unasked refused
+
+pub returns-in_err-hexadecimal_line-clause-unasked : goal.returns-in_err-hexadecimal_line-clause-unasked
+returns-in_err-hexadecimal_line-clause-unasked g c = λ a refused. create_unasked c.args.kind c.args.input.items c.args.when _ a c.in_ok-message.ensures.ok c.signed_octets.ensures.unasked refused
+
+pub returns-clause-unasked : goal.returns-clause-unasked
+returns-clause-unasked g c = λ a refused. create_unasked c.args.kind c.args.input.items c.args.when _ a c.in_ok-message.ensures.ok c.signed_octets.ensures.unasked refused

@@ -3,6 +3,7 @@ use Rattle.std.proofs.lemmas.Result.{err_from_is_err_and, IfOk-weaker}
 use Rattle.rpki_ca.specs.declared.command.Command.TheVariants.{Make}
 use Rattle.rpki_ca.proofs.Commands.{asks_signer, is_make, limited, reads_input, make_reads_none}
 use Rattle.rpki_ca.proofs.Answering.{if_err, always_some, at_end, shown, admitted, unread_admitted, usage_of_none, usage_shown, made_by_words, IsRead}
+use Rattle.rpki_ca.proofs.Unasked.{unasked_here}
 use Rattle.rpki_ca.proofs.running.answer.Goals as goal
 
 pub returns-in_default-clause-err : goal.returns-in_default-clause-err
@@ -68,7 +69,22 @@ returns-clause-unread_by_make g c = λ count seed make.
 
 pub returns-in_default-clause-made : goal.returns-in_default-clause-made
 returns-in_default-clause-made g c = λ count seed make other.
-    (rw c.in_default.is at c.in_ok-command.ensures.none) refl (Make count seed) (is_make c.args.words.now count seed make)
+    absurd ((rw c.in_default.is at c.in_ok-command.ensures.none) refl (Make count seed) (is_make c.args.words.now count seed make))
 
 pub perform-requires : goal.perform-requires
 perform-requires g c = limited c.args.words.now c.in-Some.command (rw c.in-Some.is at c.in_ok-command.ensures.command)
+
+pub returns-in_err-command-clause-unasked : goal.returns-in_err-command-clause-unasked
+returns-in_err-command-clause-unasked g c = λ a. always_some (g.I.Source.rest c.args.input.now) _ (λ rest shown. refl)
+
+pub returns-in_default-clause-unasked : goal.returns-in_default-clause-unasked
+returns-in_default-clause-unasked g c = λ a. always_some (g.I.Source.rest c.args.input.now) _ (λ rest shown. refl)
+
+pub returns-in_err-octets-clause-unasked : goal.returns-in_err-octets-clause-unasked
+returns-in_err-octets-clause-unasked g c = λ a. always_some (g.I.Source.rest c.args.input.now) _ (λ rest shown. refl)
+
+pub returns-clause-unasked : goal.returns-clause-unasked
+returns-clause-unasked g c = λ a.
+    let is = rw c.in-Some.is at c.in_ok-command.ensures.command in
+    let within : IsRead c.in-Some.command c.in_ok-octets.octets.items (g.I.Source.rest c.args.input.now) = (c.in_ok-octets.ensures.short, c.in_ok-octets.ensures.ok) in
+    unasked_here g.P.Scheme.checks c.args.words.now c.in_ok-octets.octets.items (g.I.Source.rest c.args.input.now) c.in-Some.command a is within (λ said. c.perform.ensures.unasked a said)
