@@ -8,7 +8,7 @@ use Rattle.rpki_ca.specs.Sending.{MayStop}
 use Rattle.rpki_ca.proofs.Sending.{memory_stops}
 use Rattle.rpki_ca.proofs.Ended.{lines_end, no_refusal, on_input, on_input_or_12, with_refusal, wrote_all}
 use Rattle.rpki_pubserver.specs.Ends.{CanServe, EndsForCause, RepliesAll}
-use Rattle.rpki_pubserver.specs.Running.{EndsServed}
+use Rattle.rpki_pubserver.specs.Running.{EndsServed, EndsServing}
 use Rattle.rpki_pubserver.specs.Server.{ServerFields}
 use Rattle.rpki_pubserver.specs.Serving.{AreAllReplied, AreFirstReplied, HasLongAnswer}
 
@@ -17,14 +17,18 @@ module _ {I : Type 0} (scheme : Relation) (when : ℤ) (signer : SignerSeen I) (
   served_end input status sink can none (inl a) =
       inl (lines_end (AreAllReplied scheme when signer server a.messages) (AreFirstReplied scheme when signer server a.messages) (MayStop signer (HasLongAnswer scheme when signer server a.messages)) status sink
       (λ r may. memory_stops signer (HasLongAnswer scheme when signer server a.messages) r can.signs (can.short a.messages a.are) may) none a.ends)
-  served_end input status sink can none (inr (inl m)) = inr (inr (with_refusal refusals.Moment status sink none m.ends, m.none))
+  served_end input status sink can none (inr (inl m)) = inr (inr (with_refusal refusals.Moment status sink none m.0.ends, m.0.none))
   served_end input status sink can none (inr (inr (inl hex))) = inr (inl (with_refusal refusals.Hex status sink none hex.1, hex.0))
-  served_end input status sink can none (inr (inr (inr memory))) = inl (inr (with_refusal refusals.OutOfMemory status sink none memory))
+  served_end input status sink can none (inr (inr (inr memory))) = inl (inr (with_refusal refusals.OutOfMemory status sink none memory.0))
 
-  pub ends_so : (status : ℕ) (source sink : Seen) (input : List ℕ) → EndsRun (λ octets. EndsServed scheme when signer server (lines_of octets) status sink) status source sink → source.before ≡ Some input → length input ≤ 2 ^ 26
+  run_so : (status : ℕ) (source sink : Seen) → EndsServing scheme when signer server status source sink → EndsRun (λ octets. EndsServed scheme when signer server (lines_of octets) status sink) status source sink
+  run_so status source sink (inl unread) = inl unread.0
+  run_so status source sink (inr read) = inr read
+
+  pub ends_so : (status : ℕ) (source sink : Seen) (input : List ℕ) → EndsServing scheme when signer server status source sink → source.before ≡ Some input → length input ≤ 2 ^ 26
       → ¬ (HasFailed source) → ¬ (HasFailed sink) → CanServe scheme when signer server input → EndsForCause when input status
   ends_so status source sink input run e le sound whole can =
-      elim (on_input_or_12 (λ octets. EndsServed scheme when signer server (lines_of octets) status sink) status source sink input run e le sound whole) [
+      elim (on_input_or_12 (λ octets. EndsServed scheme when signer server (lines_of octets) status sink) status source sink input (run_so status source sink run) e le sound whole) [
         | inl memory ↦ inl (inr memory)
         | inr ends ↦ served_end input status sink can whole ends
       ]
@@ -37,9 +41,9 @@ module _ {I : Type 0} (scheme : Relation) (when : ℤ) (signer : SignerSeen I) (
     are = a.are;
     wrote = wrote_all (AreAllReplied scheme when signer server a.messages) (AreFirstReplied scheme when signer server a.messages) (MayStop signer (HasLongAnswer scheme when signer server a.messages)) sink a.ends;
   }
-  wrote_served input sink (inr (inl m)) = absurd (no_refusal refusals.Moment sink m.ends)
+  wrote_served input sink (inr (inl m)) = absurd (no_refusal refusals.Moment sink m.0.ends)
   wrote_served input sink (inr (inr (inl hex))) = absurd (no_refusal refusals.Hex sink hex.1)
-  wrote_served input sink (inr (inr (inr memory))) = absurd (no_refusal refusals.OutOfMemory sink memory)
+  wrote_served input sink (inr (inr (inr memory))) = absurd (no_refusal refusals.OutOfMemory sink memory.0)
 
-  pub replies_all : (source sink : Seen) (input : List ℕ) → EndsRun (λ octets. EndsServed scheme when signer server (lines_of octets) 0 sink) 0 source sink → source.before ≡ Some input → RepliesAll scheme when signer server input sink
-  replies_all source sink input run e = wrote_served input sink (on_input (λ octets. EndsServed scheme when signer server (lines_of octets) 0 sink) source sink input run e)
+  pub replies_all : (source sink : Seen) (input : List ℕ) → EndsServing scheme when signer server 0 source sink → source.before ≡ Some input → RepliesAll scheme when signer server input sink
+  replies_all source sink input run e = wrote_served input sink (on_input (λ octets. EndsServed scheme when signer server (lines_of octets) 0 sink) source sink input (run_so 0 source sink run) e)

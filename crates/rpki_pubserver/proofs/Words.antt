@@ -3,14 +3,13 @@ use Rattle.std.proofs.Common.{◌≡◌, ◌∙◌, ℕ, ℤ, List, sym, subst}
 use Rattle.rpki_common.proofs.Truths.{same_some}
 use Rattle.rpki_base.specs.PublicKey.{KeyFields}
 use Rattle.rpki_base.specs.Scheme.{Relation}
-use Rattle.rpki_ca.specs.Lines.{EndsRun, lines_of}
 use Rattle.rpki_ca.specs.Seen.{Seen, SignerSeen}
 use Rattle.rpki_ca.proofs.Commands.{one_moment_at}
-use Rattle.rpki_pubserver.specs.Running.{AreWords, EndsServed, new_server}
+use Rattle.rpki_pubserver.specs.Running.{AreWords, EndsServing, new_server}
 
 -- how it ends by the words, by whatever they are said to name
 abbrev EndsBy : {I : Type 0} → Relation → SignerSeen I → ℕ → Seen → Seen → ℤ → List ℕ → KeyFields → Type 0
-EndsBy scheme signer status source sink when base publisher = EndsRun (λ octets. EndsServed scheme when signer (new_server base publisher) (lines_of octets) status sink) status source sink
+EndsBy scheme signer status source sink when base publisher = EndsServing scheme when signer (new_server base publisher) status source sink
 
 pub ends_by : {I : Type 0} (scheme : Relation) (signer : SignerSeen I) (status : ℕ) (source sink : Seen) (words : List (List ℕ)) (when other : ℤ) (base other_base : List ℕ) (key other_key : KeyFields)
     → AreWords words when base key → AreWords words other other_base other_key → EndsBy scheme signer status source sink when base key → EndsBy scheme signer status source sink other other_base other_key

@@ -5,7 +5,7 @@ use Rattle.rpki_base.specs.Scheme.{Relation}
 use Rattle.rpki_text.specs.Uri.{rsync, fault_of, names_directory, path_of}
 use Rattle.rpki_sigmsg.specs.Making.{HasWindow}
 use Rattle.rpki_ca.specs.Answer.{Ends}
-use Rattle.rpki_ca.specs.Lines.{EndsLines}
+use Rattle.rpki_ca.specs.Lines.{EndsLines, EndsRead, EndsUnread, lines_of}
 use Rattle.rpki_ca.specs.Seen.{Seen, SignerSeen}
 use Rattle.rpki_ca.specs.Sending.{MayStop}
 use Rattle.rpki_ca.specs.Sent.{AreNotSent, AreSent, EndsMoment}
@@ -51,10 +51,23 @@ pub record EndsAnswered {Id : Type 0} (scheme : Relation) (when : ℤ) (signer :
       (AreFirstReplied scheme when signer server messages)
       (MayStop signer (HasLongAnswer scheme when signer server messages)) status sink
 
+-- the signer did nothing
+abbrev pub IsIdle : {Id : Type 0} → SignerSeen Id → Type 0
+IsIdle signer = signer.after ≡ signer.before
+
 -- or the moment has none; or some line is that of no octets; or memory ran out
 abbrev pub EndsServed : {Id : Type 0} → Relation → ℤ → SignerSeen Id → ServerFields
     → List (List ℕ) → ℕ → Seen → Type 0
 EndsServed scheme when signer server lines status sink =
     EndsAnswered scheme when signer server lines status sink
-    ⊎ (EndsMoment when lines status sink
-    ⊎ ((AreNotSent lines × Ends (Err Hex) status sink) ⊎ Ends (Err OutOfMemory) status sink))
+    ⊎ ((EndsMoment when lines status sink × IsIdle signer)
+    ⊎ ((AreNotSent lines × Ends (Err Hex) status sink × IsIdle signer)
+    ⊎ (Ends (Err OutOfMemory) status sink × IsIdle signer)))
+
+-- How it ends on a source: the input isn't read, and the signer did nothing; or it is, and its
+-- lines are answered.
+abbrev pub EndsServing : {Id : Type 0} → Relation → ℤ → SignerSeen Id → ServerFields → ℕ → Seen
+    → Seen → Type 0
+EndsServing scheme when signer server status source sink =
+    (EndsUnread status source sink × IsIdle signer)
+    ⊎ EndsRead (λ input. EndsServed scheme when signer server (lines_of input) status sink) source

@@ -1,28 +1,29 @@
 -- What the publication server's program answers to its lines.
 use Rattle.std.specs.Prelude.{◌≡◌, ℕ, ℤ, Some, List, [], length, slice_get, take}
-use Rattle.hex.specs.Hex.{encode_lower}
 use Rattle.rpki_base.specs.Scheme.{Relation}
+use Rattle.rpki_signer.specs.Signer.{SignerState}
 use Rattle.rpki_ca.specs.declared.receiving.Kind.TheVariants as kinds
 use Rattle.rpki_ca.specs.declared.receiving.Received.TheVariants as received
 use Rattle.rpki_ca.specs.declared.refusals.Refusal.{Refusal}
-use Rattle.rpki_ca.specs.Creation.{IsReceivable}
-use Rattle.rpki_ca.specs.Seen.{SignerSeen}
+use Rattle.rpki_ca.specs.Creation.{IsTextCreated}
+use Rattle.rpki_ca.specs.Seen.{SignerSeen, seen_signer}
 use Rattle.rpki_ca.specs.Sending.{IsSigningCause}
 use Rattle.rpki_ca.specs.Steps.{AreSteps, AreAllSteps, AreFirstSteps}
 use Rattle.rpki_pubserver.specs.Replies.{Reply}
 use Rattle.rpki_pubserver.specs.Server.{HasLongReply, IsReply, ServerFields, with_store}
 
--- The text is the hexadecimal of octets, of which the reply to these octets is received: it is
--- accepted as its normal form, under every list of keys that holds the issuing key, at each second
--- from 300 before the moment to 300 after it.
+-- The text is the hexadecimal of a signed message that was created with the reply to these octets,
+-- as `create` does: at the moment, under the issuing key, which the signer holds, and with what it
+-- had drawn then. Of that message the reply is received: it is accepted as its normal form, under
+-- every list of keys that holds the issuing key, at each second from 300 before the moment to 300
+-- after it.
 pub record IsReplied {Id : Type 0} (scheme : Relation) (when : ℤ) (signer : SignerSeen Id)
     (server : ServerFields) (octets text : List ℕ) (next : ServerFields) : Type 0 where
   pub reply : Reply
   pub is : IsReply scheme server octets when reply
-  pub signed : List ℕ
-  pub receivable : IsReceivable scheme kinds.Publication signed (received.Publication reply.message)
-      when signer
-  pub written : text ≡ encode_lower signed
+  pub later : SignerState Id
+  pub created : IsTextCreated scheme kinds.Publication (received.Publication reply.message) when
+      (seen_signer signer.id signer.before later) text
   pub behind : next ≡ with_store server reply.next
 
 -- the texts are the replies to all lines, one behind the other, and nothing is behind them

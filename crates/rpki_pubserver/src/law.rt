@@ -4,14 +4,13 @@ ghost use Rattle.std.specs.Prelude.{◌≡◌, ◌∷◌, ◌^◌, ◌≤◌, []
 ghost use Rattle.rpki_publication.specs.ListReply.{withdrawal_of};
 ghost use Rattle.rpki_publication.specs.declared.publish_delta_element.PublishDeltaElement.TheVariants as change;
 ghost use Rattle.rpki_ca.specs.Acceptance.{Accepted};
-ghost use Rattle.rpki_ca.specs.Lines.{EndsRun, lines_of};
 ghost use Rattle.rpki_ca.specs.Seen.{HasFailed, Seen, SignerSeen};
 ghost use Rattle.rpki_ca.specs.declared.receiving.Kind.TheVariants as kinds;
 ghost use Rattle.rpki_ca.specs.declared.receiving.Received.{Received as Message};
 ghost use Rattle.rpki_pubserver.specs.Changes.{after_all};
 ghost use Rattle.rpki_pubserver.specs.Ends.{CanServe, EndsForCause, RepliesAll};
 ghost use Rattle.rpki_pubserver.specs.Replies.{Reply};
-ghost use Rattle.rpki_pubserver.specs.Running.{EndsServed};
+ghost use Rattle.rpki_pubserver.specs.Running.{EndsServing};
 ghost use Rattle.rpki_pubserver.specs.Server.{IsReply, ServerFields};
 ghost use Rattle.rpki_pubserver.specs.Store.{IsStore, LieUnder, Store, listed};
 
@@ -51,9 +50,8 @@ pub fn withdrawn_list_leaves_none()
 pub fn zero_replies_to_all<P: Scheme, S: Signer<P>>()
     ensures { (when : ℤ) (signer : SignerSeen S.KeyId) (server : ServerFields)
         (source sink : Seen) (input : List ℕ) →
-        EndsRun (λ octets. EndsServed P.checks when signer server (lines_of octets) 0 sink)
-        0 source sink →
-        source.before ≡ Some input → RepliesAll P.checks when signer server input sink }
+        EndsServing P.checks when signer server 0 source sink → source.before ≡ Some input →
+        RepliesAll P.checks when signer server input sink }
 {}
 
 /// A run with three words of the form ends with 0 or 12, if neither stream failed, the input is within the
@@ -61,8 +59,7 @@ pub fn zero_replies_to_all<P: Scheme, S: Signer<P>>()
 pub fn runs_end_for_cause<P: Scheme, S: Signer<P>>()
     ensures { (when : ℤ) (signer : SignerSeen S.KeyId) (server : ServerFields) (status : ℕ)
         (source sink : Seen) (input : List ℕ) →
-        EndsRun (λ octets. EndsServed P.checks when signer server (lines_of octets) status sink)
-        status source sink →
+        EndsServing P.checks when signer server status source sink →
         source.before ≡ Some input → length input ≤ 2 ^ 26 → ¬ (HasFailed source) →
         ¬ (HasFailed sink) → CanServe P.checks when signer server input →
         EndsForCause when input status }

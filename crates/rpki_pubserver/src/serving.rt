@@ -5,11 +5,11 @@ ghost use Rattle.rpki_base.specs.PublicKey.{KeyFields};
 ghost use Rattle.rpki_signer.specs.Limits.{Keeps};
 ghost use Rattle.rpki_sigmsg.specs.Making.{HasWindow};
 ghost use Rattle.rpki_ca.specs.Answer.{Ends};
-ghost use Rattle.rpki_ca.specs.Lines.{Answered, EndsRun, lines_of};
+ghost use Rattle.rpki_ca.specs.Lines.{Answered};
 ghost use Rattle.rpki_ca.specs.Seen.{seen, seen_signer};
 ghost use Rattle.rpki_ca.specs.Sending.{MayStop};
 ghost use Rattle.rpki_ca.specs.declared.refusals.Refusal.TheVariants as refusals;
-ghost use Rattle.rpki_pubserver.specs.Running.{AreNoWords, AreWords, EndsServed, new_server};
+ghost use Rattle.rpki_pubserver.specs.Running.{AreNoWords, AreWords, EndsServed, EndsServing, new_server};
 ghost use Rattle.rpki_pubserver.specs.Serving.{AreAllReplied, AreFirstReplied, FailsLine, HasLongAnswer, IsReplied};
 
 use crate::preparing::{Terms, terms_of};
@@ -139,13 +139,12 @@ pub fn serve<P: Scheme, I: Source, O: Sink, V: Verifier<P>, S: Signer<P>>(
     ensures unread { AreNoWords words.now → input.new ≡ input.old }
     ensures unasked { AreNoWords words.now → signer.new ≡ signer.old }
 
-    // Where the source isn't read whole, that is what is answered; and where it is, the queries
-    // are.
+    // Where the source isn't read whole, that is what is answered, and the signer did nothing; and
+    // where it is, the queries are answered.
     ensures ends { (when : ℤ) (base : List ℕ) (publisher : KeyFields)
         → AreWords words.now when base publisher
-        → EndsRun (λ octets. EndsServed P.checks when
+        → EndsServing P.checks when
         (seen_signer key.now (S.state signer.old) (S.state signer.new)) (new_server base publisher)
-        (lines_of octets) result.0 (seen O.written O.faults output.old output.new))
         result.0 (seen I.rest I.faults input.old input.new)
         (seen O.written O.faults output.old output.new) }
 

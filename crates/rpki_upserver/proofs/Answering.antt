@@ -4,14 +4,16 @@ use Rattle.std.proofs.lemmas.List.{take_all}
 use Rattle.hex.specs.Hex.{encode_lower}
 use Rattle.rpki_base.specs.Scheme.{Relation}
 use Rattle.rpki_signer.specs.Limits.{Keeps}
-use Rattle.rpki_signer.specs.Signer.{SignerState}
+use Rattle.rpki_signer.specs.Signer.{HeldKey, Holds, SignerState}
 use Rattle.rpki_sigmsg.specs.declared.create_error.CreateError.{CreateError}
 use Rattle.rpki_sigmsg.specs.Making.{HasWindow}
 use Rattle.rpki_sigmsg.specs.Spelling.{rewritten, CanBeSpelled}
 use Rattle.rpki_updown.specs.declared.error.Error.{Error}
 use Rattle.rpki_provisioning.specs.Cms.{CmsFields}
 use Rattle.rpki_provisioning.specs.Message.{text_of}
+use Rattle.rpki_ca.specs.declared.receiving.Kind.{Kind}
 use Rattle.rpki_ca.specs.declared.receiving.Kind.TheVariants as kinds
+use Rattle.rpki_ca.specs.declared.receiving.Received.{Received}
 use Rattle.rpki_ca.specs.declared.receiving.Received.TheVariants as received
 use Rattle.rpki_ca.specs.declared.receiving.ReceiveError.{ReceiveError}
 use Rattle.rpki_ca.specs.declared.receiving.ReceiveError.TheVariants as receipt
@@ -19,7 +21,7 @@ use Rattle.rpki_ca.specs.declared.refusals.Refusal.{Refusal}
 use Rattle.rpki_ca.specs.declared.refusals.Refusal.TheVariants as refusals
 use Rattle.rpki_ca.specs.Acceptance.{of_provisioning, refusal_of}
 use Rattle.rpki_ca.specs.Answer.{IsReceiveAnswer}
-use Rattle.rpki_ca.specs.Creation.{refusal_of_create}
+use Rattle.rpki_ca.specs.Creation.{IsTextCreated, refusal_of_create}
 use Rattle.rpki_ca.specs.Refusal.{name_of}
 use Rattle.rpki_ca.specs.Seen.{SignerSeen, seen_signer}
 use Rattle.rpki_ca.specs.Sending.{MayStop}
@@ -34,14 +36,38 @@ use Rattle.rpki_upserver.specs.Serving.{AreAllAnswered, AreFirstAnswered, FailsL
 
 -- ---- an answer holds whatever the signer did later, and whatever it did before
 
+-- what was created is so in each run in which the signer has the same identifier and the same keys
+created_elsewhere : {I : Type 0} (scheme : Relation) (kind : Kind) (message : Received) (when : ℤ) (one other : SignerSeen I) (later : SignerState I) (text : List ℕ) → other.id ≡ one.id → other.before.keyring ≡ one.before.keyring
+    → IsTextCreated scheme kind message when (seen_signer one.id one.before later) text → IsTextCreated scheme kind message when (seen_signer other.id other.before later) text
+created_elsewhere {I = I} scheme kind message when one other later text id keyring h =
+    let c = h.created.created in
+    record {
+      octets = h.octets;
+      created = record {
+        signed = h.created.signed;
+        created = record {
+          window_is = c.window_is;
+          issuing = c.issuing;
+          holds = subst (λ (i : I). Holds other.before.keyring i c.issuing) (sym id) (subst (λ (k : List (HeldKey I)). Holds k one.id c.issuing) (sym keyring) c.holds);
+          key = c.key;
+          drawn = c.drawn;
+          other = c.other;
+          twenty = c.twenty;
+          made = c.made;
+        };
+        are = h.created.are;
+        receivable = receivable_elsewhere scheme kind h.octets message when (seen_signer one.id one.before later) (seen_signer other.id other.before later) id keyring h.created.receivable;
+      };
+      written = h.written;
+    }
+
 pub line_elsewhere : {I : Type 0} (scheme : Relation) (when : ℤ) (one other : SignerSeen I) (before : ParentAndIssuer) (octets text : List ℕ) (after : ParentAndIssuer) → other.id ≡ one.id → other.before.keyring ≡ one.before.keyring
     → IsLineAnswered scheme when one before octets text after → IsLineAnswered scheme when other before octets text after
 line_elsewhere scheme when one other before octets text after id keyring (inl h) = inl (record {
   payload = h.payload;
   decided = h.decided;
-  signed = h.signed;
-  receivable = receivable_elsewhere scheme kinds.Provisioning h.signed (received.Provisioning (reply before.parent h.payload)) when one other id keyring h.receivable;
-  written = h.written;
+  later = h.later;
+  created = created_elsewhere scheme kinds.Provisioning (received.Provisioning (reply before.parent h.payload)) when one other h.later text id keyring h.created;
 })
 line_elsewhere scheme when one other before octets text after id keyring (inr turned) = inr turned
 
@@ -58,9 +84,12 @@ pub replied_so : {I : Type 0} (scheme : Relation) (when : ℤ) (signer : SignerS
 replied_so scheme when signer before octets c after answered spelled = inl (record {
   payload = answered.payload;
   decided = answered.decided;
-  signed = rewritten c.signed;
-  receivable = answered.signed.signed.receivable spelled;
-  written = refl;
+  later = signer.after;
+  created = record {
+    octets = rewritten c.signed;
+    created = record { signed = c.signed; created = answered.signed.signed.created; are = refl; receivable = answered.signed.signed.receivable spelled };
+    written = refl;
+  };
 })
 
 same_reason : (e : ReceiveError) → of_provisioning (error_of e) ≡ e

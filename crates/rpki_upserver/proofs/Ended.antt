@@ -9,7 +9,7 @@ use Rattle.rpki_ca.proofs.Sending.{memory_stops}
 use Rattle.rpki_ca.proofs.Ended.{lines_end, on_input_or_12, with_refusal}
 use Rattle.rpki_upserver.specs.Answering.{ParentAndIssuer, with_issuer}
 use Rattle.rpki_upserver.specs.Ends.{CanServe, EndsForCause}
-use Rattle.rpki_upserver.specs.Running.{EndsServed, Run}
+use Rattle.rpki_upserver.specs.Running.{EndsServed, EndsServing, Run}
 use Rattle.rpki_upserver.specs.Serving.{AreAllAnswered, AreFirstAnswered, HasLongAnswer}
 
 module _ {I : Type 0} (scheme : Relation) (run : Run I) where
@@ -22,10 +22,14 @@ module _ {I : Type 0} (scheme : Relation) (run : Run I) where
   served_end input status sink can none (inr (inr (inl hex))) = inr (inl (with_refusal refusals.Hex status sink none hex.1, hex.0))
   served_end input status sink can none (inr (inr (inr memory))) = inl (inr (with_refusal refusals.OutOfMemory status sink none memory.0))
 
-  pub ends_so : (status : ℕ) (source sink : Seen) (input : List ℕ) → EndsRun (λ octets. EndsServed scheme run (lines_of octets) status sink) status source sink → source.before ≡ Some input → length input ≤ 2 ^ 26
+  run_so : (status : ℕ) (source sink : Seen) → EndsServing scheme run status source sink → EndsRun (λ octets. EndsServed scheme run (lines_of octets) status sink) status source sink
+  run_so status source sink (inl unread) = inl unread.0
+  run_so status source sink (inr read) = inr read
+
+  pub ends_so : (status : ℕ) (source sink : Seen) (input : List ℕ) → EndsServing scheme run status source sink → source.before ≡ Some input → length input ≤ 2 ^ 26
       → ¬ (HasFailed source) → ¬ (HasFailed sink) → CanServe scheme run input → EndsForCause run input status
   ends_so status source sink input ended e le sound whole can =
-      elim (on_input_or_12 (λ octets. EndsServed scheme run (lines_of octets) status sink) status source sink input ended e le sound whole) [
+      elim (on_input_or_12 (λ octets. EndsServed scheme run (lines_of octets) status sink) status source sink input (run_so status source sink ended) e le sound whole) [
         | inl memory ↦ inl (inr memory)
         | inr ends ↦ served_end input status sink can whole ends
       ]

@@ -9,7 +9,7 @@ use Rattle.rpki_sets.specs.Resources.{Resources}
 use Rattle.rpki_sigmsg.specs.Making.{HasWindow}
 use Rattle.rpki_updown.specs.Entitlements.{SigningFields}
 use Rattle.rpki_ca.specs.Answer.{Ends}
-use Rattle.rpki_ca.specs.Lines.{EndsLines}
+use Rattle.rpki_ca.specs.Lines.{EndsLines, EndsRead, EndsUnread, lines_of}
 use Rattle.rpki_ca.specs.Seen.{Seen, SignerSeen}
 use Rattle.rpki_ca.specs.Sending.{MayStop}
 use Rattle.rpki_ca.specs.Sent.{AreNotSent, AreSent, EndsMoment}
@@ -109,3 +109,10 @@ EndsServed scheme run lines status sink =
     ⊎ ((EndsMoment run.when lines status sink × IsIdle run)
     ⊎ ((AreNotSent lines × Ends (Err Hex) status sink × IsIdle run)
     ⊎ (Ends (Err OutOfMemory) status sink × IsIdle run)))
+
+-- How it ends on a source: the input isn't read, and issuer and signer did nothing; or it is, and
+-- its lines are answered.
+abbrev pub EndsServing : {Id : Type 0} → Relation → Run Id → ℕ → Seen → Seen → Type 0
+EndsServing scheme run status source sink =
+    (EndsUnread status source sink × IsIdle run)
+    ⊎ EndsRead (λ input. EndsServed scheme run (lines_of input) status sink) source

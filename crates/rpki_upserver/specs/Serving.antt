@@ -1,12 +1,12 @@
 -- What the parent's program answers to its lines.
 use Rattle.std.specs.Prelude.{◌≡◌, ◌⊎◌, ◌∷◌, [], ℕ, ℤ, List, Err, Some, length, slice_get, take}
-use Rattle.hex.specs.Hex.{encode_lower}
 use Rattle.rpki_base.specs.Scheme.{Relation}
+use Rattle.rpki_signer.specs.Signer.{SignerState}
 use Rattle.rpki_provisioning.specs.declared.payload.Payload.{Payload}
 use Rattle.rpki_ca.specs.Answer.{IsReceiveAnswer}
-use Rattle.rpki_ca.specs.Creation.{IsReceivable}
+use Rattle.rpki_ca.specs.Creation.{IsTextCreated}
 use Rattle.rpki_ca.specs.Refusal.{name_of}
-use Rattle.rpki_ca.specs.Seen.{SignerSeen}
+use Rattle.rpki_ca.specs.Seen.{SignerSeen, seen_signer}
 use Rattle.rpki_ca.specs.Sending.{IsSigningCause}
 use Rattle.rpki_ca.specs.Steps.{AreSteps, AreAllSteps, AreFirstSteps}
 use Rattle.rpki_ca.specs.declared.receiving.Kind.TheVariants as kinds
@@ -18,17 +18,19 @@ use Rattle.rpki_upserver.specs.Table.{ParentState}
 
 -- ---- one line
 
--- The octets are a message of the child, and the text is the hexadecimal of octets of which the
--- reply to it is received: it is accepted under every list of keys that holds the issuing key, at
--- each second from 300 before the moment to 300 after it.
+-- The octets are a message of the child, and the text is the hexadecimal of a signed message that
+-- was created with the reply to it, as `create` does: at the moment, under the issuing key, which
+-- the signer holds, and with what it had drawn then. Of that message the reply is received: it is
+-- accepted under every list of keys that holds the issuing key, at each second from 300 before the
+-- moment to 300 after it.
 pub record IsReplied {Id : Type 0} (scheme : Relation) (when : ℤ) (signer : SignerSeen Id)
     (before : ParentAndIssuer) (octets text : List ℕ) (after : ParentAndIssuer) : Type 0 where
   pub payload : Payload
   pub decided : IsDecided scheme octets when before after payload
-  pub signed : List ℕ
-  pub receivable : IsReceivable scheme kinds.Provisioning signed
-      (received.Provisioning (reply before.parent payload)) when signer
-  pub written : text ≡ encode_lower signed
+  pub later : SignerState Id
+  pub created : IsTextCreated scheme kinds.Provisioning
+      (received.Provisioning (reply before.parent payload)) when
+      (seen_signer signer.id signer.before later) text
 
 -- They are none, and the text is what `receive provisioning` writes of them under the child's key.
 -- Parent and issuer are as before.

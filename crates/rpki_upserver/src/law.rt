@@ -5,13 +5,12 @@ ghost use Rattle.rpki_common.specs.Causes.{Rose};
 ghost use Rattle.rpki_updown.specs.KeyElement.{KeyElementFields};
 ghost use Rattle.rpki_provisioning.specs.Shape.{MessageFields};
 ghost use Rattle.rpki_provisioning.specs.declared.payload.Payload.TheVariants as payloads;
-ghost use Rattle.rpki_ca.specs.Lines.{EndsRun, lines_of};
 ghost use Rattle.rpki_ca.specs.Seen.{HasFailed, Seen};
 ghost use Rattle.rpki_upserver.specs.Ends.{AnswersAll, CanServe, EndsForCause};
 ghost use Rattle.rpki_upserver.specs.History.{Adds, AreMade, AreNew, Call, IsEntitled, Tells, standing, table_behind};
 ghost use Rattle.rpki_upserver.specs.Issuer.{IssuerState, Made};
 ghost use Rattle.rpki_upserver.specs.Response.{IsFromChild, IsResponse, Outcome, refusal};
-ghost use Rattle.rpki_upserver.specs.Running.{EndsServed, Run};
+ghost use Rattle.rpki_upserver.specs.Running.{EndsServing, Run};
 ghost use Rattle.rpki_upserver.specs.Table.{ParentState};
 
 use rpki_base::Scheme;
@@ -50,16 +49,15 @@ pub fn internal_errors_have_causes<P: Scheme>()
 /// With 0 the answers to all lines were written, and the issuer did what they say and nothing else.
 pub fn zero_answers_all<P: Scheme, S: Signer<P>>()
     ensures { (run : Run S.KeyId) (source sink : Seen) (input : List ℕ) →
-        EndsRun (λ octets. EndsServed P.checks run (lines_of octets) 0 sink) 0 source sink →
-        source.before ≡ Some input → AnswersAll P.checks run input sink }
+        EndsServing P.checks run 0 source sink → source.before ≡ Some input →
+        AnswersAll P.checks run input sink }
 {}
 
 /// A run with two words of the form ends with 0 or 12, if neither stream failed, the input is within the limit, the signer can sign and no
 /// reply is too long; or with 3 or 8, where a line isn't hexadecimal or the moment has no window.
 pub fn runs_end_for_cause<P: Scheme, S: Signer<P>>()
     ensures { (run : Run S.KeyId) (status : ℕ) (source sink : Seen) (input : List ℕ) →
-        EndsRun (λ octets. EndsServed P.checks run (lines_of octets) status sink)
-        status source sink →
+        EndsServing P.checks run status source sink →
         source.before ≡ Some input → length input ≤ 2 ^ 26 → ¬ (HasFailed source) →
         ¬ (HasFailed sink) → CanServe P.checks run input → EndsForCause run input status }
 {}

@@ -9,13 +9,13 @@ ghost use Rattle.rpki_sigmsg.specs.Spelling.{CanBeSpelled, rewritten};
 ghost use Rattle.rpki_provisioning.specs.Writable.{IsCertificate};
 ghost use Rattle.rpki_ca.specs.Acceptance.{of_provisioning, refusal_of};
 ghost use Rattle.rpki_ca.specs.Answer.{Ends};
-ghost use Rattle.rpki_ca.specs.Lines.{Answered, EndsRun, lines_of};
+ghost use Rattle.rpki_ca.specs.Lines.{Answered};
 ghost use Rattle.rpki_ca.specs.Refusal.{name_of};
 ghost use Rattle.rpki_ca.specs.Seen.{seen, seen_signer};
 ghost use Rattle.rpki_ca.specs.Sending.{MayStop};
 ghost use Rattle.rpki_ca.specs.declared.refusals.Refusal.TheVariants as refusals;
 ghost use Rattle.rpki_upserver.specs.Answering.{with_issuer};
-ghost use Rattle.rpki_upserver.specs.Running.{AreNoWords, AreWords, EndsServed, run_of};
+ghost use Rattle.rpki_upserver.specs.Running.{AreNoWords, AreWords, EndsServed, EndsServing, run_of};
 ghost use Rattle.rpki_upserver.specs.Serving.{AreAllAnswered, AreFirstAnswered, FailsLine, HasLongAnswer, IsLeft, IsLineAnswered};
 
 use crate::issuer::Issuer;
@@ -204,13 +204,12 @@ pub fn serve<P: Scheme, I: Source, O: Sink, V: Verifier<P>, N: Issuer, S: Signer
     ensures unasked { AreNoWords words.now → (issuer.new ≡ issuer.old)
         × (signer.new ≡ signer.old) }
 
-    // Where the source isn't read whole, that is what is answered; and where it is, the messages
-    // are.
+    // Where the source isn't read whole, that is what is answered, and issuer and signer did
+    // nothing; and where it is, the messages are answered.
     ensures ends { (when : ℤ) (child : KeyFields) → AreWords words.now when child
-        → EndsRun (λ octets. EndsServed P.checks
+        → EndsServing P.checks
         (run_of when child signing.now (N.state issuer.old) (N.state issuer.new)
         (seen_signer key.now (S.state signer.old) (S.state signer.new)))
-        (lines_of octets) result.0 (seen O.written O.faults output.old output.new))
         result.0 (seen I.rest I.faults input.old input.new)
         (seen O.written O.faults output.old output.new) }
 
