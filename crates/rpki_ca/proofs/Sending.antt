@@ -22,7 +22,7 @@ use Rattle.rpki_ca.specs.declared.receiving.Received.{Received}
 use Rattle.rpki_ca.specs.declared.refusals.Refusal.{Refusal}
 use Rattle.rpki_ca.specs.declared.refusals.Refusal.TheVariants as refusals
 use Rattle.rpki_ca.specs.Acceptance.{ReadsAs, IsWritable, protocol_of, text_of, normal_form}
-use Rattle.rpki_ca.specs.Creation.{CanSign, IsReceivable, refusal_of_create}
+use Rattle.rpki_ca.specs.Creation.{CanSign, IsReceivable, IsTextCreated, refusal_of_create}
 use Rattle.rpki_ca.specs.Seen.{SignerSeen, seen_signer}
 use Rattle.rpki_ca.specs.Sending.{IsSignedAs, FailsToSign, IsSigningCause, MayStop}
 use Rattle.rpki_ca.proofs.Creating.{TellsText, fits_ok, read_again, receivable}
@@ -81,6 +81,35 @@ pub receivable_elsewhere : {I : Type 0} (scheme : Relation) (kind : Kind) (octet
     → IsReceivable scheme kind octets message when one → IsReceivable scheme kind octets message when other
 receivable_elsewhere {I = I} scheme kind octets message when one other id keyring h =
     λ key holds. h key (subst (λ (i : I). Holds one.before.keyring i key) id (subst (λ (k : List (HeldKey I)). Holds k other.id key) keyring holds))
+
+-- what was created is so in each run in which the signer has the same identifier and the same keys
+pub created_elsewhere : {I : Type 0} (scheme : Relation) (kind : Kind) (message : Received) (when : ℤ) (one other : SignerSeen I) (later : SignerState I) (text : List ℕ) → other.id ≡ one.id → other.before.keyring ≡ one.before.keyring
+    → IsTextCreated scheme kind message when (seen_signer one.id one.before later) text → IsTextCreated scheme kind message when (seen_signer other.id other.before later) text
+created_elsewhere {I = I} scheme kind message when one other later text id keyring h =
+    let c = h.created.created in
+    record {
+      octets = h.octets;
+      created = record {
+        signed = h.created.signed;
+        created = record {
+          window_is = c.window_is;
+          issuing = c.issuing;
+          holds = subst (λ (i : I). Holds other.before.keyring i c.issuing) (sym id) (subst (λ (k : List (HeldKey I)). Holds k one.id c.issuing) (sym keyring) c.holds);
+          key = c.key;
+          drawn = c.drawn;
+          other = c.other;
+          twenty = c.twenty;
+          made = c.made;
+          short_key = c.short_key;
+          short_issuing = c.short_issuing;
+          short_signature = c.short_signature;
+          short_crl = c.short_crl;
+        };
+        are = h.created.are;
+        receivable = receivable_elsewhere scheme kind h.octets message when (seen_signer one.id one.before later) (seen_signer other.id other.before later) id keyring h.created.receivable;
+      };
+      written = h.written;
+    }
 
 -- why one message isn't signed, behind those that are
 module _ {I : Type 0} (when : ℤ) (id : I) (first before after : SignerState I) (has_long : Type 0) where

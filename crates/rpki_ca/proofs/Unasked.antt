@@ -1,5 +1,5 @@
 -- Where words and input show the answer, no signer is asked.
-use Rattle.std.proofs.Common.{◌≡◌, ◌⊎◌, inl, inr, ℕ, ◌<◌, ◌≤◌, ℤ, Option, None, Some, Result, List, length, sym, subst}
+use Rattle.std.proofs.Common.{◌≡◌, ◌⊎◌, inl, inr, ℕ, ◌<◌, ℤ, Option, None, Some, Result, List, length, sym, subst}
 use Rattle.std.specs.Prelude.{◌^◌, IfSome}
 use Rattle.rpki_base.specs.Scheme.{Relation}
 use Rattle.rpki_sigmsg.specs.Making.{HasWindow}

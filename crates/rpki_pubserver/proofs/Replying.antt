@@ -3,54 +3,27 @@ use Rattle.std.proofs.Common.{◌≡◌, ◌≢◌, ◌<◌, ◌^◌, ℕ, ℤ, 
 use Rattle.hex.specs.Hex.{encode_lower}
 use Rattle.rpki_base.specs.Scheme.{Relation}
 use Rattle.rpki_signer.specs.Limits.{Keeps}
-use Rattle.rpki_signer.specs.Signer.{HeldKey, Holds, SignerState}
+use Rattle.rpki_signer.specs.Signer.{SignerState}
 use Rattle.rpki_sigmsg.specs.declared.create_error.CreateError.{CreateError}
 use Rattle.rpki_sigmsg.specs.declared.create_error.CreateError.TheVariants as create
 use Rattle.rpki_sigmsg.specs.Making.{HasWindow}
 use Rattle.rpki_sigmsg.specs.Spelling.{rewritten, CanBeSpelled}
 use Rattle.rpki_publication.specs.Cms.{CmsFields}
 use Rattle.rpki_publication.specs.Message.{text_of}
-use Rattle.rpki_ca.specs.declared.receiving.Kind.{Kind}
 use Rattle.rpki_ca.specs.declared.receiving.Kind.TheVariants as kinds
-use Rattle.rpki_ca.specs.declared.receiving.Received.{Received}
 use Rattle.rpki_ca.specs.declared.receiving.Received.TheVariants as received
 use Rattle.rpki_ca.specs.declared.refusals.Refusal.{Refusal}
 use Rattle.rpki_ca.specs.declared.refusals.Refusal.TheVariants as refusals
-use Rattle.rpki_ca.specs.Creation.{IsReceivable, IsTextCreated, refusal_of_create}
+use Rattle.rpki_ca.specs.Creation.{IsReceivable, refusal_of_create}
 use Rattle.rpki_ca.specs.Seen.{SignerSeen, seen_signer}
 use Rattle.rpki_ca.specs.Sending.{MayStop}
 use Rattle.rpki_ca.specs.Steps.{AreSteps}
-use Rattle.rpki_ca.proofs.Sending.{may_stop, not_memory, receivable_elsewhere, signing_cause}
+use Rattle.rpki_ca.proofs.Sending.{created_elsewhere, may_stop, not_memory, signing_cause}
 use Rattle.rpki_ca.proofs.Serving.{steps_alike, stopped_at}
 use Rattle.rpki_pubserver.specs.Server.{FailsReply, IsAnswered, ServerFields}
 use Rattle.rpki_pubserver.specs.Serving.{FailsLine, HasLongAnswer, IsReplied}
 
 -- ---- a reply holds whatever the signer did later, and whatever it did before
-
--- what was created is so in each run in which the signer has the same identifier and the same keys
-created_elsewhere : {I : Type 0} (scheme : Relation) (kind : Kind) (message : Received) (when : ℤ) (one other : SignerSeen I) (later : SignerState I) (text : List ℕ) → other.id ≡ one.id → other.before.keyring ≡ one.before.keyring
-    → IsTextCreated scheme kind message when (seen_signer one.id one.before later) text → IsTextCreated scheme kind message when (seen_signer other.id other.before later) text
-created_elsewhere {I = I} scheme kind message when one other later text id keyring h =
-    let c = h.created.created in
-    record {
-      octets = h.octets;
-      created = record {
-        signed = h.created.signed;
-        created = record {
-          window_is = c.window_is;
-          issuing = c.issuing;
-          holds = subst (λ (i : I). Holds other.before.keyring i c.issuing) (sym id) (subst (λ (k : List (HeldKey I)). Holds k one.id c.issuing) (sym keyring) c.holds);
-          key = c.key;
-          drawn = c.drawn;
-          other = c.other;
-          twenty = c.twenty;
-          made = c.made;
-        };
-        are = h.created.are;
-        receivable = receivable_elsewhere scheme kind h.octets message when (seen_signer one.id one.before later) (seen_signer other.id other.before later) id keyring h.created.receivable;
-      };
-      written = h.written;
-    }
 
 pub replied_elsewhere : {I : Type 0} (scheme : Relation) (when : ℤ) (one other : SignerSeen I) (server : ServerFields) (octets text : List ℕ) (next : ServerFields) → other.id ≡ one.id → other.before.keyring ≡ one.before.keyring
     → IsReplied scheme when one server octets text next → IsReplied scheme when other server octets text next

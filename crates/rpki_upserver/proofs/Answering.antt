@@ -4,16 +4,14 @@ use Rattle.std.proofs.lemmas.List.{take_all}
 use Rattle.hex.specs.Hex.{encode_lower}
 use Rattle.rpki_base.specs.Scheme.{Relation}
 use Rattle.rpki_signer.specs.Limits.{Keeps}
-use Rattle.rpki_signer.specs.Signer.{HeldKey, Holds, SignerState}
+use Rattle.rpki_signer.specs.Signer.{SignerState}
 use Rattle.rpki_sigmsg.specs.declared.create_error.CreateError.{CreateError}
 use Rattle.rpki_sigmsg.specs.Making.{HasWindow}
 use Rattle.rpki_sigmsg.specs.Spelling.{rewritten, CanBeSpelled}
 use Rattle.rpki_updown.specs.declared.error.Error.{Error}
 use Rattle.rpki_provisioning.specs.Cms.{CmsFields}
 use Rattle.rpki_provisioning.specs.Message.{text_of}
-use Rattle.rpki_ca.specs.declared.receiving.Kind.{Kind}
 use Rattle.rpki_ca.specs.declared.receiving.Kind.TheVariants as kinds
-use Rattle.rpki_ca.specs.declared.receiving.Received.{Received}
 use Rattle.rpki_ca.specs.declared.receiving.Received.TheVariants as received
 use Rattle.rpki_ca.specs.declared.receiving.ReceiveError.{ReceiveError}
 use Rattle.rpki_ca.specs.declared.receiving.ReceiveError.TheVariants as receipt
@@ -21,13 +19,13 @@ use Rattle.rpki_ca.specs.declared.refusals.Refusal.{Refusal}
 use Rattle.rpki_ca.specs.declared.refusals.Refusal.TheVariants as refusals
 use Rattle.rpki_ca.specs.Acceptance.{of_provisioning, refusal_of}
 use Rattle.rpki_ca.specs.Answer.{IsReceiveAnswer}
-use Rattle.rpki_ca.specs.Creation.{IsTextCreated, refusal_of_create}
+use Rattle.rpki_ca.specs.Creation.{refusal_of_create}
 use Rattle.rpki_ca.specs.Refusal.{name_of}
 use Rattle.rpki_ca.specs.Seen.{SignerSeen, seen_signer}
 use Rattle.rpki_ca.specs.Sending.{MayStop}
 use Rattle.rpki_ca.specs.Steps.{AreSteps}
 use Rattle.rpki_ca.proofs.Accepting.{refusal}
-use Rattle.rpki_ca.proofs.Sending.{may_stop, not_memory, receivable_elsewhere, signing_cause}
+use Rattle.rpki_ca.proofs.Sending.{created_elsewhere, may_stop, not_memory, signing_cause}
 use Rattle.rpki_ca.proofs.Serving.{next_stands, steps_alike, stopped_at}
 use Rattle.rpki_ca.proofs.Stepping.{counted}
 use Rattle.rpki_upserver.specs.Answering.{IsAnswered, IsUnsent, ParentAndIssuer, RefusesOctets, error_of, reply}
@@ -35,31 +33,6 @@ use Rattle.rpki_upserver.specs.Issuer.{IssuerState, Leaves}
 use Rattle.rpki_upserver.specs.Serving.{AreAllAnswered, AreFirstAnswered, FailsLine, HasLongAnswer, IsLeft, IsLineAnswered, IsUnsentAt}
 
 -- ---- an answer holds whatever the signer did later, and whatever it did before
-
--- what was created is so in each run in which the signer has the same identifier and the same keys
-created_elsewhere : {I : Type 0} (scheme : Relation) (kind : Kind) (message : Received) (when : ℤ) (one other : SignerSeen I) (later : SignerState I) (text : List ℕ) → other.id ≡ one.id → other.before.keyring ≡ one.before.keyring
-    → IsTextCreated scheme kind message when (seen_signer one.id one.before later) text → IsTextCreated scheme kind message when (seen_signer other.id other.before later) text
-created_elsewhere {I = I} scheme kind message when one other later text id keyring h =
-    let c = h.created.created in
-    record {
-      octets = h.octets;
-      created = record {
-        signed = h.created.signed;
-        created = record {
-          window_is = c.window_is;
-          issuing = c.issuing;
-          holds = subst (λ (i : I). Holds other.before.keyring i c.issuing) (sym id) (subst (λ (k : List (HeldKey I)). Holds k one.id c.issuing) (sym keyring) c.holds);
-          key = c.key;
-          drawn = c.drawn;
-          other = c.other;
-          twenty = c.twenty;
-          made = c.made;
-        };
-        are = h.created.are;
-        receivable = receivable_elsewhere scheme kind h.octets message when (seen_signer one.id one.before later) (seen_signer other.id other.before later) id keyring h.created.receivable;
-      };
-      written = h.written;
-    }
 
 pub line_elsewhere : {I : Type 0} (scheme : Relation) (when : ℤ) (one other : SignerSeen I) (before : ParentAndIssuer) (octets text : List ℕ) (after : ParentAndIssuer) → other.id ≡ one.id → other.before.keyring ≡ one.before.keyring
     → IsLineAnswered scheme when one before octets text after → IsLineAnswered scheme when other before octets text after
