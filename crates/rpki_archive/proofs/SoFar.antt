@@ -1,11 +1,9 @@
 -- Lines answered one behind the other.
-use Rattle.std.proofs.Common.{◌≡◌, ◌+◌, ◌<◌, ◌≤◌, ◌^◌, ℕ, suc, Bool, true, false, List, [], ◌∷◌, ◌++◌, length, map, take, Option, Result, Ok, Err, IsErrAnd, is_ok, if◌then◌else◌, refl, sym, ap, subst, ◌∙◌, arith, length-append}
+use Rattle.std.proofs.Common.{◌≡◌, ◌+◌, ◌<◌, ◌≤◌, ◌^◌, ℕ, suc, Bool, true, false, List, [], ◌∷◌, ◌++◌, length, map, take, Option, Result, Ok, Err, is_ok, if◌then◌else◌, refl, sym, ap, subst, ◌∙◌, arith, length-append}
 use Rattle.std.specs.Io.KnownBytes.{Appends}
 use Rattle.std.proofs.lemmas.List.{append_assoc, append-nil, length-map}
 use Rattle.rpki_base.specs.Scheme.{Relation}
-use Rattle.rpki_ca.specs.Lines.{Answered, answer_lines, lines_of}
-use Rattle.rpki_ca.specs.Seen.{Seen}
-use Rattle.rpki_ca.specs.declared.lines.Stop.{Stop}
+use Rattle.rpki_ca.specs.Lines.{answer_lines, lines_of}
 use Rattle.rpki_ca.specs.declared.refusals.Refusal.{Refusal}
 use Rattle.rpki_archive.specs.Explanation.{AreExplanations, IsExplanation}
 use Rattle.rpki_archive.specs.Verdict.{AreLineAnswers, IsLineAnswer, accepted_of, total_of, verdict_text}

@@ -1,7 +1,7 @@
 -- How a program ends that reads its input whole, and answers line by line.
-use Rattle.std.proofs.Common.{◌≡◌, ◌⊎◌, ◌<◌, ◌≤◌, ◌^◌, ℕ, Option, None, Some, IfSome, Err, List, ◌++◌, length, inl, inr, refl, ap, subst, ◌∙◌, arith}
+use Rattle.std.proofs.Common.{◌≡◌, ◌⊎◌, ◌<◌, ◌≤◌, ◌^◌, ℕ, Option, None, Some, IfSome, Err, List, length, inl, inr, refl, ap, subst, ◌∙◌, arith}
 use Rattle.rpki_ca.specs.Answer.{Ends, IsUnread}
-use Rattle.rpki_ca.specs.Lines.{EndsLines, EndsRun, EndsUnread, EndsWith, IsOutOfMemory, WroteAll, answer_lines}
+use Rattle.rpki_ca.specs.Lines.{EndsBehind, EndsLines, EndsRun, EndsUnread, EndsWith, IsOutOfMemory, WroteAll}
 use Rattle.rpki_ca.specs.Refusal.{status_of}
 use Rattle.rpki_ca.specs.Seen.{HasFailed, OfInput, Seen}
 use Rattle.rpki_ca.specs.declared.refusals.Refusal.{Refusal}
@@ -13,6 +13,10 @@ pub with_whole : (wanted status : ℕ) (output : List ℕ) (sink : Seen) → ¬ 
 with_whole wanted status output sink none (inl e) = e.0
 with_whole wanted status output sink none (inr e) = absurd (none e.2)
 
+with_behind : (wanted status : ℕ) (texts : List (List ℕ)) (rest : List ℕ) (sink : Seen) → ¬ (HasFailed sink) → EndsBehind wanted texts rest status sink → status ≡ wanted
+with_behind wanted status texts rest sink none (inl e) = e.0
+with_behind wanted status texts rest sink none (inr e) = absurd (none e.2)
+
 pub with_refusal : (refusal : Refusal) (status : ℕ) (sink : Seen) → ¬ (HasFailed sink) → Ends (Err refusal) status sink → status ≡ status_of refusal
 with_refusal refusal status sink none (inl e) = e.0
 with_refusal refusal status sink none (inr e) = absurd (none e.2)
@@ -20,8 +24,8 @@ with_refusal refusal status sink none (inr e) = absurd (none e.2)
 -- and memory alone stops it
 pub lines_end : (all : List (List ℕ) → List ℕ → Type 0) (first : List (List ℕ) → Type 0) (may : Refusal → Type 0) (status : ℕ) (sink : Seen) → ((refusal : Refusal) → may refusal → IsOutOfMemory refusal) → ¬ (HasFailed sink)
     → EndsLines all first may status sink → (status ≡ 0) ⊎ (status ≡ 12)
-lines_end all first may status sink alone none (inl done) = inl (with_whole 0 status (answer_lines done.texts ++ done.closing) sink none done.ends)
-lines_end all first may status sink alone none (inr (inl stopped)) = inr (with_whole (status_of stopped.refusal) status _ sink none stopped.ends ∙ ap status_of (alone stopped.refusal stopped.may))
+lines_end all first may status sink alone none (inl done) = inl (with_behind 0 status done.texts done.closing sink none done.ends)
+lines_end all first may status sink alone none (inr (inl stopped)) = inr (with_behind (status_of stopped.refusal) status stopped.texts _ sink none stopped.ends ∙ ap status_of (alone stopped.refusal stopped.may))
 lines_end all first may status sink alone none (inr (inr failed)) = absurd (none failed.failed)
 
 some_input : (o : Option (List ℕ)) (input : List ℕ) (P : List ℕ → Type 0) → o ≡ Some input → OfInput o P → P input

@@ -1,10 +1,9 @@
 -- What is written in pieces ends as a whole.
-use Rattle.std.proofs.Common.{◌≡◌, ℕ, List, [], ◌∷◌, ◌++◌, length, take, Result, Ok, Err, sym, ap, subst, inl, inr, ◌∙◌, arith, length-append}
+use Rattle.std.proofs.Common.{◌≡◌, ℕ, List, [], ◌∷◌, ◌++◌, Result, Ok, Err, sym, ap, subst, inl, inr, ◌∙◌}
 use Rattle.std.specs.Prelude.{OnOk, IfErr, Option}
 use Rattle.std.specs.Io.KnownBytes.{Appends}
 use Rattle.std.proofs.KnownBytes.{Appends-trans}
-use Rattle.std.proofs.lemmas.List.{flat_map_more, take-append-le}
-use Rattle.std.proofs.Math.Seq.{take-append-add}
+use Rattle.std.proofs.lemmas.List.{flat_map_more}
 use Rattle.rpki_common.specs.Causes.{Rose}
 use Rattle.rpki_text.specs.Sink.{AppendsPart}
 use Rattle.rpki_ca.specs.declared.refusals.Refusal.{Refusal}
@@ -13,19 +12,11 @@ use Rattle.rpki_ca.specs.declared.lines.Stop.TheVariants.{Refused, WriteFault}
 use Rattle.rpki_ca.specs.Refusal.{status_of}
 use Rattle.rpki_ca.specs.Answer.{line_of}
 use Rattle.rpki_ca.specs.Seen.{seen, HasFailed, IsSteady}
-use Rattle.rpki_ca.specs.Lines.{answer_lines, EndsWith, EndsLines, EndsStopped, Answered}
+use Rattle.rpki_ca.specs.Lines.{answer_lines, AppendsBehind, EndsBehind, EndsWith, EndsLines, EndsStopped, Answered}
 
--- a part behind what was written whole
-pub part_behind : (a b c : Option (List ℕ)) (xs ys : List ℕ) → Appends a b xs → AppendsPart b c ys → AppendsPart a c (xs ++ ys)
-part_behind a b c xs ys whole part =
-    let starts = ap (λ (n : ℕ). take n (xs ++ ys)) (length-append xs part.0) ∙ take-append-add xs ys (length part.0) ∙ ap (λ (l : List ℕ). xs ++ l) part.1 in
-    (xs ++ part.0, starts, omega (arith, length-append xs part.0, length-append xs ys, part.2), Appends-trans a b c xs part.0 whole part.3)
-
--- a part of something is a part of it with more behind it
-pub part_longer : (a c : Option (List ℕ)) (xs ys : List ℕ) → AppendsPart a c xs → AppendsPart a c (xs ++ ys)
-part_longer a c xs ys part =
-    let starts = take-append-le (length part.0) xs ys (omega (arith, part.2)) ∙ part.1 in
-    (part.0, starts, omega (arith, length-append xs ys, part.2), part.3)
+-- a part of the rest behind answers that were written whole
+pub part_behind : (a b c : Option (List ℕ)) (texts : List (List ℕ)) (rest : List ℕ) → Appends a b (answer_lines texts) → AppendsPart b c rest → AppendsBehind a c texts rest
+part_behind a b c texts rest whole part = (part.0, part.1, part.2, Appends-trans a b c (answer_lines texts) part.0 whole part.3)
 
 -- the line of one more answer
 one_more : (texts : List (List ℕ)) (text : List ℕ) → answer_lines texts ++ (text ++ 10 ∷ []) ≡ answer_lines (texts ++ text ∷ [])
@@ -40,12 +31,12 @@ module _ {X : Type 0} (written : X → Option (List ℕ)) (faults : X → ℕ) (
   failed_later one two = subst (λ (n : ℕ). Rose n (faults c)) one two
 
   -- an end behind what was written whole
-  pub ends_behind : (wanted status : ℕ) (xs ys : List ℕ) → Appends (written a) (written b) xs → IsSteady (seen written faults a b)
-      → EndsWith wanted ys status (seen written faults b c) → EndsWith wanted (xs ++ ys) status (seen written faults a c)
-  ends_behind wanted status xs ys whole steady (inl e) =
-      inl (e.0, Appends-trans (written a) (written b) (written c) xs ys whole e.1, steady_both steady e.2)
-  ends_behind wanted status xs ys whole steady (inr e) =
-      inr (e.0, part_behind (written a) (written b) (written c) xs ys whole e.1, failed_later steady e.2)
+  pub ends_behind : (wanted status : ℕ) (texts : List (List ℕ)) (rest : List ℕ) → Appends (written a) (written b) (answer_lines texts) → IsSteady (seen written faults a b)
+      → EndsWith wanted rest status (seen written faults b c) → EndsBehind wanted texts rest status (seen written faults a c)
+  ends_behind wanted status texts rest whole steady (inl e) =
+      inl (e.0, Appends-trans (written a) (written b) (written c) (answer_lines texts) rest whole e.1, steady_both steady e.2)
+  ends_behind wanted status texts rest whole steady (inr e) =
+      inr (e.0, part_behind (written a) (written b) (written c) texts rest whole e.1, failed_later steady e.2)
 
   -- a program that answered line by line, and then ended where it stopped
   pub ends_lines : (all : List (List ℕ) → List ℕ → Type 0) (first : List (List ℕ) → Type 0) (may_refuse : Refusal → Type 0) (answered : Result (Unit {0}) Stop) (status : ℕ)
@@ -61,18 +52,20 @@ module _ {X : Type 0} (written : X → Option (List ℕ)) (faults : X → ℕ) (
         refusal = refusal;
         are = answered.are;
         may = answered.may;
-        ends = ends_behind (status_of refusal) status (answer_lines answered.texts) (line_of (Err refusal)) answered.whole answered.steady stopped;
+        ends = ends_behind (status_of refusal) status answered.texts (line_of (Err refusal)) answered.whole answered.steady stopped;
       }))
   ends_lines all first may_refuse (Err WriteFault) status (inl early) end stopped =
       inr (inr (record {
         texts = early.texts;
+        last = early.last;
         are = early.are;
+        with_last = early.with_last;
         is = stopped.0;
-        part = subst (λ (o : Option (List ℕ)). AppendsPart (written a) o (answer_lines early.texts)) (sym stopped.1) early.part;
+        part = subst (λ (o : Option (List ℕ)). AppendsBehind (written a) o early.texts (early.last ++ 10 ∷ [])) (sym stopped.1) early.part;
         failed = subst (λ (n : ℕ). Rose (faults a) n) (sym stopped.2) early.failed;
       }))
   ends_lines all first may_refuse (Err WriteFault) status (inr late) end stopped =
-      let part = subst (λ (o : Option (List ℕ)). AppendsPart (written a) o (answer_lines late.texts ++ late.closing)) (sym stopped.1) late.part in
+      let part = subst (λ (o : Option (List ℕ)). AppendsBehind (written a) o late.texts late.closing) (sym stopped.1) late.part in
       let failed = subst (λ (n : ℕ). Rose (faults a) n) (sym stopped.2) late.failed in
       inl (record { texts = late.texts; closing = late.closing; are = late.are; ends = inr (stopped.0, part, failed) })
 
@@ -86,8 +79,8 @@ module _ {X : Type 0} (written : X → Option (List ℕ)) (faults : X → ℕ) (
 
   -- a part of one more
   pub part_of_more : (texts : List (List ℕ)) (text line : List ℕ) → line ≡ text ++ 10 ∷ [] → Appends (written a) (written b) (answer_lines texts) → IsSteady (seen written faults a b)
-      → AppendsPart (written b) (written c) line → HasFailed (seen written faults b c) → AppendsPart (written a) (written c) (answer_lines (texts ++ text ∷ [])) × HasFailed (seen written faults a c)
+      → AppendsPart (written b) (written c) line → HasFailed (seen written faults b c) → AppendsBehind (written a) (written c) texts (text ++ 10 ∷ []) × HasFailed (seen written faults a c)
   part_of_more texts text line is whole steady part failed = (
-    subst (λ (l : List ℕ). AppendsPart (written a) (written c) l) (ap (λ (l : List ℕ). answer_lines texts ++ l) is ∙ one_more texts text) (part_behind (written a) (written b) (written c) (answer_lines texts) line whole part),
+    part_behind (written a) (written b) (written c) texts (text ++ 10 ∷ []) whole (subst (λ (l : List ℕ). AppendsPart (written b) (written c) l) is part),
     failed_later steady failed,
   )

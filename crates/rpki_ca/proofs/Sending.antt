@@ -77,7 +77,7 @@ signing_cause scheme when signer message create.OutOfMemory f other = absurd (ot
 -- ---- the messages of a run
 
 -- what is received of a message is so whatever the signer did later, and whatever it did before
-pub receivable_elsewhere : {I : Type 0} (scheme : Relation) (kind : Kind) (octets : List ℕ) (message : Received) (when : ℤ) (one other : SignerSeen I) → other.id ≡ one.id → other.before.keyring ≡ one.before.keyring
+receivable_elsewhere : {I : Type 0} (scheme : Relation) (kind : Kind) (octets : List ℕ) (message : Received) (when : ℤ) (one other : SignerSeen I) → other.id ≡ one.id → other.before.keyring ≡ one.before.keyring
     → IsReceivable scheme kind octets message when one → IsReceivable scheme kind octets message when other
 receivable_elsewhere {I = I} scheme kind octets message when one other id keyring h =
     λ key holds. h key (subst (λ (i : I). Holds one.before.keyring i key) id (subst (λ (k : List (HeldKey I)). Holds k other.id key) keyring holds))

@@ -1,7 +1,8 @@
 -- Lines: an input cut into them, a line cut into words, and what a program writes that answers line
 -- by line.
-use Rattle.std.specs.Prelude.{◌≡◌, ◌==◌, ◌≤◌, ◌^◌, ◌⊎◌, ℕ, Bool, true, false, List, [], ◌∷◌, ◌++◌, Result, Ok, Err, length}
+use Rattle.std.specs.Prelude.{◌≡◌, ◌==◌, ◌<◌, ◌≤◌, ◌^◌, ◌⊎◌, ℕ, Bool, true, false, Option, List, [], ◌∷◌, ◌++◌, Result, Ok, Err, length}
 use Rattle.std.specs.List.{slice_split, flat_map}
+use Rattle.std.specs.Io.{StartsWith}
 use Rattle.std.specs.Io.KnownBytes.{Appends, IsAtEnd}
 use Rattle.rpki_text.specs.Sink.{AppendsPart}
 use Rattle.rpki_ca.specs.declared.refusals.Refusal.{Refusal}
@@ -52,6 +53,21 @@ EndsWith wanted output status sink =
     ((status ≡ wanted) × Appends sink.before sink.after output × IsSteady sink)
     ⊎ ((status ≡ 11) × AppendsPart sink.before sink.after output × HasFailed sink)
 
+-- The octets written grew by all of the answers, and by some front of the rest behind them, and not
+-- by all of it.
+abbrev pub AppendsBehind : Option (List ℕ) → Option (List ℕ) → List (List ℕ) → List ℕ → Type 0
+AppendsBehind before after texts rest =
+    (front : List ℕ) × StartsWith rest front × (length front < length rest)
+    × Appends before after (answer_lines texts ++ front)
+
+-- The answers and the rest are written whole, with the status; or the answers and a part of the
+-- rest, and the status is 11, where the sink's count rose.
+abbrev pub EndsBehind : ℕ → List (List ℕ) → List ℕ → ℕ → Seen → Type 0
+EndsBehind wanted texts rest status sink =
+    ((status ≡ wanted) × Appends sink.before sink.after (answer_lines texts ++ rest)
+    × IsSteady sink)
+    ⊎ ((status ≡ 11) × AppendsBehind sink.before sink.after texts rest × HasFailed sink)
+
 -- What is written behind answers to lines, of which `all` says that they are those to all lines, with
 -- this closing text; and `first` that they are those to the first ones.
 --
@@ -61,7 +77,7 @@ pub record EndsDone (all : List (List ℕ) → List ℕ → Type 0) (status : �
     pub texts : List (List ℕ)
     pub closing : List ℕ
     pub are : all texts closing
-    pub ends : EndsWith 0 (answer_lines texts ++ closing) status sink
+    pub ends : EndsBehind 0 texts closing status sink
 
 -- With the status of a refusal the answers to the first lines were written, and the refusal's line.
 pub record EndsRefused (first : List (List ℕ) → Type 0) (may_refuse : Refusal → Type 0) (status : ℕ)
@@ -70,14 +86,17 @@ pub record EndsRefused (first : List (List ℕ) → Type 0) (may_refuse : Refusa
   pub refusal : Refusal
   pub are : first texts
   pub may : may_refuse refusal
-  pub ends : EndsWith (status_of refusal) (answer_lines texts ++ line_of (Err refusal)) status sink
+  pub ends : EndsBehind (status_of refusal) texts (line_of (Err refusal)) status sink
 
--- With 11 the sink failed, and a part of the answers to the first lines was written.
+-- With 11 the sink failed: the answers to the first lines were written, and a part of the line with
+-- the answer to the next one, which is the last.
 pub record EndsFailed (first : List (List ℕ) → Type 0) (status : ℕ) (sink : Seen) : Type 0 where
   pub texts : List (List ℕ)
+  pub last : List ℕ
   pub are : first texts
+  pub with_last : first (texts ++ last ∷ [])
   pub is : status ≡ 11
-  pub part : AppendsPart sink.before sink.after (answer_lines texts)
+  pub part : AppendsBehind sink.before sink.after texts (last ++ 10 ∷ [])
   pub failed : HasFailed sink
 
 -- how a program ends that answers line by line
@@ -125,19 +144,21 @@ pub record WroteFirst (first : List (List ℕ) → Type 0) (may_refuse : Refusal
   pub whole : Appends sink.before sink.after (answer_lines texts)
   pub steady : IsSteady sink
 
--- a part of the answers to the first lines was written, and the sink failed; or a part of all answers
--- and the closing text
+-- those to the first lines were written, and a part of the line with the next one, where the sink
+-- failed; or all answers, and a part of the closing text
 pub record FailedFirst (first : List (List ℕ) → Type 0) (sink : Seen) : Type 0 where
   pub texts : List (List ℕ)
+  pub last : List ℕ
   pub are : first texts
-  pub part : AppendsPart sink.before sink.after (answer_lines texts)
+  pub with_last : first (texts ++ last ∷ [])
+  pub part : AppendsBehind sink.before sink.after texts (last ++ 10 ∷ [])
   pub failed : HasFailed sink
 
 pub record FailedAll (all : List (List ℕ) → List ℕ → Type 0) (sink : Seen) : Type 0 where
   pub texts : List (List ℕ)
   pub closing : List ℕ
   pub are : all texts closing
-  pub part : AppendsPart sink.before sink.after (answer_lines texts ++ closing)
+  pub part : AppendsBehind sink.before sink.after texts closing
   pub failed : HasFailed sink
 
 abbrev pub Answered : (List (List ℕ) → List ℕ → Type 0) → (List (List ℕ) → Type 0)

@@ -14,9 +14,9 @@ use Rattle.rpki_pubserver.specs.Server.{HasLongReply, IsReply, ServerFields, wit
 
 -- The text is the hexadecimal of a signed message that was created with the reply to these octets,
 -- as `create` does: at the moment, under the issuing key, which the signer holds, and with what it
--- had drawn then. Of that message the reply is received: it is accepted as its normal form, under
--- every list of keys that holds the issuing key, at each second from 300 before the moment to 300
--- after it.
+-- has drawn in some later state. Of that message the reply is received: it is accepted as its
+-- normal form, under every list of keys that holds the issuing key, at each second from 300 before
+-- the moment to 300 after it.
 pub record IsReplied {Id : Type 0} (scheme : Relation) (when : ℤ) (signer : SignerSeen Id)
     (server : ServerFields) (octets text : List ℕ) (next : ServerFields) : Type 0 where
   pub reply : Reply

@@ -107,6 +107,14 @@ cant_send scheme when signer before octets after e u other = record {
 pub same_issuer : (issuer : IssuerState) → Leaves issuer issuer
 same_issuer issuer = record { made = refl; gone = refl; faults = omega arith }
 
+-- a line that is answered was decided, or nothing was done of it
+pub left_answered : {I : Type 0} (scheme : Relation) (when : ℤ) (signer : SignerSeen I) (before : ParentAndIssuer) (octets text : List ℕ) (after : ParentAndIssuer) → IsLineAnswered scheme when signer before octets text after → IsLeft scheme when before octets after
+left_answered scheme when signer before octets text after (inl replied) = inr (replied.payload, replied.decided)
+left_answered scheme when signer before octets text after (inr turned) = inl (record {
+  parent = ap (λ (x : ParentAndIssuer). x.parent) turned.behind;
+  issuer = subst (λ (x : ParentAndIssuer). Leaves before.issuer x.issuer) (sym turned.behind) (same_issuer before.issuer);
+})
+
 -- ---- the first lines
 
 module _ {I : Type 0} (scheme : Relation) (when : ℤ) (signer : SignerSeen I) (start : ParentAndIssuer) (messages : List (List ℕ)) where

@@ -20,9 +20,9 @@ use Rattle.rpki_upserver.specs.Table.{ParentState}
 
 -- The octets are a message of the child, and the text is the hexadecimal of a signed message that
 -- was created with the reply to it, as `create` does: at the moment, under the issuing key, which
--- the signer holds, and with what it had drawn then. Of that message the reply is received: it is
--- accepted under every list of keys that holds the issuing key, at each second from 300 before the
--- moment to 300 after it.
+-- the signer holds, and with what it has drawn in some later state. Of that message the reply is
+-- received: it is accepted under every list of keys that holds the issuing key, at each second from
+-- 300 before the moment to 300 after it.
 pub record IsReplied {Id : Type 0} (scheme : Relation) (when : ℤ) (signer : SignerSeen Id)
     (before : ParentAndIssuer) (octets text : List ℕ) (after : ParentAndIssuer) : Type 0 where
   pub payload : Payload

@@ -1,4 +1,4 @@
-use Rattle.std.proofs.Common.{◌∷◌, ◌++◌, ◌∙◌, [], inl, refl}
+use Rattle.std.proofs.Common.{◌∙◌, inl, refl}
 use Rattle.rpki_ca.specs.Lines.{IsOutOfMemory, lines_of}
 use Rattle.rpki_ca.specs.Seen.{seen}
 use Rattle.rpki_ca.specs.declared.lines.Stop.TheVariants.{Refused, WriteFault}
@@ -30,8 +30,10 @@ returns-in_err-write_all g c =
     stopped_so (AreAllExplanations g.P.Scheme.checks (lines_of c.args.input.now)) (AreFirstExplanations g.P.Scheme.checks (lines_of c.args.input.now)) IsOutOfMemory c.from_residual-in_err-write_all.result WriteFault
     (seen g.O.Sink.written g.O.Sink.faults c.args.output.now c.write_all.new.sink) c.from_residual-in_err-write_all.ensures.1
     (inl (record {
-      texts = so_far.texts ++ said.0 ∷ [];
-      are = more_explained g.P.Scheme.checks (lines_of c.args.input.now) c.loop-line.line-iterator c.next.new.self (g.O.Sink.written c.args.output.now) (g.O.Sink.written c.loop-line.output) c.in-Some.line.now said.0 so_far c.in-Some.ensures.steps said.1;
+      texts = so_far.texts;
+      last = said.0;
+      are = first_explained g.P.Scheme.checks (lines_of c.args.input.now) so_far.before c.loop-line.line-iterator so_far.texts so_far.cut so_far.are;
+      with_last = more_explained g.P.Scheme.checks (lines_of c.args.input.now) c.loop-line.line-iterator c.next.new.self (g.O.Sink.written c.args.output.now) (g.O.Sink.written c.loop-line.output) c.in-Some.line.now said.0 so_far c.in-Some.ensures.steps said.1;
       part = part.0;
       failed = part.1;
     }))

@@ -1,4 +1,4 @@
-use Rattle.std.proofs.Common.{◌∷◌, ◌++◌, ◌∙◌, [], inl, inr, map, refl}
+use Rattle.std.proofs.Common.{◌∙◌, inl, inr, map, refl}
 use Rattle.rpki_ca.specs.Lines.{IsOutOfMemory, answer_lines, lines_of}
 use Rattle.rpki_ca.specs.Seen.{seen}
 use Rattle.rpki_ca.specs.declared.lines.Stop.TheVariants.{Refused, WriteFault}
@@ -32,8 +32,10 @@ returns-in_err-write_all g c =
     stopped_so (AreAllVerdicts g.P.Scheme.checks (lines_of c.args.input.now)) (AreFirstVerdicts g.P.Scheme.checks (lines_of c.args.input.now)) IsOutOfMemory c.from_residual-in_err-write_all.result WriteFault
     (seen g.O.Sink.written g.O.Sink.faults c.args.output.now c.write_all.new.sink) c.from_residual-in_err-write_all.ensures.1
     (inl (record {
-      texts = map verdict_text so_far.answers ++ verdict_text said.0 ∷ [];
-      are = more_judged g.P.Scheme.checks (lines_of c.args.input.now) c.loop-line.line-iterator c.next.new.self c.loop-line.total.lines c.loop-line.total.accepted (g.O.Sink.written c.args.output.now) (g.O.Sink.written c.loop-line.output) c.in-Some.line.now said.0 so_far c.in-Some.ensures.steps said.1;
+      texts = map verdict_text so_far.answers;
+      last = verdict_text said.0;
+      are = so_far_judged g.P.Scheme.checks (lines_of c.args.input.now) c.loop-line.line-iterator c.loop-line.total.lines c.loop-line.total.accepted (g.O.Sink.written c.args.output.now) (g.O.Sink.written c.loop-line.output) so_far;
+      with_last = more_judged g.P.Scheme.checks (lines_of c.args.input.now) c.loop-line.line-iterator c.next.new.self c.loop-line.total.lines c.loop-line.total.accepted (g.O.Sink.written c.args.output.now) (g.O.Sink.written c.loop-line.output) c.in-Some.line.now said.0 so_far c.in-Some.ensures.steps said.1;
       part = part.0;
       failed = part.1;
     }))
@@ -73,7 +75,7 @@ returns-in_err-write_all-2 g c =
       texts = map verdict_text so_far.answers;
       closing = c.as_bytes-2.result.now;
       are = all_judged g.P.Scheme.checks (lines_of c.args.input.now) c.loop-line.line-iterator c.loop-line.total.lines c.loop-line.total.accepted (g.O.Sink.written c.args.output.now) (g.O.Sink.written c.loop-line.output) c.as_bytes-2.result.now so_far c.in-None.ensures.steps.0 (c.as_bytes-2.ensures.value ∙ c.in_ok-closing.ensures);
-      part = part_behind (g.O.Sink.written c.args.output.now) (g.O.Sink.written c.loop-line.output) (g.O.Sink.written c.write_all-2.new.sink) (answer_lines (map verdict_text so_far.answers)) c.as_bytes-2.result.now so_far.whole c.in_err-write_all-2.ensures.err;
+      part = part_behind (g.O.Sink.written c.args.output.now) (g.O.Sink.written c.loop-line.output) (g.O.Sink.written c.write_all-2.new.sink) (map verdict_text so_far.answers) c.as_bytes-2.result.now so_far.whole c.in_err-write_all-2.ensures.err;
       failed = failed_later g.O.Sink.written g.O.Sink.faults c.args.output.now c.loop-line.output c.write_all-2.new.sink c.loop-line.invariant.steady c.in_err-write_all-2.ensures.cause.failed;
     }))
 

@@ -58,7 +58,14 @@ returns-in_err-write_all-clause-answered g c =
     c.in_err-write_all.ensures.err c.in_err-write_all.ensures.cause.failed in
     stopped_so (AreAllReplied g.P.Scheme.checks c.args.when signer c.args.server.now ms) (AreFirstReplied g.P.Scheme.checks c.args.when signer c.args.server.now ms) (MayStop signer (HasLongAnswer g.P.Scheme.checks c.args.when signer c.args.server.now ms))
     c.from_residual-in_err-write_all.result WriteFault (seen g.O.Sink.written g.O.Sink.faults c.args.output.now c.write_all.new.sink) c.from_residual-in_err-write_all.ensures.1
-    (inl (record { texts = so_far.0 ++ said.0 ∷ []; are = first_so step c.args.server.now ms (i + 1) (so_far.0 ++ said.0 ∷ []) c.answer_line.new.server (omega (arith, lt)) more; part = part.0; failed = part.1 }))
+    (inl (record {
+      texts = so_far.0;
+      last = said.0;
+      are = first_so step c.args.server.now ms i so_far.0 c.loop-octets.server (omega (arith, lt)) are;
+      with_last = first_so step c.args.server.now ms (i + 1) (so_far.0 ++ said.0 ∷ []) c.answer_line.new.server (omega (arith, lt)) more;
+      part = part.0;
+      failed = part.1;
+    }))
 
 pub loop-octets-preserved : goal.loop-octets-preserved
 loop-octets-preserved g c =

@@ -1,7 +1,7 @@
 use Rattle.std.proofs.Common.{◌+◌, ◌≤◌, ◌∷◌, ◌++◌, ◌∙◌, [], arith, inl, inr, length, refl}
 use Rattle.rpki_ca.specs.declared.lines.Stop.TheVariants.{Refused, WriteFault}
 use Rattle.rpki_ca.specs.declared.refusals.Refusal.TheVariants.{OutOfMemory}
-use Rattle.rpki_ca.specs.Lines.{IsOutOfMemory, answer_lines}
+use Rattle.rpki_ca.specs.Lines.{IsOutOfMemory}
 use Rattle.rpki_ca.specs.Seen.{seen}
 use Rattle.rpki_ca.proofs.Outputs.{failed_later, one_more_written, part_behind, part_of_more}
 use Rattle.rpki_replay.specs.Answers.{AreAllAnswered, AreFirstAnswered, IsAnswered, closing_text}
@@ -26,7 +26,14 @@ returns-in_err-write_all g c =
     c.in_err-write_all.ensures.err c.in_err-write_all.ensures.cause.failed in
     stopped_so (AreAllAnswered g.P.Scheme.checks c.args.when c.args.guard.now c.args.messages.now) (AreFirstAnswered g.P.Scheme.checks c.args.when c.args.guard.now c.args.messages.now) IsOutOfMemory c.from_residual-in_err-write_all.result WriteFault
     (seen g.O.Sink.written g.O.Sink.faults c.args.output.now c.write_all.new.sink) c.from_residual-in_err-write_all.ensures.1
-    (inl (record { texts = so_far.0 ++ said.0 ∷ []; are = first_so (IsAnswered g.P.Scheme.checks c.args.when) c.args.guard.now c.args.messages.now (c.loop-sent.sent-index + 1) (so_far.0 ++ said.0 ∷ []) c.answer_line.new.guard within more; part = part.0; failed = part.1 }))
+    (inl (record {
+      texts = so_far.0;
+      last = said.0;
+      are = first_so (IsAnswered g.P.Scheme.checks c.args.when) c.args.guard.now c.args.messages.now c.loop-sent.sent-index so_far.0 c.loop-sent.guard (omega (arith, within)) so_far.1;
+      with_last = first_so (IsAnswered g.P.Scheme.checks c.args.when) c.args.guard.now c.args.messages.now (c.loop-sent.sent-index + 1) (so_far.0 ++ said.0 ∷ []) c.answer_line.new.guard within more;
+      part = part.0;
+      failed = part.1;
+    }))
 
 pub loop-sent-preserved : goal.loop-sent-preserved
 loop-sent-preserved g c =
@@ -55,6 +62,6 @@ returns-in_err-write_all-2 g c =
       texts = so_far.0;
       closing = c.as_bytes-2.result.now;
       are = are;
-      part = part_behind (g.O.Sink.written c.args.output.now) (g.O.Sink.written c.loop-sent.output) (g.O.Sink.written c.write_all-2.new.sink) (answer_lines so_far.0) c.as_bytes-2.result.now so_far.2 c.in_err-write_all-2.ensures.err;
+      part = part_behind (g.O.Sink.written c.args.output.now) (g.O.Sink.written c.loop-sent.output) (g.O.Sink.written c.write_all-2.new.sink) so_far.0 c.as_bytes-2.result.now so_far.2 c.in_err-write_all-2.ensures.err;
       failed = failed_later g.O.Sink.written g.O.Sink.faults c.args.output.now c.loop-sent.output c.write_all-2.new.sink c.loop-sent.invariant.steady c.in_err-write_all-2.ensures.cause.failed;
     }))

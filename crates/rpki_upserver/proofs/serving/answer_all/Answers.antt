@@ -10,7 +10,7 @@ use Rattle.rpki_ca.proofs.Outputs.{one_more_written, part_of_more}
 use Rattle.rpki_ca.proofs.Stepping.{one_more_so, stopped_so}
 use Rattle.rpki_upserver.specs.Answering.{with_issuer}
 use Rattle.rpki_upserver.specs.Serving.{AreAllAnswered, AreFirstAnswered, FailsLine, HasLongAnswer, IsLeft, IsLineAnswered}
-use Rattle.rpki_upserver.proofs.Answering.{all_answered, all_elsewhere, first_answered, left_at, line_elsewhere, may_refuse, same_issuer}
+use Rattle.rpki_upserver.proofs.Answering.{all_answered, all_elsewhere, first_answered, left_answered, left_at, line_elsewhere, may_refuse, same_issuer}
 use Rattle.rpki_upserver.proofs.serving.answer_all.Goals as goal
 
 pub loop-octets-init : goal.loop-octets-init
@@ -76,7 +76,14 @@ returns-in_err-write_all-clause-answered g c =
     c.in_err-write_all.ensures.err c.in_err-write_all.ensures.cause.failed in
     stopped_so (AreAllAnswered g.P.Scheme.checks c.args.when signer start next.issuer ms) (AreFirstAnswered g.P.Scheme.checks c.args.when signer start next.issuer ms) (MayStop signer (HasLongAnswer g.P.Scheme.checks c.args.when signer start ms))
     c.from_residual-in_err-write_all.result WriteFault (seen g.O.Sink.written g.O.Sink.faults c.args.output.now c.write_all.new.sink) c.from_residual-in_err-write_all.ensures.1
-    (inl (record { texts = so_far.0 ++ said.0 ∷ []; are = first_answered g.P.Scheme.checks c.args.when signer start ms (i + 1) (so_far.0 ++ said.0 ∷ []) next next.issuer (omega (arith, lt)) more (inl (same_issuer next.issuer)); part = part.0; failed = part.1 }))
+    (inl (record {
+      texts = so_far.0;
+      last = said.0;
+      are = first_answered g.P.Scheme.checks c.args.when signer start ms i so_far.0 last next.issuer (omega (arith, lt)) are (left_at g.P.Scheme.checks c.args.when signer start ms i octets last next lt at (left_answered g.P.Scheme.checks c.args.when signer last octets said.0 next replied));
+      with_last = first_answered g.P.Scheme.checks c.args.when signer start ms (i + 1) (so_far.0 ++ said.0 ∷ []) next next.issuer (omega (arith, lt)) more (inl (same_issuer next.issuer));
+      part = part.0;
+      failed = part.1;
+    }))
 
 pub loop-octets-preserved : goal.loop-octets-preserved
 loop-octets-preserved g c =
