@@ -40,6 +40,10 @@ new_server base publisher = record { base = base; publisher = publisher; store =
 
 -- ---- lines
 
+-- the signer did nothing
+abbrev pub IsIdle : {Id : Type 0} → SignerSeen Id → Type 0
+IsIdle signer = signer.after ≡ signer.before
+
 -- How it ends where each line is that of octets, and the moment has a window: they are answered one
 -- behind the other.
 pub record EndsAnswered {Id : Type 0} (scheme : Relation) (when : ℤ) (signer : SignerSeen Id)
@@ -50,10 +54,6 @@ pub record EndsAnswered {Id : Type 0} (scheme : Relation) (when : ℤ) (signer :
   pub ends : EndsLines (AreAllReplied scheme when signer server messages)
       (AreFirstReplied scheme when signer server messages)
       (MayStop signer (HasLongAnswer scheme when signer server messages)) status sink
-
--- the signer did nothing
-abbrev pub IsIdle : {Id : Type 0} → SignerSeen Id → Type 0
-IsIdle signer = signer.after ≡ signer.before
 
 -- or the moment has none; or some line is that of no octets; or memory ran out
 abbrev pub EndsServed : {Id : Type 0} → Relation → ℤ → SignerSeen Id → ServerFields
