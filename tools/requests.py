@@ -30,6 +30,8 @@ A line is `NAME MODE OCTETS STEP..`, with the steps of tools/stored.py; MODE is 
         the request that is made with the toy signer of seed 1, whose call 0 makes a key of this format, under the key with this
         identifier, where the signer's call FAILING fails; or why none is made, and the text of that; and how many calls of the signer
         failed
+    made_long,'COUNT REPOSITORY
+        the same under a signer of which each signature is COUNT zeros; and how many of its signatures were too long
     capture
         the octets of the value that stands next
 """
@@ -728,7 +730,23 @@ def making_cases():
         yield from made(f"directory-of-{size}", text, text)
         yield from made(f"manifest-and-notify-of-{size}", "rsync://localhost/repo/x", "rsync://localhost/repo/x/",
             manifest=long_text("rsync://localhost/repo/", size), notify=long_text("https://localhost/", size))
+    yield from long_cases()
     yield from unmade_cases()
+
+
+def long_cases():
+    """A signature of zeros may have 2^16 octets; the URI is tested before it."""
+    here, long = "rsync://localhost/repo/x", long_text("rsync://localhost/repo/", 65535)
+    places = [description(REPOSITORY, f"{here}/".encode()), description(MANIFEST, b"rsync://localhost/repo/ca.mft")]
+    asked = [constraints(TRUE), usage(), extension(SUBJECT_INFO_ACCESS, seq(*places), FALSE)]
+    for count in (0, 127, 128, 255, 256, 65535, 65536):
+        octets = request(options_of(extensions=asked, signature=bytes(count)))
+        yield line(f"made-with-a-signature-of-{count}", "der", b"", step("made_long", octets, 0, argument=f"{count} {here}".encode()))
+    yield line("unmade-signature-too-long", "der", b"", step("made_long", "too long", "key or signature too long", 1,
+        argument=f"65537 {here}".encode()))
+    for count in (0, 65537):
+        yield line(f"unmade-uri-before-a-signature-of-{count}", "der", b"", step("made_long", "uri too long", REFUSALS["uri too long"], 0,
+            argument=f"{count} {long}".encode()))
 
 
 def unmade_cases():

@@ -7,6 +7,7 @@
 #![tactic(auto)]
 
 mod certificates;
+mod long;
 mod making;
 mod reading;
 mod shown;

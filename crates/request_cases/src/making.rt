@@ -1,5 +1,6 @@
 //! Requests that the toy signer of seed 1 makes, whose first call makes a key.
 
+use crate::long;
 use rpki_base::{PublicKeyFormat, ToyFault};
 use rpki_cert::{CsrError, construct_rpki_ca};
 use rpki_der::{Captured, DecodeError};
@@ -66,7 +67,8 @@ fn asked_signer(alloc: Global, asked: &Asked<'_>) -> Result<ToySigner, DecodeErr
     }
 }
 
-fn uri_of<K: UriKind>(alloc: Global, text: &str) -> Result<Uri<K>, DecodeError> {
+/// The URI that a text is.
+pub fn uri_of<K: UriKind>(alloc: Global, text: &str) -> Result<Uri<K>, DecodeError> {
     match Uri::from_str(alloc, text) {
         Ok(uri) => Ok(uri),
         Err(Error::OutOfMemory) => Err(DecodeError::OutOfMemory),
@@ -155,8 +157,8 @@ fn constructed(
     )
 }
 
-// What was made, or why nothing was made: the name of the refusal, and what it prints.
-fn shown(
+/// What was made, or why nothing was made: the name of the refusal, and what it prints.
+pub fn shown(
     alloc: Global,
     answer: Result<Captured, CsrError<ToyFault>>,
 ) -> Result<Fields, DecodeError> {
@@ -183,11 +185,11 @@ fn made(alloc: Global, argument: &[u8]) -> Result<Fields, DecodeError> {
     Ok(fields)
 }
 
-/// What the call of this module answers; None where the step is none.
+/// What the calls that make requests answer; None where the step is none.
 pub fn answer(alloc: Global, step: &Step<'_>) -> Option<Result<Fields, DecodeError>> {
-    if step.call == "made" {
-        Some(made(alloc, &step.argument))
-    } else {
-        None
+    match step.call {
+        "made" => Some(made(alloc, &step.argument)),
+        "made_long" => Some(long::made(alloc, &step.argument)),
+        _ => None,
     }
 }
