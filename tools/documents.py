@@ -192,7 +192,7 @@ SAID = {
     "years": "1970 9999",
     "bits of numbers, and of RSA keys": "32 2048",
     "of a word on Linux": "131071",
-    "minutes that a gate took, on the machine that CONTRIBUTING.md tells of": "45 48 94 105 110 218 242 320 472",
+    "minutes that a gate took, on the machines that CONTRIBUTING.md tells of": "21 45 46 53 55 106 130 244 320 472",
     "instructions an octet, by bench/instructions.py": "22 48 49 82 88 97 142 147",
 }
 OUTSIDE = {int(number): place for place, numbers in SAID.items() for number in numbers.split()}
