@@ -5,7 +5,8 @@
 ghost use Rattle.std.specs.Prelude.{◌≡◌, ◌⊎◌, ◌∷◌, [], codes, IfErr, IfOk, IfSome, IsNone};
 ghost use Rattle.rpki_base.specs.PublicKey.{KeyFields};
 ghost use Rattle.rpki_signer.specs.Signer.{Holds};
-ghost use Rattle.rpki_signer.specs.ToySigner.{state_of};
+ghost use Rattle.rpki_base.specs.declared.algorithm.PublicKeyFormat.TheVariants.{Rsa};
+ghost use Rattle.rpki_signer.specs.ToySigner.{after_creating, state_of, toy_signer};
 ghost use Rattle.rpki_ca.specs.Lines.{EndsWith};
 ghost use Rattle.rpki_ca.specs.Seen.{seen};
 
@@ -73,11 +74,12 @@ pub fn write_text<O: Sink>(output: &mut O, text: &[u8]) -> Status
     }
 }
 
-/// A signer of the toy scheme, which makes its keys from the seed, and the identifier of its one key.
-/// `Signer` where the signer makes none.
+/// The toy signer of the seed, of which no call is to fail, with the RSA key that its first call makes, and that key's identifier.
+/// OutOfMemory alone is refused.
 pub fn signer_of(alloc: Global, seed: u64) -> Result<(ToySigner, u64), Refusal>
-    ensures ok { IfOk result (λ r. (key : KeyFields) × Holds (state_of r.0).keyring r.1 key) }
-    ensures err { IfErr result (λ e. (e ≡ Refusal.Signer) ⊎ (e ≡ Refusal.OutOfMemory)) }
+    ensures signer { IfOk result (λ r. r.0 ≡ after_creating Rsa (toy_signer seed [])) }
+    ensures key { IfOk result (λ r. (key : KeyFields) × Holds (state_of r.0).keyring r.1 key) }
+    ensures err { IfErr result (λ e. e ≡ Refusal.OutOfMemory) }
 {
     let mut signer = ToySigner::new(alloc, seed, &[])?;
     match Signer::<ToyScheme>::create_key(&mut signer, alloc, PublicKeyFormat::Rsa) {
