@@ -1,6 +1,7 @@
 //! All that the program does.
 
-ghost use Rattle.std.specs.Prelude.{◌≡◌, ◌≢◌, ◌⊎◌, Ok, Err, IfErr, IfOk};
+ghost use Rattle.std.specs.Prelude.{◌^◌, ◌+◌, ◌≡◌, ◌≢◌, ◌⊎◌, Ok, Err, IfErr, IfOk};
+ghost use Rattle.rpki_text.specs.Source.{TakesAtMost};
 ghost use Rattle.rpki_ca.specs.Answer.{Ends};
 ghost use Rattle.rpki_ca.specs.Lines.{EndsRun};
 ghost use Rattle.rpki_ca.specs.Seen.{seen};
@@ -97,6 +98,9 @@ pub fn run_keys<I: Source, O: Sink>(
         ⊎ Ends (Err Refusal.OutOfMemory) result.0
         (seen O.written O.faults output.old output.new) }
     ensures unread { IsNoTask words.now → input.new ≡ input.old }
+
+    // At most one octet more than the limit is taken of the source.
+    ensures most { TakesAtMost (I.rest input.old) (I.rest input.new) (2 ^ 26 + 1) }
 
     // Where the source isn't read whole, that is what is answered; where it is, the call ends with the answer to the words and what
     // was read, or for want of memory.

@@ -12,7 +12,7 @@ use Rattle.std.specs.List.{AllByRecursion}
 use Rattle.rpki_ca.specs.Acceptance.{ReadsAs}
 use Rattle.rpki_ca.specs.Answer.{AnswersSpelled, FailsAt, IsReceiveAnswer}
 use Rattle.rpki_ca.specs.Creation.{RefusesInput}
-use Rattle.rpki_ca.specs.Lines.{EndsRun, IsOutOfMemory, WroteAll, lines_of, words_of}
+use Rattle.rpki_ca.specs.Lines.{EndsRun, StopsForMemory, WroteAll, lines_of, words_of}
 use Rattle.rpki_ca.specs.Seen.{HasFailed, Seen}
 use Rattle.rpki_ca.specs.declared.command.Command.TheVariants.{Receive}
 use Rattle.rpki_ca.specs.declared.receiving.Kind.{Kind}
@@ -138,8 +138,8 @@ digits_tell scheme line text answer line_is b explained answered =
 -- ---- how a run ends
 
 task_ends : (scheme : Relation) (task : Task) (lines : List (List ℕ)) (status : ℕ) (sink : Seen) → ¬ (HasFailed sink) → EndsTask scheme task lines status sink → (status ≡ 0) ⊎ (status ≡ 12)
-task_ends scheme Batch lines status sink none ends = lines_end _ _ IsOutOfMemory status sink (λ r e. e) none ends
-task_ends scheme Explain lines status sink none ends = lines_end _ _ IsOutOfMemory status sink (λ r e. e) none ends
+task_ends scheme Batch lines status sink none ends = lines_end _ _ (StopsForMemory _) status sink (λ texts r stops. stops.1) none ends
+task_ends scheme Explain lines status sink none ends = lines_end _ _ (StopsForMemory _) status sink (λ texts r stops. stops.1) none ends
 
 pub ends_so : (scheme : Relation) (task : Task) (status : ℕ) (source sink : Seen) (input : List ℕ) → EndsRun (λ octets. EndsTask scheme task (lines_of octets) status sink) status source sink → source.before ≡ Some input → length input ≤ 2 ^ 26
     → ¬ (HasFailed source) → ¬ (HasFailed sink) → (status ≡ 0) ⊎ (status ≡ 12)
@@ -152,7 +152,7 @@ ends_so scheme task status source sink input run e le sound whole =
 -- ---- with 0
 
 pub batch_wrote : (scheme : Relation) (source sink : Seen) (input : List ℕ) → EndsRun (λ octets. EndsTask scheme Batch (lines_of octets) 0 sink) 0 source sink → source.before ≡ Some input → WroteAll (AreAllVerdicts scheme (lines_of input)) sink
-batch_wrote scheme source sink input run e = wrote_all (AreAllVerdicts scheme (lines_of input)) _ IsOutOfMemory sink (on_input (λ octets. EndsTask scheme Batch (lines_of octets) 0 sink) source sink input run e)
+batch_wrote scheme source sink input run e = wrote_all (AreAllVerdicts scheme (lines_of input)) _ (StopsForMemory _) sink (on_input (λ octets. EndsTask scheme Batch (lines_of octets) 0 sink) source sink input run e)
 
 pub explain_wrote : (scheme : Relation) (source sink : Seen) (input : List ℕ) → EndsRun (λ octets. EndsTask scheme Explain (lines_of octets) 0 sink) 0 source sink → source.before ≡ Some input → WroteAll (AreAllExplanations scheme (lines_of input)) sink
-explain_wrote scheme source sink input run e = wrote_all (AreAllExplanations scheme (lines_of input)) _ IsOutOfMemory sink (on_input (λ octets. EndsTask scheme Explain (lines_of octets) 0 sink) source sink input run e)
+explain_wrote scheme source sink input run e = wrote_all (AreAllExplanations scheme (lines_of input)) _ (StopsForMemory _) sink (on_input (λ octets. EndsTask scheme Explain (lines_of octets) 0 sink) source sink input run e)

@@ -1,7 +1,7 @@
 -- What the archive checker's program does with words and input.
 use Rattle.std.specs.Prelude.{◌≡◌, ℕ, Result, List, [], ◌∷◌, codes, length, map, take}
 use Rattle.rpki_base.specs.Scheme.{Relation}
-use Rattle.rpki_ca.specs.Lines.{EndsLines, IsOutOfMemory}
+use Rattle.rpki_ca.specs.Lines.{EndsLines, StopsForMemory}
 use Rattle.rpki_ca.specs.Seen.{Seen}
 use Rattle.rpki_ca.specs.declared.refusals.Refusal.{Refusal}
 use Rattle.rpki_archive.specs.declared.checking.Task.{Task}
@@ -53,8 +53,8 @@ AreFirstExplanations scheme lines texts =
 
 abbrev pub EndsTask : Relation → Task → List (List ℕ) → ℕ → Seen → Type 0
 EndsTask scheme Batch lines status sink =
-    EndsLines (AreAllVerdicts scheme lines) (AreFirstVerdicts scheme lines) IsOutOfMemory status
-    sink
+    EndsLines (AreAllVerdicts scheme lines) (AreFirstVerdicts scheme lines)
+    (StopsForMemory (AreFirstVerdicts scheme lines)) status sink
 EndsTask scheme Explain lines status sink =
-    EndsLines (AreAllExplanations scheme lines) (AreFirstExplanations scheme lines) IsOutOfMemory
-    status sink
+    EndsLines (AreAllExplanations scheme lines) (AreFirstExplanations scheme lines)
+    (StopsForMemory (AreFirstExplanations scheme lines)) status sink

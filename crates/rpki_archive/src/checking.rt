@@ -2,8 +2,9 @@
 
 ghost use Rattle.std.specs.Prelude.{◌≡◌, ◌^◌, ◌+◌, ◌<◌, ◌≤◌, if◌then◌else◌};
 ghost use Rattle.std.specs.Prelude.{Err, IfOk, IfSome, IsNone, length, string_bytes};
+ghost use Rattle.rpki_text.specs.Source.{TakesAtMost};
 ghost use Rattle.rpki_ca.specs.Answer.{Ends};
-ghost use Rattle.rpki_ca.specs.Lines.{Answered, EndsRun, IsOutOfMemory, lines_of};
+ghost use Rattle.rpki_ca.specs.Lines.{Answered, EndsRun, StopsForMemory, lines_of};
 ghost use Rattle.rpki_ca.specs.Seen.{seen};
 ghost use Rattle.rpki_archive.specs.Checking.{AreAllExplanations, AreAllVerdicts};
 ghost use Rattle.rpki_archive.specs.Checking.{AreFirstExplanations, AreFirstVerdicts};
@@ -80,7 +81,8 @@ fn judge_all<P: Scheme, O: Sink, V: Verifier<P>>(
 ) -> Result<(), Stop>
     requires { length input.now ≤ 2 ^ 26 }
     ensures { Answered (AreAllVerdicts P.checks (lines_of input.now))
-        (AreFirstVerdicts P.checks (lines_of input.now)) IsOutOfMemory result
+        (AreFirstVerdicts P.checks (lines_of input.now))
+        (StopsForMemory (AreFirstVerdicts P.checks (lines_of input.now))) result
         (seen O.written O.faults output.old output.new) }
 {
     let mut total = Total {
@@ -106,7 +108,8 @@ fn explain_all<P: Scheme, O: Sink, V: Verifier<P>>(
 ) -> Result<(), Stop>
     requires { length input.now ≤ 2 ^ 26 }
     ensures { Answered (AreAllExplanations P.checks (lines_of input.now))
-        (AreFirstExplanations P.checks (lines_of input.now)) IsOutOfMemory result
+        (AreFirstExplanations P.checks (lines_of input.now))
+        (StopsForMemory (AreFirstExplanations P.checks (lines_of input.now))) result
         (seen O.written O.faults output.old output.new) }
 {
     for line in Lines::new(input) {
@@ -164,6 +167,9 @@ pub fn check<P: Scheme, I: Source, O: Sink, V: Verifier<P>>(
     ensures usage { IsNoTask words.now
         → Ends (Err Refusal.Usage) result.0 (seen O.written O.faults output.old output.new) }
     ensures unread { IsNoTask words.now → input.new ≡ input.old }
+
+    // At most one octet more than the limit is taken of the source.
+    ensures most { TakesAtMost (I.rest input.old) (I.rest input.new) (2 ^ 26 + 1) }
 
     // Where the source isn't read whole, that is what is answered; where it is, each line is answered,
     // and no line's form ends the run.

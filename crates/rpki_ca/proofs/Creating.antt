@@ -243,10 +243,10 @@ no_pure kind when input signer a can (inr (inr p)) =
 pub no_signed : {I : Type 0} (scheme : Relation) (kind : Kind) (when : ℤ) (signer : SignerSeen I) (message : Received) (r : Refusal) → CanSign signer → IsSigned scheme kind message when signer (Err r) → ⊥
 no_signed scheme kind when signer message refusals.TooLong can s = can.short_answers s
 no_signed scheme kind when signer message refusals.KeyReused can s =
-    can.other s.told (s.drawn ∙ ap Some (one_key signer.before.keyring signer.id s.issuing can.issuing can.distinct s.holds can.holds))
+    can.other s.told (s.only can.issuing can.holds)
 no_signed scheme kind when signer message refusals.KeyNotFound can s = s can.issuing can.holds
 no_signed scheme kind when signer message refusals.IncompatibleKey can s =
-    s.format (ap (λ (k : KeyFields). k.format) (one_key signer.before.keyring signer.id s.key can.issuing can.distinct s.holds can.holds) ∙ can.format)
+    s.only can.issuing can.holds can.format
 no_signed scheme kind when signer message refusals.Signer can s = can.no_fault s
 no_signed scheme kind when signer message refusals.Usage can s = s
 no_signed scheme kind when signer message refusals.Hex can s = s

@@ -1,7 +1,7 @@
 -- How a program ends that reads its input whole, and answers line by line.
 use Rattle.std.proofs.Common.{◌≡◌, ◌⊎◌, ◌<◌, ◌≤◌, ◌^◌, ℕ, Option, None, Some, IfSome, Err, List, length, inl, inr, refl, ap, subst, ◌∙◌, arith}
 use Rattle.rpki_ca.specs.Answer.{Ends, IsUnread}
-use Rattle.rpki_ca.specs.Lines.{EndsBehind, EndsLines, EndsRun, EndsUnread, EndsWith, IsOutOfMemory, WroteAll}
+use Rattle.rpki_ca.specs.Lines.{EndsBehind, EndsLines, EndsRun, EndsUnread, EndsWith, WroteAll}
 use Rattle.rpki_ca.specs.Refusal.{status_of}
 use Rattle.rpki_ca.specs.Seen.{HasFailed, OfInput, Seen}
 use Rattle.rpki_ca.specs.declared.refusals.Refusal.{Refusal}
@@ -22,11 +22,11 @@ with_refusal refusal status sink none (inl e) = e.0
 with_refusal refusal status sink none (inr e) = absurd (none e.2)
 
 -- and memory alone stops it
-pub lines_end : (all : List (List ℕ) → List ℕ → Type 0) (first : List (List ℕ) → Type 0) (may : Refusal → Type 0) (status : ℕ) (sink : Seen) → ((refusal : Refusal) → may refusal → IsOutOfMemory refusal) → ¬ (HasFailed sink)
-    → EndsLines all first may status sink → (status ≡ 0) ⊎ (status ≡ 12)
-lines_end all first may status sink alone none (inl done) = inl (with_behind 0 status done.texts done.closing sink none done.ends)
-lines_end all first may status sink alone none (inr (inl stopped)) = inr (with_behind (status_of stopped.refusal) status stopped.texts _ sink none stopped.ends ∙ ap status_of (alone stopped.refusal stopped.may))
-lines_end all first may status sink alone none (inr (inr failed)) = absurd (none failed.failed)
+pub lines_end : (all : List (List ℕ) → List ℕ → Type 0) (first : List (List ℕ) → Type 0) (stops : List (List ℕ) → Refusal → Type 0) (status : ℕ) (sink : Seen) → ((texts : List (List ℕ)) (refusal : Refusal) → stops texts refusal → refusal ≡ refusals.OutOfMemory) → ¬ (HasFailed sink)
+    → EndsLines all first stops status sink → (status ≡ 0) ⊎ (status ≡ 12)
+lines_end all first stops status sink alone none (inl done) = inl (with_behind 0 status done.texts done.closing sink none done.ends)
+lines_end all first stops status sink alone none (inr (inl stopped)) = inr (with_behind (status_of stopped.refusal) status stopped.texts _ sink none stopped.ends ∙ ap status_of (alone stopped.texts stopped.refusal stopped.stopped))
+lines_end all first stops status sink alone none (inr (inr failed)) = absurd (none failed.failed)
 
 some_input : (o : Option (List ℕ)) (input : List ℕ) (P : List ℕ → Type 0) → o ≡ Some input → OfInput o P → P input
 some_input o input P e h = subst (λ (x : Option (List ℕ)). OfInput x P) e h
@@ -78,14 +78,14 @@ pub no_refusal : (refusal : Refusal) (sink : Seen) → Ends (Err refusal) 0 sink
 no_refusal refusal sink (inl e) = no_zero refusal e.0
 no_refusal refusal sink (inr e) = no_eleven e.0
 
-pub wrote_all : (all : List (List ℕ) → List ℕ → Type 0) (first : List (List ℕ) → Type 0) (may : Refusal → Type 0) (sink : Seen) → EndsLines all first may 0 sink → WroteAll all sink
-wrote_all all first may sink (inl done) =
+pub wrote_all : (all : List (List ℕ) → List ℕ → Type 0) (first : List (List ℕ) → Type 0) (stops : List (List ℕ) → Refusal → Type 0) (sink : Seen) → EndsLines all first stops 0 sink → WroteAll all sink
+wrote_all all first stops sink (inl done) =
     elim done.ends [
       | inl e ↦ record { texts = done.texts; closing = done.closing; are = done.are; whole = e.1; steady = e.2 }
       | inr e ↦ absurd (no_eleven e.0)
     ]
-wrote_all all first may sink (inr (inl stopped)) = elim stopped.ends [ inl e ↦ absurd (no_zero stopped.refusal e.0) | inr e ↦ absurd (no_eleven e.0) ]
-wrote_all all first may sink (inr (inr failed)) = absurd (no_eleven failed.is)
+wrote_all all first stops sink (inr (inl stopped)) = elim stopped.ends [ inl e ↦ absurd (no_zero stopped.refusal e.0) | inr e ↦ absurd (no_eleven e.0) ]
+wrote_all all first stops sink (inr (inr failed)) = absurd (no_eleven failed.is)
 
 not_unread : (source sink : Seen) → EndsUnread 0 source sink → ⊥
 not_unread source sink unread = no_refusal unread.refusal sink unread.ends

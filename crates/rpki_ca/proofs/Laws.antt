@@ -9,8 +9,10 @@ use Rattle.rpki_der.specs.declared.mode.Mode.TheVariants.{Ber}
 use Rattle.rpki_der.proofs.Decoding.{decoded_ok}
 use Rattle.rpki_base.specs.Checks.{first_failure, failing}
 use Rattle.rpki_base.specs.declared.validation.ValidationError.{ValidationError}
-use Rattle.rpki_sigmsg.specs.Checks.{checks, kind_of, Asked, IsBelieved, IsBelievedUnder, IsUnbelieved, AreAmong, AreOutcomes, ranked, SameAnswersUnder, IsInSpan}
-use Rattle.rpki_sigmsg.proofs.AnyKey.{at_one, under_more, one_span_under, first_too, unbelieved_too, outcomes_too}
+use Rattle.rpki_base.specs.declared.validation.ValidationKind.{ValidationKind}
+use Rattle.rpki_base.specs.declared.validation.ValidationKind.TheVariants.{Inspection, Verification}
+use Rattle.rpki_sigmsg.specs.Checks.{checks, kind_of, Asked, IsBelieved, IsBelievedUnder, IsUnbelieved, AreAmong, AreOutcomes, IsFirstBelieved, ranked, SameAnswersUnder, IsInSpan}
+use Rattle.rpki_sigmsg.proofs.AnyKey.{at_one, under_more, one_place, one_span_under, first_too, unbelieved_too, outcomes_too}
 use Rattle.rpki_sigmsg.specs.Message.{MessageFields, signed_message}
 use Rattle.rpki_sigmsg.specs.Spelling.{rewritten, CanBeSpelled}
 use Rattle.rpki_sigmsg.proofs.Again.{begins_loosely}
@@ -48,7 +50,7 @@ use Rattle.rpki_setup.specs.PublisherRequest.{publisher_request_in}
 use Rattle.rpki_setup.specs.RepositoryResponse.{repository_response_in}
 use Rattle.rpki_message.proofs.Read.{one_message}
 use Rattle.rpki_base.specs.Scheme.{Relation}
-use Rattle.rpki_ca.specs.Acceptance.{ReadsAs, Accepted, HoldsNoSigned, RefusesReceipt, IsReceivedUnder, text_of, refusal_of}
+use Rattle.rpki_ca.specs.Acceptance.{ReadsAs, Accepted, AcceptedAt, HoldsNoSigned, FailsCheck, RefusesReceipt, IsReceived, IsReceivedUnder, text_of, refusal_of}
 use Rattle.rpki_ca.proofs.Reasons.{reason, no_reason, one_reason}
 use Rattle.rpki_base.proofs.Believing.{decides_yes}
 
@@ -651,3 +653,105 @@ pub written_alike : (scheme : Relation) (kind : Kind) (octets rest : List ℕ) (
 written_alike scheme kind octets rest signed keys when a b k =
     let c = written_begins octets rest signed b k in
     (same_message scheme kind octets (rewritten signed ++ rest) signed keys when a b c, same_message scheme kind (rewritten signed ++ rest) octets signed keys when a c b)
+
+-- ---- one receipt
+
+accepted_never : (scheme : Relation) (kind : Kind) (octets : List ℕ) (keys : List KeyFields) (when : ℤ) (m : Received) (e : ReceiveError) → Accepted scheme kind octets keys when m → RefusesReceipt scheme kind octets keys when e → ⊥
+accepted_never scheme kind octets keys when m errors.CmsDecode a r = accepted_alone scheme kind octets keys when m errors.CmsDecode a r (λ k. cc)
+accepted_never scheme kind octets keys when m errors.XmlError a r = accepted_alone scheme kind octets keys when m errors.XmlError a r (λ k. cc)
+accepted_never scheme kind octets keys when m errors.CertSyntax a r = accepted_alone scheme kind octets keys when m errors.CertSyntax a r (λ k. cc)
+accepted_never scheme kind octets keys when m errors.InvalidCsrSyntax a r = accepted_alone scheme kind octets keys when m errors.InvalidCsrSyntax a r (λ k. cc)
+accepted_never scheme kind octets keys when m (errors.Validation e) a r = accepted_alone scheme kind octets keys when m (errors.Validation e) a r (λ k. cc)
+accepted_never scheme kind octets keys when m errors.OutOfMemory a r = r
+
+same_kind : (a b : ValidationKind) → ((a ≡ b → ⊥) → ⊥) → a ≡ b
+same_kind Inspection Inspection n = refl
+same_kind Inspection Verification n = absurd (n (λ e. cc))
+same_kind Verification Inspection n = absurd (n (λ e. cc))
+same_kind Verification Verification n = refl
+
+abbrev fault : ValidationKind → ℕ → ValidationError
+fault kind check = record { kind = kind; check = check }
+
+-- the check that is named, with its kind
+one_fault : (scheme : Relation) (m : MessageFields) (keys : List KeyFields) (when : ℤ) (d e : ValidationError) → ((os : List (Result (Unit {0}) ℕ)) → AreOutcomes scheme m keys when os → failing kind_of (ranked os) ≡ Err d)
+    → ((os : List (Result (Unit {0}) ℕ)) → AreOutcomes scheme m keys when os → failing kind_of (ranked os) ≡ Err e) → d ≡ e
+one_fault scheme m keys when d e f g =
+    let same : (d ≡ e → ⊥) → ⊥ = λ k. some_outcomes scheme m keys when (λ os h. k (told (sym (f os h) ∙ g os h))) in
+    let kind = same_kind d.kind e.kind (λ k. same (λ is. k (ap (λ (x : ValidationError). x.kind) is))) in
+    ap (λ (k : ValidationKind). fault k d.check) kind ∙ ap (λ (n : ℕ). fault e.kind n) (one_check scheme m keys when d e f g)
+  where
+    told : err_of d ≡ err_of e → d ≡ e
+    told p = cc
+
+-- what an error of receipt is
+abbrev error_from : Refusal → ReceiveError
+error_from refusals.XmlError = errors.XmlError
+error_from refusals.CertSyntax = errors.CertSyntax
+error_from refusals.InvalidCsrSyntax = errors.InvalidCsrSyntax
+error_from other = errors.OutOfMemory
+
+abbrev ErrorView : (scheme : Relation) (kind : Kind) (octets : List ℕ) (keys : List KeyFields) (when : ℤ) → ReceiveError → Type 0
+ErrorView scheme kind octets keys when e =
+    ((e ≡ errors.CmsDecode) × HoldsNoSigned octets)
+    ⊎ (((r : Refusal) × (e ≡ error_from r) × HoldsContent (λ o. RefusesInput kind o r) octets)
+    ⊎ ((v : ValidationError) × (e ≡ errors.Validation v) × FailsCheck scheme kind octets keys when v))
+
+error_view : (scheme : Relation) (kind : Kind) (octets : List ℕ) (keys : List KeyFields) (when : ℤ) (e : ReceiveError) → RefusesReceipt scheme kind octets keys when e → ErrorView scheme kind octets keys when e
+error_view scheme kind octets keys when errors.CmsDecode r = inl (refl, r)
+error_view scheme kind octets keys when errors.XmlError r = inr (inl (refusals.XmlError, refl, r))
+error_view scheme kind octets keys when errors.CertSyntax r = inr (inl (refusals.CertSyntax, refl, r))
+error_view scheme kind octets keys when errors.InvalidCsrSyntax r = inr (inl (refusals.InvalidCsrSyntax, refl, r))
+error_view scheme kind octets keys when (errors.Validation e) r = inr (inr (e, refl, r))
+error_view scheme kind octets keys when errors.OutOfMemory r = absurd r
+
+fails_once : (scheme : Relation) (kind : Kind) (octets : List ℕ) (keys : List KeyFields) (when : ℤ) (d e : ValidationError) → FailsCheck scheme kind octets keys when d → FailsCheck scheme kind octets keys when e → d ≡ e
+fails_once scheme kind octets keys when d e f g =
+    let same = one_signed octets f.signed g.signed f.begins g.begins in
+    let greatest = subst (λ (s : MessageFields). (os : List (Result (Unit {0}) ℕ)) → AreOutcomes scheme s keys when os → failing kind_of (ranked os) ≡ Err d) same f.greatest in
+    one_fault scheme g.signed keys when d e greatest g.greatest
+
+one_error : (scheme : Relation) (kind : Kind) (octets : List ℕ) (keys : List KeyFields) (when : ℤ) (d e : ReceiveError) → ErrorView scheme kind octets keys when d → ErrorView scheme kind octets keys when e → d ≡ e
+one_error scheme kind octets keys when d e (inl p) (inl q) = p.0 ∙ sym q.0
+one_error scheme kind octets keys when d e (inl p) (inr (inl q)) = absurd (p.1 q.2.signed q.2.begins)
+one_error scheme kind octets keys when d e (inl p) (inr (inr q)) = absurd (p.1 q.2.signed q.2.begins)
+one_error scheme kind octets keys when d e (inr (inl p)) (inl q) = absurd (q.1 p.2.signed p.2.begins)
+one_error scheme kind octets keys when d e (inr (inl p)) (inr (inl q)) = p.1 ∙ ap error_from (one_content_reason kind octets p.0 q.0 p.2 q.2) ∙ sym q.1
+one_error scheme kind octets keys when d e (inr (inl p)) (inr (inr q)) = absurd (no_reading kind octets q.2.signed q.2.message p.0 q.2.begins q.2.reads p.2)
+one_error scheme kind octets keys when d e (inr (inr p)) (inl q) = absurd (q.1 p.2.signed p.2.begins)
+one_error scheme kind octets keys when d e (inr (inr p)) (inr (inl q)) = absurd (no_reading kind octets p.2.signed p.2.message q.0 p.2.begins p.2.reads q.2)
+one_error scheme kind octets keys when d e (inr (inr p)) (inr (inr q)) = p.1 ∙ ap (λ (v : ValidationError). errors.Validation v) (fails_once scheme kind octets keys when p.0 q.0 p.2 q.2) ∙ sym q.1
+
+one_refused : (scheme : Relation) (kind : Kind) (octets : List ℕ) (keys : List KeyFields) (when : ℤ) (d e : ReceiveError) → RefusesReceipt scheme kind octets keys when d → RefusesReceipt scheme kind octets keys when e → d ≡ e
+one_refused scheme kind octets keys when d e p q = one_error scheme kind octets keys when d e (error_view scheme kind octets keys when d p) (error_view scheme kind octets keys when e q)
+
+pub one_received : (scheme : Relation) (kind : Kind) (octets : List ℕ) (keys : List KeyFields) (when : ℤ) (a b : Result Received ReceiveError) → IsReceived scheme kind octets keys when a → IsReceived scheme kind octets keys when b → a ≡ b
+one_received scheme kind octets keys when (Ok m) (Ok n) p q = ap (λ (x : Received). Ok x) (one_accepted scheme kind octets keys when m n p q)
+one_received scheme kind octets keys when (Ok m) (Err e) p q = absurd (accepted_never scheme kind octets keys when m e p q)
+one_received scheme kind octets keys when (Err d) (Ok n) p q = absurd (accepted_never scheme kind octets keys when n d q p)
+one_received scheme kind octets keys when (Err d) (Err e) p q = ap (λ (x : ReceiveError). Err x) (one_refused scheme kind octets keys when d e p q)
+
+accepted_at : (scheme : Relation) (kind : Kind) (octets : List ℕ) (keys : List KeyFields) (when : ℤ) (m : Received) (place : ℕ) → AcceptedAt scheme kind octets keys when m place → Accepted scheme kind octets keys when m
+accepted_at scheme kind octets keys when m place a = record {
+  signed = a.signed;
+  begins = a.begins;
+  believed = record { key = a.believed.key; among = record { before = a.believed.before; behind = a.believed.behind; parts = a.believed.parts }; believed = a.believed.believed };
+  reads = a.reads;
+}
+
+one_at : (scheme : Relation) (kind : Kind) (octets : List ℕ) (keys : List KeyFields) (when : ℤ) (m n : Received) (i j : ℕ) → AcceptedAt scheme kind octets keys when m i → AcceptedAt scheme kind octets keys when n j → (m ≡ n) × (i ≡ j)
+one_at scheme kind octets keys when m n i j p q = (
+  one_accepted scheme kind octets keys when m n (accepted_at scheme kind octets keys when m i p) (accepted_at scheme kind octets keys when n j q),
+  one_place scheme q.signed keys when i j (subst (λ (s : MessageFields). IsFirstBelieved scheme s keys when i) (one_signed octets p.signed q.signed p.begins q.begins) p.believed) q.believed,
+)
+
+abbrev found : Received → ℕ → Result (Received × ℕ) ReceiveError
+found m i = Ok (m, i)
+
+pub one_received_under : (scheme : Relation) (kind : Kind) (octets : List ℕ) (keys : List KeyFields) (when : ℤ) (a b : Result (Received × ℕ) ReceiveError) → IsReceivedUnder scheme kind octets keys when a → IsReceivedUnder scheme kind octets keys when b → a ≡ b
+one_received_under scheme kind octets keys when (Ok (m, i)) (Ok (n, j)) p q =
+    let same = one_at scheme kind octets keys when m n i j p q in
+    ap (λ (x : Received). found x i) same.0 ∙ ap (λ (x : ℕ). found n x) same.1
+one_received_under scheme kind octets keys when (Ok (m, i)) (Err e) p q = absurd (accepted_never scheme kind octets keys when m e (accepted_at scheme kind octets keys when m i p) q)
+one_received_under scheme kind octets keys when (Err d) (Ok (n, j)) p q = absurd (accepted_never scheme kind octets keys when n d (accepted_at scheme kind octets keys when n j q) p)
+one_received_under scheme kind octets keys when (Err d) (Err e) p q = ap (λ (x : ReceiveError). Err x) (one_refused scheme kind octets keys when d e p q)

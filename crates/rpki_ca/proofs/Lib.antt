@@ -20,3 +20,4 @@ pub mod Keys
 pub mod SentLines
 pub mod Serving
 pub mod Unasked
+pub mod Digits

@@ -39,32 +39,30 @@ module _ {X : Type 0} (written : X → Option (List ℕ)) (faults : X → ℕ) (
       inr (e.0, part_behind (written a) (written b) (written c) texts rest whole e.1, failed_later steady e.2)
 
   -- a program that answered line by line, and then ended where it stopped
-  pub ends_lines : (all : List (List ℕ) → List ℕ → Type 0) (first : List (List ℕ) → Type 0) (may_refuse : Refusal → Type 0) (answered : Result (Unit {0}) Stop) (status : ℕ)
-      → Answered all first may_refuse answered (seen written faults a b) → OnOk answered ((status ≡ 0) × (c ≡ b))
-      → IfErr answered (λ stop. EndsStopped stop status (seen written faults b c)) → EndsLines all first may_refuse status (seen written faults a c)
-  ends_lines all first may_refuse (Ok done) status answered end stopped =
+  pub ends_lines : (all : List (List ℕ) → List ℕ → Type 0) (first : List (List ℕ) → Type 0) (stops : List (List ℕ) → Refusal → Type 0) (answered : Result (Unit {0}) Stop) (status : ℕ)
+      → Answered all first stops answered (seen written faults a b) → OnOk answered ((status ≡ 0) × (c ≡ b))
+      → IfErr answered (λ stop. EndsStopped stop status (seen written faults b c)) → EndsLines all first stops status (seen written faults a c)
+  ends_lines all first stops (Ok done) status answered end stopped =
       let output : List ℕ = answer_lines answered.texts ++ answered.closing in
       let at = subst (λ (x : X). Appends (written a) (written x) output × IsSteady (seen written faults a x)) (sym end.1) (answered.whole, answered.steady) in
       inl (record { texts = answered.texts; closing = answered.closing; are = answered.are; ends = inl (end.0, at.0, at.1) })
-  ends_lines all first may_refuse (Err (Refused refusal)) status answered end stopped =
+  ends_lines all first stops (Err (Refused refusal)) status answered end stopped =
       inr (inl (record {
         texts = answered.texts;
         refusal = refusal;
-        are = answered.are;
-        may = answered.may;
+        stopped = answered.stopped;
         ends = ends_behind (status_of refusal) status answered.texts (line_of (Err refusal)) answered.whole answered.steady stopped;
       }))
-  ends_lines all first may_refuse (Err WriteFault) status (inl early) end stopped =
+  ends_lines all first stops (Err WriteFault) status (inl early) end stopped =
       inr (inr (record {
         texts = early.texts;
         last = early.last;
         are = early.are;
-        with_last = early.with_last;
         is = stopped.0;
         part = subst (λ (o : Option (List ℕ)). AppendsBehind (written a) o early.texts (early.last ++ 10 ∷ [])) (sym stopped.1) early.part;
         failed = subst (λ (n : ℕ). Rose (faults a) n) (sym stopped.2) early.failed;
       }))
-  ends_lines all first may_refuse (Err WriteFault) status (inr late) end stopped =
+  ends_lines all first stops (Err WriteFault) status (inr late) end stopped =
       let part = subst (λ (o : Option (List ℕ)). AppendsBehind (written a) o late.texts late.closing) (sym stopped.1) late.part in
       let failed = subst (λ (n : ℕ). Rose (faults a) n) (sym stopped.2) late.failed in
       inl (record { texts = late.texts; closing = late.closing; are = late.are; ends = inr (stopped.0, part, failed) })

@@ -6,7 +6,9 @@ use Rattle.rpki_base.specs.PublicKey.{KeyFields}
 use Rattle.rpki_base.specs.Scheme.{Relation}
 use Rattle.rpki_der.specs.declared.mode.Mode.{Mode}
 use Rattle.rpki_der.specs.Takes.{BeginsAs}
-use Rattle.rpki_signer.specs.Signer.{Holds}
+use Rattle.rpki_signer.specs.Limits.{Keeps}
+use Rattle.rpki_signer.specs.Signer.{Holds, SignerState}
+use Rattle.rpki_signer.proofs.States.{keeps_same, keeps_then}
 use Rattle.rpki_sigmsg.specs.declared.create_error.CreateError.{CreateError}
 use Rattle.rpki_sigmsg.specs.declared.create_error.CreateError.TheVariants as create
 use Rattle.rpki_sigmsg.specs.Checks.{IsBelieved}
@@ -45,13 +47,14 @@ module _ {I E C : Type 0} (scheme : Relation) (when : ℤ) (signer : SignerSeen 
 
 -- ---- lines, one behind the other
 
--- steps of one kind are steps of another
-pub steps_alike : {S L : Type 0} (one other : S → L → List ℕ → S → Type 0) → ((state : S) (line : L) (text : List ℕ) (next : S) → one state line text next → other state line text next)
-    → (state : S) (lines : List L) (texts : List (List ℕ)) (last : S) → AreSteps one state lines texts last → AreSteps other state lines texts last
-steps_alike one other alike state [] [] last are = are
-steps_alike one other alike state [] (text ∷ texts) last are = absurd are
-steps_alike one other alike state (line ∷ lines) [] last are = absurd are
-steps_alike one other alike state (line ∷ lines) (text ∷ texts) last are = (are.0, alike state line text are.0 are.1, steps_alike one other alike are.0 lines texts last are.2)
+-- where each step keeps the signer's keys and its counts, all of them do
+pub steps_keep : {S L I : Type 0} (step : S → L → List ℕ → S → Type 0) (signer_of : S → SignerState I) → ((state : S) (line : L) (text : List ℕ) (next : S) → step state line text next → Keeps (signer_of state) (signer_of next))
+    → (state : S) (lines : List L) (texts : List (List ℕ)) (last : S) → AreSteps step state lines texts last → Keeps (signer_of state) (signer_of last)
+steps_keep {S = S} step signer_of keeps state [] [] last are = subst (λ (s : S). Keeps (signer_of state) (signer_of s)) (sym are) (keeps_same (signer_of state))
+steps_keep step signer_of keeps state [] (text ∷ texts) last are = absurd are
+steps_keep step signer_of keeps state (line ∷ lines) [] last are = absurd are
+steps_keep step signer_of keeps state (line ∷ lines) (text ∷ texts) last are =
+    keeps_then (signer_of state) (signer_of are.0) (signer_of last) (keeps state line text are.0 are.1) (steps_keep step signer_of keeps are.0 lines texts last are.2)
 
 -- the line behind those that are answered
 pub next_stands : {L : Type 0} (lines : List L) (i : ℕ) (line : L) → i < length lines → line ≡ get_or lines i line → slice_get lines i ≡ Some line

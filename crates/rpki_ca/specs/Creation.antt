@@ -7,7 +7,7 @@ use Rattle.rpki_base.specs.declared.algorithm.SigningAlgorithm.TheVariants.{RsaS
 use Rattle.rpki_base.specs.Algorithm.{format_of}
 use Rattle.rpki_base.specs.PublicKey.{KeyFields}
 use Rattle.rpki_base.specs.Scheme.{Relation}
-use Rattle.rpki_signer.specs.Signer.{Holds, Lacks, AreDistinct, IsUnfit}
+use Rattle.rpki_signer.specs.Signer.{Holds, Lacks, IsUnfit}
 use Rattle.rpki_sigmsg.specs.Checks.{IsAmong}
 use Rattle.rpki_signer.specs.declared.errors.KeyError.{KeyError}
 use Rattle.rpki_signer.specs.declared.errors.KeyError.TheVariants as keys
@@ -172,12 +172,11 @@ pub record Creates {Id : Type 0} (scheme : Relation) (kind : Kind) (when : ℤ) 
   pub receivable : IsReceivable scheme kind octets message when signer
   pub written : Appends sink.before sink.after (encode_lower octets ++ 10 ∷ [])
 
--- The signer, whose identifiers are distinct, holds a fitting key, and it neither failed nor gave
--- too many octets, nor that key for one use.
+-- The signer holds a fitting key, and it neither failed nor gave too many octets, nor that key for
+-- one use.
 pub record CanSign {Id : Type 0} (signer : SignerSeen Id) : Type 0 where
   pub issuing : KeyFields
   pub holds : Holds signer.before.keyring signer.id issuing
-  pub distinct : AreDistinct signer.before.keyring
   pub format : issuing.format ≡ format_of RsaSha256
   pub no_fault : Rose signer.before.faults signer.after.faults → ⊥
   pub short_answers : Rose signer.before.overlong signer.after.overlong → ⊥

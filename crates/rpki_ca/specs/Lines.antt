@@ -68,8 +68,10 @@ EndsBehind wanted texts rest status sink =
     × IsSteady sink)
     ⊎ ((status ≡ 11) × AppendsBehind sink.before sink.after texts rest × HasFailed sink)
 
--- What is written behind answers to lines, of which `all` says that they are those to all lines, with
--- this closing text; and `first` that they are those to the first ones.
+-- What is written behind answers to lines. Of texts `all` says that they are the answers to all lines,
+-- with this closing text; `first` that they are the answers to the first lines, and that nothing was
+-- done for a line behind them; and `stops` that they are so, and that for this refusal no more lines
+-- are answered.
 --
 -- With 0 the answers to all lines were written, and the closing text.
 pub record EndsDone (all : List (List ℕ) → List ℕ → Type 0) (status : ℕ) (sink : Seen) : Type 0
@@ -80,12 +82,11 @@ pub record EndsDone (all : List (List ℕ) → List ℕ → Type 0) (status : �
     pub ends : EndsBehind 0 texts closing status sink
 
 -- With the status of a refusal the answers to the first lines were written, and the refusal's line.
-pub record EndsRefused (first : List (List ℕ) → Type 0) (may_refuse : Refusal → Type 0) (status : ℕ)
-    (sink : Seen) : Type 0 where
+pub record EndsRefused (stops : List (List ℕ) → Refusal → Type 0) (status : ℕ) (sink : Seen)
+    : Type 0 where
   pub texts : List (List ℕ)
   pub refusal : Refusal
-  pub are : first texts
-  pub may : may_refuse refusal
+  pub stopped : stops texts refusal
   pub ends : EndsBehind (status_of refusal) texts (line_of (Err refusal)) status sink
 
 -- With 11 the sink failed: the answers to the first lines were written, and a part of the line with
@@ -93,22 +94,21 @@ pub record EndsRefused (first : List (List ℕ) → Type 0) (may_refuse : Refusa
 pub record EndsFailed (first : List (List ℕ) → Type 0) (status : ℕ) (sink : Seen) : Type 0 where
   pub texts : List (List ℕ)
   pub last : List ℕ
-  pub are : first texts
-  pub with_last : first (texts ++ last ∷ [])
+  pub are : first (texts ++ last ∷ [])
   pub is : status ≡ 11
   pub part : AppendsBehind sink.before sink.after texts (last ++ 10 ∷ [])
   pub failed : HasFailed sink
 
 -- how a program ends that answers line by line
 abbrev pub EndsLines : (List (List ℕ) → List ℕ → Type 0) → (List (List ℕ) → Type 0)
-    → (Refusal → Type 0) → ℕ → Seen → Type 0
-EndsLines all first may_refuse status sink =
+    → (List (List ℕ) → Refusal → Type 0) → ℕ → Seen → Type 0
+EndsLines all first stops status sink =
     EndsDone all status sink
-    ⊎ (EndsRefused first may_refuse status sink ⊎ EndsFailed first status sink)
+    ⊎ (EndsRefused stops status sink ⊎ EndsFailed first status sink)
 
--- it refuses to go on for want of memory alone
-abbrev pub IsOutOfMemory : Refusal → Type 0
-IsOutOfMemory refusal = refusal ≡ OutOfMemory
+-- they are the answers to the first lines, and for want of memory no more lines are answered
+abbrev pub StopsForMemory : (List (List ℕ) → Type 0) → List (List ℕ) → Refusal → Type 0
+StopsForMemory first texts refusal = first texts × (refusal ≡ OutOfMemory)
 
 -- How a program ends that reads its input whole: the input isn't read, and that is what is answered;
 pub record EndsUnread (status : ℕ) (source sink : Seen) : Type 0 where
@@ -136,11 +136,10 @@ pub record WroteAll (all : List (List ℕ) → List ℕ → Type 0) (sink : Seen
   pub steady : IsSteady sink
 
 -- those to the first lines were written, and it stops with the refusal
-pub record WroteFirst (first : List (List ℕ) → Type 0) (may_refuse : Refusal → Type 0)
-    (refusal : Refusal) (sink : Seen) : Type 0 where
+pub record WroteFirst (stops : List (List ℕ) → Refusal → Type 0) (refusal : Refusal) (sink : Seen)
+    : Type 0 where
   pub texts : List (List ℕ)
-  pub are : first texts
-  pub may : may_refuse refusal
+  pub stopped : stops texts refusal
   pub whole : Appends sink.before sink.after (answer_lines texts)
   pub steady : IsSteady sink
 
@@ -149,8 +148,7 @@ pub record WroteFirst (first : List (List ℕ) → Type 0) (may_refuse : Refusal
 pub record FailedFirst (first : List (List ℕ) → Type 0) (sink : Seen) : Type 0 where
   pub texts : List (List ℕ)
   pub last : List ℕ
-  pub are : first texts
-  pub with_last : first (texts ++ last ∷ [])
+  pub are : first (texts ++ last ∷ [])
   pub part : AppendsBehind sink.before sink.after texts (last ++ 10 ∷ [])
   pub failed : HasFailed sink
 
@@ -162,11 +160,10 @@ pub record FailedAll (all : List (List ℕ) → List ℕ → Type 0) (sink : See
   pub failed : HasFailed sink
 
 abbrev pub Answered : (List (List ℕ) → List ℕ → Type 0) → (List (List ℕ) → Type 0)
-    → (Refusal → Type 0) → Result (Unit {0}) Stop → Seen → Type 0
-Answered all first may_refuse (Ok done) sink = WroteAll all sink
-Answered all first may_refuse (Err (Refused refusal)) sink =
-    WroteFirst first may_refuse refusal sink
-Answered all first may_refuse (Err WriteFault) sink = FailedFirst first sink ⊎ FailedAll all sink
+    → (List (List ℕ) → Refusal → Type 0) → Result (Unit {0}) Stop → Seen → Type 0
+Answered all first stops (Ok done) sink = WroteAll all sink
+Answered all first stops (Err (Refused refusal)) sink = WroteFirst stops refusal sink
+Answered all first stops (Err WriteFault) sink = FailedFirst first sink ⊎ FailedAll all sink
 
 -- how it ends where it stopped
 abbrev pub EndsStopped : Stop → ℕ → Seen → Type 0

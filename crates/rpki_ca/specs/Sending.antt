@@ -1,5 +1,5 @@
 -- Messages that a program signs as its answers, and why one isn't signed.
-use Rattle.std.specs.Prelude.{◌≡◌, ◌<◌, ◌≤◌, ◌^◌, ◌⊎◌, ⊤, ℤ, length}
+use Rattle.std.specs.Prelude.{◌≡◌, ◌<◌, ◌≤◌, ◌^◌, ◌⊎◌, ℤ, length}
 use Rattle.rpki_common.specs.Causes.{Rose}
 use Rattle.rpki_base.specs.declared.algorithm.SigningAlgorithm.TheVariants.{RsaSha256}
 use Rattle.rpki_base.specs.Scheme.{Relation}
@@ -52,19 +52,3 @@ IsSigningCause when signer message refusals.IncompatibleKey =
 IsSigningCause when signer message refusals.Signer =
     Rose signer.before.faults signer.after.faults
 IsSigningCause when signer message other = ⊥
-
--- ---- the messages of a run
-
--- Why a run at a moment with a window signs no more messages: each refusal by its cause, of which the
--- signer's are those of asking it once or more, and where `has_long` says that the text of one of
--- them has more than 2^31 octets. Of want of memory nothing is said.
-abbrev pub MayStop : {Id : Type 0} → SignerSeen Id → Type 0 → Refusal → Type 0
-MayStop signer has_long refusals.TooLong =
-    Rose signer.before.overlong signer.after.overlong ⊎ has_long
-MayStop signer has_long refusals.KeyReused = IsReused signer.id signer.before signer.after
-MayStop signer has_long refusals.KeyNotFound = Lacks signer.before.keyring signer.id
-MayStop signer has_long refusals.IncompatibleKey =
-    IsUnfit RsaSha256 signer.before.keyring signer.id
-MayStop signer has_long refusals.Signer = Rose signer.before.faults signer.after.faults
-MayStop signer has_long refusals.OutOfMemory = ⊤
-MayStop signer has_long other = ⊥

@@ -1,6 +1,6 @@
 //! What holds of every answer.
 
-ghost use Rattle.std.specs.Prelude.{◌≡◌, ◌↔◌, ◌++◌, ◌≤ℤ◌, ℕ, ℤ, List, Option, Result};
+ghost use Rattle.std.specs.Prelude.{◌≡◌, ◌↔◌, ◌++◌, ◌≤ℤ◌, ℕ, ℤ, List, Option, Result, Some};
 ghost use Rattle.rpki_base.specs.PublicKey.{KeyFields};
 ghost use Rattle.rpki_der.specs.declared.mode.Mode.{Mode};
 ghost use Rattle.rpki_der.specs.Takes.{BeginsAs};
@@ -16,8 +16,9 @@ ghost use Rattle.rpki_ca.specs.declared.receiving.Received.{Received};
 ghost use Rattle.rpki_ca.specs.declared.receiving.ReceiveError.{ReceiveError};
 ghost use Rattle.rpki_ca.specs.declared.refusals.Refusal.{Refusal};
 ghost use Rattle.rpki_ca.specs.Answer.{AnswersSpelled, IsAnswer};
-ghost use Rattle.rpki_ca.specs.Acceptance.{Accepted, IsReceivedUnder, IsWritable, protocol_of, text_of};
+ghost use Rattle.rpki_ca.specs.Acceptance.{Accepted, IsReceived, IsReceivedUnder, IsWritable, protocol_of, text_of};
 ghost use Rattle.rpki_ca.specs.Creation.{IsReceivable};
+ghost use Rattle.rpki_ca.specs.Hexadecimal.{IsSpelling, hexadecimal};
 ghost use Rattle.rpki_ca.specs.Seen.{SignerSeen};
 
 use rpki_base::Scheme;
@@ -34,6 +35,18 @@ pub fn one_answer<P: Scheme>()
 pub fn one_answer_to_words<P: Scheme>()
     ensures { (words : List (List ℕ)) (input : List ℕ) (a b : Result (List ℕ) Refusal)
         → IsAnswer P.checks words input a → IsAnswer P.checks words input b → a ≡ b }
+{}
+
+/// Octets have one receipt: at one moment, under one list of keys and one scheme, one message is
+/// accepted, with one place of the first key that believes it, or they are refused for one cause.
+pub fn one_receipt<P: Scheme>()
+    ensures with_place { (kind : Kind) (octets : List ℕ) (keys : List KeyFields) (when : ℤ)
+        (a b : Result (Received × ℕ) ReceiveError)
+        → IsReceivedUnder P.checks kind octets keys when a
+        → IsReceivedUnder P.checks kind octets keys when b → a ≡ b }
+    ensures without_place { (kind : Kind) (octets : List ℕ) (keys : List KeyFields) (when : ℤ)
+        (a b : Result Received ReceiveError) → IsReceived P.checks kind octets keys when a
+        → IsReceived P.checks kind octets keys when b → a ≡ b }
 {}
 
 /// What is received depends on the scheme by its questions alone, of the attributes and under each
@@ -57,6 +70,13 @@ pub fn rewritten_is_received_alike<P: Scheme>()
         → BeginsSigned octets m → CanBeSpelled m
         → (IsReceivedUnder P.checks kind octets keys when answer
         ↔ IsReceivedUnder P.checks kind (rewritten m ++ rest) keys when answer) }
+{}
+
+/// An input is the hexadecimal of octets exactly where it is their digits, two of either case an octet, with a line feed behind them
+/// or none.
+pub fn hexadecimal_is_digits()
+    ensures { (input octets : List ℕ) →
+        hexadecimal input ≡ Some octets ↔ IsSpelling input octets }
 {}
 
 /// What is accepted under a list of keys is accepted under each list that holds these keys, in any

@@ -1,12 +1,11 @@
 -- Replies to lines, one behind the other.
-use Rattle.std.proofs.Common.{◌≡◌, ◌≢◌, ◌<◌, ◌^◌, ℕ, ℤ, List, length, get_or, take, refl, sym, subst}
+use Rattle.std.proofs.Common.{◌≡◌, ◌≢◌, ◌<◌, ◌≤◌, ◌^◌, ℕ, ℤ, List, [], length, get_or, take, refl, ap, sym, subst}
 use Rattle.hex.specs.Hex.{encode_lower}
 use Rattle.rpki_base.specs.Scheme.{Relation}
 use Rattle.rpki_signer.specs.Limits.{Keeps}
 use Rattle.rpki_signer.specs.Signer.{SignerState}
 use Rattle.rpki_sigmsg.specs.declared.create_error.CreateError.{CreateError}
 use Rattle.rpki_sigmsg.specs.declared.create_error.CreateError.TheVariants as create
-use Rattle.rpki_sigmsg.specs.Making.{HasWindow}
 use Rattle.rpki_sigmsg.specs.Spelling.{rewritten, CanBeSpelled}
 use Rattle.rpki_publication.specs.Cms.{CmsFields}
 use Rattle.rpki_publication.specs.Message.{text_of}
@@ -16,37 +15,21 @@ use Rattle.rpki_ca.specs.declared.refusals.Refusal.{Refusal}
 use Rattle.rpki_ca.specs.declared.refusals.Refusal.TheVariants as refusals
 use Rattle.rpki_ca.specs.Creation.{IsReceivable, refusal_of_create}
 use Rattle.rpki_ca.specs.Seen.{SignerSeen, seen_signer}
-use Rattle.rpki_ca.specs.Sending.{MayStop}
 use Rattle.rpki_ca.specs.Steps.{AreSteps}
-use Rattle.rpki_ca.proofs.Sending.{created_elsewhere, may_stop, not_memory, signing_cause}
-use Rattle.rpki_ca.proofs.Serving.{steps_alike, stopped_at}
+use Rattle.rpki_ca.proofs.Creating.{first_told}
+use Rattle.rpki_ca.proofs.Sending.{not_memory, signing_cause}
+use Rattle.rpki_ca.proofs.Serving.{stopped_at}
+use Rattle.rpki_ca.proofs.Stepping.{all_steps, first_steps}
 use Rattle.rpki_pubserver.specs.Server.{FailsReply, IsAnswered, ServerFields}
-use Rattle.rpki_pubserver.specs.Serving.{FailsLine, HasLongAnswer, IsReplied}
-
--- ---- a reply holds whatever the signer did later, and whatever it did before
-
-pub replied_elsewhere : {I : Type 0} (scheme : Relation) (when : ℤ) (one other : SignerSeen I) (server : ServerFields) (octets text : List ℕ) (next : ServerFields) → other.id ≡ one.id → other.before.keyring ≡ one.before.keyring
-    → IsReplied scheme when one server octets text next → IsReplied scheme when other server octets text next
-replied_elsewhere scheme when one other server octets text next id keyring h = record {
-  reply = h.reply;
-  is = h.is;
-  later = h.later;
-  created = created_elsewhere scheme kinds.Publication (received.Publication h.reply.message) when one other h.later text id keyring h.created;
-  behind = h.behind;
-}
-
-pub all_elsewhere : {I : Type 0} (scheme : Relation) (when : ℤ) (one other : SignerSeen I) (server : ServerFields) (messages texts : List (List ℕ)) (last : ServerFields) → other.id ≡ one.id → other.before.keyring ≡ one.before.keyring
-    → AreSteps (IsReplied scheme when one) server messages texts last → AreSteps (IsReplied scheme when other) server messages texts last
-all_elsewhere scheme when one other server messages texts last id keyring =
-    steps_alike (IsReplied scheme when one) (IsReplied scheme when other) (λ state octets text next. replied_elsewhere scheme when one other state octets text next id keyring) server messages texts last
+use Rattle.rpki_pubserver.specs.Serving.{AreAllReplied, AreFirstReplied, FailsLine, IsReplied, ServerAndSigner, StopsReplying, with_signer}
 
 -- what is signed is written in hexadecimal
 pub replied_so : {I : Type 0} (scheme : Relation) (when : ℤ) (signer : SignerSeen I) (server : ServerFields) (octets : List ℕ) (c : CmsFields) (next : ServerFields) (signed : List ℕ) → IsAnswered scheme server octets when signer c next
-    → signed ≡ rewritten c.signed → CanBeSpelled c.signed → IsReplied scheme when signer server octets (encode_lower signed) next
-replied_so scheme when signer server octets c next signed answered are spelled = record {
+    → signed ≡ rewritten c.signed → CanBeSpelled c.signed → Keeps signer.before signer.after → IsReplied scheme when signer.id (with_signer server signer.before) octets (encode_lower signed) (with_signer next signer.after)
+replied_so scheme when signer server octets c next signed answered are spelled keeps = record {
   reply = answered.reply;
   is = answered.is;
-  later = signer.after;
+  fits = answered.signed.signed.fits;
   created = record {
     octets = signed;
     created = record {
@@ -57,36 +40,48 @@ replied_so scheme when signer server octets c next signed answered are spelled =
     };
     written = refl;
   };
+  keeps = keeps;
   behind = answered.behind;
 }
-
--- ---- why no more lines are answered
 
 -- a reply isn't signed
 pub cant_reply : {I E : Type 0} (scheme : Relation) (when : ℤ) (signer : SignerSeen I) (server : ServerFields) (octets : List ℕ) (e : CreateError E) → (e ≢ create.OutOfMemory → FailsReply scheme server octets when signer e)
     → refusal_of_create e ≢ refusals.OutOfMemory → FailsLine scheme when signer server octets (refusal_of_create e)
 cant_reply scheme when signer server octets e h other =
     let f = h (not_memory e other) in
-    record { reply = f.reply; is = f.is; cause = signing_cause scheme when signer (received.Publication f.reply.message) e f.fails other }
+    record {
+      reply = f.reply;
+      is = f.is;
+      cause = signing_cause scheme when signer (received.Publication f.reply.message) e f.fails other;
+      too_long = λ window long. ap refusal_of_create (f.fails.too_long window long);
+      first = λ short. first_told scheme (text_of f.reply.message) when signer e short f.fails.first_refusal;
+    }
 
--- one line isn't answered, behind those that are
-module _ {I : Type 0} (scheme : Relation) (when : ℤ) (id : I) (first before after : SignerState I) (server : ServerFields) (messages : List (List ℕ)) where
-  has_long : (i : ℕ) (texts : List (List ℕ)) (last : ServerFields) (octets : List ℕ) (r : Refusal) → i < length messages → octets ≡ get_or messages i octets → AreSteps (IsReplied scheme when (seen_signer id first after)) server (take i messages) texts last
-      → (f : FailsLine scheme when (seen_signer id before after) last octets r) → 2 ^ 31 < length (text_of f.reply.message) → HasLongAnswer scheme when (seen_signer id first after) server messages
-  has_long i texts last octets r lt at are f long =
-      let before = stopped_at (IsReplied scheme when (seen_signer id first after)) server messages i texts last octets lt at are in
+-- ---- the lines of a run
+
+module _ {I : Type 0} (scheme : Relation) (when : ℤ) (id : I) (start : SignerState I) (server : ServerFields) (messages : List (List ℕ)) (i : ℕ) (texts : List (List ℕ)) (last : ServerAndSigner I) where
+  abbrev AreSoFar : Type 0
+  AreSoFar = AreSteps (IsReplied scheme when id) (with_signer server start) (take i messages) texts last
+
+  pub all_replied : length messages ≤ i → AreSoFar → AreAllReplied scheme when (seen_signer id start last.signer) server messages texts []
+  all_replied le are = record {
+    steps = record { last = last; answered = all_steps (IsReplied scheme when id) (with_signer server start) messages i texts last le are; written = refl };
+    signer_is = refl;
+  }
+
+  pub first_replied : i ≤ length messages → AreSoFar → AreFirstReplied scheme when (seen_signer id start last.signer) server messages texts
+  first_replied le are = record {
+    steps = record { last = last; answered = first_steps (IsReplied scheme when id) (with_signer server start) messages i texts last le are };
+    signer_is = refl;
+  }
+
+  -- the next line isn't answered
+  pub stops_replying : (octets : List ℕ) (after : SignerState I) (r : Refusal) → i < length messages → octets ≡ get_or messages i octets → AreSoFar → Keeps last.signer after
+      → (r ≢ refusals.OutOfMemory → FailsLine scheme when (seen_signer id last.signer after) last.server octets r) → StopsReplying scheme when (seen_signer id start after) server messages texts r
+  stops_replying octets after r lt at are keeps fails =
+      let behind = stopped_at (IsReplied scheme when id) (with_signer server start) messages i texts last octets lt at are in
       record {
-        texts = texts;
-        last = last;
-        replied = before.0;
-        octets = octets;
-        stands = before.1;
-        long = record { reply = f.reply; is = f.is; long = long };
+        steps = record { last = last; answered = behind.0 };
+        keeps = keeps;
+        fails = λ other. record { octets = octets; stands = behind.1; fails = fails other };
       }
-
-  pub may_refuse : (i : ℕ) (texts : List (List ℕ)) (last : ServerFields) (octets : List ℕ) (r : Refusal) → HasWindow when → Keeps first before → i < length messages → octets ≡ get_or messages i octets
-      → AreSteps (IsReplied scheme when (seen_signer id first after)) server (take i messages) texts last
-      → (r ≢ refusals.OutOfMemory → FailsLine scheme when (seen_signer id before after) last octets r) → MayStop (seen_signer id first after) (HasLongAnswer scheme when (seen_signer id first after) server messages) r
-  may_refuse i texts last octets r w keeps lt at are h =
-      may_stop when id first before after (HasLongAnswer scheme when (seen_signer id first after) server messages) r w keeps
-      (λ other. let f = h other in (received.Publication f.reply.message, has_long i texts last octets r lt at are f, f.cause))

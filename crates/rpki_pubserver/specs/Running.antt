@@ -7,12 +7,11 @@ use Rattle.rpki_sigmsg.specs.Making.{HasWindow}
 use Rattle.rpki_ca.specs.Answer.{Ends}
 use Rattle.rpki_ca.specs.Lines.{EndsLines, EndsRead, EndsUnread, lines_of}
 use Rattle.rpki_ca.specs.Seen.{Seen, SignerSeen}
-use Rattle.rpki_ca.specs.Sending.{MayStop}
 use Rattle.rpki_ca.specs.Sent.{AreNotSent, AreSent, EndsMoment}
 use Rattle.rpki_ca.specs.Words.{IsMomentAt, key_at}
 use Rattle.rpki_ca.specs.declared.refusals.Refusal.TheVariants.{Hex, OutOfMemory}
 use Rattle.rpki_pubserver.specs.Server.{ServerFields}
-use Rattle.rpki_pubserver.specs.Serving.{AreAllReplied, AreFirstReplied, HasLongAnswer}
+use Rattle.rpki_pubserver.specs.Serving.{AreAllReplied, AreFirstReplied, StopsReplying}
 
 -- ---- words
 
@@ -53,7 +52,7 @@ pub record EndsAnswered {Id : Type 0} (scheme : Relation) (when : ℤ) (signer :
   pub window_is : HasWindow when
   pub ends : EndsLines (AreAllReplied scheme when signer server messages)
       (AreFirstReplied scheme when signer server messages)
-      (MayStop signer (HasLongAnswer scheme when signer server messages)) status sink
+      (StopsReplying scheme when signer server messages) status sink
 
 -- or the moment has none; or some line is that of no octets; or memory ran out
 abbrev pub EndsServed : {Id : Type 0} → Relation → ℤ → SignerSeen Id → ServerFields

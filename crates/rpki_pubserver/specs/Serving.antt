@@ -1,57 +1,88 @@
 -- What the publication server's program answers to its lines.
-use Rattle.std.specs.Prelude.{◌≡◌, ℕ, ℤ, Some, List, [], length, slice_get, take}
+use Rattle.std.specs.Prelude.{◌≡◌, ◌≢◌, ◌≤◌, ◌<◌, ◌^◌, ℕ, ℤ, Some, List, [], length, slice_get}
 use Rattle.rpki_base.specs.Scheme.{Relation}
+use Rattle.rpki_publication.specs.Message.{text_of}
+use Rattle.rpki_signer.specs.Limits.{Keeps}
 use Rattle.rpki_signer.specs.Signer.{SignerState}
+use Rattle.rpki_sigmsg.specs.Making.{HasWindow}
 use Rattle.rpki_ca.specs.declared.receiving.Kind.TheVariants as kinds
 use Rattle.rpki_ca.specs.declared.receiving.Received.TheVariants as received
 use Rattle.rpki_ca.specs.declared.refusals.Refusal.{Refusal}
-use Rattle.rpki_ca.specs.Creation.{IsTextCreated}
+use Rattle.rpki_ca.specs.declared.refusals.Refusal.TheVariants as refusals
+use Rattle.rpki_ca.specs.Creation.{IsFirstToRefuse, IsTextCreated}
 use Rattle.rpki_ca.specs.Seen.{SignerSeen, seen_signer}
 use Rattle.rpki_ca.specs.Sending.{IsSigningCause}
-use Rattle.rpki_ca.specs.Steps.{AreSteps, AreAllSteps, AreFirstSteps}
+use Rattle.rpki_ca.specs.Steps.{AreAllSteps, AreFirstSteps}
 use Rattle.rpki_pubserver.specs.Replies.{Reply}
-use Rattle.rpki_pubserver.specs.Server.{HasLongReply, IsReply, ServerFields, with_store}
+use Rattle.rpki_pubserver.specs.Server.{IsReply, ServerFields, with_store}
 
--- The text is the hexadecimal of a signed message that was created with the reply to these octets,
--- as `create` does: at the moment, under the issuing key, which the signer holds, and with what it
--- has drawn in some later state. Of that message the reply is received: it is accepted as its
--- normal form, under every list of keys that holds the issuing key, at each second from 300 before
+-- the server, and what the signer of its replies holds and has done
+pub record ServerAndSigner (Id : Type 0) : Type 0 where
+  pub server : ServerFields
+  pub signer : SignerState Id
+
+abbrev pub with_signer : {Id : Type 0} → ServerFields → SignerState Id → ServerAndSigner Id
+with_signer server signer = record { server = server; signer = signer }
+
+-- The text is the hexadecimal of a signed message that the signer, which did nothing else, created with
+-- the reply to these octets, as `create` does: at the moment, under the issuing key, which it holds.
+-- The reply's text has at most 2^31 octets. Of that message the reply is received: it is accepted as
+-- its normal form, under every list of keys that holds the issuing key, at each second from 300 before
 -- the moment to 300 after it.
-pub record IsReplied {Id : Type 0} (scheme : Relation) (when : ℤ) (signer : SignerSeen Id)
-    (server : ServerFields) (octets text : List ℕ) (next : ServerFields) : Type 0 where
+pub record IsReplied {Id : Type 0} (scheme : Relation) (when : ℤ) (id : Id)
+    (before : ServerAndSigner Id) (octets text : List ℕ) (next : ServerAndSigner Id) : Type 0 where
   pub reply : Reply
-  pub is : IsReply scheme server octets when reply
-  pub later : SignerState Id
+  pub is : IsReply scheme before.server octets when reply
+  pub fits : length (text_of reply.message) ≤ 2 ^ 31
   pub created : IsTextCreated scheme kinds.Publication (received.Publication reply.message) when
-      (seen_signer signer.id signer.before later) text
-  pub behind : next ≡ with_store server reply.next
+      (seen_signer id before.signer next.signer) text
+  pub keeps : Keeps before.signer next.signer
+  pub behind : next.server ≡ with_store before.server reply.next
 
--- the texts are the replies to all lines, one behind the other, and nothing is behind them
-abbrev pub AreAllReplied : {Id : Type 0} → Relation → ℤ → SignerSeen Id → ServerFields
-    → List (List ℕ) → List (List ℕ) → List ℕ → Type 0
-AreAllReplied scheme when signer = AreAllSteps (IsReplied scheme when signer) (λ server. [])
+-- The texts are the replies to all lines, one behind the other, and nothing is behind them. The signer
+-- did what they need, and nothing else.
+pub record AreAllReplied {Id : Type 0} (scheme : Relation) (when : ℤ) (signer : SignerSeen Id)
+    (server : ServerFields) (messages texts : List (List ℕ)) (closing : List ℕ) : Type 0 where
+  pub steps : AreAllSteps (IsReplied scheme when signer.id) (λ last. [])
+      (with_signer server signer.before) messages texts closing
+  pub signer_is : signer.after ≡ steps.last.signer
 
--- they are the replies to the first lines
-abbrev pub AreFirstReplied : {Id : Type 0} → Relation → ℤ → SignerSeen Id → ServerFields
-    → List (List ℕ) → List (List ℕ) → Type 0
-AreFirstReplied scheme when signer = AreFirstSteps (IsReplied scheme when signer)
+-- they are the replies to the first lines, and the signer did what they need, and nothing else
+pub record AreFirstReplied {Id : Type 0} (scheme : Relation) (when : ℤ) (signer : SignerSeen Id)
+    (server : ServerFields) (messages texts : List (List ℕ)) : Type 0 where
+  pub steps : AreFirstSteps (IsReplied scheme when signer.id) (with_signer server signer.before)
+      messages texts
+  pub signer_is : signer.after ≡ steps.last.signer
 
 -- ---- why no more lines are answered
 
--- the reply to some line, behind the lines before it, has a text of more than 2^31 octets
-pub record HasLongAnswer {Id : Type 0} (scheme : Relation) (when : ℤ) (signer : SignerSeen Id)
-    (server : ServerFields) (messages : List (List ℕ)) : Type 0 where
-  pub texts : List (List ℕ)
-  pub last : ServerFields
-  pub replied : AreSteps (IsReplied scheme when signer) server (take (length texts) messages) texts
-      last
-  pub octets : List ℕ
-  pub stands : slice_get messages (length texts) ≡ Some octets
-  pub long : HasLongReply scheme last octets when
-
--- one line isn't answered: no reply is signed, for this cause
+-- The reply to a line isn't signed, for this cause: that its text has more than 2^31 octets is always
+-- told, and of the signer's refusals it is the first.
 pub record FailsLine {Id : Type 0} (scheme : Relation) (when : ℤ) (signer : SignerSeen Id)
     (server : ServerFields) (octets : List ℕ) (refusal : Refusal) : Type 0 where
   pub reply : Reply
   pub is : IsReply scheme server octets when reply
   pub cause : IsSigningCause when signer (received.Publication reply.message) refusal
+  pub too_long : HasWindow when → 2 ^ 31 < length (text_of reply.message)
+      → refusal ≡ refusals.TooLong
+  pub first : length (text_of reply.message) ≤ 2 ^ 31
+      → IsFirstToRefuse scheme (text_of reply.message) when signer refusal
+
+-- the line at this place isn't answered, for this cause
+pub record FailsLineAt {Id : Type 0} (scheme : Relation) (when : ℤ) (signer : SignerSeen Id)
+    (server : ServerFields) (messages : List (List ℕ)) (place : ℕ) (refusal : Refusal) : Type 0
+  where
+    pub octets : List ℕ
+    pub stands : slice_get messages place ≡ Some octets
+    pub fails : FailsLine scheme when signer server octets refusal
+
+-- The texts are the replies to the first lines, and the next line isn't answered, for this cause. Of
+-- want of memory no more is said than that the signer holds the same keys.
+pub record StopsReplying {Id : Type 0} (scheme : Relation) (when : ℤ) (signer : SignerSeen Id)
+    (server : ServerFields) (messages texts : List (List ℕ)) (refusal : Refusal) : Type 0 where
+  pub steps : AreFirstSteps (IsReplied scheme when signer.id) (with_signer server signer.before)
+      messages texts
+  pub keeps : Keeps steps.last.signer signer.after
+  pub fails : refusal ≢ refusals.OutOfMemory → FailsLineAt scheme when
+      (seen_signer signer.id steps.last.signer signer.after) steps.last.server messages
+      (length texts) refusal

@@ -1,16 +1,15 @@
 //! All that the program does.
 
-ghost use Rattle.std.specs.Prelude.{◌≡◌, ◌≢◌, ◌⊎◌, ◌++◌, ◌∷◌, [], Err, IfErr, IfOk, List, MatchResult, OnErr, OnOk, map, ℕ, ℤ};
+ghost use Rattle.std.specs.Prelude.{◌^◌, ◌+◌, ◌≡◌, ◌≢◌, ◌⊎◌, ◌++◌, ◌∷◌, [], Err, IfErr, IfOk, List, MatchResult, OnErr, OnOk, map, ℕ, ℤ};
 ghost use Rattle.rpki_base.specs.PublicKey.{KeyFields};
 ghost use Rattle.rpki_signer.specs.Limits.{Keeps};
-ghost use Rattle.rpki_sigmsg.specs.Making.{HasWindow};
+ghost use Rattle.rpki_text.specs.Source.{TakesAtMost};
 ghost use Rattle.rpki_ca.specs.Answer.{Ends};
 ghost use Rattle.rpki_ca.specs.Lines.{Answered};
 ghost use Rattle.rpki_ca.specs.Seen.{seen, seen_signer};
-ghost use Rattle.rpki_ca.specs.Sending.{MayStop};
 ghost use Rattle.rpki_ca.specs.declared.refusals.Refusal.TheVariants as refusals;
 ghost use Rattle.rpki_pubserver.specs.Running.{AreNoWords, AreWords, EndsServed, EndsServing, new_server};
-ghost use Rattle.rpki_pubserver.specs.Serving.{AreAllReplied, AreFirstReplied, FailsLine, HasLongAnswer, IsReplied};
+ghost use Rattle.rpki_pubserver.specs.Serving.{AreAllReplied, AreFirstReplied, FailsLine, IsReplied, StopsReplying, with_signer};
 
 use crate::preparing::{Terms, terms_of};
 use crate::server::Server;
@@ -35,9 +34,8 @@ fn answer_line<P: Scheme, V: Verifier<P>, S: Signer<P>>(
     key: &S::KeyId,
 ) -> Result<Vec<u8>, Refusal>
     ensures ok { IfOk result (λ line. (text : List ℕ)
-        × IsReplied P.checks when (seen_signer key.now (S.state signer.old) (S.state signer.new))
-        server.old octets.now text server.new
-        × (line.items ≡ text ++ 10 ∷ [])) }
+        × IsReplied P.checks when key.now (with_signer server.old (S.state signer.old)) octets.now
+        text (with_signer server.new (S.state signer.new)) × (line.items ≡ text ++ 10 ∷ [])) }
     ensures err { IfErr result (λ e. e ≢ refusals.OutOfMemory → FailsLine P.checks when
         (seen_signer key.now (S.state signer.old) (S.state signer.new)) server.old octets.now e) }
     ensures keeps { Keeps (S.state signer.old) (S.state signer.new) }
@@ -58,7 +56,6 @@ fn answer_all<P: Scheme, O: Sink, V: Verifier<P>, S: Signer<P>>(
     signer: &mut S,
     key: &S::KeyId,
 ) -> Result<(), Stop>
-    requires { HasWindow when }
     ensures answered { Answered
         (AreAllReplied P.checks when
         (seen_signer key.now (S.state signer.old) (S.state signer.new))
@@ -66,10 +63,9 @@ fn answer_all<P: Scheme, O: Sink, V: Verifier<P>, S: Signer<P>>(
         (AreFirstReplied P.checks when
         (seen_signer key.now (S.state signer.old) (S.state signer.new))
         server.old (map (λ m. m.items) messages.now))
-        (MayStop (seen_signer key.now (S.state signer.old) (S.state signer.new))
-        (HasLongAnswer P.checks when
+        (StopsReplying P.checks when
         (seen_signer key.now (S.state signer.old) (S.state signer.new))
-        server.old (map (λ m. m.items) messages.now)))
+        server.old (map (λ m. m.items) messages.now))
         result (seen O.written O.faults output.old output.new) }
     ensures keeps { Keeps (S.state signer.old) (S.state signer.new) }
 {
@@ -138,6 +134,9 @@ pub fn serve<P: Scheme, I: Source, O: Sink, V: Verifier<P>, S: Signer<P>>(
         ⊎ Ends (Err refusals.OutOfMemory) result.0 (seen O.written O.faults output.old output.new) }
     ensures unread { AreNoWords words.now → input.new ≡ input.old }
     ensures unasked { AreNoWords words.now → signer.new ≡ signer.old }
+
+    // At most one octet more than the limit is taken of the source.
+    ensures most { TakesAtMost (I.rest input.old) (I.rest input.new) (2 ^ 26 + 1) }
 
     // Where the source isn't read whole, that is what is answered, and the signer did nothing; and
     // where it is, the queries are answered.

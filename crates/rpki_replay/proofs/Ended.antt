@@ -1,7 +1,7 @@
 -- How a run ends.
 use Rattle.std.proofs.Common.{◌≡◌, ◌≤◌, ◌^◌, ℕ, ℤ, Some, List, length, inl, inr, arith}
 use Rattle.rpki_base.specs.Scheme.{Relation}
-use Rattle.rpki_ca.specs.Lines.{EndsRun, IsOutOfMemory}
+use Rattle.rpki_ca.specs.Lines.{EndsRun, StopsForMemory}
 use Rattle.rpki_ca.specs.Seen.{HasFailed, Seen}
 use Rattle.rpki_ca.specs.declared.refusals.Refusal.TheVariants as refusals
 use Rattle.rpki_ca.proofs.Ended.{lines_end, no_eleven, no_zero, on_input, on_input_or_12, with_refusal, with_whole, wrote_all}
@@ -21,7 +21,7 @@ wrote_input scheme when input sink (inl s) =
         messages = a.messages;
         opens = s.opens;
         are = a.are;
-        wrote = wrote_all (AreAllAnswered scheme when s.peers a.messages) (AreFirstAnswered scheme when s.peers a.messages) IsOutOfMemory sink a.ends;
+        wrote = wrote_all (AreAllAnswered scheme when s.peers a.messages) (AreFirstAnswered scheme when s.peers a.messages) (StopsForMemory (AreFirstAnswered scheme when s.peers a.messages)) sink a.ends;
       }
       | inr (inl hex) ↦ absurd (elim hex.1 [ inl e ↦ no_zero refusals.Hex e.0 | inr e ↦ no_eleven e.0 ])
       | inr (inr memory) ↦ absurd (elim memory [ inl e ↦ no_zero refusals.OutOfMemory e.0 | inr e ↦ no_eleven e.0 ])
@@ -35,7 +35,7 @@ answers_all scheme when source sink input run e = wrote_input scheme when input 
 input_ends : (scheme : Relation) (when : ℤ) (input : List ℕ) (status : ℕ) (sink : Seen) → ¬ (HasFailed sink) → EndsInput scheme when input status sink → EndsForCause input status
 input_ends scheme when input status sink none (inl s) =
     elim s.ends [
-      | inl a ↦ inl (lines_end (AreAllAnswered scheme when s.peers a.messages) (AreFirstAnswered scheme when s.peers a.messages) IsOutOfMemory status sink (λ r e. e) none a.ends)
+      | inl a ↦ inl (lines_end (AreAllAnswered scheme when s.peers a.messages) (AreFirstAnswered scheme when s.peers a.messages) (StopsForMemory (AreFirstAnswered scheme when s.peers a.messages)) status sink (λ texts r stops. stops.1) none a.ends)
       | inr (inl hex) ↦ inr (inl (with_refusal refusals.Hex status sink none hex.1, record { peers = s.peers; lines = s.lines; opens = s.opens; none = hex.0 }))
       | inr (inr memory) ↦ inl (inr (with_refusal refusals.OutOfMemory status sink none memory))
     ]

@@ -2,7 +2,7 @@
 use Rattle.std.specs.Prelude.{◌≡◌, ◌⊎◌, ℕ, ℤ, Err, List, ◌∷◌, [], ◌++◌, codes, length}
 use Rattle.rpki_base.specs.Scheme.{Relation}
 use Rattle.rpki_ca.specs.Answer.{Ends}
-use Rattle.rpki_ca.specs.Lines.{EndsLines, EndsWith, IsOutOfMemory}
+use Rattle.rpki_ca.specs.Lines.{EndsLines, EndsWith, StopsForMemory}
 use Rattle.rpki_ca.specs.Seen.{Seen}
 use Rattle.rpki_ca.specs.Words.{IsMomentAt}
 use Rattle.rpki_ca.specs.declared.refusals.Refusal.TheVariants.{Hex, OutOfMemory}
@@ -29,7 +29,8 @@ pub record EndsAnswered (scheme : Relation) (when : ℤ) (peers : List Peer) (li
   pub messages : List Sent
   pub are : AreSent lines messages
   pub ends : EndsLines (AreAllAnswered scheme when peers messages)
-      (AreFirstAnswered scheme when peers messages) IsOutOfMemory status sink
+      (AreFirstAnswered scheme when peers messages)
+      (StopsForMemory (AreFirstAnswered scheme when peers messages)) status sink
 
 abbrev pub EndsMessages : Relation → ℤ → List Peer → List (List ℕ) → ℕ → Seen → Type 0
 EndsMessages scheme when peers lines status sink =

@@ -1,8 +1,9 @@
 //! All that the program does.
 
-ghost use Rattle.std.specs.Prelude.{◌≡◌, Err, IfOk, IfSome, IsNone, string_bytes, ℤ};
+ghost use Rattle.std.specs.Prelude.{◌^◌, ◌+◌, ◌≡◌, Err, IfOk, IfSome, IsNone, string_bytes, ℤ};
+ghost use Rattle.rpki_text.specs.Source.{TakesAtMost};
 ghost use Rattle.rpki_ca.specs.Answer.{Ends};
-ghost use Rattle.rpki_ca.specs.Lines.{Answered, EndsRun, EndsWith, IsOutOfMemory};
+ghost use Rattle.rpki_ca.specs.Lines.{Answered, EndsRun, EndsWith, StopsForMemory};
 ghost use Rattle.rpki_ca.specs.Seen.{seen};
 ghost use Rattle.rpki_replay.specs.Answers.{AreAllAnswered, AreFirstAnswered, closing_text};
 ghost use Rattle.rpki_replay.specs.Running.{AreNoWords, AreWords, EndsInput, EndsMessages, bad_state};
@@ -49,7 +50,8 @@ fn answer_all<P: Scheme, O: Sink, V: Verifier<P>>(
     verifier: &V,
 ) -> Result<(), Stop>
     ensures { Answered (AreAllAnswered P.checks when guard.old messages.now)
-        (AreFirstAnswered P.checks when guard.old messages.now) IsOutOfMemory result
+        (AreFirstAnswered P.checks when guard.old messages.now)
+        (StopsForMemory (AreFirstAnswered P.checks when guard.old messages.now)) result
         (seen O.written O.faults output.old output.new) }
 {
     for sent in messages {
@@ -136,6 +138,9 @@ pub fn run_guard<P: Scheme, I: Source, O: Sink, V: Verifier<P>>(
     ensures usage { AreNoWords words.now
         → Ends (Err Refusal.Usage) result.0 (seen O.written O.faults output.old output.new) }
     ensures unread { AreNoWords words.now → input.new ≡ input.old }
+
+    // At most one octet more than the limit is taken of the source.
+    ensures most { TakesAtMost (I.rest input.old) (I.rest input.new) (2 ^ 26 + 1) }
 
     // Where the source isn't read whole, that is what is answered; and where it is, the messages are.
     ensures ends { (when : ℤ) → AreWords words.now when

@@ -1,6 +1,6 @@
 -- What a parent answers to octets: what it takes for a message of its child, what comes of it, and
 -- what is signed.
-use Rattle.std.specs.Prelude.{◌≡◌, ◌≢◌, ◌<◌, ◌^◌, ℕ, ℤ, List, [], ◌∷◌, length}
+use Rattle.std.specs.Prelude.{◌≡◌, ◌≢◌, ℕ, ℤ, List, [], ◌∷◌}
 use Rattle.rpki_base.specs.PublicKey.{KeyFields}
 use Rattle.rpki_base.specs.Scheme.{Relation}
 use Rattle.rpki_sigmsg.specs.declared.create_error.CreateError.{CreateError}
@@ -9,7 +9,6 @@ use Rattle.rpki_xml.specs.declared.error.XmlError.TheVariants as xml
 use Rattle.rpki_updown.specs.declared.error.Error.{Error}
 use Rattle.rpki_updown.specs.declared.error.Error.TheVariants as errors
 use Rattle.rpki_provisioning.specs.Cms.{CmsFields}
-use Rattle.rpki_provisioning.specs.Message.{text_of}
 use Rattle.rpki_provisioning.specs.Shape.{MessageFields}
 use Rattle.rpki_provisioning.specs.declared.payload.Payload.{Payload}
 use Rattle.rpki_ca.specs.Acceptance.{Accepted, RefusesReceipt}
@@ -124,13 +123,3 @@ IsRefused answers.OutOfMemory = ⊥
 abbrev pub refused : {E : Type 0} → ReceiveError → AnswerError E
 refused receipt.OutOfMemory = answers.OutOfMemory
 refused error = answers.Refused (error_of error)
-
--- ---- replies that are too long
-
--- a reply to the octets is decided whose text has more than 2^31 octets
-pub record HasLongReply (scheme : Relation) (octets : List ℕ) (when : ℤ) (before : ParentAndIssuer)
-    : Type 0 where
-  pub payload : Payload
-  pub after : ParentAndIssuer
-  pub decided : IsDecided scheme octets when before after payload
-  pub long : 2 ^ 31 < length (text_of (reply before.parent payload))

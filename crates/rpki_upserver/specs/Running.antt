@@ -11,13 +11,12 @@ use Rattle.rpki_updown.specs.Entitlements.{SigningFields}
 use Rattle.rpki_ca.specs.Answer.{Ends}
 use Rattle.rpki_ca.specs.Lines.{EndsLines, EndsRead, EndsUnread, lines_of}
 use Rattle.rpki_ca.specs.Seen.{Seen, SignerSeen}
-use Rattle.rpki_ca.specs.Sending.{MayStop}
 use Rattle.rpki_ca.specs.Sent.{AreNotSent, AreSent, EndsMoment}
 use Rattle.rpki_ca.specs.Words.{IsMomentAt, key_at}
 use Rattle.rpki_ca.specs.declared.refusals.Refusal.TheVariants.{Hex, OutOfMemory}
 use Rattle.rpki_upserver.specs.Answering.{with_issuer}
 use Rattle.rpki_upserver.specs.Issuer.{IssuerState}
-use Rattle.rpki_upserver.specs.Serving.{AreAllAnswered, AreFirstAnswered, HasLongAnswer}
+use Rattle.rpki_upserver.specs.Serving.{AreAllAnswered, AreFirstAnswered, StopsAnswering}
 use Rattle.rpki_upserver.specs.Table.{ClassState, ParentState, new_class, new_parent}
 
 -- ---- words
@@ -88,8 +87,8 @@ EndsFrom scheme run parent messages status sink = EndsLines
     run.issuer_after messages)
     (AreFirstAnswered scheme run.when run.signer (with_issuer parent run.issuer_before)
     run.issuer_after messages)
-    (MayStop run.signer (HasLongAnswer scheme run.when run.signer
-    (with_issuer parent run.issuer_before) messages)) status sink
+    (StopsAnswering scheme run.when run.signer (with_issuer parent run.issuer_before)
+    run.issuer_after messages) status sink
 
 -- How it ends where each line is that of octets, and the moment has a window: they are answered
 -- from the parent at first.

@@ -1,22 +1,21 @@
 //! All that the program does.
 
-ghost use Rattle.std.specs.Prelude.{◌≡◌, ◌≢◌, ◌⊎◌, ◌++◌, ◌∷◌, [], Err, IfErr, IfOk, List, OnErr, OnOk, map, ℕ, ℤ};
+ghost use Rattle.std.specs.Prelude.{◌^◌, ◌+◌, ◌≡◌, ◌≢◌, ◌⊎◌, ◌++◌, ◌∷◌, [], Err, IfErr, IfOk, List, OnErr, OnOk, map, ℕ, ℤ};
 ghost use Rattle.hex.specs.Hex.{encode_lower};
 ghost use Rattle.rpki_base.specs.PublicKey.{KeyFields};
 ghost use Rattle.rpki_signer.specs.Limits.{Keeps};
-ghost use Rattle.rpki_sigmsg.specs.Making.{HasWindow};
 ghost use Rattle.rpki_sigmsg.specs.Spelling.{CanBeSpelled, rewritten};
 ghost use Rattle.rpki_provisioning.specs.Writable.{IsCertificate};
+ghost use Rattle.rpki_text.specs.Source.{TakesAtMost};
 ghost use Rattle.rpki_ca.specs.Acceptance.{of_provisioning, refusal_of};
 ghost use Rattle.rpki_ca.specs.Answer.{Ends};
 ghost use Rattle.rpki_ca.specs.Lines.{Answered};
 ghost use Rattle.rpki_ca.specs.Refusal.{name_of};
 ghost use Rattle.rpki_ca.specs.Seen.{seen, seen_signer};
-ghost use Rattle.rpki_ca.specs.Sending.{MayStop};
 ghost use Rattle.rpki_ca.specs.declared.refusals.Refusal.TheVariants as refusals;
 ghost use Rattle.rpki_upserver.specs.Answering.{with_issuer};
 ghost use Rattle.rpki_upserver.specs.Running.{AreNoWords, AreWords, EndsServed, EndsServing, run_of};
-ghost use Rattle.rpki_upserver.specs.Serving.{AreAllAnswered, AreFirstAnswered, FailsLine, HasLongAnswer, IsLeft, IsLineAnswered};
+ghost use Rattle.rpki_upserver.specs.Serving.{AreAllAnswered, AreFirstAnswered, FailsLine, IsLeft, IsLineAnswered, StopsAnswering, with_signer};
 
 use crate::issuer::Issuer;
 use crate::parent::{AnswerError, Parent};
@@ -66,10 +65,10 @@ fn answer_line<P: Scheme, V: Verifier<P>, N: Issuer, S: Signer<P>>(
     signer: &mut S,
     key: &S::KeyId,
 ) -> Result<Vec<u8>, Refusal>
-    ensures ok { IfOk result (λ line. (text : List ℕ) × IsLineAnswered P.checks when
-        (seen_signer key.now (S.state signer.old) (S.state signer.new))
-        (with_issuer parent.old (N.state issuer.old)) octets.now text
-        (with_issuer parent.new (N.state issuer.new)) × (line.items ≡ text ++ 10 ∷ [])) }
+    ensures ok { IfOk result (λ line. (text : List ℕ) × IsLineAnswered P.checks when key.now
+        (with_signer (with_issuer parent.old (N.state issuer.old)) (S.state signer.old)) octets.now
+        text (with_signer (with_issuer parent.new (N.state issuer.new)) (S.state signer.new))
+        × (line.items ≡ text ++ 10 ∷ [])) }
     ensures err { IfErr result (λ e. e ≢ refusals.OutOfMemory → FailsLine P.checks when
         (seen_signer key.now (S.state signer.old) (S.state signer.new))
         (with_issuer parent.old (N.state issuer.old)) octets.now
@@ -98,7 +97,6 @@ fn answer_all<P: Scheme, O: Sink, V: Verifier<P>, N: Issuer, S: Signer<P>>(
     signer: &mut S,
     key: &S::KeyId,
 ) -> Result<(), Stop>
-    requires { HasWindow when }
     ensures answered { Answered
         (AreAllAnswered P.checks when
         (seen_signer key.now (S.state signer.old) (S.state signer.new))
@@ -108,10 +106,10 @@ fn answer_all<P: Scheme, O: Sink, V: Verifier<P>, N: Issuer, S: Signer<P>>(
         (seen_signer key.now (S.state signer.old) (S.state signer.new))
         (with_issuer parent.old (N.state issuer.old)) (N.state issuer.new)
         (map (λ m. m.items) messages.now))
-        (MayStop (seen_signer key.now (S.state signer.old) (S.state signer.new))
-        (HasLongAnswer P.checks when
+        (StopsAnswering P.checks when
         (seen_signer key.now (S.state signer.old) (S.state signer.new))
-        (with_issuer parent.old (N.state issuer.old)) (map (λ m. m.items) messages.now)))
+        (with_issuer parent.old (N.state issuer.old)) (N.state issuer.new)
+        (map (λ m. m.items) messages.now))
         result (seen O.written O.faults output.old output.new) }
     ensures keeps { Keeps (S.state signer.old) (S.state signer.new) }
 {
@@ -203,6 +201,9 @@ pub fn serve<P: Scheme, I: Source, O: Sink, V: Verifier<P>, N: Issuer, S: Signer
     ensures unread { AreNoWords words.now → input.new ≡ input.old }
     ensures unasked { AreNoWords words.now → (issuer.new ≡ issuer.old)
         × (signer.new ≡ signer.old) }
+
+    // At most one octet more than the limit is taken of the source.
+    ensures most { TakesAtMost (I.rest input.old) (I.rest input.new) (2 ^ 26 + 1) }
 
     // Where the source isn't read whole, that is what is answered, and issuer and signer did
     // nothing; and where it is, the messages are answered.

@@ -1,5 +1,5 @@
 use Rattle.std.proofs.Common.{◌∙◌, inl, refl}
-use Rattle.rpki_ca.specs.Lines.{IsOutOfMemory, lines_of}
+use Rattle.rpki_ca.specs.Lines.{StopsForMemory, lines_of}
 use Rattle.rpki_ca.specs.Seen.{seen}
 use Rattle.rpki_ca.specs.declared.lines.Stop.TheVariants.{Refused, WriteFault}
 use Rattle.rpki_ca.specs.declared.refusals.Refusal.TheVariants.{OutOfMemory}
@@ -17,9 +17,9 @@ explanation_line-requires g c =
 pub returns-in_err-explanation : goal.returns-in_err-explanation
 returns-in_err-explanation g c =
     let so_far = c.loop-line.invariant.so_far in
-    stopped_so (AreAllExplanations g.P.Scheme.checks (lines_of c.args.input.now)) (AreFirstExplanations g.P.Scheme.checks (lines_of c.args.input.now)) IsOutOfMemory c.from_residual.result (Refused OutOfMemory)
+    stopped_so (AreAllExplanations g.P.Scheme.checks (lines_of c.args.input.now)) (AreFirstExplanations g.P.Scheme.checks (lines_of c.args.input.now)) (StopsForMemory (AreFirstExplanations g.P.Scheme.checks (lines_of c.args.input.now))) c.from_residual.result (Refused OutOfMemory)
     (seen g.O.Sink.written g.O.Sink.faults c.args.output.now c.loop-line.output) c.from_residual.ensures.1
-    (record { texts = so_far.texts; are = first_explained g.P.Scheme.checks (lines_of c.args.input.now) so_far.before c.loop-line.line-iterator so_far.texts so_far.cut so_far.are; may = refl; whole = so_far.whole; steady = c.loop-line.invariant.steady })
+    (record { texts = so_far.texts; stopped = (first_explained g.P.Scheme.checks (lines_of c.args.input.now) so_far.before c.loop-line.line-iterator so_far.texts so_far.cut so_far.are, refl); whole = so_far.whole; steady = c.loop-line.invariant.steady })
 
 pub returns-in_err-write_all : goal.returns-in_err-write_all
 returns-in_err-write_all g c =
@@ -27,13 +27,12 @@ returns-in_err-write_all g c =
     let said = c.in_ok-explanation.ensures in
     let part = part_of_more g.O.Sink.written g.O.Sink.faults c.args.output.now c.loop-line.output c.write_all.new.sink so_far.texts said.0 c.as_bytes.result.now (c.as_bytes.ensures.value ∙ said.2) so_far.whole c.loop-line.invariant.steady
     c.in_err-write_all.ensures.err c.in_err-write_all.ensures.cause.failed in
-    stopped_so (AreAllExplanations g.P.Scheme.checks (lines_of c.args.input.now)) (AreFirstExplanations g.P.Scheme.checks (lines_of c.args.input.now)) IsOutOfMemory c.from_residual-in_err-write_all.result WriteFault
+    stopped_so (AreAllExplanations g.P.Scheme.checks (lines_of c.args.input.now)) (AreFirstExplanations g.P.Scheme.checks (lines_of c.args.input.now)) (StopsForMemory (AreFirstExplanations g.P.Scheme.checks (lines_of c.args.input.now))) c.from_residual-in_err-write_all.result WriteFault
     (seen g.O.Sink.written g.O.Sink.faults c.args.output.now c.write_all.new.sink) c.from_residual-in_err-write_all.ensures.1
     (inl (record {
       texts = so_far.texts;
       last = said.0;
-      are = first_explained g.P.Scheme.checks (lines_of c.args.input.now) so_far.before c.loop-line.line-iterator so_far.texts so_far.cut so_far.are;
-      with_last = more_explained g.P.Scheme.checks (lines_of c.args.input.now) c.loop-line.line-iterator c.next.new.self (g.O.Sink.written c.args.output.now) (g.O.Sink.written c.loop-line.output) c.in-Some.line.now said.0 so_far c.in-Some.ensures.steps said.1;
+      are = more_explained g.P.Scheme.checks (lines_of c.args.input.now) c.loop-line.line-iterator c.next.new.self (g.O.Sink.written c.args.output.now) (g.O.Sink.written c.loop-line.output) c.in-Some.line.now said.0 so_far c.in-Some.ensures.steps said.1;
       part = part.0;
       failed = part.1;
     }))

@@ -1,5 +1,5 @@
 use Rattle.std.proofs.Common.{◌∙◌, inl, inr, map, refl}
-use Rattle.rpki_ca.specs.Lines.{IsOutOfMemory, answer_lines, lines_of}
+use Rattle.rpki_ca.specs.Lines.{StopsForMemory, answer_lines, lines_of}
 use Rattle.rpki_ca.specs.Seen.{seen}
 use Rattle.rpki_ca.specs.declared.lines.Stop.TheVariants.{Refused, WriteFault}
 use Rattle.rpki_ca.specs.declared.refusals.Refusal.TheVariants.{OutOfMemory}
@@ -19,9 +19,9 @@ judge_line-requires g c =
 pub returns-in_err-judged : goal.returns-in_err-judged
 returns-in_err-judged g c =
     let so_far = c.loop-line.invariant.so_far in
-    stopped_so (AreAllVerdicts g.P.Scheme.checks (lines_of c.args.input.now)) (AreFirstVerdicts g.P.Scheme.checks (lines_of c.args.input.now)) IsOutOfMemory c.from_residual.result (Refused OutOfMemory)
+    stopped_so (AreAllVerdicts g.P.Scheme.checks (lines_of c.args.input.now)) (AreFirstVerdicts g.P.Scheme.checks (lines_of c.args.input.now)) (StopsForMemory (AreFirstVerdicts g.P.Scheme.checks (lines_of c.args.input.now))) c.from_residual.result (Refused OutOfMemory)
     (seen g.O.Sink.written g.O.Sink.faults c.args.output.now c.loop-line.output) c.from_residual.ensures.1
-    (record { texts = map verdict_text so_far.answers; are = so_far_judged g.P.Scheme.checks (lines_of c.args.input.now) c.loop-line.line-iterator c.loop-line.total.lines c.loop-line.total.accepted (g.O.Sink.written c.args.output.now) (g.O.Sink.written c.loop-line.output) so_far; may = refl; whole = so_far.whole; steady = c.loop-line.invariant.steady })
+    (record { texts = map verdict_text so_far.answers; stopped = (so_far_judged g.P.Scheme.checks (lines_of c.args.input.now) c.loop-line.line-iterator c.loop-line.total.lines c.loop-line.total.accepted (g.O.Sink.written c.args.output.now) (g.O.Sink.written c.loop-line.output) so_far, refl); whole = so_far.whole; steady = c.loop-line.invariant.steady })
 
 pub returns-in_err-write_all : goal.returns-in_err-write_all
 returns-in_err-write_all g c =
@@ -29,13 +29,12 @@ returns-in_err-write_all g c =
     let said = c.in_ok-judged.ensures in
     let part = part_of_more g.O.Sink.written g.O.Sink.faults c.args.output.now c.loop-line.output c.write_all.new.sink (map verdict_text so_far.answers) (verdict_text said.0) c.as_bytes.result.now (c.as_bytes.ensures.value ∙ said.2) so_far.whole c.loop-line.invariant.steady
     c.in_err-write_all.ensures.err c.in_err-write_all.ensures.cause.failed in
-    stopped_so (AreAllVerdicts g.P.Scheme.checks (lines_of c.args.input.now)) (AreFirstVerdicts g.P.Scheme.checks (lines_of c.args.input.now)) IsOutOfMemory c.from_residual-in_err-write_all.result WriteFault
+    stopped_so (AreAllVerdicts g.P.Scheme.checks (lines_of c.args.input.now)) (AreFirstVerdicts g.P.Scheme.checks (lines_of c.args.input.now)) (StopsForMemory (AreFirstVerdicts g.P.Scheme.checks (lines_of c.args.input.now))) c.from_residual-in_err-write_all.result WriteFault
     (seen g.O.Sink.written g.O.Sink.faults c.args.output.now c.write_all.new.sink) c.from_residual-in_err-write_all.ensures.1
     (inl (record {
       texts = map verdict_text so_far.answers;
       last = verdict_text said.0;
-      are = so_far_judged g.P.Scheme.checks (lines_of c.args.input.now) c.loop-line.line-iterator c.loop-line.total.lines c.loop-line.total.accepted (g.O.Sink.written c.args.output.now) (g.O.Sink.written c.loop-line.output) so_far;
-      with_last = more_judged g.P.Scheme.checks (lines_of c.args.input.now) c.loop-line.line-iterator c.next.new.self c.loop-line.total.lines c.loop-line.total.accepted (g.O.Sink.written c.args.output.now) (g.O.Sink.written c.loop-line.output) c.in-Some.line.now said.0 so_far c.in-Some.ensures.steps said.1;
+      are = more_judged g.P.Scheme.checks (lines_of c.args.input.now) c.loop-line.line-iterator c.next.new.self c.loop-line.total.lines c.loop-line.total.accepted (g.O.Sink.written c.args.output.now) (g.O.Sink.written c.loop-line.output) c.in-Some.line.now said.0 so_far c.in-Some.ensures.steps said.1;
       part = part.0;
       failed = part.1;
     }))
@@ -62,14 +61,14 @@ loop-line-preserved g c =
 pub returns-in_err-closing : goal.returns-in_err-closing
 returns-in_err-closing g c =
     let so_far = c.loop-line.invariant.so_far in
-    stopped_so (AreAllVerdicts g.P.Scheme.checks (lines_of c.args.input.now)) (AreFirstVerdicts g.P.Scheme.checks (lines_of c.args.input.now)) IsOutOfMemory c.from_residual-in_err-closing.result (Refused OutOfMemory)
+    stopped_so (AreAllVerdicts g.P.Scheme.checks (lines_of c.args.input.now)) (AreFirstVerdicts g.P.Scheme.checks (lines_of c.args.input.now)) (StopsForMemory (AreFirstVerdicts g.P.Scheme.checks (lines_of c.args.input.now))) c.from_residual-in_err-closing.result (Refused OutOfMemory)
     (seen g.O.Sink.written g.O.Sink.faults c.args.output.now c.loop-line.output) c.from_residual-in_err-closing.ensures.1
-    (record { texts = map verdict_text so_far.answers; are = so_far_judged g.P.Scheme.checks (lines_of c.args.input.now) c.loop-line.line-iterator c.loop-line.total.lines c.loop-line.total.accepted (g.O.Sink.written c.args.output.now) (g.O.Sink.written c.loop-line.output) so_far; may = refl; whole = so_far.whole; steady = c.loop-line.invariant.steady })
+    (record { texts = map verdict_text so_far.answers; stopped = (so_far_judged g.P.Scheme.checks (lines_of c.args.input.now) c.loop-line.line-iterator c.loop-line.total.lines c.loop-line.total.accepted (g.O.Sink.written c.args.output.now) (g.O.Sink.written c.loop-line.output) so_far, refl); whole = so_far.whole; steady = c.loop-line.invariant.steady })
 
 pub returns-in_err-write_all-2 : goal.returns-in_err-write_all-2
 returns-in_err-write_all-2 g c =
     let so_far = c.loop-line.invariant.so_far in
-    stopped_so (AreAllVerdicts g.P.Scheme.checks (lines_of c.args.input.now)) (AreFirstVerdicts g.P.Scheme.checks (lines_of c.args.input.now)) IsOutOfMemory c.from_residual-in_err-write_all-2.result WriteFault
+    stopped_so (AreAllVerdicts g.P.Scheme.checks (lines_of c.args.input.now)) (AreFirstVerdicts g.P.Scheme.checks (lines_of c.args.input.now)) (StopsForMemory (AreFirstVerdicts g.P.Scheme.checks (lines_of c.args.input.now))) c.from_residual-in_err-write_all-2.result WriteFault
     (seen g.O.Sink.written g.O.Sink.faults c.args.output.now c.write_all-2.new.sink) c.from_residual-in_err-write_all-2.ensures.1
     (inr (record {
       texts = map verdict_text so_far.answers;

@@ -2,9 +2,9 @@ use Rattle.std.proofs.Common.{ℕ, List, map, take}
 use Rattle.std.specs.Io.KnownBytes.{Appends}
 use Rattle.rpki_signer.specs.Limits.{Keeps}
 use Rattle.rpki_ca.specs.Lines.{answer_lines}
-use Rattle.rpki_ca.specs.Seen.{IsSteady, seen, seen_signer}
+use Rattle.rpki_ca.specs.Seen.{IsSteady, seen}
 use Rattle.rpki_ca.specs.Steps.{AreSteps}
-use Rattle.rpki_pubserver.specs.Serving.{IsReplied}
+use Rattle.rpki_pubserver.specs.Serving.{IsReplied, with_signer}
 use Rattle.rpki_pubserver.proofs.serving.answer_all.Given as goal
 
 abbrev pub invariant-loop-octets : goal.invariant-loop-octets
@@ -12,6 +12,6 @@ invariant-loop-octets g l = record {
   steady : IsSteady (seen g.O.Sink.written g.O.Sink.faults l.initial.output l.output);
   keeps : Keeps (g.S.Signer.state l.initial.signer) (g.S.Signer.state l.signer);
   texts : (texts : List (List ℕ))
-      × AreSteps (IsReplied g.P.Scheme.checks l.when (seen_signer l.key (g.S.Signer.state l.initial.signer) (g.S.Signer.state l.initial.signer))) l.initial.server (take l.octets-index (map (λ m. m.items) l.messages)) texts l.server
+      × AreSteps (IsReplied g.P.Scheme.checks l.when l.key) (with_signer l.initial.server (g.S.Signer.state l.initial.signer)) (take l.octets-index (map (λ m. m.items) l.messages)) texts (with_signer l.server (g.S.Signer.state l.signer))
       × Appends (g.O.Sink.written l.initial.output) (g.O.Sink.written l.output) (answer_lines texts);
 }

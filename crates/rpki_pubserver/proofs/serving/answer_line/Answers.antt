@@ -14,6 +14,6 @@ pub returns-clause-ok : goal.returns-clause-ok
 returns-clause-ok g c =
     let signer = seen_signer c.args.key.now (g.S.Signer.state c.args.signer.now) (g.S.Signer.state c.answer.new.signer) in (
       encode_lower c.in_ok-octets.octets,
-      replied_so g.P.Scheme.checks c.args.when signer c.args.server.now c.args.octets.now c.in_ok-reply.reply c.answer.new.self c.in_ok-octets.octets c.in_ok-reply.ensures.answered c.in_ok-octets.ensures.octets c.in_ok-octets.ensures.spelled,
+      replied_so g.P.Scheme.checks c.args.when signer c.args.server.now c.args.octets.now c.in_ok-reply.reply c.answer.new.self c.in_ok-octets.octets c.in_ok-reply.ensures.answered c.in_ok-octets.ensures.octets c.in_ok-octets.ensures.spelled c.answer.ensures.keeps,
       c.in_ok-hexadecimal_line.ensures ∙ ap (λ o. encode_lower o ++ 10 ∷ []) c.as_slice.ensures,
     )

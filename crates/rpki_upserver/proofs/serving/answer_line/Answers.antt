@@ -12,7 +12,7 @@ pub returns-in_ok-message_line-in-Ok-clause-ok : goal.returns-in_ok-message_line
 returns-in_ok-message_line-in-Ok-clause-ok g c =
     let signer = seen_signer c.args.key.now (g.S.Signer.state c.args.signer.now) (g.S.Signer.state c.answer.new.signer) in (
       encode_lower (rewritten c.in-Ok.cms.signed),
-      replied_so g.P.Scheme.checks c.args.when signer (with_issuer c.args.parent.now (g.N.Issuer.state c.args.issuer.now)) c.args.octets.now c.in-Ok.cms (with_issuer c.answer.new.self (g.N.Issuer.state c.answer.new.issuer)) c.in-Ok.ensures.answered c.in_ok-message_line-in-Ok.ensures.spelled,
+      replied_so g.P.Scheme.checks c.args.when signer (with_issuer c.args.parent.now (g.N.Issuer.state c.args.issuer.now)) c.args.octets.now c.in-Ok.cms (with_issuer c.answer.new.self (g.N.Issuer.state c.answer.new.issuer)) c.in-Ok.ensures.answered c.in_ok-message_line-in-Ok.ensures.spelled c.answer.ensures.keeps,
       c.in_ok-message_line-in-Ok.ensures.line,
     )
 

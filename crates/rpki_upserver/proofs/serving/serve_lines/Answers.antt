@@ -1,10 +1,9 @@
 use Rattle.std.proofs.Common.{List, inl, map, subst, sym, ℕ}
 use Rattle.rpki_ca.specs.Seen.{seen_signer}
-use Rattle.rpki_ca.specs.Sending.{MayStop}
 use Rattle.rpki_ca.specs.Sent.{AreSent}
 use Rattle.rpki_ca.proofs.Outputs.{ends_lines}
 use Rattle.rpki_upserver.specs.Answering.{with_issuer}
-use Rattle.rpki_upserver.specs.Serving.{AreAllAnswered, AreFirstAnswered, HasLongAnswer}
+use Rattle.rpki_upserver.specs.Serving.{AreAllAnswered, AreFirstAnswered, StopsAnswering}
 use Rattle.rpki_upserver.proofs.serving.serve_lines.Goals as goal
 
 pub returns-clause-ends : goal.returns-clause-ends
@@ -20,5 +19,5 @@ returns-clause-ends g c =
       parent = c.in-Ok.parent;
       first = c.in-Ok.ensures;
       ends = ends_lines g.O.Sink.written g.O.Sink.faults c.args.output.now c.answer_all-answered.new.output c.finish_lines.new.output (AreAllAnswered g.P.Scheme.checks c.args.when signer start issuer ms) (AreFirstAnswered g.P.Scheme.checks c.args.when signer start issuer ms)
-          (MayStop signer (HasLongAnswer g.P.Scheme.checks c.args.when signer start ms)) c.answer_all-answered.result c.finish_lines.result.0 c.answer_all-answered.ensures.answered c.finish_lines.ensures.done c.finish_lines.ensures.stopped;
+          (StopsAnswering g.P.Scheme.checks c.args.when signer start issuer ms) c.answer_all-answered.result c.finish_lines.result.0 c.answer_all-answered.ensures.answered c.finish_lines.ensures.done c.finish_lines.ensures.stopped;
     })
