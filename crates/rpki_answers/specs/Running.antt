@@ -152,7 +152,7 @@ pub record EndsReceipt (scheme : Relation) (kind : Kind) (when : ℤ) (keys : Li
   pub is : AnswersSpelled scheme (commands.Receive kind when keys) (hexadecimal input) answer
   pub ends : Ends answer status sink
 
--- or for want of memory
+-- it ends with the answer that `receive` has under the scheme, or for want of memory
 abbrev pub EndsAsReceived : Relation → Kind → ℤ → List KeyFields → List ℕ → ℕ → Seen → Type 0
 EndsAsReceived scheme kind when keys input status sink =
     EndsReceipt scheme kind when keys input status sink

@@ -79,7 +79,8 @@ pub record Accepted (scheme : Relation) (kind : Kind) (octets : List ℕ) (keys 
   pub believed : IsBelievedUnder scheme signed keys when
   pub reads : ReadsAs kind signed.content m
 
--- the same, where the first such key is the one at this place, from 0
+-- The octets begin with a signed message, which is believed under the key at this place, from 0, and under none before it. Its
+-- content reads as the message.
 pub record AcceptedAt (scheme : Relation) (kind : Kind) (octets : List ℕ) (keys : List KeyFields)
     (when : ℤ) (m : Received) (place : ℕ) : Type 0 where
   pub signed : MessageFields
@@ -124,7 +125,7 @@ IsReceived scheme kind octets keys when result =
     MatchResult result (Accepted scheme kind octets keys when)
     (RefusesReceipt scheme kind octets keys when)
 
--- the same, with the place of the first key under which it is accepted
+-- what is received of octets, with the place of the first key under which the message is accepted, or why there is none
 abbrev pub IsReceivedUnder : Relation → Kind → List ℕ → List KeyFields → ℤ
     → Result (Received × ℕ) ReceiveError → Type 0
 IsReceivedUnder scheme kind octets keys when result =
@@ -153,7 +154,7 @@ of_publication (publication_error.Validation e) = errors.Validation e
 of_publication publication_error.OutOfMemory = errors.OutOfMemory
 of_publication other = errors.XmlError
 
--- the same of one of the provisioning protocol
+-- how an error of the provisioning protocol is passed on
 abbrev pub of_provisioning : provisioning_errors.Error → ReceiveError
 of_provisioning provisioning_error.CmsDecode = errors.CmsDecode
 of_provisioning provisioning_error.CertSyntax = errors.CertSyntax

@@ -20,7 +20,7 @@ use Rattle.rpki_ca.specs.Seen.{Seen, HasFailed, IsSteady, OfInput}
 abbrev pub pieces_of : ℕ → List ℕ → List (List ℕ)
 pieces_of separator octets = slice_split (λ octet. octet == separator) octets
 
--- the same without a last piece that is empty
+-- pieces without the last one if that is empty
 abbrev pub without_empty_end : List (List ℕ) → List (List ℕ)
 without_empty_end [] = []
 without_empty_end ([] ∷ []) = []

@@ -57,7 +57,7 @@ pub record IsAnchored (scheme : Relation) (octets : List ℕ) (when : ℤ) : Typ
   pub certificate : CertificateFields
   pub believed : IsBelievedIn scheme octets when certificate
 
--- or with none, or with one that is not believed
+-- the octets begin with no certificate, or with one that is not accepted as a trust anchor's
 abbrev pub RefusesAnchor : Relation → List ℕ → ℤ → Refusal → Type 0
 RefusesAnchor scheme octets when refusals.InvalidTaCertEncoding =
     (c : CertificateFields) → BeginsCertificate octets c → ⊥

@@ -114,7 +114,7 @@ numbers elements =
     ++ codes " update " ++ decimal (count_by (does actions.Update) elements)
     ++ codes " withdraw " ++ decimal (count_by (does actions.Withdraw) elements)
 
--- and the digest of the signed message's octets
+-- how many changes there are, and the digest of the signed message's octets
 abbrev pub summary : List PublishDeltaElement → List ℕ → List ℕ
 summary elements octets =
     numbers elements ++ codes " envelope " ++ encode_lower (sha256 octets)

@@ -212,7 +212,7 @@ pub fn run<P: Scheme, I: Source, O: Sink, V: Verifier<P>, S: Signer<P>>(
         → OfInput (I.rest input.old) (λ rest.
         Delivers P.checks kind keys when rest (seen O.written O.faults output.old output.new)) }
 
-    // And where a message is accepted it ends with 0, but for want of memory and for faults of
+    // Where a message is accepted, `receive` ends with 0, but for want of memory and for faults of
     // source and sink.
     ensures accepted { (kind : Kind) (when : ℤ) (keys : List KeyFields)
         → IsReceive words.now kind when keys
@@ -228,8 +228,8 @@ pub fn run<P: Scheme, I: Source, O: Sink, V: Verifier<P>, S: Signer<P>>(
         (seen_signer key.now (S.state signer.old) (S.state signer.new))
         (seen O.written O.faults output.old output.new)) }
 
-    // And where it can be created it ends with 0, but for want of memory and for faults of source
-    // and sink.
+    // Where a message can be created, `create` ends with 0, but for want of memory and for faults of
+    // source and sink.
     ensures creates { (kind : Kind) (when : ℤ) → IsCreate words.now kind when
         → IfSome (I.rest input.old) (λ rest. CanCreate kind when rest
         (seen_signer key.now (S.state signer.old) (S.state signer.new)) → Succeeds result.0

@@ -160,7 +160,7 @@ pub record IsRequestMade {Id : Type 0} (scheme : Relation) (id : Id) (places : P
       request
   pub stays : Stays before after
 
--- the same for a key that is given, as the signer's call leaves it
+-- the octets are a request for a key that is given, with the signature that the signer's call gives under the identifier
 pub record IsSignedFor {Id : Type 0} (scheme : Relation) (id : Id) (key : KeyFields)
     (places : Places) (before after : SignerState Id) (octets : List ℕ) : Type 0 where
   pub value : List ℕ

@@ -169,8 +169,8 @@ impl Cert {
         decode_within::<Brand>(alloc, octets, Blank::new(1))
     }
 
-    /// The same as `decode`, at a price: it ticks at least once for each value and at most twice an octet of the certificate; where it
-    /// refuses, at most twice for each octet that it was given, and 8 times more.
+    /// Answers as `decode` does, at a price: it ticks at least once for each value and at most twice an octet of the certificate; where
+    /// it refuses, at most twice for each octet that it was given, and 8 times more.
     pub fn decode_counted<L: Ledger>(
         alloc: Global,
         octets: &[u8],

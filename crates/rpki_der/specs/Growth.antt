@@ -43,7 +43,7 @@ pub record Stepped (mode : Mode) (here : List ℕ) (levels : List Inside) (entri
       → CompletesTree mode here' levels' entries' final total
       → OneFirstTree mode here levels entries final total
 
--- the same of the levels as the code keeps them, the outermost first
+-- reading a value here is reading on at here', of the levels as the code keeps them, the outermost first
 abbrev pub DescendsTree : Mode → List ℕ → List Inside → List Entry → List ℕ → List Inside
     → List Entry → Type 0
 DescendsTree mode here levels entries here' levels' entries' =

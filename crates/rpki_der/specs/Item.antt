@@ -111,7 +111,7 @@ TakesOptionalCounted c tag old new before after result =
     (λ i. CountedOne c (item_with tag) old new before after i))
     (CountedRefusesOptional c tag old before after)
 
--- ---- the same, by what a grammar reads of the value
+-- ---- a value that may be absent, by what a grammar reads of it
 
 -- It isn't so that the level ends or another tag stands next; and the answer is Malformed only where the grammar reads no value
 -- that stands next.

@@ -67,7 +67,7 @@ pub record IsIssued (scheme : Relation) (issuing : KeyFields) (c : CertificateFi
   pub signed : IsSigned scheme c issuing
   pub short : IsShort c.signed.signature.value
 
--- the same for these fields, as the signer's call gives it
+-- These fields in DER, with the signature that the signer's call gives under the identifier.
 pub record IsSignedAs {Id : Type 0} (scheme : Relation) (t : TbsFields) (id : Id)
     (before after : SignerState Id) (c : CertificateFields) : Type 0 where
   pub tbs : c.tbs ≡ t

@@ -196,7 +196,7 @@ impl TbsIdCert {
         self.subject_key_id
     }
 
-    /// The same as `subject_key_identifier`.
+    /// The key identifier of the subject, as `subject_key_identifier` gives it.
     pub fn subject_key_id(&self) -> KeyIdentifier
         ensures { result ≡ self.now.subject_key_id }
     {

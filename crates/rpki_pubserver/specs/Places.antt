@@ -12,7 +12,7 @@ use Rattle.rpki_pubserver.specs.Store.{Store, put, without}
 abbrev pub Places : Type 0
 Places = List (List ℕ × Option (List ℕ))
 
--- the same by their texts
+-- places, by the texts of their URIs
 abbrev pub placed : {Z : Type 0} → List (String Z × Option (List ℕ)) → Places
 placed entries = map (λ e. (string_bytes e.0, e.1)) entries
 

@@ -24,7 +24,7 @@ pub record ServerFields : Type 0 where
   pub publisher : KeyFields
   pub store : Store
 
--- the same server with other objects
+-- the server with these objects in the place of its own
 abbrev pub with_store : ServerFields → Store → ServerFields
 with_store server store = record {
   base = server.base;

@@ -121,7 +121,7 @@ pub record HasOutcome (scheme : Relation) (m : MessageFields) (key : KeyFields) 
   pub asked : Asked scheme m key
   pub is : outcome ≡ first_failure 1 (checks m key when asked.q3 asked.q8 asked.q10)
 
--- the same under each key, in their order
+-- what comes of the checks under each key, in their order
 abbrev pub AreOutcomes : Relation → MessageFields → List KeyFields → ℤ
     → List (Result (Unit {0}) ℕ) → Type 0
 AreOutcomes scheme m [] when [] = ⊤
@@ -184,7 +184,7 @@ pub record SameAnswers (s t : Relation) (m : MessageFields) (issuer : KeyFields)
   pub certificate : IsSigned s m.certificate issuer ↔ IsSigned t m.certificate issuer
   pub crls : AreCrlsSigned s m.crls issuer ↔ AreCrlsSigned t m.crls issuer
 
--- the same under each key of a list
+-- two schemes answer the questions alike under each key of a list
 abbrev pub SameAnswersUnder : Relation → Relation → MessageFields → List KeyFields → Type 0
 SameAnswersUnder s t m keys = AllByRecursion (SameAnswers s t m) keys
 

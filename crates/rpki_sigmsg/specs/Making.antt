@@ -80,7 +80,7 @@ pub record IsCrlMade (scheme : Relation) (issuing : KeyFields) (now : ℤ) (c : 
     pub algorithm : c.signed.signature.algorithm ≡ default_algorithm
     pub signed : IsSigned scheme c issuing
 
--- the same, as the signer's call gives it
+-- The CRL's fields in DER, with the signature that the signer's call gives under the identifier.
 pub record IsCrlSigned {Id : Type 0} (scheme : Relation) (issuing : KeyFields) (now : ℤ) (id : Id)
     (before after : SignerState Id) (c : CrlFields) : Type 0 where
   pub fields : c.tbs ≡ made_crl issuing now
@@ -134,7 +134,7 @@ pub record IsUnsignedFor (content : List ℕ) (now : ℤ) (serial : List ℕ) (k
   pub crl : u.crl ≡ made_crl issuing now
   pub certificate : IsMadeFor issuing key serial (window now) u.certificate
 
--- and the message with the three signatures
+-- the message of what is to be signed, with the three signatures
 abbrev pub signed_message_of : UnsignedFields → SignatureParts RpkiAlgorithm
     → SignatureParts RpkiAlgorithm → SignatureParts RpkiAlgorithm → MessageFields
 signed_message_of u attributes crl certificate = assembled u.content attributes

@@ -92,8 +92,8 @@ impl SignedMessage {
         SignedMessage::take_from(alloc, &mut cursor)
     }
 
-    /// The same as `decode`, and it ticks each time it looks at a header, and for each end mark: at most three times an octet, and eight
-    /// times more where it refuses.
+    /// Answers as `decode` does, and ticks each time it looks at a header, and for each end mark: at most three times an octet, and
+    /// eight times more where it refuses.
     pub fn decode_counted<L: Ledger>(
         alloc: Global,
         octets: &[u8],

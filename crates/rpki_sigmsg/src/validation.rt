@@ -151,7 +151,7 @@ impl SignedMessage {
         // They are the fourteen checks, where 3, 8 and 10 say which signatures hold under the scheme.
         ensures answered { spec.AreChecks P.checks self.now issuer_key.now when result }
 
-        // The same by any answers to the three questions that are right.
+        // They are the fourteen checks by any answers to the three questions that are right.
         ensures checks { (q : spec.Asked P.checks self.now issuer_key.now) →
             result ≡ spec.checks self.now issuer_key.now when q.q3 q.q8 q.q10 }
     {

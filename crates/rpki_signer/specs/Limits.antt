@@ -94,7 +94,7 @@ abbrev pub StopsInTurn : {Id E : Type 0} → Id → SignerState Id → SignerSta
 StopsInTurn id before after error =
     RefusesKey id before after error ⊎ StopsBehindKey id before after error
 
--- ---- the same of a signature under a key for one use, which asks for no identifier
+-- ---- a signature under a key for one use, which asks for no identifier
 
 -- the signature and its key were given, and one of them is too long
 pub record GivesLongOneOff {Id : Type 0} (scheme : Relation) (message : List ℕ)

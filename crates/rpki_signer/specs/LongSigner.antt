@@ -32,7 +32,7 @@ long_state s = record (state_of s.toy) { overlong = s.overlong }
 
 -- ---- its signatures
 
--- so many zeros
+-- as many zeros as that
 abbrev pub long_signature : ℕ → List ℕ
 long_signature octets = replicate octets 0
 

@@ -50,7 +50,7 @@ pub record IsLater {Id : Type 0} (before after : SignerState Id) : Type 0 where
   pub overlong : before.overlong ≤ after.overlong
   pub reused : before.reused ≤ after.reused
 
--- and nothing else changes
+-- no count falls, and nothing else changes
 pub record Stays {Id : Type 0} (before after : SignerState Id) : Type 0 where
   pub later : IsLater before after
   pub keyring : after.keyring ≡ before.keyring

@@ -150,7 +150,7 @@ after_choosing format s = if is_set format s.reuse
     then record s { calls = count_after s.calls; reused = count_after s.reused }
     else after_drawing s
 
--- and given
+-- the key was chosen and given
 abbrev pub after_signing_once : PublicKeyFormat → ToyState → ToyState
 after_signing_once format s =
     record (after_choosing format s) { drawn = Some (one_off_key format s.reuse s.next) }
@@ -162,13 +162,13 @@ abbrev pub random_block : ℕ → ℕ → ℕ → List ℕ
 random_block seed number block =
     sha256 ((to_be_bytes w64 seed ++ to_be_bytes w64 number) ++ to_be_bytes w64 block)
 
--- so many blocks from this one on, joined
+-- this many blocks from this one on, joined
 abbrev pub random_blocks : ℕ → ℕ → ℕ → ℕ → List ℕ
 random_blocks seed number block zero = []
 random_blocks seed number block (suc more) =
     random_block seed number block ++ random_blocks seed number (block + 1) more
 
--- so many octets of the blocks from this one on: these are joined and cut
+-- this many octets of the blocks from this one on: these are joined and cut
 abbrev pub octets_from : ℕ → ℕ → ℕ → ℕ → List ℕ
 octets_from seed number block count =
     take count (random_blocks seed number block (count / 32 + 1))

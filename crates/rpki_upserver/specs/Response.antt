@@ -109,7 +109,7 @@ IsIssueAnswerIn scheme table request c o =
     (Unless (IsContained request.limit c.resource_set) (Refuses 1202 table o)
     (Fails table o ⊎ Issues table c request o))))
 
--- the same where there is such a class
+-- the rows for a request, by the class that it names, if there is one
 abbrev pub IsIssueAnswer : Relation → Table → IssuanceRequestFields → Option ClassState → Outcome
     → Type 0
 IsIssueAnswer scheme table request None o = Refuses 1201 table o

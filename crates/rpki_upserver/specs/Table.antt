@@ -130,7 +130,7 @@ pub record IsSound (set : Resources) (not_after : ℤ) (signing : SigningFields)
   pub signing_is : IsWritableSigning signing
   pub issued_are : AllByRecursion IsWritableIssued issued
 
--- the same of each class with its name
+-- what is told of each class, its name included, can be written so that it is read again
 abbrev pub AreWritable : Table → Type 0
 AreWritable table = AllByRecursion (λ c. IsWritableClass (entitled c)) table
 

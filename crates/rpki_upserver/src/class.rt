@@ -225,7 +225,7 @@ impl Class {
         Ok(ResourceClassEntitlements::new(name, set, self.not_after, certs, signing))
     }
 
-    /// The same with the one certificate at this place (RFC 6492, 3.4.2).
+    /// What the child is told of the class with the one certificate at this place (RFC 6492, 3.4.2).
     pub(crate) fn issuance(
         &self,
         alloc: Global,

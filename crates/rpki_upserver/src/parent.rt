@@ -356,7 +356,7 @@ impl Parent {
         }
     }
 
-    // The same, signed.
+    // The signed reply in which a decision is said.
     fn send<P: Scheme, S: Signer<P>>(
         &self,
         decision: &Decision,
@@ -407,7 +407,7 @@ impl Parent {
             (with_issuer self.old (N.state issuer.old)) (with_issuer self.new (N.state issuer.new))
             (seen_signer key.now (S.state signer.old) (S.state signer.new))) }
 
-        // Or nothing is sent, for a cause, and this is left.
+        // Where nothing is sent, there is a cause, and it says what was done.
         ensures unanswered { IfErr result (SendsNothing P.checks octets.now when
             (with_issuer self.old (N.state issuer.old)) (with_issuer self.new (N.state issuer.new))
             (seen_signer key.now (S.state signer.old) (S.state signer.new))) }
