@@ -155,8 +155,8 @@ pub record IsShown {Id : Type 0} (scheme : Relation) (words : List (List ℕ)) (
   pub steady : IsSteady source
 
 -- An answer is admitted exactly where words and input show it or it comes from the signer; that the
--- source failed, where its count rose; and want of memory. Every other than that the source failed
--- leaves the count.
+-- source failed, where its count rose; and want of memory. Every answer but ReadFault leaves the
+-- source's count as it was.
 abbrev pub IsAdmitted : {Id : Type 0} → Relation → List (List ℕ) → Seen → SignerSeen Id
     → Result (List ℕ) Refusal → Type 0
 IsAdmitted scheme words source signer (Ok text) = IsShown scheme words source signer (Ok text)

@@ -52,12 +52,13 @@ refusal_of_setup other = refusals.XmlError
 
 -- ---- the certificate
 
--- the octets begin with a certificate that is believed as a trust anchor's at the moment
+-- the octets begin with a certificate that is accepted as a trust anchor's certificate at the moment
 pub record IsAnchored (scheme : Relation) (octets : List ℕ) (when : ℤ) : Type 0 where
   pub certificate : CertificateFields
   pub believed : IsBelievedIn scheme octets when certificate
 
 -- the octets begin with no certificate, or with one that is not accepted as a trust anchor's
+-- certificate at the moment
 abbrev pub RefusesAnchor : Relation → List ℕ → ℤ → Refusal → Type 0
 RefusesAnchor scheme octets when refusals.InvalidTaCertEncoding =
     (c : CertificateFields) → BeginsCertificate octets c → ⊥

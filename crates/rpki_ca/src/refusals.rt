@@ -27,7 +27,8 @@ pub enum Refusal {
     InvalidCsrSyntax,
     /// The octets in the place of a setup message's certificate begin with none.
     InvalidTaCertEncoding,
-    /// The certificate of a setup message is not believed as a trust anchor's at the moment.
+    /// The certificate of a setup message is not accepted as a trust anchor's certificate at the
+    /// moment.
     InvalidTaCert,
     /// A check of the signed message failed: its number, from 1 to 14.
     Validation(u8),

@@ -183,7 +183,8 @@ impl Cert {
         Cert::take_from_counted(alloc, &mut cursor, steps)
     }
 
-    /// The certificate that stands next, by the cursor's rules. It ticks each time it looks at a header, and for each end mark.
+    /// The certificate that stands next, by the cursor's rules. It ticks each time it looks at a header, and for each end mark,
+    /// but not where it reads an algorithm again from its octets.
     pub fn take_from_counted<L: Ledger>(
         alloc: Global,
         cursor: &mut Cursor<'_>,

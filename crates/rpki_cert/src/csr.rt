@@ -94,8 +94,8 @@ impl<Alg: SignatureAlgorithm, Attributes: CsrAttributes> Csr<Alg, Attributes> {
         &self.content.subject
     }
 
-    /// The key for which a certificate is requested. That who signed the request had its private key is what `verify_signature` tells;
-    /// of who sent it, it tells nothing.
+    /// The key for which a certificate is requested. `verify_signature` tells that whoever signed the request held the private key. It
+    /// tells nothing of who sent it.
     pub fn public_key(&self) -> &PublicKey
         ensures { result.now ≡ self.now.tbs.key }
     {
@@ -228,7 +228,8 @@ impl<Alg: SignatureAlgorithm, Attributes: CsrAttributes> Csr<Alg, Attributes> {
         Csr::<Alg, Attributes>::take_from_counted(alloc, &mut cursor, steps)
     }
 
-    /// The request that stands next, by the cursor's rules. It ticks each time it looks at a header, and for each end mark.
+    /// The request that stands next, by the cursor's rules. It ticks each time it looks at a header, and for each end mark, but
+    /// not where it reads an algorithm, a kept identifier or a location again from its octets.
     pub fn take_from_counted<L: Ledger>(
         alloc: Global,
         cursor: &mut Cursor<'_>,

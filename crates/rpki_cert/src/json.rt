@@ -51,6 +51,7 @@ impl<Alg: SignatureAlgorithm, Attributes: CsrAttributes> Csr<Alg, Attributes> {
             → in_json (certification_request Attributes.reads Alg.reads Der) (string_bytes s)
             ≡ Some self.now) }
     {
+        // For the proof: what is written of a request is read as it.
         written_requests_are_read::<Alg, Attributes>();
         let octets = self.to_captured(alloc)?;
         write_octets(alloc, octets.as_slice())

@@ -84,7 +84,7 @@ impl UnsignedIdCert {
     }
 }
 
-// Both ends of a validity are in the years 0 to 9999.
+// For the proof: both ends of a validity are in the years 0 to 9999, by their type.
 fn are_moments(validity: Validity)
     ensures { IsMoment validity.not_before × IsMoment validity.not_after }
 {
@@ -163,6 +163,7 @@ impl IdCert {
         // What is written of it is read again, in both modes.
         ensures again { IfOk result (λ c. (mode : Mode) → IsReadAgain mode c) }
     {
+        // For the proof: both ends of the validity are in the years 0 to 9999.
         are_moments(validity);
         let key = key_within_limit(alloc, issuing_key_id, signer)?;
         let tbs = TbsIdCert::new(alloc, Serial::from(1), validity, &key, &key)?;
@@ -196,6 +197,7 @@ impl IdCert {
         // What is written of it is read again, in both modes.
         ensures again { IfOk result (λ c. (mode : Mode) → IsReadAgain mode c) }
     {
+        // For the proof: both ends of the validity are in the years 0 to 9999.
         are_moments(validity);
         let serial = random_serial(signer)?;
         issue_to(alloc, serial, ee_key, validity, issuing_key_id, signer)

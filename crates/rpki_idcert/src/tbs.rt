@@ -248,7 +248,8 @@ pub fn take_version<L: Ledger>(
 
 /// # Decoding
 impl TbsIdCert {
-    /// The fields that stand next, as `take_from` reads them. It ticks each time it looks at a header, and for each end mark.
+    /// The fields that stand next, as `take_from` reads them. It ticks each time it looks at a header, and for each end mark,
+    /// but not where it reads an algorithm again from its octets.
     pub fn take_from_counted<L: Ledger>(
         alloc: Global,
         cursor: &mut Cursor<'_>,

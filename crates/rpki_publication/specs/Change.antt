@@ -137,7 +137,7 @@ abbrev pub IsWritablePdu : QueryPdu → Type 0
 IsWritablePdu pdu.List = Unit {0}
 IsWritablePdu (pdu.PublishDeltaElement c) = IsWritableChange c
 
--- as what it is read again: with the tag that was written
+-- the form in which a change is read back: with the tag that was written
 unfoldable pub normal_change : PublishDeltaElement → PublishDeltaElement
 normal_change (change.Publish p) =
     change.Publish (record { tag = Some (tag_text p.tag); uri = p.uri; content = p.content })

@@ -95,7 +95,8 @@ impl PublicationCms {
         PublicationCms::decode_counted(alloc, octets, &mut steps)
     }
 
-    /// As [`PublicationCms::decode`]. It ticks each time it looks at a header, and for each end mark, in the signed message alone.
+    /// As [`PublicationCms::decode`]. It ticks each time it looks at a header, and for each end mark, in the signed message alone, but
+    /// not where it reads an algorithm again from its octets.
     pub fn decode_counted<L: Ledger>(
         alloc: Global,
         octets: &[u8],

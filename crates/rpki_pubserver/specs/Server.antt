@@ -32,7 +32,8 @@ with_store server store = record {
   store = store;
 }
 
--- the reply to octets at a moment: that to what is received of them under the publisher's key
+-- the reply to these octets at this moment: `reply_to` of what is received from them under the
+-- publisher's key
 pub record IsReply (scheme : Relation) (server : ServerFields) (octets : List ℕ) (when : ℤ)
     (reply : Reply) : Type 0 where
   pub result : Result Received ReceiveError

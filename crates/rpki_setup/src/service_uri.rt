@@ -58,6 +58,7 @@ impl ServiceUri {
         ensures again { IfOk result (λ s. (text : List ℕ) → service_uri_of_text text ≡ Some self.now
             → service_uri_of_json (string_bytes s) ≡ Some self.now) }
     {
+        // For the proof: the text of a service URI is read as it.
         printed_service_uri_is_read();
         write_string(alloc, self.as_str())
     }

@@ -144,8 +144,8 @@ signed_message_of u attributes crl certificate = assembled u.content attributes
     })
     (record { signed = record { slice = spelled_tbs_crl u.crl; signature = crl }; tbs = u.crl })
 
--- It has this content, says this moment as the time of signing, and is signed under this key, for which the issuing key issued a
--- certificate and a CRL.
+-- The message has this content, says this moment as the time of signing, and is signed under this key; the issuing key issued a
+-- certificate for that key, and a CRL.
 pub record IsMessageMade (scheme : Relation) (content : List ℕ) (now : ℤ)
     (issuing key : KeyFields) (serial : List ℕ) (m : MessageFields) : Type 0 where
   pub signature : SignatureParts RpkiAlgorithm
@@ -159,7 +159,7 @@ pub record IsMessageMade (scheme : Relation) (content : List ℕ) (now : ℤ)
   pub crl_made : IsCrlMade scheme issuing now crl
 
 -- The key for this one use is the one that the signer drew, and not the issuing key; the serial number is what it drew last. The keys
--- and the signatures have at most 2^16 octets each, the certificate's as it is issued.
+-- and the signatures have at most 2^16 octets each; that of the certificate's signature is in `IsIssued`.
 pub record IsCreated {Id : Type 0} (scheme : Relation) (content : List ℕ) (now : ℤ) (id : Id)
     (before after : SignerState Id) (m : MessageFields) : Type 0 where
   pub window_is : HasWindow now

@@ -41,7 +41,7 @@ fn is_same(a: &PublicKey, b: &PublicKey) -> bool
     a == b
 }
 
-// The moment and both ends of its window are in the years 0 to 9999.
+// For the proof: the moment and both ends of its window are in the years 0 to 9999, by their types.
 fn are_moments(window: Window)
     ensures moment { IsMoment window }
     ensures first { IsMoment (spec.window window).not_before }
@@ -206,6 +206,7 @@ impl SignedMessage {
         if !content_is_within_limit(content.as_slice()) {
             return Err(CreateError::TooLong);
         }
+        // For the proof: the moment and both ends of its window are in the years 0 to 9999.
         are_moments(window);
         create_within(alloc, content, window, issuing_key_id, signer)
     }

@@ -18,9 +18,9 @@ pub record HeldKey (Id : Type 0) : Type 0 where
   pub id : Id
   pub key : KeyFields
 
--- The keys that it holds; how often it failed, how often it gave a key or a signature of more than 2^16 octets, and how often a
--- key for one use that it holds, counts that may stop at 2^64 - 1; the key that it gave last for one use, if it did; and the octets
--- that it drew last, none before the first.
+-- The keys that it holds; how often it failed, how often it gave a key or a signature of more than 2^16 octets, and how often it
+-- gave, for one use, a key that it holds, counts that may stop at 2^64 - 1; the key that it gave last for one use, if it did; and the
+-- octets that it drew last, none before the first.
 pub record SignerState (Id : Type 0) : Type 0 where
   pub keyring : List (HeldKey Id)
   pub faults : ℕ

@@ -176,6 +176,7 @@ impl Parent {
             → RefusesReceipt P.checks kinds.Provisioning octets.now (self.now.child_key ∷ [])
             when e) }
     {
+        // For the proof: a message that was read is writable.
         read_is_writable();
         let kind = Kind::Provisioning;
         match receive(self.alloc, kind, octets, &self.child_key, when, verifier) {
@@ -302,7 +303,7 @@ impl Parent {
         }
         match message.payload() {
             Payload::List => {
-                // What stands in the table can be written.
+                // For the proof: what stands in the table can be written.
                 let _classes = self.classes();
                 Ok(Decision::Listed)
             }
