@@ -171,7 +171,7 @@ pub record IsFinished (scheme : Relation) (kind : Kind) (p : Plan) (s : Signatur
       → Accepted scheme kind octets keys when (normal_form message)
   pub written : output ≡ encode_lower octets ++ 10 ∷ []
 
--- such an output was written
+-- the output of `finish` was written
 abbrev pub Finishes : Relation → Kind → Plan → Signatures → List ℕ → Seen → Type 0
 Finishes scheme kind p s input sink = (output : List ℕ)
     × IsFinished scheme kind p s input output × Appends sink.before sink.after output

@@ -46,7 +46,7 @@ pub record IsExplanation (scheme : Relation) (line text : List ℕ) : Type 0 whe
   pub entry : (e : Entry line) → ExplainsEntry scheme line e text
   pub other : (Entry line → ⊥) → text ≡ codes "Usage"
 
--- those of all lines
+-- the texts are the explanations of all lines
 abbrev pub AreExplanations : Relation → List (List ℕ) → List (List ℕ) → Type 0
 AreExplanations scheme [] [] = ⊤
 AreExplanations scheme [] (text ∷ texts) = ⊥

@@ -52,17 +52,19 @@ normal_form (received.Provisioning m) = received.Provisioning m
 
 -- ---- octets that are no message of the kind
 
--- they have not the form of one
+-- the octets have not the form of a message of the kind
 abbrev pub HasNoForm : Kind → List ℕ → Type 0
 HasNoForm kinds.Publication octets = publication.IsNoMessage octets
 HasNoForm kinds.Provisioning octets = provisioning.HasNoShape octets
 
--- they have the form of one, and the octets of a certificate in it begin with none
+-- the octets have the form of a message of the kind, and the octets of a certificate in it begin with
+-- none
 abbrev pub HoldsNoCertificate : Kind → List ℕ → Type 0
 HoldsNoCertificate kinds.Publication octets = ⊥
 HoldsNoCertificate kinds.Provisioning octets = faults.HoldsNoCertificate octets
 
--- they have the form of one, and the octets of the request in it begin with none
+-- the octets have the form of a message of the kind, and the octets of the request in it begin with
+-- none
 abbrev pub HoldsNoRequest : Kind → List ℕ → Type 0
 HoldsNoRequest kinds.Publication octets = ⊥
 HoldsNoRequest kinds.Provisioning octets = faults.HoldsNoRequest octets

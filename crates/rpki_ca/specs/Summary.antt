@@ -41,7 +41,7 @@ made_at = pos 1700000000
 abbrev pub object_at : ℕ → ℕ → List ℕ
 object_at seed place = to_be_bytes w64 seed ++ to_be_bytes w64 place
 
--- where it is published
+-- where the object at a place is published
 abbrev pub uri_at : ℕ → List ℕ
 uri_at place = codes "rsync://localhost/ca/f" ++ decimal place ++ codes ".txt"
 
@@ -81,7 +81,7 @@ change_at seed place =
     else if place % 3 == 1 then change.Update (update_at seed place)
     else change.Withdraw (withdraw_at seed place)
 
--- those at the places 0 and up, so many
+-- the changes at the places from 0 on, as many as `count` says
 abbrev pub changes : ℕ → ℕ → List PublishDeltaElement
 changes seed count = map (change_at seed) (range_with_len 0 count)
 
@@ -162,7 +162,7 @@ IsMakeAnswer scheme count seed signer (Err refusal) =
 
 -- ---- at the end of a call
 
--- such a summary was written
+-- the summary of the message with so many elements was written
 pub record Makes {Id : Type 0} (scheme : Relation) (count seed : ℕ) (signer : SignerSeen Id)
     (sink : Seen) : Type 0 where
   pub text : List ℕ

@@ -92,7 +92,7 @@ impl From<publication::Error> for ReceiveError {
     }
 }
 
-// As an error of the provisioning protocol is passed on.
+// How an error of the provisioning protocol is passed on.
 fn of_provisioning(error: &updown::Error) -> ReceiveError
     ensures { result ≡ of_provisioning error.now }
 {

@@ -23,11 +23,11 @@ pub enum Payload {
     ListResponse(ResourceClassListResponse),
     /// A certificate is asked for (3.4.1).
     Issue(IssuanceRequest),
-    /// It was issued (3.4.2).
+    /// A certificate was issued (3.4.2).
     IssueResponse(IssuanceResponse),
     /// The certificates of a key are to be revoked (3.5.1).
     Revoke(RevocationRequest),
-    /// They were (3.5.2).
+    /// The certificates of a key were revoked (3.5.2).
     RevokeResponse(RevocationResponse),
     /// What was asked for is not done (3.6).
     ErrorResponse(NotPerformedResponse),

@@ -48,7 +48,7 @@ object_of (change.Publish p) = Some p.content
 object_of (change.Update u) = Some u.content
 object_of (change.Withdraw w) = None
 
--- there is a place for each
+-- there is a place for the URI of each change
 abbrev pub HavePlaces : Places → List PublishDeltaElement → Type 0
 HavePlaces places changes = AllByRecursion (λ e. HasPlace places (uri_of e)) changes
 

@@ -64,7 +64,7 @@ pub record FailsReply {Id E : Type 0} (scheme : Relation) (server : ServerFields
   pub is : IsReply scheme server octets when reply
   pub fails : FailsToSign scheme when signer (received.Publication reply.message) error
 
--- there is a reply whose text has more than 2^31 octets
+-- a reply to the octets has a text of more than 2^31 octets
 pub record HasLongReply (scheme : Relation) (server : ServerFields) (octets : List ℕ) (when : ℤ)
     : Type 0 where
   pub reply : Reply

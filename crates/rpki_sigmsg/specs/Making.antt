@@ -34,11 +34,11 @@ use Rattle.rpki_sigmsg.specs.TbsCrl.{TbsCrlFields}
 
 -- ---- the moment
 
--- from 300 seconds before it to 300 seconds after it
+-- the window of a moment: from 300 seconds before it to 300 seconds after it
 abbrev pub window : ℤ → ValidityFields
 window now = record { not_before = now -ℤ pos 300; not_after = now +ℤ pos 300 }
 
--- which begins in 1970 or later, and ends in the year 9999 or before
+-- the window of the moment begins in 1970 or later, and ends in the year 9999 or before
 pub record HasWindow (now : ℤ) : Type 0 where
   pub first : pos 0 ≤ℤ (now -ℤ pos 300)
   pub last : (now +ℤ pos 300) ≤ℤ pos 253402300799

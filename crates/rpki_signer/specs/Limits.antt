@@ -110,7 +110,7 @@ pub record IsFaulted {Id : Type 0} (before after : SignerState Id) : Type 0 wher
   pub uncounted : after.overlong ≡ before.overlong
   pub told : Rose before.faults after.faults
 
--- they weren't given, or are too long
+-- a signature under a key for one use, and that key, weren't given, or one of them is too long
 abbrev pub RefusesOneOff : {Id E : Type 0} → Relation → List ℕ → SignerState Id → SignerState Id
     → MakeError E → Type 0
 RefusesOneOff scheme message before after make.TooLong =
