@@ -153,7 +153,7 @@ pub record IsCommand (words : List (List ℕ)) (command : Command) : Type 0 wher
 abbrev pub IsNoCommand : List (List ℕ) → Type 0
 IsNoCommand words = (c : Command) → IsCommand words c → ⊥
 
--- it has one to eight keys, if it has any, and makes at most 10000 elements
+-- a command has one to eight keys, if it has any, and makes at most 10000 elements
 abbrev pub IsLimited : Command → Type 0
 IsLimited Content = ⊤
 IsLimited (Receive kind when keys) = (1 ≤ length keys) × (length keys ≤ 8)

@@ -99,7 +99,7 @@ pub record EndsFailed (first : List (List ℕ) → Type 0) (status : ℕ) (sink 
   pub part : AppendsBehind sink.before sink.after texts (last ++ 10 ∷ [])
   pub failed : HasFailed sink
 
--- how a program ends that answers line by line
+-- how a program ends that answers line by line, and what it wrote then
 abbrev pub EndsLines : (List (List ℕ) → List ℕ → Type 0) → (List (List ℕ) → Type 0)
     → (Refusal → Type 0) → ℕ → Seen → Type 0
 EndsLines all first may_refuse status sink =
@@ -127,7 +127,7 @@ pub record EndsRead (ends_on : List ℕ → Type 0) (source : Seen) : Type 0 whe
 abbrev pub EndsRun : (List ℕ → Type 0) → ℕ → Seen → Seen → Type 0
 EndsRun ends_on status source sink = EndsUnread status source sink ⊎ EndsRead ends_on source
 
--- ---- what was written before a program that answers line by line ends
+-- ---- what was written before the program ends; `EndsLines` says what was when it ended
 
 -- the answers to all lines were written, and the closing text
 pub record WroteAll (all : List (List ℕ) → List ℕ → Type 0) (sink : Seen) : Type 0 where

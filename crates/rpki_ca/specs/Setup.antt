@@ -80,7 +80,7 @@ pub record IsSetUp (scheme : Relation) (kind : SetupKind) (input : List ℕ) (wh
 abbrev pub IsNoSetup : SetupKind → List ℕ → Type 0
 IsNoSetup kind input = (message : SetupMessage) → ReadsSetup kind input message → ⊥
 
--- it reads as one, whose certificate is refused so
+-- the input reads as the setup message, whose certificate is refused so
 pub record HoldsNoAnchor (scheme : Relation) (kind : SetupKind) (input : List ℕ) (when : ℤ)
     (refusal : Refusal) : Type 0 where
   pub message : SetupMessage

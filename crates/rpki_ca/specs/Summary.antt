@@ -45,7 +45,7 @@ object_at seed place = to_be_bytes w64 seed ++ to_be_bytes w64 place
 abbrev pub uri_at : ℕ → List ℕ
 uri_at place = codes "rsync://localhost/ca/f" ++ decimal place ++ codes ".txt"
 
--- its digest as a tag
+-- the digest of the object at a place, as a tag
 abbrev pub tag_at : ℕ → ℕ → List ℕ
 tag_at seed place = encode_lower (sha256 (object_at seed place))
 
@@ -57,7 +57,7 @@ publish_at seed place = record {
   content = object_at seed place;
 }
 
--- it is published in the place of one whose octets were these and a 0
+-- the object at a place is published in the place of one whose octets were these and a 0
 abbrev pub update_at : ℕ → ℕ → UpdateFields
 update_at seed place = record {
   tag = Some (tag_at seed place);
@@ -66,7 +66,7 @@ update_at seed place = record {
   hash = sha256 (object_at seed place ++ 0 ∷ []);
 }
 
--- it is withdrawn
+-- the object at a place is withdrawn
 abbrev pub withdraw_at : ℕ → ℕ → WithdrawFields
 withdraw_at seed place = record {
   tag = Some (tag_at seed place);

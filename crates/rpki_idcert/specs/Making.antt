@@ -142,7 +142,7 @@ StopsAtEndEntity id before after error =
 
 -- ---- what is written is read
 
--- its octets begin with it, whatever stands behind them
+-- a certificate's octets begin with it, whatever stands behind them
 abbrev pub IsReadAgain : Mode → CertificateFields → Type 0
 IsReadAgain mode c = (rest : List ℕ) → CanBeSpelled spelled_x509 c.signed
     → BeginsAs (identity_certificate mode) mode (spelled_data spelled_x509 c.signed ++ rest) c

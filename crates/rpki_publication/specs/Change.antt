@@ -157,7 +157,7 @@ normal_pdu (pdu.PublishDeltaElement c) = pdu.PublishDeltaElement (normal_change 
 
 -- ---- changes of which a query's text is short
 
--- its tag, its URI and its base64 text have at most 64 octets each, and a hash is a digest
+-- a change's tag, its URI and its base64 text have at most 64 octets each, and a hash is a digest
 abbrev pub IsSmallChange : PublishDeltaElement → Type 0
 IsSmallChange (change.Publish p) =
     IfSome p.tag (λ tag. length tag ≤ 64)

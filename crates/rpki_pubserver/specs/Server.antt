@@ -49,7 +49,7 @@ pub record IsSigned {Id : Type 0} (scheme : Relation) (when : ℤ) (signer : Sig
   pub message_is : c.message ≡ message
   pub signed : IsSignedAs scheme when signer (received.Publication message) c.signed
 
--- it holds the reply to octets, and the server has the objects behind it
+-- the signed message holds the reply to octets, and the server has the objects behind it
 pub record IsAnswered {Id : Type 0} (scheme : Relation) (server : ServerFields) (octets : List ℕ)
     (when : ℤ) (signer : SignerSeen Id) (c : CmsFields) (next : ServerFields) : Type 0 where
   pub reply : Reply

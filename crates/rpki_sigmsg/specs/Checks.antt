@@ -41,7 +41,7 @@ key_checks m issuer when q8 q10 =
     ++ (crl_checks m.crls issuer when q10
     ++ (is_not_revoked m ∷ []))
 
--- all fourteen
+-- all fourteen checks in their order
 abbrev pub checks : MessageFields → KeyFields → ℤ → Bool → Bool → Bool → List Bool
 checks m issuer when q3 q8 q10 =
     message_checks m q3 ++ key_checks m issuer when q8 q10

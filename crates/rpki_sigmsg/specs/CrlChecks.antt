@@ -50,6 +50,6 @@ pub record IsListBelieved (scheme : Relation) (c : CrlFields) (issuer : KeyField
   pub signed : IsSigned scheme c issuer
   pub passes : first_failure 9 (crl_checks (c ∷ []) issuer when true) ≡ Ok tt
 
--- all are verifications
+-- all checks of CRLs are verifications
 abbrev pub crl_kind : ℕ → ValidationKind
 crl_kind n = Verification

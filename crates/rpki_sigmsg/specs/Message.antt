@@ -33,7 +33,7 @@ pub record MessageFields : Type 0 where
   pub certificate : CertificateFields
   pub crls : List CrlFields
 
--- one or two
+-- a list of one or two
 abbrev pub AreOneOrTwo : {X : Type 0} → List X → Type 0
 AreOneOrTwo list = (1 ≤ length list) × (length list ≤ 2)
 

@@ -88,7 +88,7 @@ pub record StopsBehindKey {Id E : Type 0} (id : Id) (before after : SignerState 
   pub given : IsShortKey id before between key
   pub refuses : RefusesSignature id between after error
 
--- it stops at the key or at the signature
+-- a call that asks for a key and signs under it stops at the key or at the signature
 abbrev pub StopsInTurn : {Id E : Type 0} → Id → SignerState Id → SignerState Id → MakeError E
     → Type 0
 StopsInTurn id before after error =

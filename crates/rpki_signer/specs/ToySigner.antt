@@ -67,7 +67,7 @@ held_key seed key = record { id = key.number; key = key_of seed key }
 abbrev pub keyring_of : ℕ → List ToyKey → List (HeldKey ℕ)
 keyring_of seed keys = map (held_key seed) keys
 
--- its identifiers are numbers, and it gives nothing that is too long
+-- a toy signer as a signer: its identifiers are numbers, and it gives nothing that is too long
 abbrev pub state_of : ToyState → SignerState ℕ
 state_of s = record {
   keyring = keyring_of s.seed s.keys;
@@ -83,7 +83,7 @@ pub record IsSound (seed next : ℕ) (keys : List ToyKey) : Type 0 where
   pub distinct : AreDistinct (keyring_of seed keys)
   pub below : AllByRecursion (λ k. k.number < next) keys
 
--- its counts and its next number are numbers of 64 bits
+-- a toy signer's counts and its next number are numbers of 64 bits
 pub record AreCounts (s : ToyState) : Type 0 where
   pub next : s.next < 2 ^ 64
   pub faults : s.faults < 2 ^ 64
@@ -232,7 +232,7 @@ pub record IsToyFound (number : ℕ) (format : PublicKeyFormat) (before after : 
   pub fits : key.format ≡ format
   pub is : after ≡ counted before
 
--- it has another format
+-- the key has another format than the one that is asked for
 pub record IsToyUnfit (number : ℕ) (format : PublicKeyFormat) (before after : ToyState) : Type 0
   where
     pub key : ToyKey

@@ -18,7 +18,7 @@ pub record Call : Type 0 where
   pub message : MessageFields
   pub outcome : Outcome
 
--- each came of the parent and the issuer that the calls before it left
+-- each call came of the parent and the issuer that the calls before it left
 abbrev pub AreMade : Relation → ParentState → IssuerState → List Call → Type 0
 AreMade scheme p issuer [] = ⊤
 AreMade scheme p issuer (call ∷ calls) =

@@ -45,7 +45,7 @@ pub record IsFirstClass (signing : SigningFields) (c : ClassState) : Type 0 wher
   pub set_is : IsFirstSet set
   pub is : c ≡ new_class (codes "0") set (pos 2524607999) (codes "rsync://localhost/repo/") signing
 
--- It calls itself `Bob` and the child `Carol`, and has this one class.
+-- The parent calls itself `Bob` and the child `Carol`, and has this one class.
 pub record IsFirstParent (key : KeyFields) (signing : SigningFields) (p : ParentState) : Type 0
   where
     pub c : ClassState

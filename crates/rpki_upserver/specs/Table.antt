@@ -153,8 +153,8 @@ new_parent me child key table = record { me = me; child = child; child_key = key
 abbrev pub with_table : Table → ParentState → ParentState
 with_table table p = record p { table = table }
 
--- both are handles, and the classes have distinct names, which can be written so that they are read
--- again
+-- The names of parent and child are handles, and the classes have distinct names, which can be written so that they are read
+-- again.
 pub record IsParent (me child : List ℕ) (table : Table) : Type 0 where
   pub me_is : IsHandle me
   pub child_is : IsHandle child
