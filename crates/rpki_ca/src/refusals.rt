@@ -21,9 +21,11 @@ pub enum Refusal {
     CmsDecode,
     /// The content, or the input, is no message of the kind that was asked for.
     XmlError,
-    /// It has the form of one, and the octets of a certificate in it begin with none.
+    /// The content, or the input, has the form of a message, and the octets of a certificate in it begin
+    /// with none.
     CertSyntax,
-    /// It has the form of one, and the octets of the certificate request in it begin with none.
+    /// The content, or the input, has the form of a message, and the octets of the certificate request
+    /// in it begin with none.
     InvalidCsrSyntax,
     /// The octets in the place of a setup message's certificate begin with none.
     InvalidTaCertEncoding,

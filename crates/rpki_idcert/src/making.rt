@@ -156,11 +156,11 @@ impl IdCert {
         ensures first_refusal { IfErr result (StopsInTurn issuing_key_id.now
             (S.state signer.old) (S.state signer.new)) }
 
-        // It is believed at each second of its validity.
+        // The certificate is believed at each second of its validity.
         ensures believed { IfOk result (λ c. (when : ℤ) → validity.not_before ≤ℤ when
             → when ≤ℤ validity.not_after → IsTaBelieved P.checks c when) }
 
-        // What is written of it is read again, in both modes.
+        // What is written of the certificate is read again, in both modes.
         ensures again { IfOk result (λ c. (mode : Mode) → IsReadAgain mode c) }
     {
         // For the proof: both ends of the validity are in the years 0 to 9999.
@@ -194,7 +194,7 @@ impl IdCert {
         ensures first_refusal { IfErr result (StopsAtEndEntity issuing_key_id.now
             (S.state signer.old) (S.state signer.new)) }
 
-        // What is written of it is read again, in both modes.
+        // What is written of the certificate is read again, in both modes.
         ensures again { IfOk result (λ c. (mode : Mode) → IsReadAgain mode c) }
     {
         // For the proof: both ends of the validity are in the years 0 to 9999.

@@ -174,13 +174,13 @@ impl SignedMessage {
             (spec.CreateFails content now issuing_key_id.now
             (S.state signer.old) (S.state signer.new)) }
 
-        // It is believed under the issuing key at each second of the window.
+        // The message is believed under the issuing key at each second of the window.
         ensures believed { IfOk result (λ m. (key : KeyFields)
             → Holds (S.state signer.old).keyring issuing_key_id.now key
             → (when : ℤ) → (spec.window now).not_before ≤ℤ when
             → when ≤ℤ (spec.window now).not_after → IsBelieved P.checks m key when) }
 
-        // What is written of it is read again, in both modes, whatever stands behind it.
+        // What is written of the message is read again, in both modes, whatever stands behind it.
         ensures again { IfOk result (λ m. (mode : Mode) (rest : List ℕ) → CanBeSpelled m
             → BeginsAs (signed_message mode) mode (rewritten m ++ rest) m) }
 

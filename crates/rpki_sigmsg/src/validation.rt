@@ -154,7 +154,7 @@ impl SignedMessage {
         issuer_key: &PublicKey,
         when: Time,
     ) -> [bool; 14]
-        // All are true exactly where the message is believed.
+        // All fourteen are true exactly where the message is believed.
         ensures believed { All (λ b. b ≡ true) result ↔
             spec.IsBelieved P.checks self.now issuer_key.now when }
 

@@ -25,7 +25,7 @@ impl Model for ResourceClassListResponse {
 }
 
 impl ResourceClassListResponse {
-    /// These classes. It takes no memory.
+    /// The response with these classes. It takes no memory.
     pub fn new(classes: Vec<ResourceClassEntitlements>) -> ResourceClassListResponse
         ensures { result ≡ classes.items }
     {

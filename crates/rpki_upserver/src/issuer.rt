@@ -14,7 +14,7 @@ use std::alloc::Global;
 /// Why an issuer did nothing.
 #[derive(Clone, Copy, Debug, PartialEq, Eq)]
 pub enum IssuerError {
-    /// It failed, and its count of faults rose.
+    /// The issuer failed, and its count of faults rose.
     Failed,
     /// Memory ran out.
     OutOfMemory,

@@ -14,7 +14,7 @@ use crate::kept::{Text, name_from, narrow};
 use std::alloc::Global;
 use std::mem;
 
-/// One more run in the innermost open element.
+/// Adds one more run to the innermost open element.
 pub(crate) fn add_run(
     alloc: Global,
     source: &[u8],
