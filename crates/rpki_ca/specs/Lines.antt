@@ -20,7 +20,7 @@ use Rattle.rpki_ca.specs.Seen.{Seen, HasFailed, IsSteady, OfInput}
 abbrev pub pieces_of : ℕ → List ℕ → List (List ℕ)
 pieces_of separator octets = slice_split (λ octet. octet == separator) octets
 
--- the same without a last piece that is empty
+-- pieces without the last one if that is empty
 abbrev pub without_empty_end : List (List ℕ) → List (List ℕ)
 without_empty_end [] = []
 without_empty_end ([] ∷ []) = []
@@ -99,33 +99,35 @@ pub record EndsFailed (first : List (List ℕ) → Type 0) (status : ℕ) (sink 
   pub part : AppendsBehind sink.before sink.after texts (last ++ 10 ∷ [])
   pub failed : HasFailed sink
 
--- how a program ends that answers line by line
+-- how a program ends that answers line by line, and what it wrote then
 abbrev pub EndsLines : (List (List ℕ) → List ℕ → Type 0) → (List (List ℕ) → Type 0)
     → (Refusal → Type 0) → ℕ → Seen → Type 0
 EndsLines all first may_refuse status sink =
     EndsDone all status sink
     ⊎ (EndsRefused first may_refuse status sink ⊎ EndsFailed first status sink)
 
--- it refuses to go on for want of memory alone
+-- the one refusal of a program that stops for want of memory alone
 abbrev pub IsOutOfMemory : Refusal → Type 0
 IsOutOfMemory refusal = refusal ≡ OutOfMemory
 
--- How a program ends that reads its input whole: the input isn't read, and that is what is answered;
+-- The input isn't read whole, and the program ends with the cause of that.
 pub record EndsUnread (status : ℕ) (source sink : Seen) : Type 0 where
   pub refusal : Refusal
   pub unread : IsUnread source refusal
   pub ends : Ends (Err refusal) status sink
 
--- or it is, up to its end, and the program ends so on it.
+-- The input, of at most 2^26 octets, is read up to its end, and the program ends on it as `ends_on`
+-- says.
 pub record EndsRead (ends_on : List ℕ → Type 0) (source : Seen) : Type 0 where
   pub steady : IsSteady source
   pub whole : IsAtEnd source.after
   pub ends : OfInput source.before (λ input. (length input ≤ 2 ^ 26) × ends_on input)
 
+-- how a program ends that reads its input whole
 abbrev pub EndsRun : (List ℕ → Type 0) → ℕ → Seen → Seen → Type 0
 EndsRun ends_on status source sink = EndsUnread status source sink ⊎ EndsRead ends_on source
 
--- ---- the same before it ends
+-- ---- what was written before the program ends; `EndsLines` says what was when it ended
 
 -- the answers to all lines were written, and the closing text
 pub record WroteAll (all : List (List ℕ) → List ℕ → Type 0) (sink : Seen) : Type 0 where
@@ -135,7 +137,7 @@ pub record WroteAll (all : List (List ℕ) → List ℕ → Type 0) (sink : Seen
   pub whole : Appends sink.before sink.after (answer_lines texts ++ closing)
   pub steady : IsSteady sink
 
--- those to the first lines were written, and it stops with the refusal
+-- the answers to the first lines were written, and the program stops with the refusal
 pub record WroteFirst (first : List (List ℕ) → Type 0) (may_refuse : Refusal → Type 0)
     (refusal : Refusal) (sink : Seen) : Type 0 where
   pub texts : List (List ℕ)
@@ -144,8 +146,8 @@ pub record WroteFirst (first : List (List ℕ) → Type 0) (may_refuse : Refusal
   pub whole : Appends sink.before sink.after (answer_lines texts)
   pub steady : IsSteady sink
 
--- those to the first lines were written, and a part of the line with the next one, where the sink
--- failed; or all answers, and a part of the closing text
+-- the answers to the first lines were written, and a part of the line with the next one, where the
+-- sink failed
 pub record FailedFirst (first : List (List ℕ) → Type 0) (sink : Seen) : Type 0 where
   pub texts : List (List ℕ)
   pub last : List ℕ
@@ -154,6 +156,7 @@ pub record FailedFirst (first : List (List ℕ) → Type 0) (sink : Seen) : Type
   pub part : AppendsBehind sink.before sink.after texts (last ++ 10 ∷ [])
   pub failed : HasFailed sink
 
+-- all answers were written, and a part of the closing text, where the sink failed
 pub record FailedAll (all : List (List ℕ) → List ℕ → Type 0) (sink : Seen) : Type 0 where
   pub texts : List (List ℕ)
   pub closing : List ℕ
@@ -161,6 +164,7 @@ pub record FailedAll (all : List (List ℕ) → List ℕ → Type 0) (sink : See
   pub part : AppendsBehind sink.before sink.after texts closing
   pub failed : HasFailed sink
 
+-- what was written where all lines were answered, or answering stopped for this cause
 abbrev pub Answered : (List (List ℕ) → List ℕ → Type 0) → (List (List ℕ) → Type 0)
     → (Refusal → Type 0) → Result (Unit {0}) Stop → Seen → Type 0
 Answered all first may_refuse (Ok done) sink = WroteAll all sink
@@ -168,7 +172,7 @@ Answered all first may_refuse (Err (Refused refusal)) sink =
     WroteFirst first may_refuse refusal sink
 Answered all first may_refuse (Err WriteFault) sink = FailedFirst first sink ⊎ FailedAll all sink
 
--- how it ends where it stopped
+-- how a program ends that stopped for this cause, behind what it wrote
 abbrev pub EndsStopped : Stop → ℕ → Seen → Type 0
 EndsStopped (Refused refusal) status sink = Ends (Err refusal) status sink
 EndsStopped WriteFault status sink =

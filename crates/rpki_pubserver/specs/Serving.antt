@@ -31,7 +31,7 @@ abbrev pub AreAllReplied : {Id : Type 0} → Relation → ℤ → SignerSeen Id 
     → List (List ℕ) → List (List ℕ) → List ℕ → Type 0
 AreAllReplied scheme when signer = AreAllSteps (IsReplied scheme when signer) (λ server. [])
 
--- they are the replies to the first lines
+-- the texts are the replies to the first lines
 abbrev pub AreFirstReplied : {Id : Type 0} → Relation → ℤ → SignerSeen Id → ServerFields
     → List (List ℕ) → List (List ℕ) → Type 0
 AreFirstReplied scheme when signer = AreFirstSteps (IsReplied scheme when signer)

@@ -18,11 +18,11 @@ use Rattle.rpki_upserver.specs.Table.{ParentState}
 
 -- ---- one line
 
--- The octets are a message of the child, and the text is the hexadecimal of a signed message that
--- was created with the reply to it, as `create` does: at the moment, under the issuing key, which
--- the signer holds, and with what it has drawn in some later state. Of that message the reply is
--- received: it is accepted under every list of keys that holds the issuing key, at each second from
--- 300 before the moment to 300 after it.
+-- The octets are accepted under the child's key, and the text is the hexadecimal of a signed message
+-- that was created with the reply to them, as `create` does: at the moment, under the issuing key,
+-- which the signer holds, and with what it has drawn in some later state. The reply is received of
+-- that message: it is accepted under every list of keys that holds the issuing key, at each second
+-- from 300 before the moment to 300 after it.
 pub record IsReplied {Id : Type 0} (scheme : Relation) (when : ℤ) (signer : SignerSeen Id)
     (before : ParentAndIssuer) (octets text : List ℕ) (after : ParentAndIssuer) : Type 0 where
   pub payload : Payload
@@ -32,7 +32,8 @@ pub record IsReplied {Id : Type 0} (scheme : Relation) (when : ℤ) (signer : Si
       (received.Provisioning (reply before.parent payload)) when
       (seen_signer signer.id signer.before later) text
 
--- They are none, and the text is what `receive provisioning` writes of them under the child's key.
+-- The octets are not accepted, and the text is what `receive provisioning` writes of them under the
+-- child's key.
 -- Parent and issuer are as before.
 pub record IsTurnedAway (scheme : Relation) (when : ℤ) (before : ParentAndIssuer)
     (octets text : List ℕ) (after : ParentAndIssuer) : Type 0 where
@@ -69,8 +70,8 @@ pub record IsUnsentAt (scheme : Relation) (when : ℤ) (last : ParentAndIssuer)
   pub payload : Payload
   pub decided : IsDecided scheme octets when last (with_issuer parent issuer) payload
 
--- They are the answers to the first lines. The issuer did what they say, and besides at most what
--- the next line asks for.
+-- The texts are the answers to the first lines. The issuer did what they say, and besides at most
+-- what the next line asks for.
 pub record AreFirstAnswered {Id : Type 0} (scheme : Relation) (when : ℤ) (signer : SignerSeen Id)
     (start : ParentAndIssuer) (issuer : IssuerState) (messages texts : List (List ℕ)) : Type 0
   where

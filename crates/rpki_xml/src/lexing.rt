@@ -229,7 +229,7 @@ fn characters_until<'a>(
     Ok((Text::Own(Box::new(alloc, value)?), rest))
 }
 
-// The same, in octets of their own.
+// The characters up to `stop`, or to the end where `at_end` says so, in octets of their own.
 fn resolved_until<'a>(
     alloc: Global,
     at_end: bool,

@@ -14,7 +14,7 @@ use crate::kept::{Text, name_from, narrow};
 use std::alloc::Global;
 use std::mem;
 
-/// One more run in the innermost open element.
+/// Adds one more run to the innermost open element.
 pub(crate) fn add_run(
     alloc: Global,
     source: &[u8],
@@ -136,7 +136,7 @@ fn with_run(alloc: Global, source: &[u8], rest: Rest, run: Text) -> Result<Rest,
     rest_of(alloc, joined, namespace, attributes)
 }
 
-// The same, of an element with so many elements below it, at its end.
+// What an element has beside its name at its end, with so many elements below it.
 fn with_settled(alloc: Global, source: &[u8], below: u32, rest: Rest) -> Result<Rest, XmlError>
     ensures { Gives (settled_parts below (parts_in source.now rest)) (parts_in source.now) result }
 {
