@@ -123,7 +123,7 @@ fn verified<A: Answers>(
     Ok(fields)
 }
 
-// The same, whatever questions and answers they are.
+// What the verifier of these answers says of each question, whatever questions and answers they are.
 fn verified_given(alloc: Global, questions: &[Question], answers: &[bool]) -> io::Result<Fields> {
     verified::<Brand>(alloc, questions, answers)
 }

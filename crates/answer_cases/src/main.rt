@@ -171,13 +171,13 @@ fn is_run_whole(alloc: Global, line: &str) -> io::Result<bool> {
     is_answered(alloc, &case.words, &case, 1 << 20)
 }
 
-// The same, and an octet at a time.
+// Whether a program's case is answered as expected, whole and an octet at a time.
 fn is_run(alloc: Global, line: &str) -> io::Result<bool> {
     let case = case_of(alloc, line)?;
     holds_with(alloc, &case.words, &case)
 }
 
-// The same, where the toy scheme answers.
+// Whether a program's case is answered as expected where the toy scheme gives the answers.
 fn is_run_by_toy(alloc: Global, line: &str) -> io::Result<bool> {
     let case = case_of(alloc, line)?;
     let words = with_answers(alloc, &case)?;

@@ -100,7 +100,7 @@ fn equal_to<T: PartialEq>(alloc: Global, value: &T, list: &[T]) -> io::Result<St
     Ok(digits)
 }
 
-// The same of each value of the list.
+// For each value of the list a field: a digit for each of them, whether it is equal to that value.
 fn equal<T: PartialEq>(alloc: Global, list: &[T]) -> io::Result<Fields> {
     let mut fields = Fields::new(alloc);
     for value in list {

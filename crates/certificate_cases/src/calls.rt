@@ -81,7 +81,7 @@ fn sign_once<P: Scheme, S: Signer<P, KeyId = u64>, Alg: SignatureAlgorithm>(
     }
 }
 
-// So many octets that are drawn.
+// Draws this number of octets.
 fn draw<P: Scheme, S: Signer<P, KeyId = u64>>(
     alloc: Global,
     fields: &mut Fields,

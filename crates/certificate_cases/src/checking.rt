@@ -99,7 +99,7 @@ fn signed(alloc: Global, cert: &IdCert, asked: &Asked<'_>) -> Result<Fields, Dec
     Ok(Fields::truth(alloc, holds)?)
 }
 
-// The same of the signed data by themselves.
+// Whether the certificate's signed data hold under the key, asked of these data by themselves.
 fn data_signed(alloc: Global, cert: &IdCert, asked: &Asked<'_>) -> Result<Fields, DecodeError> {
     let key = key_of(alloc, asked)?;
     let data = cert.signed_data();

@@ -34,7 +34,7 @@ fn tbs_shown(alloc: Global, tbs: &SignedMessageTbsCrl) -> Result<Fields, DecodeE
     Ok(fields)
 }
 
-// The same of a copy.
+// What is shown of a copy of a CRL's signed fields.
 fn tbs_copied(alloc: Global, tbs: &SignedMessageTbsCrl) -> Result<Fields, DecodeError> {
     tbs_shown(alloc, &tbs.clone(alloc)?)
 }
@@ -45,7 +45,7 @@ fn crl_written(alloc: Global, crl: &SignedMessageCrl) -> Result<Writer, OutOfMem
     Ok(out)
 }
 
-// The same of a CRL, the signed octets, the signature, and what is written.
+// What is shown of a CRL's signed fields, then its signed octets, the signature, and what is written of it.
 fn fields_shown(alloc: Global, crl: &SignedMessageCrl) -> Result<Fields, DecodeError> {
     let mut fields = tbs_shown(alloc, crl.tbs())?;
     fields.octets(crl.signed_data().slice().as_slice())?;
@@ -54,7 +54,7 @@ fn fields_shown(alloc: Global, crl: &SignedMessageCrl) -> Result<Fields, DecodeE
     Ok(fields)
 }
 
-// The same of a copy of the CRL.
+// What is shown of a copy of the CRL.
 fn crl_shown(alloc: Global, crl: &SignedMessageCrl) -> Result<Fields, DecodeError> {
     fields_shown(alloc, &crl.clone(alloc)?)
 }
@@ -82,7 +82,7 @@ fn list_shown(alloc: Global, list: &RevokedCertificates) -> Result<Fields, Decod
     Ok(fields)
 }
 
-// The same of a copy.
+// What is shown of a copy of the list.
 fn list_copied(alloc: Global, list: &RevokedCertificates) -> Result<Fields, DecodeError> {
     list_shown(alloc, &list.clone(alloc)?)
 }

@@ -75,7 +75,7 @@ pub fn write_text<O: Sink>(output: &mut O, text: &[u8]) -> Status
 }
 
 /// The toy signer of the seed, of which no call is to fail, with the RSA key that its first call makes, and that key's identifier.
-/// OutOfMemory alone is refused.
+/// The only refusal is OutOfMemory.
 pub fn signer_of(alloc: Global, seed: u64) -> Result<(ToySigner, u64), Refusal>
     ensures signer { IfOk result (λ r. r.0 ≡ after_creating Rsa (toy_signer seed [])) }
     ensures key { IfOk result (λ r. (key : KeyFields) × Holds (state_of r.0).keyring r.1 key) }

@@ -35,7 +35,7 @@ fn an_indefinite_value_of_one_ticks_three_times(rt: HostRuntime) {
     assert!(rt; takes_marked::<Brand>(rt.alloc(), Blank::new(1)).is_ok());
 }
 
-// The same by its parts: the header, the value in it and the end mark.
+// An indefinite value by its parts, the header, the value in it and the end mark: three ticks.
 fn goes_through_counted<L: Ledger>(alloc: Global, steps: &mut Steps<L>) -> Result<bool, DecodeError>
     ensures { OnOk result (steps.new ≡ steps.old + 3) }
 {

@@ -22,7 +22,7 @@ pub enum Layer {
 /// What a layer says of octets.
 #[derive(Clone, Copy, Debug, PartialEq, Eq)]
 pub enum Outcome {
-    /// They are a document.
+    /// The octets are a document.
     Read,
     /// A value of so many octets stands at their beginning.
     Octets(usize),

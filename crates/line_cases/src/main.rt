@@ -152,7 +152,7 @@ fn answered_by_parent(
     run_up(alloc, &case.words, source, sink, &Failing::of(failing)?)
 }
 
-// The same of a program whose name begins with `pub` or `up`, with the call that fails behind it.
+// What a program ends with whose name begins with `pub` or `up`, with the call that fails behind it.
 fn served_by(
     alloc: Global,
     program: &str,

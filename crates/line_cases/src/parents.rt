@@ -250,7 +250,7 @@ fn run_with(
     Ok(text)
 }
 
-// The same, and what the child is told then of each class.
+// What this parent answers to each line, what its issuer did, and then what the child is told of each class.
 fn told_with(
     alloc: Global,
     words: &Words,

@@ -35,7 +35,7 @@ fn fields_shown(alloc: Global, message: &SignedMessage) -> Result<Fields, Decode
     Ok(fields)
 }
 
-// The same of a copy.
+// What is shown of a copy of the message.
 fn message_shown(alloc: Global, message: &SignedMessage) -> Result<Fields, DecodeError> {
     fields_shown(alloc, &message.clone(alloc)?)
 }

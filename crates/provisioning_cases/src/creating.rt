@@ -79,7 +79,7 @@ fn created_shown(
     }
 }
 
-// The same of what the signer creates under the key with this number.
+// What is shown of the signed message that the signer creates under the key with this number; or why there is none.
 fn created_by(
     alloc: Global,
     signer: &mut ToySigner,
@@ -115,7 +115,7 @@ pub fn created(alloc: Global, message: Message, argument: &[u8]) -> Result<Field
     }
 }
 
-/// The same of a message that was read.
+/// What the toy signer of seed 1 creates of a message that was read, as the argument `MOMENT/KEY` says; or why none was read.
 pub fn created_of(
     alloc: Global,
     read: &Result<Message, Error>,

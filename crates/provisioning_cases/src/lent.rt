@@ -154,7 +154,7 @@ pub fn append_key(alloc: Global, fields: &mut Fields, key: &KeyElement) -> Resul
     append_print(alloc, fields, key)
 }
 
-// The same of a request, and whether it has the same parts by itself.
+// Appends a request's class, its key and what is printed of both, and whether its own calls give this class and this key.
 fn append_revocation(
     alloc: Global,
     fields: &mut Fields,

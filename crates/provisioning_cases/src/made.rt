@@ -99,7 +99,7 @@ struct Certificates {
     signing: SigningCert,
 }
 
-// Those at the beginning of the octets.
+// The certificates at the beginning of the octets, one that was issued and the issuer's.
 fn certificates_of(
     alloc: Global,
     octets: &[u8],

@@ -68,7 +68,7 @@ pub fn written(alloc: Global, message: &Message) -> Result<Fields, DecodeError> 
     Ok(Fields::one(alloc, octets.as_slice())?)
 }
 
-/// The same of what was read; or why nothing was.
+/// A message that was read, as each call writes it and a copy of it; or why none was read.
 pub fn read_shown(alloc: Global, read: &Result<Message, Error>) -> Result<Fields, DecodeError> {
     match read {
         Ok(message) => written(alloc, message),

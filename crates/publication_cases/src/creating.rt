@@ -41,7 +41,7 @@ fn decoded_shown(alloc: Global, octets: &[u8], message: &Message) -> Result<Fiel
     }
 }
 
-// The same, of what a copy is written as.
+// The octets that a signed message is written as, whether they are decoded as its message, and the text of what they are decoded as.
 fn shown(alloc: Global, copy: &PublicationCms) -> Result<Fields, DecodeError> {
     let octets = copy.to_bytes(alloc)?;
     decoded_shown(alloc, octets.as_slice(), copy.message())
@@ -66,7 +66,7 @@ pub fn created(alloc: Global, message: Message, argument: &[u8]) -> Result<Field
     copy_shown(alloc, &cms)
 }
 
-/// The same of a message that was read.
+/// What is created of a message that was read, at the moment of the argument; or why none was read.
 pub fn created_again(
     alloc: Global,
     read: Result<Message, Error>,

@@ -214,7 +214,7 @@ pub fn written_by_each(alloc: Global, message: &Message) -> Result<Fields, Decod
     Ok(fields)
 }
 
-/// The same of the message that a step names; None where it names none.
+/// The message that a step names, as each call writes it; None where the step names none.
 pub fn answer(alloc: Global, call: &str) -> Option<Result<Fields, DecodeError>> {
     match message(alloc, call) {
         Ok(Some(message)) => Some(written_by_each(alloc, &message)),

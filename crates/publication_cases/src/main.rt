@@ -42,7 +42,7 @@ fn of_keys(alloc: Global, octets: &[u8], step: &Step<'_>) -> Option<Result<Field
     }
 }
 
-// The same by the counted calls.
+// What the counted calls answer of octets at a moment under keys; None where the step is none of these.
 fn of_keys_counted<L: Ledger>(
     alloc: Global,
     octets: &[u8],

@@ -203,7 +203,7 @@ pub fn lent(alloc: Global, read: Result<Message, Error>) -> Result<Fields, Decod
     }
 }
 
-/// The same as they are handed out.
+/// The parts of the message as which the octets read, as they are handed out.
 pub fn handed(alloc: Global, read: Result<Message, Error>) -> Result<Fields, DecodeError> {
     match read {
         Ok(message) => handed_message(alloc, message),

@@ -77,7 +77,7 @@ fn received_shown(
     }
 }
 
-// The same, and the place of the key.
+// What was received, as it is written, and the place of the key; or what is printed.
 fn placed_shown(
     alloc: Global,
     answer: Result<(Received, usize), ReceiveError>,
@@ -142,7 +142,7 @@ fn place_in_signed(
     }
 }
 
-/// The same by the signed message alone.
+/// The place of the key under which the signed message by itself is believed.
 pub fn signed_believed(
     alloc: Global,
     decoded: Result<PublicationCms, Error>,
@@ -167,7 +167,7 @@ pub fn received(alloc: Global, octets: &[u8], argument: &[u8]) -> Result<Fields,
     )
 }
 
-/// The same by the counted call.
+/// What the counted call receives under the first of the keys.
 pub fn received_counted<L: Ledger>(
     alloc: Global,
     octets: &[u8],
@@ -204,7 +204,7 @@ pub fn received_any(alloc: Global, octets: &[u8], argument: &[u8]) -> Result<Fie
     )
 }
 
-/// The same by the counted call.
+/// What the counted call receives under one of the keys, and its place.
 pub fn received_any_counted<L: Ledger>(
     alloc: Global,
     octets: &[u8],

@@ -25,7 +25,7 @@ pub fn written(alloc: Global, message: &Message) -> Result<Fields, DecodeError> 
     Ok(Fields::one(alloc, message.text_bytes(alloc)?.as_slice())?)
 }
 
-/// The same of one that is read.
+/// A message that was read, as it is written; or why none was read.
 pub fn read_shown(alloc: Global, read: Result<Message, Error>) -> Result<Fields, DecodeError> {
     match read {
         Ok(message) => written(alloc, &message),

@@ -17,14 +17,14 @@ pub fn publish(alloc: Global) -> Result<Publish, Ended> {
     Ok(Publish::with_hash_tag(alloc, uri, content)?)
 }
 
-/// An object in another one's place.
+/// The replacement of an object.
 pub fn update(alloc: Global) -> Result<Update, Ended> {
     let uri = uri::Rsync::from_str(alloc, "rsync://localhost/ca/f2.txt")?;
     let content = Base64::from_content(alloc, b"b")?;
     Ok(Update::with_hash_tag(alloc, uri, content, Hash::from_data(b"c"))?)
 }
 
-/// An object less.
+/// The removal of an object.
 pub fn withdraw(alloc: Global) -> Result<Withdraw, Ended> {
     let uri = uri::Rsync::from_str(alloc, "rsync://localhost/ca/f3.txt")?;
     Ok(Withdraw::with_hash_tag(alloc, uri, Hash::from_data(b"d"))?)

@@ -25,13 +25,13 @@ fn router(alloc: Global, octets: &[u8]) -> Result<Fields, DecodeError> {
     router_shown(alloc, &BgpsecCsr::decode(alloc, octets)?)
 }
 
-// What a copy of the attributes says.
+// What a copy of the attributes of an authority's request says.
 fn authority_attributes(alloc: Global, octets: &[u8]) -> Result<Fields, DecodeError> {
     let attributes = RpkiCaCsrAttributes::take_from(alloc, octets)?;
     authority_attributes_shown(alloc, &attributes.clone(alloc)?)
 }
 
-// The same of a router's.
+// What a copy of the attributes of a router's request says.
 fn router_attributes(alloc: Global, octets: &[u8]) -> Result<Fields, DecodeError> {
     let attributes = BgpsecCsrAttributes::take_from(alloc, octets)?;
     router_attributes_shown(alloc, &attributes.clone(alloc)?)
@@ -46,14 +46,14 @@ fn invalid_attribute(alloc: Global, octets: &[u8]) -> Result<Fields, DecodeError
     Ok(fields)
 }
 
-// Whether the request is signed with its own key, by the toy scheme.
+// Whether an authority's request is signed with its own key, by the toy scheme.
 fn authority_holds(alloc: Global, octets: &[u8]) -> Result<Fields, DecodeError> {
     let request = RpkiCaCsr::decode(alloc, octets)?;
     let verified = request.verify_signature::<ToyScheme, ToyVerifier>(&ToyVerifier::new());
     Ok(Fields::truth(alloc, verified.is_ok())?)
 }
 
-// The same of a router's.
+// Whether a router's request is signed with its own key, by the toy scheme.
 fn router_holds(alloc: Global, octets: &[u8]) -> Result<Fields, DecodeError> {
     let request = BgpsecCsr::decode(alloc, octets)?;
     let verified = request.verify_signature::<ToyScheme, ToyVerifier>(&ToyVerifier::new());

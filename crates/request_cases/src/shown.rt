@@ -161,7 +161,7 @@ fn router_fields(alloc: Global, request: &BgpsecCsr) -> Result<Fields, DecodeErr
     Ok(fields)
 }
 
-// The fields, if the others are the same.
+// The fields, if the others are equal to them.
 fn agreeing(fields: Fields, others: Fields) -> Result<Fields, DecodeError> {
     if fields == others {
         Ok(fields)
@@ -177,7 +177,7 @@ pub fn authority_shown(alloc: Global, request: &RpkiCaCsr) -> Result<Fields, Dec
     agreeing(fields, others)
 }
 
-/// The same of a router's.
+/// The subject, its key, the purposes, the signed octets, the signature, and what is written, of a router's request and of its copy.
 pub fn router_shown(alloc: Global, request: &BgpsecCsr) -> Result<Fields, DecodeError> {
     let fields = router_fields(alloc, request)?;
     let others = router_fields(alloc, &request.clone(alloc)?)?;

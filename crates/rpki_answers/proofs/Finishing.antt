@@ -63,7 +63,7 @@ finished_again content p s can short mode rest spelled =
     let made = finished_made any_scheme content p s short (record { attributes = tt; crl = tt; certificate = tt }) in
     begins_again mode (finished content p s) rest (made_held mode any_scheme content p.when p.issuing_key p.key p.serial (finished content p s) made (moments p.when can.window_is) can.twenty spelled) spelled
 
--- ---- the other way
+-- ---- what is made with a signer is what is finished
 
 signature_is : (s : SignatureParts RpkiAlgorithm) → s.algorithm ≡ default_algorithm → s ≡ signature_of s.value
 signature_is s e = ap with_algorithm e

@@ -78,7 +78,7 @@ abbrev pub finished : List ℕ → Plan → Signatures → MessageFields
 finished content p s = signed_message_of (unsigned content p)
     (signature_of s.attributes) (signature_of s.crl) (signature_of s.certificate)
 
--- each has at most 2^16 octets
+-- each of the three signatures has at most 2^16 octets
 pub record AreShort (s : Signatures) : Type 0 where
   pub attributes : IsShort s.attributes
   pub crl : IsShort s.crl

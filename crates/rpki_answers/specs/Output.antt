@@ -39,7 +39,7 @@ abbrev pub lines_to_sign : List ℕ → Plan → List ℕ
 lines_to_sign content p = octet_lines
     (attributes_to_sign content p ∷ crl_to_sign p ∷ certificate_to_sign p ∷ [])
 
--- the same of what is to be signed
+-- the octets of what is to be signed of a message, each on a line: of the attributes, of the CRL and of the certificate
 abbrev pub lines_of : UnsignedFields → List ℕ
 lines_of u = octet_lines (made_covered u.content.content u.content.moment
     ∷ spelled_tbs_crl u.crl ∷ spelled_tbs u.certificate ∷ [])

@@ -16,7 +16,7 @@ pub record QuestionFields : Type 0 where
   pub octets : List ℕ
   pub signature : List ℕ
 
--- what it asks: whether the signature is one of the octets under the key
+-- what a question asks: whether the signature is one of the octets under the key
 abbrev pub Holds : Relation → QuestionFields → Type 0
 Holds scheme q = scheme RsaSha256 q.key q.octets q.signature
 
@@ -47,7 +47,7 @@ crl_question place key number crl = record {
   signature = crl.signed.signature.value;
 }
 
--- each CRL, from this number on
+-- the question of each CRL, from this number on
 abbrev pub crl_questions : ℕ → KeyFields → ℕ → List CrlFields → List QuestionFields
 crl_questions place key number [] = []
 crl_questions place key number (crl ∷ crls) =
@@ -58,7 +58,7 @@ abbrev pub key_questions : MessageFields → ℕ → KeyFields → List Question
 key_questions m place key =
     certificate_question m place key ∷ crl_questions place key 0 m.crls
 
--- under each key, from this place on
+-- what is asked under each key, from this place on
 abbrev pub keys_questions : MessageFields → ℕ → List KeyFields → List QuestionFields
 keys_questions m place [] = []
 keys_questions m place (key ∷ keys) =

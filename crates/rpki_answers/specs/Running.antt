@@ -130,7 +130,7 @@ abbrev pub EndsOn : Result (List ℕ) Refusal → ℕ → Seen → Type 0
 EndsOn (Ok output) status sink = EndsWith 0 output status sink
 EndsOn (Err refusal) status sink = Ends (Err refusal) status sink
 
--- it ends with the answer to the input, or for want of memory
+-- the call ends with the answer to the input, or for want of memory
 pub record EndsAnswered (task : Task) (input : List ℕ) (status : ℕ) (sink : Seen) : Type 0 where
   pub answer : Result (List ℕ) Refusal
   pub is : IsTaskAnswer task input answer
@@ -145,14 +145,14 @@ abbrev pub AreRightIn : Relation → List ℕ → List KeyFields → List Bool �
 AreRightIn scheme input keys answers = (octets : List ℕ) → hexadecimal input ≡ Some octets
     → AreRightOf scheme octets keys answers
 
--- it ends with the answer that `receive` has under the scheme, to the octets that the input spells
+-- the call ends with the answer that `receive` has under the scheme, to the octets that the input spells
 pub record EndsReceipt (scheme : Relation) (kind : Kind) (when : ℤ) (keys : List KeyFields)
     (input : List ℕ) (status : ℕ) (sink : Seen) : Type 0 where
   pub answer : Result (List ℕ) Refusal
   pub is : AnswersSpelled scheme (commands.Receive kind when keys) (hexadecimal input) answer
   pub ends : Ends answer status sink
 
--- or for want of memory
+-- the call ends with the answer that `receive` has under the scheme, or for want of memory
 abbrev pub EndsAsReceived : Relation → Kind → ℤ → List KeyFields → List ℕ → ℕ → Seen → Type 0
 EndsAsReceived scheme kind when keys input status sink =
     EndsReceipt scheme kind when keys input status sink
@@ -171,7 +171,7 @@ pub record IsFinished (scheme : Relation) (kind : Kind) (p : Plan) (s : Signatur
       → Accepted scheme kind octets keys when (normal_form message)
   pub written : output ≡ encode_lower octets ++ 10 ∷ []
 
--- such an output was written
+-- the output of `finish` was written
 abbrev pub Finishes : Relation → Kind → Plan → Signatures → List ℕ → Seen → Type 0
 Finishes scheme kind p s input sink = (output : List ℕ)
     × IsFinished scheme kind p s input output × Appends sink.before sink.after output

@@ -88,7 +88,7 @@ IsTask words (Finish kind plan signatures) = IsFinish words kind plan signatures
 abbrev pub IsNoTask : List (List ℕ) → Type 0
 IsNoTask words = (task : Task) → IsTask words task → ⊥
 
--- it has one to eight keys, if it has a list of them
+-- a task has one to eight keys, if it has a list of them
 abbrev pub HasFewKeys : Task → Type 0
 HasFewKeys (Questions keys) = (1 ≤ length keys) × (length keys ≤ 8)
 HasFewKeys (Receive kind when answers keys) = (1 ≤ length keys) × (length keys ≤ 8)

@@ -19,6 +19,8 @@ pub trait Answers {
     ghost answers: { List Bool };
 }
 
+// Stands for the questions and answers of one call. They are empty here; where a call is made at `Brand`, its proof names the values
+// that are meant (`ghosts-receive_by` in proofs/receiving/receive_given/Invariants.antt).
 impl Answers for Brand {
     ghost use Rattle.std.specs.Prelude.{[]};
 
@@ -57,7 +59,7 @@ fn answer_to(
     false
 }
 
-/// Decides the signatures of the scheme that answers are.
+/// Decides signatures by the given answers.
 #[derive(Drop)]
 pub struct AnswerVerifier<'a, A: Answers> {
     questions: &'a [Question],

@@ -22,7 +22,7 @@ ghost use Rattle.rpki_answers.specs.declared.task.Task.TheVariants as tasks;
 
 use rpki_base::Scheme;
 
-/// What is received of octets under the scheme that answers are is what is received under each scheme for which they are right.
+/// Receiving by answers gives what receiving under a scheme gives, for every scheme under which the answers are right.
 pub fn right_answers_decide<P: Scheme>()
     ensures { (kind : Kind) (octets : List ℕ) (keys : List KeyFields) (when : ℤ)
         (list : List QuestionFields) (answers : List Bool)

@@ -1,7 +1,7 @@
-//! Signed messages under keys of which something else knows the signatures: OpenSSL, or a hardware module.
+//! Signed messages under keys that are held elsewhere, by OpenSSL or a hardware module.
 //!
 //! What the checks of a message ask of a scheme are a few yes-or-no questions, and what is made of a message needs three signatures.
-//! So here the questions are handed out, and the answers taken; and the octets that are to be signed, and the signatures.
+//! This crate hands out the questions and takes answers; it hands out the octets to be signed and takes signatures.
 //!
 //! - [`questions`] are those of a signed message under one to eight keys: one for the attributes, and under each key one for the
 //!   certificate and one for each CRL.

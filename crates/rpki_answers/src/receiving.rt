@@ -69,7 +69,7 @@ fn receive_by<A: Answers>(
     receive_any::<AnswerScheme<A>, AnswerVerifier<A>>(alloc, kind, octets, keys, when, &verifier)
 }
 
-// The same, whatever questions and answers they are.
+// What is received under the scheme that these answers are, whatever questions and answers they are.
 fn receive_given(
     alloc: Global,
     kind: Kind,

@@ -102,8 +102,8 @@ pub fn run_keys<I: Source, O: Sink>(
     // At most one octet more than the limit is taken of the source.
     ensures most { TakesAtMost (I.rest input.old) (I.rest input.new) (2 ^ 26 + 1) }
 
-    // Where the source isn't read whole, that is what is answered; where it is, the call ends with the answer to the words and what
-    // was read, or for want of memory.
+    // Where reading stops early, the cause of that is the answer; where the source is read whole, the call ends with the answer to the
+    // words and what was read, or for want of memory.
     ensures ends { (task : TaskOf) → IsTask words.now task
         → Ends (Err Refusal.OutOfMemory) result.0 (seen O.written O.faults output.old output.new)
         ⊎ EndsRun (λ octets. spec.EndsTask task octets result.0

@@ -122,7 +122,7 @@ envelope_short line entry is =
     let words = subst (AllByRecursion (λ piece. length piece ≤ length line)) entry.words (pieces_short (λ octet. nat_eq octet 32) line) in
     let short = words.1.1.1.0 in let all = is.short in omega (arith, short, all)
 
--- so it spells what an input spells
+-- an envelope spells what an input of the same octets spells
 spelled_so : (line : List ℕ) (entry : Entry line) (o : Option (List ℕ)) → IsLine line → result_ok (decode_of entry.envelope) ≡ o → hexadecimal entry.envelope ≡ o
 spelled_so line entry o is e = ap (λ (word : List ℕ). result_ok (decode_of word)) (no_feed entry.envelope (envelope_apart line entry is)) ∙ e
 

@@ -41,7 +41,7 @@ no_signed octets refused = λ signed s. none_some signed (sym (refused s.value s
 entry_command : (line : List ℕ) (one other : Entry line) (kind : Kind) (when : ℤ) (keys : List KeyFields) → IsReceive (command_words one) kind when keys → IsCommand (command_words other) (Receive kind when keys)
 entry_command line one other kind when keys is = subst (λ (w : List (List ℕ)). IsCommand w (Receive kind when keys)) (same_command line one other) (is_command (command_words one) kind when keys is)
 
--- and its envelope spells the same
+-- the envelope of each entry of a line spells one thing
 entry_spells : (line : List ℕ) (one other : Entry line) (o : Option (List ℕ)) → hexadecimal one.envelope ≡ o → hexadecimal other.envelope ≡ o
 entry_spells line one other o e = ap hexadecimal (sym (same_entry line one other).envelope) ∙ e
 

@@ -30,7 +30,7 @@ pub record AreAllVerdicts (scheme : Relation) (lines texts : List (List ℕ)) (c
   pub written : texts ≡ map verdict_text answers
   pub total : closing ≡ total_text answers
 
--- they are the verdicts on the first lines
+-- the texts are the verdicts on the first lines
 pub record AreFirstVerdicts (scheme : Relation) (lines texts : List (List ℕ)) : Type 0 where
   pub answers : List (Result (List ℕ) Refusal)
   pub are : AreLineAnswers scheme (take (length texts) lines) answers
@@ -44,7 +44,7 @@ pub record AreAllExplanations (scheme : Relation) (lines texts : List (List ℕ)
   pub are : AreExplanations scheme lines texts
   pub nothing : closing ≡ []
 
--- they are those of the first lines
+-- the texts are the explanations of the first lines
 abbrev pub AreFirstExplanations : Relation → List (List ℕ) → List (List ℕ) → Type 0
 AreFirstExplanations scheme lines texts =
     AreExplanations scheme (take (length texts) lines) texts

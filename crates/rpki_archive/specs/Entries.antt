@@ -17,7 +17,7 @@ pub record AsksReceipt (line : List ℕ) (kind : Kind) (when : ℤ) (keys : List
     pub receive : IsReceive (command_words entry) kind when keys
     pub one : length keys ≡ 1
 
--- so the command is this, and the fourth word spells these octets
+-- the line asks for this command of these octets: its words are those of `receive`, and the fourth spells the octets
 pub record Asks (line : List ℕ) (command : Command) (octets : List ℕ) : Type 0 where
   pub kind : Kind
   pub when : ℤ
@@ -26,7 +26,7 @@ pub record Asks (line : List ℕ) (command : Command) (octets : List ℕ) : Type
   pub receipt : AsksReceipt line kind when keys
   pub spelled : hexadecimal receipt.entry.envelope ≡ Some octets
 
--- or it spells none
+-- the words are those of the command `receive`, with one key, and the fourth spells no octets
 pub record AsksInVain (line : List ℕ) : Type 0 where
   pub kind : Kind
   pub when : ℤ

@@ -28,7 +28,7 @@ pub record IsSaidOf (scheme : Relation) (octets : List ℕ) (key : KeyFields) (w
   pub some : (signed : MessageFields) → BeginsSigned octets signed
       → AreDigits scheme octets key when text
 
--- the same where they are spelled
+-- what is said of the octets that a word spells, or that it spells none
 abbrev pub IsSaidOfSpelled : Relation → Option (List ℕ) → KeyFields → ℤ → List ℕ → Type 0
 IsSaidOfSpelled scheme None key when text = text ≡ codes "Hex"
 IsSaidOfSpelled scheme (Some octets) key when text = IsSaidOf scheme octets key when text
@@ -46,7 +46,7 @@ pub record IsExplanation (scheme : Relation) (line text : List ℕ) : Type 0 whe
   pub entry : (e : Entry line) → ExplainsEntry scheme line e text
   pub other : (Entry line → ⊥) → text ≡ codes "Usage"
 
--- those of all lines
+-- the texts are the explanations of all lines
 abbrev pub AreExplanations : Relation → List (List ℕ) → List (List ℕ) → Type 0
 AreExplanations scheme [] [] = ⊤
 AreExplanations scheme [] (text ∷ texts) = ⊥

@@ -48,7 +48,7 @@ struct Total {
     accepted: u64,
 }
 
-// The same with one line more.
+// The total with one line more, and with one accepted more where `accepted` says so.
 fn one_more(total: Total, accepted: bool) -> Total
     requires lines { total.lines < 2 ^ 26 }
     requires few { total.accepted ≤ total.lines }

@@ -19,7 +19,7 @@ all_pass n (false ∷ more) h = let e : false ≡ true = h.0 in cc
 pub passes : (n : ℕ) (list : List Bool) → All (λ b. b ≡ true) list → first_failure n list ≡ Ok tt
 passes n list h = all_pass n list (recursion_from_All IsSo list h)
 
--- the same with the values in front by recursion
+-- a list of checks that fails at number k, with the values in front by recursion
 record Failed (n k : ℕ) (list : List Bool) : Type 0 where
   front : List Bool
   back : List Bool

@@ -33,7 +33,7 @@ since_zero y h =
     (λ lt. omega (arith, day_count-later_year (pos 0) y (omega (arith, signed_arith)) lt))
     (λ le. let e : pos 0 ≡ y = omega (arith, signed_arith, le, h) in let k = ap (λ (z : ℤ). day_count z 1 1) e in omega (arith, k))
 
--- and a date with no negative year is from 0000-01-01 on
+-- a date with no negative year is from 0000-01-01 on
 pub day_from : (d : Date) → pos 0 ≤ℤ d.year → neg_ℤ (pos 719528) ≤ℤ epoch_day d
 day_from d h =
     omega (arith, signed_arith, days_from_civil-day_count d.year d.month d.day, day_count-zero, since_zero d.year h, first_of_year d.year d.month d.day (civil d).2.0)

@@ -19,7 +19,7 @@ algorithm_identifier = within sequence (λ vs. do
   parameter ← optional null_tag null name.1
   done (name.0, is_some parameter.0) parameter.1)
 
--- the same in DER
+-- an algorithm's identifier in DER, with NULL or without
 abbrev pub spelled_identifier : List ℕ → Bool → List ℕ
 spelled_identifier name true = der_constructed sequence
     (der_primitive oid_tag name ++ der_primitive null_tag [])

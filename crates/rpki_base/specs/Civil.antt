@@ -17,7 +17,7 @@ unfoldable pub seconds_of : Civil → ℤ
 seconds_of c = days_from_civil (pos c.year) c.month c.day *ℤ pos 86400 +ℤ pos
     (c.hour * 3600 + c.minute * 60 + c.second)
 
--- the same, where there is this date and this time of day
+-- seconds since 1970-01-01T00:00:00Z, where there is this date and this time of day
 unfoldable pub moment : Civil → Option ℤ
 moment c = if is_date c && is_clock c then Some (seconds_of c) else None
 
@@ -34,7 +34,7 @@ year_and_days (suc k) year days =
     if nat_lt days (days_in_year (pos year)) then (year, days)
     else year_and_days k (suc year) (days - days_in_year (pos year))
 
--- the same of months
+-- the month of a year that a day lies in, by the days from the first of a month up to it, and the days from the first of that one
 unfoldable pub month_and_days : ℕ → ℕ → ℕ → ℕ → ℕ × ℕ
 month_and_days zero year month days = (month, days)
 month_and_days (suc k) year month days =

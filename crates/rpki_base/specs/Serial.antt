@@ -12,7 +12,7 @@ abbrev pub without_zero : List ℕ → List ℕ
 without_zero [] = []
 without_zero (a ∷ more) = if a == 0 then more else a ∷ more
 
--- the same number in twenty octets
+-- a number in twenty octets, by its octets if there are no more than that
 abbrev pub in_twenty : List ℕ → Option (List ℕ)
 in_twenty octets = if nat_le (length octets) 20
     then Some (replicate (20 - length octets) 0 ++ octets) else None

@@ -49,7 +49,7 @@ unfoldable pub time : Value → Option ℤ
 time v = option_or (so (primitive utc_time_tag) utc_time v)
     (so (primitive generalized_time_tag) generalized_time v)
 
--- the same of a primitive value, by its tag and its contents
+-- the time that a primitive value is, by its tag and its contents
 abbrev pub leaf_time : LeafFields → Option ℤ
 leaf_time leaf =
     if bytes_eq leaf.tag utc_time_tag then utc_time leaf.content

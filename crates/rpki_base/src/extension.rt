@@ -127,7 +127,7 @@ pub fn take_extensions_counted<F: FindsExtensions, L: Ledger>(
     Ok(found)
 }
 
-/// The same under a tag of its own, as [3] in certificates and [0] in CRLs.
+/// What was found before, and what the extensions say that stand next under this tag, as [3] in certificates and [0] in CRLs.
 pub fn take_tagged_extensions_counted<F: FindsExtensions, L: Ledger>(
     alloc: Global,
     cursor: &mut Cursor<'_>,

@@ -56,7 +56,7 @@ fn offset_seconds(text: &[u8]) -> Option<u32>
     }
 }
 
-// So many seconds ahead.
+// This number of seconds, ahead.
 fn ahead(seconds: Option<u32>) -> Option<i64>
     ensures value { result ≡ option_map pos seconds }
     ensures small { IfSome result (IsWithin 4294967296) }
@@ -67,7 +67,7 @@ fn ahead(seconds: Option<u32>) -> Option<i64>
     }
 }
 
-// So many seconds behind.
+// This number of seconds, behind.
 fn behind(seconds: Option<u32>) -> Option<i64>
     ensures value { result ≡ option_map spec.minus seconds }
     ensures small { IfSome result (IsWithin 4294967296) }

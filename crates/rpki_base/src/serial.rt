@@ -70,7 +70,7 @@ fn serial_number(octets: &[u8]) -> Option<Serial>
     })
 }
 
-// The same, if no octet of the contents could go.
+// The serial number that the contents of an INTEGER are, if no octet of them could go.
 fn shortest_number(octets: &[u8]) -> Option<Serial>
     ensures { result ≡ option_and_then spec.serial_number (minimal octets.now) }
 {

@@ -13,7 +13,7 @@ fn tens(number: u8) -> u8
     b'0' + number / 10
 }
 
-// Its second digit.
+// The last digit of a number.
 fn ones(number: u8) -> u8
     ensures { result ≡ 48 + number % 10 }
 {

@@ -6,12 +6,12 @@ ghost use Rattle.rpki_base.specs.Checks as spec;
 
 use std::fmt;
 
-/// The kind of a check: each list says which of its numbers have which.
+/// The kind of a check, a label that each list assigns to its numbers.
 #[derive(Clone, Copy, Debug, PartialEq, Eq)]
 pub enum ValidationKind {
-    /// Mostly a look at what a value says of itself.
+    /// The label of the checks that their list calls inspections.
     Inspection,
-    /// Mostly a comparison with a key, a moment or another value.
+    /// The label of the checks that their list calls verifications.
     Verification,
 }
 

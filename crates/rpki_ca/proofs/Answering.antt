@@ -279,7 +279,7 @@ by_shown scheme words source signer refusals.KeyReused f m s = s
 by_shown scheme words source signer refusals.Signer f m s = s
 by_shown scheme words source signer refusals.Moment f m s = s
 
--- and what is admitted is shown, but for these two
+-- what is admitted is shown, but for ReadFault and OutOfMemory
 pub to_shown : {I : Type 0} (scheme : Relation) (words : List (List ℕ)) (source : Seen) (signer : SignerSeen I) (e : Refusal) → e ≢ refusals.ReadFault → e ≢ refusals.OutOfMemory → IsAdmitted scheme words source signer (Err e) → Shown scheme words source signer e
 to_shown scheme words source signer refusals.ReadFault f m s = absurd (f refl)
 to_shown scheme words source signer refusals.OutOfMemory f m s = absurd (m refl)

@@ -111,7 +111,7 @@ not_error {T = T} {E = E} r x e is err = unlike (sym is ∙ err)
 abbrev pub TellsText : {T E : Type 0} → Received → ℤ → Result T (CreateError E) → Type 0
 TellsText message when r = HasWindow when → 2 ^ 31 < length (text_of message) → IsErrOf r create.TooLong ⊎ IsErrOf r create.OutOfMemory
 
--- so where neither is told, it fits
+-- a text fits where neither TooLong nor want of memory is told
 fits : {T E : Type 0} (message : Received) (when : ℤ) (r : Result T (CreateError E)) → TellsText message when r → HasWindow when → (IsErrOf r create.TooLong → ⊥) → (IsErrOf r create.OutOfMemory → ⊥) → length (text_of message) ≤ 2 ^ 31
 fits message when r tells w long memory =
     elim (leb_tells (length (text_of message)) (2 ^ 31)) [

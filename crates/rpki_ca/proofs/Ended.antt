@@ -21,7 +21,7 @@ pub with_refusal : (refusal : Refusal) (status : ℕ) (sink : Seen) → ¬ (HasF
 with_refusal refusal status sink none (inl e) = e.0
 with_refusal refusal status sink none (inr e) = absurd (none e.2)
 
--- and memory alone stops it
+-- where neither stream fails, want of memory alone stops answering
 pub lines_end : (all : List (List ℕ) → List ℕ → Type 0) (first : List (List ℕ) → Type 0) (stops : List (List ℕ) → Refusal → Type 0) (status : ℕ) (sink : Seen) → ((texts : List (List ℕ)) (refusal : Refusal) → stops texts refusal → refusal ≡ refusals.OutOfMemory) → ¬ (HasFailed sink)
     → EndsLines all first stops status sink → (status ≡ 0) ⊎ (status ≡ 12)
 lines_end all first stops status sink alone none (inl done) = inl (with_behind 0 status done.texts done.closing sink none done.ends)
@@ -90,12 +90,12 @@ wrote_all all first stops sink (inr (inr failed)) = absurd (no_eleven failed.is)
 not_unread : (source sink : Seen) → EndsUnread 0 source sink → ⊥
 not_unread source sink unread = no_refusal unread.refusal sink unread.ends
 
--- so it ended on the input
+-- with 0 it ended on the input
 pub on_input : (ends_on : List ℕ → Type 0) (source sink : Seen) (input : List ℕ) → EndsRun ends_on 0 source sink → source.before ≡ Some input → ends_on input
 on_input ends_on source sink input (inl unread) e = absurd (not_unread source sink unread)
 on_input ends_on source sink input (inr read) e = (some_input source.before input (λ octets. (length octets ≤ 2 ^ 26) × ends_on octets) e read.ends).1
 
--- and where neither stream fails and the input is within the limit it did so, or memory ran out
+-- where neither stream fails and the input is within the limit it ended on the input, or memory ran out
 pub on_input_or_12 : (ends_on : List ℕ → Type 0) (status : ℕ) (source sink : Seen) (input : List ℕ) → EndsRun ends_on status source sink → source.before ≡ Some input → length input ≤ 2 ^ 26 → ¬ (HasFailed source) → ¬ (HasFailed sink)
     → (status ≡ 12) ⊎ ends_on input
 on_input_or_12 ends_on status source sink input (inl unread) e le sound whole =

@@ -276,7 +276,7 @@ one_refusal kind input when a b (inr (inr p)) (inl q) = absurd (no_reason kind i
 one_refusal kind input when a b (inr (inr p)) (inr (inl q)) = absurd (q.1.none p.1.window_is)
 one_refusal kind input when a b (inr (inr p)) (inr (inr q)) = p.0 ∙ sym q.0
 
--- and where one is asked, there is none of these
+-- where a signer is asked, `create` has no refusal by its input
 no_refusal : {I : Type 0} (scheme : Relation) (kind : Kind) (input : List ℕ) (when : ℤ) (signer : SignerSeen I) (a b : Result (List ℕ) Refusal) → CreateView kind input when a → IsSignersAnswer scheme kind input when signer b → ⊥
 no_refusal scheme kind input when signer a b (inl p) s = no_reason kind input s.message p.0 s.reads (reason kind input p.0 p.2)
 no_refusal scheme kind input when signer a b (inr (inl p)) s = p.1.none s.window_is

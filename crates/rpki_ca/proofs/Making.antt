@@ -79,7 +79,7 @@ normal : (seed place : ℕ) → normal_change (change_at seed place) ≡ change_
 unfolding normal_change
 normal seed place = of_three (λ c. normal_change c ≡ c) seed place refl refl refl
 
--- and it is small
+-- a made change is small
 tag_length : (seed place : ℕ) → length (tag_at seed place) ≤ 64
 tag_length seed place =
     let twice = length-encode_with lower_digits (sha256 (object_at seed place)) in
@@ -233,7 +233,7 @@ summed scheme fit seed count id before middle after octets issuing m line create
       is ∙ ap (λ (x : Received). summary (changes_in x) octets ++ 10 ∷ []) same,
     )
 
--- ---- the same of what the calls are given
+-- ---- the summary, of what the calls are given
 
 -- what was created of the message at that moment
 pub created_here : {I : Type 0} (scheme : Relation) (seed count : ℕ) (m : Received) (when : ℤ) (signer : SignerSeen I) (octets : List ℕ) → m ≡ made_message seed count → when ≡ made_at

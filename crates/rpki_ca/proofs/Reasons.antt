@@ -66,7 +66,7 @@ no_both : (kind : Kind) (octets : List ℕ) → HoldsNoCertificate kind octets �
 no_both kinds.Publication octets c h = h
 no_both kinds.Provisioning octets c h = excludes.faults octets c h
 
--- and others have one
+-- octets that are no message have one reason
 pub one_reason : (kind : Kind) (octets : List ℕ) (d e : Refusal) → Reason kind octets d → Reason kind octets e → d ≡ e
 one_reason kind octets d e (inl p) (inl q) = p.0 ∙ sym q.0
 one_reason kind octets d e (inl p) (inr (inl q)) = absurd (no_form_certificate kind octets p.1 q.1)

@@ -59,7 +59,7 @@ pub whole_none : {X : Type 0} (grammar : Value → Option X) (mode : Mode) (octe
 unfolding whole_of alone
 whole_none grammar mode octets r = whole_cases grammar mode octets (value_at mode octets) refl r
 
--- ---- the other ways out
+-- ---- words that are no spelling of a number
 
 -- a number as the machine keeps it is read back
 kept : (word : List ℕ) (when : ℤ) → IsMoment word when → to_z w64 (of_z w64 when) ≡ when

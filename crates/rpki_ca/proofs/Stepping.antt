@@ -25,7 +25,7 @@ pub stopped_so : (all : List (List ℕ) → List ℕ → Type 0) (first : List (
 stopped_so all first stops (Ok u) stop sink is h = absurd is
 stopped_so all first stops (Err e) stop sink is h = subst (λ (s : Stop). Answered all first stops (Err s) sink) (sym is) h
 
--- ---- so far
+-- ---- the answers so far
 
 pub take_more : {X : Type 0} (xs : List X) (i : ℕ) (x : X) → i < length xs → x ≡ get_or xs i x → take (i + 1) xs ≡ take i xs ++ x ∷ []
 take_more {X = X} xs i x lt at = rw add-one (take-suc xs i x lt ∙ ap (λ (y : X). take i xs ++ y ∷ []) (sym at))

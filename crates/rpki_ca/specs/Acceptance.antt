@@ -52,17 +52,19 @@ normal_form (received.Provisioning m) = received.Provisioning m
 
 -- ---- octets that are no message of the kind
 
--- they have not the form of one
+-- the octets have not the form of a message of the kind
 abbrev pub HasNoForm : Kind → List ℕ → Type 0
 HasNoForm kinds.Publication octets = publication.IsNoMessage octets
 HasNoForm kinds.Provisioning octets = provisioning.HasNoShape octets
 
--- they have the form of one, and the octets of a certificate in it begin with none
+-- the octets have the form of a message of the kind, and the octets of a certificate in it begin with
+-- none
 abbrev pub HoldsNoCertificate : Kind → List ℕ → Type 0
 HoldsNoCertificate kinds.Publication octets = ⊥
 HoldsNoCertificate kinds.Provisioning octets = faults.HoldsNoCertificate octets
 
--- they have the form of one, and the octets of the request in it begin with none
+-- the octets have the form of a message of the kind, and the octets of the request in it begin with
+-- none
 abbrev pub HoldsNoRequest : Kind → List ℕ → Type 0
 HoldsNoRequest kinds.Publication octets = ⊥
 HoldsNoRequest kinds.Provisioning octets = faults.HoldsNoRequest octets
@@ -79,7 +81,8 @@ pub record Accepted (scheme : Relation) (kind : Kind) (octets : List ℕ) (keys 
   pub believed : IsBelievedUnder scheme signed keys when
   pub reads : ReadsAs kind signed.content m
 
--- the same, where the first such key is the one at this place, from 0
+-- The octets begin with a signed message, which is believed under the key at this place, from 0, and under none before it. Its
+-- content reads as the message.
 pub record AcceptedAt (scheme : Relation) (kind : Kind) (octets : List ℕ) (keys : List KeyFields)
     (when : ℤ) (m : Received) (place : ℕ) : Type 0 where
   pub signed : MessageFields
@@ -124,7 +127,7 @@ IsReceived scheme kind octets keys when result =
     MatchResult result (Accepted scheme kind octets keys when)
     (RefusesReceipt scheme kind octets keys when)
 
--- the same, with the place of the first key under which it is accepted
+-- what is received of octets, with the place of the first key under which the message is accepted, or why there is none
 abbrev pub IsReceivedUnder : Relation → Kind → List ℕ → List KeyFields → ℤ
     → Result (Received × ℕ) ReceiveError → Type 0
 IsReceivedUnder scheme kind octets keys when result =
@@ -153,7 +156,7 @@ of_publication (publication_error.Validation e) = errors.Validation e
 of_publication publication_error.OutOfMemory = errors.OutOfMemory
 of_publication other = errors.XmlError
 
--- the same of one of the provisioning protocol
+-- how an error of the provisioning protocol is passed on
 abbrev pub of_provisioning : provisioning_errors.Error → ReceiveError
 of_provisioning provisioning_error.CmsDecode = errors.CmsDecode
 of_provisioning provisioning_error.CertSyntax = errors.CertSyntax

@@ -1,4 +1,21 @@
 -- What is answered to words and input.
+--
+-- The levels; each cites those that stand under it, further in:
+--
+--     IsAdmitted              the answers with which a call may end, by what source and signer did
+--       IsShown               one of those that are given, where the source didn't fail
+--         IsGiven             one that words and input show, or that comes from the signer
+--           IsAnswer          what words and input show: Usage, TooLong, or a command's answer
+--             AnswersSpelled  a command's answer to what its input spells; Hex where that is none
+--               Answers       a command's answer to octets: `IsContentAnswer`, `IsReceiveAnswer` ..
+--           IsFromSigner      what comes of asking the signer, for words and input
+--             AnswersSigned   what comes of asking the signer, by command: `IsSignersAnswer`, ..
+--     Performs                a command's answer to its input: AnswersSpelled or AnswersSigned
+--     EndsAs                  the call ends with this answer, or with want of memory or ReadFault
+--       Ends                  the answer's status and its line; or status 11 and a part of the line
+--
+-- Of the clauses of `run`, `shown` cites IsAnswer and EndsAs, `answered` IsAdmitted and Ends, and
+-- `done` IsGiven.
 use Rattle.std.specs.Prelude.{◌≡◌, ℕ, ℤ, ◌^◌, ◌<◌, ◌≤◌, ◌⊎◌, Option, None, Some, Result, Ok, Err}
 use Rattle.std.specs.Prelude.{List, [], ◌∷◌, ◌++◌, length}
 use Rattle.std.specs.Io.KnownBytes.{Appends}
@@ -97,7 +114,7 @@ octets_in (Create kind when) input = Some input
 octets_in (Setup kind when) input = Some input
 octets_in (Make count seed) input = Some []
 
--- the answer to these, where there are any
+-- the answer of a command to the octets that it takes from the input, or Hex where there are none
 abbrev pub AnswersSpelled : Relation → Command → Option (List ℕ) → Result (List ℕ) Refusal → Type 0
 AnswersSpelled scheme command None answer = answer ≡ Err refusals.Hex
 AnswersSpelled scheme command (Some octets) answer = Answers scheme command octets answer
@@ -148,15 +165,15 @@ abbrev pub IsGiven : {Id : Type 0} → Relation → List (List ℕ) → SignerSe
 IsGiven scheme words signer input answer =
     IsAnswer scheme words input answer ⊎ IsFromSigner scheme words signer input answer
 
--- Such an answer, and the source didn't fail.
+-- An answer is given to what the source had to give, and the source didn't fail.
 pub record IsShown {Id : Type 0} (scheme : Relation) (words : List (List ℕ)) (source : Seen)
     (signer : SignerSeen Id) (answer : Result (List ℕ) Refusal) : Type 0 where
   pub shown : OfInput source.before (λ input. IsGiven scheme words signer input answer)
   pub steady : IsSteady source
 
 -- An answer is admitted exactly where words and input show it or it comes from the signer; that the
--- source failed, where its count rose; and want of memory. Every other than that the source failed
--- leaves the count.
+-- source failed, where its count rose; and want of memory. Every answer but ReadFault leaves the
+-- source's count as it was.
 abbrev pub IsAdmitted : {Id : Type 0} → Relation → List (List ℕ) → Seen → SignerSeen Id
     → Result (List ℕ) Refusal → Type 0
 IsAdmitted scheme words source signer (Ok text) = IsShown scheme words source signer (Ok text)

@@ -27,7 +27,7 @@ kind_of word =
 abbrev pub kind_at : List (List ℕ) → ℕ → Option Kind
 kind_at words index = slice_get words index >>= kind_of
 
--- the same for setup messages
+-- the word for a kind of setup message
 abbrev pub setup_kind_word : SetupKind → List ℕ
 setup_kind_word setup.ChildRequest = codes "child_request"
 setup_kind_word setup.ParentResponse = codes "parent_response"
@@ -153,7 +153,7 @@ pub record IsCommand (words : List (List ℕ)) (command : Command) : Type 0 wher
 abbrev pub IsNoCommand : List (List ℕ) → Type 0
 IsNoCommand words = (c : Command) → IsCommand words c → ⊥
 
--- it has one to eight keys, if it has any, and makes at most 10000 elements
+-- a command has one to eight keys, if it has any, and makes at most 10000 elements
 abbrev pub IsLimited : Command → Type 0
 IsLimited Content = ⊤
 IsLimited (Receive kind when keys) = (1 ≤ length keys) × (length keys ≤ 8)
@@ -165,7 +165,7 @@ IsLimited (Make count seed) = count ≤ 10000
 abbrev pub AreNoCreate : List (List ℕ) → Type 0
 AreNoCreate words = (kind : Kind) (when : ℤ) → IsCreate words kind when → ⊥
 
--- nor to make a message
+-- the words don't ask to make a message
 abbrev pub AreNoMake : List (List ℕ) → Type 0
 AreNoMake words = (count seed : ℕ) → IsMake words count seed → ⊥
 

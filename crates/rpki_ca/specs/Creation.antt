@@ -36,13 +36,14 @@ RefusesInput kind input refusals.CertSyntax = HoldsNoCertificate kind input
 RefusesInput kind input refusals.InvalidCsrSyntax = HoldsNoRequest kind input
 RefusesInput kind input other = ⊥
 
--- it reads as one, and the moment has no window
+-- the input reads as a message, and the moment has no window
 pub record HasNoWindow (kind : Kind) (input : List ℕ) (when : ℤ) : Type 0 where
   pub message : Received
   pub reads : ReadsAs kind input message
   pub none : HasWindow when → ⊥
 
--- it reads as one, the moment has a window, and the message's text has more than 2^31 octets
+-- the input reads as a message, the moment has a window, and the message's text has more than 2^31
+-- octets
 pub record HasLongText (kind : Kind) (input : List ℕ) (when : ℤ) : Type 0 where
   pub message : Received
   pub reads : ReadsAs kind input message

@@ -20,7 +20,7 @@ use Rattle.rpki_ca.specs.Seen.{Seen, HasFailed, IsSteady, OfInput}
 abbrev pub pieces_of : ℕ → List ℕ → List (List ℕ)
 pieces_of separator octets = slice_split (λ octet. octet == separator) octets
 
--- the same without a last piece that is empty
+-- pieces without the last one if that is empty
 abbrev pub without_empty_end : List (List ℕ) → List (List ℕ)
 without_empty_end [] = []
 without_empty_end ([] ∷ []) = []
@@ -99,33 +99,35 @@ pub record EndsFailed (first : List (List ℕ) → Type 0) (status : ℕ) (sink 
   pub part : AppendsBehind sink.before sink.after texts (last ++ 10 ∷ [])
   pub failed : HasFailed sink
 
--- how a program ends that answers line by line
+-- how a program ends that answers line by line, and what it wrote then
 abbrev pub EndsLines : (List (List ℕ) → List ℕ → Type 0) → (List (List ℕ) → Type 0)
     → (List (List ℕ) → Refusal → Type 0) → ℕ → Seen → Type 0
 EndsLines all first stops status sink =
     EndsDone all status sink
     ⊎ (EndsRefused stops status sink ⊎ EndsFailed first status sink)
 
--- they are the answers to the first lines, and for want of memory no more lines are answered
+-- the texts are the answers to the first lines, and for want of memory no more lines are answered
 abbrev pub StopsForMemory : (List (List ℕ) → Type 0) → List (List ℕ) → Refusal → Type 0
 StopsForMemory first texts refusal = first texts × (refusal ≡ OutOfMemory)
 
--- How a program ends that reads its input whole: the input isn't read, and that is what is answered;
+-- The input isn't read whole, and the program ends with the cause of that.
 pub record EndsUnread (status : ℕ) (source sink : Seen) : Type 0 where
   pub refusal : Refusal
   pub unread : IsUnread source refusal
   pub ends : Ends (Err refusal) status sink
 
--- or it is, up to its end, and the program ends so on it.
+-- The input, of at most 2^26 octets, is read up to its end, and the program ends on it as `ends_on`
+-- says.
 pub record EndsRead (ends_on : List ℕ → Type 0) (source : Seen) : Type 0 where
   pub steady : IsSteady source
   pub whole : IsAtEnd source.after
   pub ends : OfInput source.before (λ input. (length input ≤ 2 ^ 26) × ends_on input)
 
+-- how a program ends that reads its input whole
 abbrev pub EndsRun : (List ℕ → Type 0) → ℕ → Seen → Seen → Type 0
 EndsRun ends_on status source sink = EndsUnread status source sink ⊎ EndsRead ends_on source
 
--- ---- the same before it ends
+-- ---- what was written before the program ends; `EndsLines` says what was when it ended
 
 -- the answers to all lines were written, and the closing text
 pub record WroteAll (all : List (List ℕ) → List ℕ → Type 0) (sink : Seen) : Type 0 where
@@ -135,7 +137,7 @@ pub record WroteAll (all : List (List ℕ) → List ℕ → Type 0) (sink : Seen
   pub whole : Appends sink.before sink.after (answer_lines texts ++ closing)
   pub steady : IsSteady sink
 
--- those to the first lines were written, and it stops with the refusal
+-- the answers to the first lines were written, and the program stops with the refusal
 pub record WroteFirst (stops : List (List ℕ) → Refusal → Type 0) (refusal : Refusal) (sink : Seen)
     : Type 0 where
   pub texts : List (List ℕ)
@@ -143,8 +145,8 @@ pub record WroteFirst (stops : List (List ℕ) → Refusal → Type 0) (refusal 
   pub whole : Appends sink.before sink.after (answer_lines texts)
   pub steady : IsSteady sink
 
--- those to the first lines were written, and a part of the line with the next one, where the sink
--- failed; or all answers, and a part of the closing text
+-- the answers to the first lines were written, and a part of the line with the next one, where the
+-- sink failed
 pub record FailedFirst (first : List (List ℕ) → Type 0) (sink : Seen) : Type 0 where
   pub texts : List (List ℕ)
   pub last : List ℕ
@@ -152,6 +154,7 @@ pub record FailedFirst (first : List (List ℕ) → Type 0) (sink : Seen) : Type
   pub part : AppendsBehind sink.before sink.after texts (last ++ 10 ∷ [])
   pub failed : HasFailed sink
 
+-- all answers were written, and a part of the closing text, where the sink failed
 pub record FailedAll (all : List (List ℕ) → List ℕ → Type 0) (sink : Seen) : Type 0 where
   pub texts : List (List ℕ)
   pub closing : List ℕ
@@ -159,13 +162,14 @@ pub record FailedAll (all : List (List ℕ) → List ℕ → Type 0) (sink : See
   pub part : AppendsBehind sink.before sink.after texts closing
   pub failed : HasFailed sink
 
+-- what was written where all lines were answered, or answering stopped for this cause
 abbrev pub Answered : (List (List ℕ) → List ℕ → Type 0) → (List (List ℕ) → Type 0)
     → (List (List ℕ) → Refusal → Type 0) → Result (Unit {0}) Stop → Seen → Type 0
 Answered all first stops (Ok done) sink = WroteAll all sink
 Answered all first stops (Err (Refused refusal)) sink = WroteFirst stops refusal sink
 Answered all first stops (Err WriteFault) sink = FailedFirst first sink ⊎ FailedAll all sink
 
--- how it ends where it stopped
+-- how a program ends that stopped for this cause, behind what it wrote
 abbrev pub EndsStopped : Stop → ℕ → Seen → Type 0
 EndsStopped (Refused refusal) status sink = Ends (Err refusal) status sink
 EndsStopped WriteFault status sink =

@@ -19,11 +19,11 @@ seen octets faults old new = record {
   faults_after = faults new;
 }
 
--- its count rose
+-- the count of faults rose in the call, or it stands at the last value that it can have, 2^64 - 1
 abbrev pub HasFailed : Seen → Type 0
 HasFailed s = Rose s.faults_before s.faults_after
 
--- its count stood still
+-- the count of faults is as it was before the call
 abbrev pub IsSteady : Seen → Type 0
 IsSteady s = s.faults_after ≡ s.faults_before
 

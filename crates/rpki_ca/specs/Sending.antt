@@ -39,7 +39,7 @@ pub record FailsToSign {Id E : Type 0} (scheme : Relation) (when : ℤ) (signer 
   pub first_refusal : IsFirstRefusal scheme (text_of message) when signer.id signer.before
       signer.after error
 
--- the same cause as a program tells it
+-- why a reply isn't signed, as a program tells it
 abbrev pub IsSigningCause : {Id : Type 0} → ℤ → SignerSeen Id → Received → Refusal → Type 0
 IsSigningCause when signer message refusals.Moment = HasWindow when → ⊥
 IsSigningCause when signer message refusals.TooLong =

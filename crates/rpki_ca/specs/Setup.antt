@@ -52,12 +52,13 @@ refusal_of_setup other = refusals.XmlError
 
 -- ---- the certificate
 
--- the octets begin with a certificate that is believed as a trust anchor's at the moment
+-- the octets begin with a certificate that is accepted as a trust anchor's certificate at the moment
 pub record IsAnchored (scheme : Relation) (octets : List ℕ) (when : ℤ) : Type 0 where
   pub certificate : CertificateFields
   pub believed : IsBelievedIn scheme octets when certificate
 
--- or with none, or with one that is not believed
+-- the octets begin with no certificate, or with one that is not accepted as a trust anchor's
+-- certificate at the moment
 abbrev pub RefusesAnchor : Relation → List ℕ → ℤ → Refusal → Type 0
 RefusesAnchor scheme octets when refusals.InvalidTaCertEncoding =
     (c : CertificateFields) → BeginsCertificate octets c → ⊥
@@ -79,7 +80,7 @@ pub record IsSetUp (scheme : Relation) (kind : SetupKind) (input : List ℕ) (wh
 abbrev pub IsNoSetup : SetupKind → List ℕ → Type 0
 IsNoSetup kind input = (message : SetupMessage) → ReadsSetup kind input message → ⊥
 
--- it reads as one, whose certificate is refused so
+-- the input reads as the setup message, whose certificate is refused so
 pub record HoldsNoAnchor (scheme : Relation) (kind : SetupKind) (input : List ℕ) (when : ℤ)
     (refusal : Refusal) : Type 0 where
   pub message : SetupMessage

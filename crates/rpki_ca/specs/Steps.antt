@@ -18,7 +18,7 @@ pub record AreAllSteps {S L : Type 0} (step : S → L → List ℕ → S → Typ
   pub answered : AreSteps step state lines texts last
   pub written : closing ≡ closing_of last
 
--- they are the answers to the first lines
+-- the texts are the answers to the first lines
 pub record AreFirstSteps {S L : Type 0} (step : S → L → List ℕ → S → Type 0) (state : S)
     (lines : List L) (texts : List (List ℕ)) : Type 0 where
   pub last : S

@@ -41,11 +41,11 @@ made_at = pos 1700000000
 abbrev pub object_at : ℕ → ℕ → List ℕ
 object_at seed place = to_be_bytes w64 seed ++ to_be_bytes w64 place
 
--- where it is published
+-- where the object at a place is published
 abbrev pub uri_at : ℕ → List ℕ
 uri_at place = codes "rsync://localhost/ca/f" ++ decimal place ++ codes ".txt"
 
--- its digest as a tag
+-- the digest of the object at a place, as a tag
 abbrev pub tag_at : ℕ → ℕ → List ℕ
 tag_at seed place = encode_lower (sha256 (object_at seed place))
 
@@ -57,7 +57,7 @@ publish_at seed place = record {
   content = object_at seed place;
 }
 
--- it is published in the place of one whose octets were these and a 0
+-- the object at a place is published in the place of one whose octets were these and a 0
 abbrev pub update_at : ℕ → ℕ → UpdateFields
 update_at seed place = record {
   tag = Some (tag_at seed place);
@@ -66,7 +66,7 @@ update_at seed place = record {
   hash = sha256 (object_at seed place ++ 0 ∷ []);
 }
 
--- it is withdrawn
+-- the object at a place is withdrawn
 abbrev pub withdraw_at : ℕ → ℕ → WithdrawFields
 withdraw_at seed place = record {
   tag = Some (tag_at seed place);
@@ -81,7 +81,7 @@ change_at seed place =
     else if place % 3 == 1 then change.Update (update_at seed place)
     else change.Withdraw (withdraw_at seed place)
 
--- those at the places 0 and up, so many
+-- the changes at the places from 0 on, as many as `count` says
 abbrev pub changes : ℕ → ℕ → List PublishDeltaElement
 changes seed count = map (change_at seed) (range_with_len 0 count)
 
@@ -114,7 +114,7 @@ numbers elements =
     ++ codes " update " ++ decimal (count_by (does actions.Update) elements)
     ++ codes " withdraw " ++ decimal (count_by (does actions.Withdraw) elements)
 
--- and the digest of the signed message's octets
+-- how many changes there are, and the digest of the signed message's octets
 abbrev pub summary : List PublishDeltaElement → List ℕ → List ℕ
 summary elements octets =
     numbers elements ++ codes " envelope " ++ encode_lower (sha256 octets)
@@ -162,7 +162,7 @@ IsMakeAnswer scheme count seed signer (Err refusal) =
 
 -- ---- at the end of a call
 
--- such a summary was written
+-- the summary of the message with so many elements was written
 pub record Makes {Id : Type 0} (scheme : Relation) (count seed : ℕ) (signer : SignerSeen Id)
     (sink : Seen) : Type 0 where
   pub text : List ℕ

@@ -14,7 +14,7 @@ abbrev pub IsMoment : List ℕ → ℤ → Type 0
 IsMoment word (pos seconds) = (word ≡ decimal seconds) × (seconds ≤ 253402300799)
 IsMoment word (negsuc n) = ⊥
 
--- such a word stands at the index
+-- the word at the index is the moment's
 pub record IsMomentAt (words : List (List ℕ)) (index : ℕ) (when : ℤ) : Type 0 where
   pub word : List ℕ
   pub stands : slice_get words index ≡ Some word
@@ -24,7 +24,7 @@ pub record IsMomentAt (words : List (List ℕ)) (index : ℕ) (when : ℤ) : Typ
 abbrev pub IsNumber : List ℕ → ℕ → ℕ → Type 0
 IsNumber word most number = (word ≡ decimal number) × (number ≤ most)
 
--- such a word stands at the index
+-- the word at the index is the number's
 pub record IsNumberAt (words : List (List ℕ)) (index most number : ℕ) : Type 0 where
   pub word : List ℕ
   pub stands : slice_get words index ≡ Some word

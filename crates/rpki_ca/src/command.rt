@@ -38,8 +38,8 @@ pub enum Command {
         /// The moment at which it is signed.
         when: Time,
     },
-    /// The setup message that the input is, whose certificate is believed as a trust anchor's at the
-    /// moment.
+    /// The setup message that the input is, whose certificate is accepted as a trust anchor's
+    /// certificate at the moment.
     Setup {
         /// Which of the four.
         kind: SetupKind,

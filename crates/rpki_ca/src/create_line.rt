@@ -60,7 +60,7 @@ pub fn message_in(alloc: Global, kind: Kind, input: &[u8]) -> Result<Received, R
     }
 }
 
-// The same. The input is gone then.
+// The message of the kind that the whole input is. The input is gone then.
 fn message_of(alloc: Global, kind: Kind, input: Vec<u8>) -> Result<Received, ReceiveError>
     ensures ok { IfOk result (λ m. ReadsAs kind input.items m) }
     ensures writable { IfOk result IsWritable }

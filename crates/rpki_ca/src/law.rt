@@ -100,7 +100,7 @@ pub fn accepted_moments_are_one_span<P: Scheme>()
 
 /// What `create` of either protocol creates of a writable message is received as that message: the octets that `to_bytes` gives of
 /// it are accepted as the message's normal form, under every list of keys that holds the issuing key, at each second from 300 before
-/// the moment to 300 after it. What stands in front are the clauses `created`, `believed` and `again` of `create` and `spelled` of
+/// the moment to 300 after it. Its premises are the clauses `created`, `believed` and `again` of `create` and `spelled` of
 /// `to_bytes`.
 pub fn created_is_received<P: Scheme, S: Signer<P>>()
     ensures { (message : Received) (now : ℤ) (signer : SignerSeen S.KeyId) (m : MessageFields)

@@ -9,8 +9,8 @@
 //! - `create KIND MOMENT` reads a message of the protocol and writes a signed message with it, which
 //!   is received as that message's normal form at each second from 300 before the moment to 300
 //!   after it.
-//! - `setup MESSAGE MOMENT` reads one of the four setup messages and writes it anew, if its
-//!   certificate is believed as a trust anchor's at the moment.
+//! - `setup KIND MOMENT` reads one of the four setup messages and writes it anew, if its certificate
+//!   is accepted as a trust anchor's certificate at the moment.
 //! - `make COUNT SEED` reads nothing: it makes a query with so many elements, creates and receives
 //!   it, and writes how many there are of each kind and the digest of the signed message.
 //!

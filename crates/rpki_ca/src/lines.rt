@@ -131,7 +131,7 @@ fn place_of(octets: &[u8], separator: u8) -> Option<usize>
 /// Why a program that answers line by line stops before the last line is answered.
 #[derive(Clone, Copy, Debug, PartialEq, Eq)]
 pub enum Stop {
-    /// It refuses to go on. The refusal's line is still to be written.
+    /// The program refuses to go on. The refusal's line is still to be written.
     Refused(Refusal),
     /// The output failed, so nothing more is written.
     WriteFault,

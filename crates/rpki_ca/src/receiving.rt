@@ -49,9 +49,9 @@ pub enum ReceiveError {
     CmsDecode,
     /// The content has not the form of a message of the kind.
     XmlError,
-    /// It has, and the octets of the certificate request in it begin with none.
+    /// The content has the form of one, and the octets of the certificate request in it begin with none.
     InvalidCsrSyntax,
-    /// It has, and the octets of a certificate in it begin with none.
+    /// The content has the form of one, and the octets of a certificate in it begin with none.
     CertSyntax,
     /// A check of the signed message failed.
     Validation(ValidationError),
@@ -92,7 +92,7 @@ impl From<publication::Error> for ReceiveError {
     }
 }
 
-// As an error of the provisioning protocol is passed on.
+// How an error of the provisioning protocol is passed on.
 fn of_provisioning(error: &updown::Error) -> ReceiveError
     ensures { result ≡ of_provisioning error.now }
 {

@@ -21,13 +21,16 @@ pub enum Refusal {
     CmsDecode,
     /// The content, or the input, is no message of the kind that was asked for.
     XmlError,
-    /// It has the form of one, and the octets of a certificate in it begin with none.
+    /// The content, or the input, has the form of a message, and the octets of a certificate in it begin
+    /// with none.
     CertSyntax,
-    /// It has the form of one, and the octets of the certificate request in it begin with none.
+    /// The content, or the input, has the form of a message, and the octets of the certificate request
+    /// in it begin with none.
     InvalidCsrSyntax,
     /// The octets in the place of a setup message's certificate begin with none.
     InvalidTaCertEncoding,
-    /// The certificate of a setup message is not believed as a trust anchor's at the moment.
+    /// The certificate of a setup message is not accepted as a trust anchor's certificate at the
+    /// moment.
     InvalidTaCert,
     /// A check of the signed message failed: its number, from 1 to 14.
     Validation(u8),

@@ -190,12 +190,12 @@ fn finish<O: Sink>(output: &mut O, answer: Result<Vec<u8>, Refusal>) -> Status
 /// where one of the one to eight keys issued its certificate for the moment and all fourteen checks
 /// hold under it: MOMENT in seconds since 1970, each KEY in DER and hexadecimal. `create KIND
 /// MOMENT` reads a message and writes, in hexadecimal, a signed message with it, which the signer
-/// makes under the issuing key with the identifier `key`. `setup MESSAGE MOMENT` reads one of the
-/// four setup messages and writes it anew, where its certificate is believed as a trust anchor's at
-/// the moment. `make COUNT SEED` makes a query of the publication protocol with COUNT elements, at
-/// most 10000, creates a signed message with it and receives that, and writes a summary; it reads
-/// nothing. Reading stops behind 2^26 octets and one more. The whole line is made before the first
-/// write.
+/// makes under the issuing key with the identifier `key`. `setup KIND MOMENT` reads one of the
+/// four setup messages and writes it anew, where its certificate is accepted as a trust anchor's
+/// certificate at the moment. `make COUNT SEED` makes a query of the publication protocol with COUNT
+/// elements, at most 10000, creates a signed message with it and receives that, and writes a
+/// summary; it reads nothing. Reading stops behind 2^26 octets and one more. The whole line is made
+/// before the first write.
 pub fn run<P: Scheme, I: Source, O: Sink, V: Verifier<P>, S: Signer<P>>(
     alloc: Global,
     words: &Words,
@@ -212,7 +212,7 @@ pub fn run<P: Scheme, I: Source, O: Sink, V: Verifier<P>, S: Signer<P>>(
         → OfInput (I.rest input.old) (λ rest.
         Delivers P.checks kind keys when rest (seen O.written O.faults output.old output.new)) }
 
-    // And where a message is accepted it ends with 0, but for want of memory and for faults of
+    // Where a message is accepted, `receive` ends with 0, but for want of memory and for faults of
     // source and sink.
     ensures accepted { (kind : Kind) (when : ℤ) (keys : List KeyFields)
         → IsReceive words.now kind when keys
@@ -228,8 +228,8 @@ pub fn run<P: Scheme, I: Source, O: Sink, V: Verifier<P>, S: Signer<P>>(
         (seen_signer key.now (S.state signer.old) (S.state signer.new))
         (seen O.written O.faults output.old output.new)) }
 
-    // And where it can be created it ends with 0, but for want of memory and for faults of source
-    // and sink.
+    // Where a message can be created, `create` ends with 0, but for want of memory and for faults of
+    // source and sink.
     ensures creates { (kind : Kind) (when : ℤ) → IsCreate words.now kind when
         → IfSome (I.rest input.old) (λ rest. CanCreate kind when rest
         (seen_signer key.now (S.state signer.old) (S.state signer.new)) → Succeeds result.0
@@ -237,7 +237,8 @@ pub fn run<P: Scheme, I: Source, O: Sink, V: Verifier<P>, S: Signer<P>>(
         (seen O.written O.faults output.old output.new)) }
 
     // `setup` ends with 0 only where the input reads as the message that is asked for, whose
-    // certificate is believed as a trust anchor's at the moment, and writes the message anew.
+    // certificate is accepted as a trust anchor's certificate at the moment, and writes the message
+    // anew.
     ensures set_up { (kind : SetupKind) (when : ℤ) → IsSetup words.now kind when → result.0 ≡ 0
         → OfInput (I.rest input.old) (λ rest. (text : List ℕ)
         × IsSetUp P.checks kind rest when text
@@ -262,8 +263,9 @@ pub fn run<P: Scheme, I: Source, O: Sink, V: Verifier<P>, S: Signer<P>>(
         (seen I.rest I.faults input.old input.new)
         (seen O.written O.faults output.old output.new)) }
 
-    // Every status comes with an admitted answer: one that words and input show, one that comes from
-    // the signer by its cause and by its first refusal, that the source failed, or want of memory.
+    // Every status comes with an admitted answer: the one that words and input show; or one of the
+    // signer's, by its cause and as its first refusal; or ReadFault, where the source failed; or
+    // OutOfMemory.
     ensures answered { (answer : Result (List ℕ) Refusal)
         × IsAdmitted P.checks words.now (seen I.rest I.faults input.old input.new)
         (seen_signer key.now (S.state signer.old) (S.state signer.new)) answer

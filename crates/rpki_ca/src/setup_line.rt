@@ -11,7 +11,7 @@ use rpki_base::{Scheme, Time, Verifier};
 use rpki_setup::validate_idcert_at;
 use std::alloc::Global;
 
-// Whether the message's certificate is believed as a trust anchor's at the moment.
+// Whether the message's certificate is accepted as a trust anchor's certificate at the moment.
 fn check_anchor<P: Scheme, V: Verifier<P>>(
     alloc: Global,
     message: &SetupMessage,

@@ -56,7 +56,7 @@ abbrev pub routed : Option (List (List ℕ)) → Option (Option (List (List ℕ)
 routed None = Some None
 routed (Some purposes) = if has_router purposes then Some (Some purposes) else None
 
--- the others are read and don't count
+-- of a router's extensions extKeyUsage counts; the others are read
 unfoldable pub of_router : RequestedExtensions → Option (Option (List (List ℕ)))
 of_router r = routed r.extended_key_usage
 

@@ -49,7 +49,7 @@ pub record RequestedExtensions : Type 0 where
   pub extended_key_usage : Option (List (List ℕ))
   pub access : Option AccessFields
 
--- each at most once, and no others
+-- the extensions of a request: each at most once, and no others
 unfoldable pub requested : List ExtensionFields → Option RequestedExtensions
 requested all = do
   others ← only is_known all

@@ -41,12 +41,12 @@ pub record Places : Type 0 where
   pub rpki_manifest : List ℕ
   pub rpki_notify : Option (List ℕ)
 
--- it is a lawful URI, if it is there
+-- the octets are a lawful URI, if they are there
 abbrev pub IsLawfulIfThere : Option (List ℕ) → Type 0
 IsLawfulIfThere None = ⊤
 IsLawfulIfThere (Some uri) = fault_of https uri ≡ None
 
--- each is a lawful URI
+-- each of the places is a lawful URI
 pub record AreLawful (places : Places) : Type 0 where
   pub ca_repository : fault_of rsync places.ca_repository ≡ None
   pub rpki_manifest : fault_of rsync places.rpki_manifest ≡ None
@@ -160,7 +160,7 @@ pub record IsRequestMade {Id : Type 0} (scheme : Relation) (id : Id) (places : P
       request
   pub stays : Stays before after
 
--- the same for a key that is given, as the signer's call leaves it
+-- the octets are a request for a key that is given, with the signature that the signer's call gives under the identifier
 pub record IsSignedFor {Id : Type 0} (scheme : Relation) (id : Id) (key : KeyFields)
     (places : Places) (before after : SignerState Id) (octets : List ℕ) : Type 0 where
   pub value : List ℕ

@@ -43,7 +43,7 @@ impl Model for Access {
 }
 
 impl Access {
-    /// The same, with copies that share their octets with these.
+    /// An equal value, whose URIs share their octets with these.
     pub(crate) fn clone(&self, alloc: Global) -> Result<Access, OutOfMemory>
         ensures { IfOk result (λ a. a ≡ self.now) }
     {

@@ -169,8 +169,8 @@ impl Cert {
         decode_within::<Brand>(alloc, octets, Blank::new(1))
     }
 
-    /// The same as `decode`, at a price: it ticks at least once for each value and at most twice an octet of the certificate; where it
-    /// refuses, at most twice for each octet that it was given, and 8 times more.
+    /// Answers as `decode` does, at a price: it ticks at least once for each value and at most twice an octet of the certificate; where
+    /// it refuses, at most twice for each octet that it was given, and 8 times more.
     pub fn decode_counted<L: Ledger>(
         alloc: Global,
         octets: &[u8],
@@ -183,7 +183,8 @@ impl Cert {
         Cert::take_from_counted(alloc, &mut cursor, steps)
     }
 
-    /// The certificate that stands next, by the cursor's rules. It ticks each time it looks at a header, and for each end mark.
+    /// The certificate that stands next, by the cursor's rules. It ticks each time it looks at a header, and for each end mark,
+    /// but not where it reads an algorithm again from its octets.
     pub fn take_from_counted<L: Ledger>(
         alloc: Global,
         cursor: &mut Cursor<'_>,

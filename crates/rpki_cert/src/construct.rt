@@ -246,7 +246,7 @@ impl<'a> Places<'a> {
     }
 }
 
-// Each of the places is a lawful URI.
+// For the proof: each of the places is a lawful URI, by its type.
 fn are_lawful(places: &Places<'_>)
     ensures { spec.AreLawful places.now }
 {
@@ -337,6 +337,7 @@ pub fn construct_rpki_ca<P: Scheme, S: Signer<P>>(
         rpki_manifest,
         rpki_notify,
     };
+    // For the proof: each place is a lawful URI.
     are_lawful(&places);
     sign_request(alloc, signer, key, &public_key, &places)
 }

@@ -94,8 +94,8 @@ impl<Alg: SignatureAlgorithm, Attributes: CsrAttributes> Csr<Alg, Attributes> {
         &self.content.subject
     }
 
-    /// The key for which a certificate is requested. That who signed the request had its private key is what `verify_signature` tells;
-    /// of who sent it, it tells nothing.
+    /// The key for which a certificate is requested. `verify_signature` tells that whoever signed the request held the private key. It
+    /// tells nothing of who sent it.
     pub fn public_key(&self) -> &PublicKey
         ensures { result.now ≡ self.now.tbs.key }
     {
@@ -214,8 +214,8 @@ impl<Alg: SignatureAlgorithm, Attributes: CsrAttributes> Csr<Alg, Attributes> {
         decode_within::<Alg, Attributes, Brand>(alloc, octets, Blank::new(1))
     }
 
-    /// The same as `decode`, at a price: it ticks at least once for each value and at most twice an octet of the request; where it refuses,
-    /// at most twice for each octet that it was given, and 8 times more.
+    /// Answers as `decode` does, at a price: it ticks at least once for each value and at most twice an octet of the request; where it
+    /// refuses, at most twice for each octet that it was given, and 8 times more.
     pub fn decode_counted<L: Ledger>(
         alloc: Global,
         octets: &[u8],
@@ -228,7 +228,8 @@ impl<Alg: SignatureAlgorithm, Attributes: CsrAttributes> Csr<Alg, Attributes> {
         Csr::<Alg, Attributes>::take_from_counted(alloc, &mut cursor, steps)
     }
 
-    /// The request that stands next, by the cursor's rules. It ticks each time it looks at a header, and for each end mark.
+    /// The request that stands next, by the cursor's rules. It ticks each time it looks at a header, and for each end mark, but
+    /// not where it reads an algorithm, a kept identifier or a location again from its octets.
     pub fn take_from_counted<L: Ledger>(
         alloc: Global,
         cursor: &mut Cursor<'_>,

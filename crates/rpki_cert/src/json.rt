@@ -45,12 +45,13 @@ impl<Alg: SignatureAlgorithm, Attributes: CsrAttributes> Csr<Alg, Attributes> {
         ensures text { IfOk result (λ s. string_bytes s ≡ compact_text (string
             (encode_of standard (spelled_data Alg.spelled self.now.signed)))) }
 
-        // It is read as this request, where that was read in DER.
+        // The text is read as this request, where that was read in DER.
         ensures again { IfOk result (λ s. (octets : List ℕ)
             → BeginsAs (certification_request Attributes.reads Alg.reads Der) Der octets self.now
             → in_json (certification_request Attributes.reads Alg.reads Der) (string_bytes s)
             ≡ Some self.now) }
     {
+        // For the proof: what is written of a request is read as it.
         written_requests_are_read::<Alg, Attributes>();
         let octets = self.to_captured(alloc)?;
         write_octets(alloc, octets.as_slice())

@@ -477,7 +477,7 @@ decodes c grammar view mode octets old new b a (Ok y) e t = record {
 }
 decodes c grammar view mode octets old new b a (Err e') e t = record { refuses = refuses_whole grammar mode octets old e' e t.refuses; least = t.least; most = rw (left_whole mode octets old e) at t.most }
 
--- ---- the same with more ticks allowed
+-- ---- counted readings with more ticks allowed
 
 pub refuses_wider : {X : Type 0} (c d : ℕ) (grammar : Value → Option X) (p : Position) (b a : ℕ) (e : DecodeError) → nat_lt c d ≡ false → CountedRefuses d grammar p b a e → CountedRefuses c grammar p b a e
 refuses_wider c d grammar p b a e fits n = record { refuses = n.refuses; least = n.least; most = let w = most_refused c d (left p) b a 0 fits (omega (arith, n.most)) in omega (arith, w) }

@@ -85,7 +85,7 @@ stepped_into mode here i inner levels level entries header size o k before h = r
       (Constructed i w.form p.0, p.1, w.begins, subst (λ (es : List Entry). CompletesTree mode p.1 levels es final total) l (rw (k, before) at p.3));
 }
 
--- ---- the same on the levels as the code keeps them
+-- ---- levels as the code keeps them
 
 inner_first-push : (levels : List Inside) (level : Inside) → inner_first (levels ++ level ∷ []) ≡ level ∷ inner_first levels
 inner_first-push levels level = reverse-append levels (level ∷ [])

@@ -262,7 +262,7 @@ unfolding RefusesOptional RefusesFields
 refuses_optional_field c tag field p b a Malformed n = record { refuses = refused_all tag field p (λ e. n.refuses.0 (inl e)) n.refuses.1; least = n.least; most = omega (arith, n.most) }
 refuses_optional_field c tag field p b a OutOfMemory n = record { refuses = tt; least = n.least; most = omega (arith, n.most) }
 
--- ---- the same of the value that stands next, whatever follows it
+-- ---- the value that stands next, whatever follows it
 
 absent_once : (tag : List ℕ) (p : Position) (b a : ℕ) → CountedAbsent tag p b a → Absent tag p
 absent_once tag p b a (inl e) = inl e.0

@@ -24,7 +24,7 @@ use Rattle.rpki_der.specs.declared.mode.Mode.TheVariants.{Ber, Der}
 some_of : {X : Type 0} (x y : X) → Some x ≡ Some y → x ≡ y
 some_of x y e = cc
 
--- the same place and the same octets so far
+-- joining up from the same place with the same octets so far
 moved : (n : ℕ) (p p' : Position) (front front' : List ℕ) (q : Position) (all : List ℕ) → p ≡ p' → front ≡ front' → JoinsUp n p front q all → JoinsUp n p' front' q all
 moved n p p' front front' q all e f k = subst (λ (x : Position). JoinsUp n x front' q all) e (subst (λ (x : List ℕ). JoinsUp n p x q all) f k)
 

@@ -28,7 +28,7 @@ part_in c k fields mode p q b a x e t = subst (λ (m : Mode). CountedFields c k 
 pub refuses_part_in : {X : Type 0} (c k : ℕ) (fields : Mode → Values → Option (X × Values)) (mode : Mode) (p : Position) (b a : ℕ) (error : DecodeError) → p.mode ≡ mode → CountedRefusesFields c k (fields p.mode) p b a error → CountedRefusesFields c k (fields mode) p b a error
 refuses_part_in c k fields mode p b a error e n = subst (λ (m : Mode). CountedRefusesFields c k (fields m) p b a error) e n
 
--- ---- the same of a whole answer
+-- ---- a whole answer
 
 pub all_in : {X Y : Type 0} (c : ℕ) (grammar : Mode → Value → Option X) (view : Y → X) (mode : Mode) (p q : Position) (b a : ℕ) (r : Result Y DecodeError) → p.mode ≡ mode → TakesCounted c (grammar p.mode) view p q b a r → TakesCounted c (grammar mode) view p q b a r
 all_in c grammar view mode p q b a r e t = subst (λ (m : Mode). TakesCounted c (grammar m) view p q b a r) e t

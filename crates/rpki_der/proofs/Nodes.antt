@@ -117,7 +117,7 @@ pub inside_none : (v : Value) (octets : List ℕ) (entry : Entry) (inner : List 
 inside_none (Primitive i l c) octets entry inner n t = record { lawful = tt; octets' = refl; entries' = n.inner' }
 inside_none (Constructed i f vs) octets entry inner n t = let no : true ≡ false = t in absurd cc
 
--- ---- the same by the octets
+-- ---- the nodes of octets
 
 pub are_nodes : (vs : Values) (octets : List ℕ) (entries : List Entry) → AreNodes vs octets entries → values_in octets ≡ vs
 are_nodes vs octets entries a = values_in-are octets vs a.lawful a.octets'

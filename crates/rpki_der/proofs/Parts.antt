@@ -59,7 +59,7 @@ has_header Ber here (Constructed i Indefinite vs) next b = record {
 }
 has_header Der here (Constructed i Indefinite vs) next b = absurd b.lawful.2
 
--- the same, where a constructed value only opens
+-- the header of a constructed value that only opens here
 pub opens_header : (mode : Mode) (here i : List ℕ) (level : Level) (inner : List ℕ) → Opens mode here i level inner → HasHeader mode here (Constructed i Indefinite End)
 opens_header mode here i (Sized after) inner o = record {
   identifier = i;

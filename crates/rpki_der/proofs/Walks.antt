@@ -176,7 +176,7 @@ pub smaller_end : (level : Level) (levels : List Level) (here rest : List ℕ) �
 smaller_end (Sized after) levels here rest e = let a = ap length e.0 in let b = ap length e.1 in omega arith
 smaller_end Marked levels here rest e = let a = ap length e in omega arith
 
--- ---- the same on the levels of the code
+-- ---- walks on the levels of the code
 
 pub ended_last : (mode : Mode) (octets : List ℕ) (base opened : List Level) (level : Level) (here rest : List ℕ) → opened ≡ level ∷ drop 1 opened → LeadsTo mode octets base here opened → Ends level here rest → LeadsTo mode octets base rest (drop 1 opened)
 ended_last mode octets base opened level here rest e d h =

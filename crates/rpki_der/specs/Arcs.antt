@@ -18,7 +18,7 @@ subidentifier_parts (a ∷ more) =
 abbrev pub base_128 : List ℕ → ℕ
 base_128 octets = fold (λ n a. n * 128 + a % 128) 0 octets
 
--- one of more than nine octets prints as ?
+-- an arc in decimal; one of more than nine octets prints as ?
 abbrev pub arc_text : List ℕ → List ℕ
 arc_text octets = if nat_lt 9 (length octets) then codes "?" else decimal (base_128 octets)
 

@@ -42,7 +42,7 @@ optional tag field End = Some (None, End)
 optional tag field (v ▸ vs) = if has_tag tag (identifier_of v)
     then (field v >>= λ x. Some (Some x, vs)) else Some (None, v ▸ vs)
 
--- each value
+-- a list of what each value is read as
 unfoldable pub every : {X : Type 0} → (Value → Option X) → Values → Option (List X)
 every field End = Some []
 every field (v ▸ vs) = field v >>= λ x. every field vs >>= λ xs. Some (x ∷ xs)

@@ -27,7 +27,7 @@ CompletesTree mode here (level ∷ levels) entries final total =
     × CompletesTree mode next levels (closed (entries ++ all_entries_of vs) level.entry
     (length level.before.now - length next)) final total
 
--- one value stands first, and then as before
+-- one value stands first, and then what is read on
 abbrev pub OneFirstTree : Mode → List ℕ → List Inside → List Entry → List ℕ → List Entry → Type 0
 OneFirstTree mode here levels entries final total =
     (v : Value) × (next : List ℕ) × Begins mode here v next
@@ -43,7 +43,7 @@ pub record Stepped (mode : Mode) (here : List ℕ) (levels : List Inside) (entri
       → CompletesTree mode here' levels' entries' final total
       → OneFirstTree mode here levels entries final total
 
--- the same of the levels as the code keeps them, the outermost first
+-- reading a value here is reading on at here', of the levels as the code keeps them, the outermost first
 abbrev pub DescendsTree : Mode → List ℕ → List Inside → List Entry → List ℕ → List Inside
     → List Entry → Type 0
 DescendsTree mode here levels entries here' levels' entries' =

@@ -43,7 +43,7 @@ item_with tag v = if has_tag tag (identifier_of v) then Some (item v) else None
 
 -- ---- the next value, if there is one
 
--- It isn't the end of the level; and the answer is Malformed only where no value stands next.
+-- Where no value is taken, it isn't the end of the level; and the answer is Malformed only where no value stands next.
 unfoldable pub RefusesNext : Position → DecodeError → Type 0
 RefusesNext old Malformed = (AtEnd old → ⊥) × NoValue old.mode old.here
 RefusesNext old OutOfMemory = AtEnd old → ⊥
@@ -78,7 +78,7 @@ OtherFirst tag octets = (identifier : List ℕ) × (rest : List ℕ)
 abbrev pub Absent : List ℕ → Position → Type 0
 Absent tag old = AtEnd old ⊎ OtherFirst tag old.here
 
--- It isn't so that the level ends or another tag stands next; and the answer is Malformed only where no value stands next.
+-- Where no value is taken, neither the level ends nor another tag stands next; the answer is Malformed only where no value stands next.
 unfoldable pub RefusesOptional : List ℕ → Position → DecodeError → Type 0
 RefusesOptional tag old Malformed = (Absent tag old → ⊥) × NoValue old.mode old.here
 RefusesOptional tag old OutOfMemory = Absent tag old → ⊥
@@ -111,10 +111,10 @@ TakesOptionalCounted c tag old new before after result =
     (λ i. CountedOne c (item_with tag) old new before after i))
     (CountedRefusesOptional c tag old before after)
 
--- ---- the same, by what a grammar reads of the value
+-- ---- a value that may be absent, by what a grammar reads of it
 
--- It isn't so that the level ends or another tag stands next; and the answer is Malformed only where the grammar reads no value
--- that stands next.
+-- Where no value is taken, neither the level ends nor another tag stands next; the answer is Malformed only where the grammar reads no
+-- value that stands next.
 unfoldable pub RefusesOptionalAs : {X : Type 0} → List ℕ → (Value → Option X) → Position
     → DecodeError → Type 0
 RefusesOptionalAs tag grammar old Malformed = (Absent tag old → ⊥) × NoneStands grammar old

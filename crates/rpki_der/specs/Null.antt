@@ -10,7 +10,7 @@ null (Primitive identifier lengths []) = if has_tag null_tag identifier then Som
 null (Primitive identifier lengths (a ∷ more)) = None
 null (Constructed identifier form inner) = None
 
--- the same of a value that has the tag, by what it shows
+-- NULL by what a value with its tag shows: its contents are empty
 abbrev pub no_octets : List ℕ → Option (Unit {0})
 no_octets [] = Some tt
 no_octets (a ∷ more) = None

@@ -13,6 +13,6 @@ subidentifiers octets = if nat_lt (slice_index_or octets (length octets - 1) 128
 unfoldable pub oid : Value → Option (List ℕ)
 oid = so (primitive oid_tag) subidentifiers
 
--- this object identifier
+-- this object identifier and no other
 unfoldable pub oid_is : List ℕ → Value → Option (Unit {0})
 oid_is wanted = so oid (exactly wanted)

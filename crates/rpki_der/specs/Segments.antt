@@ -13,7 +13,7 @@ JoinsUp (suc n) p front q all =
     × (joined_all vs ≡ Some w)
     × JoinsUp n (record { mode = p.mode; here = next; levels = drop 1 p.levels }) (front ++ w) q all
 
--- one octet string stands first, and then as before
+-- one octet string stands first, and then what is joined on
 abbrev pub OneJoin : List ℕ → ℕ → Position → List ℕ → Position → List ℕ → Type 0
 OneJoin tag n p front q all =
     (v : Value) × (next : List ℕ) × (w : List ℕ) × Begins p.mode p.here v next

@@ -27,7 +27,7 @@ HoldsOne grammar view mode octets result =
     MatchResult result (λ y. IsWhole grammar mode octets (view y))
     (RefusesWhole grammar mode octets)
 
--- ---- the same as a function, for the calls that take no memory
+-- ---- the one value that octets are as a function, for the calls that take no memory
 
 abbrev pub only : Value × List ℕ → Option Value
 only (v, []) = Some v

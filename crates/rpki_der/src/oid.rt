@@ -25,7 +25,7 @@ pub fn lawful_oid_contents(octets: &[u8]) -> Option<&[u8]>
     }
 }
 
-/// These octets and no others.
+/// Some where the octets are these and no others, else None.
 pub(crate) fn is_exactly(octets: &[u8], wanted: &[u8]) -> Option<()>
     ensures { result ≡ exactly wanted.now octets.now }
 {

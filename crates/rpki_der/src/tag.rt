@@ -184,6 +184,7 @@ impl Tag {
     }
 }
 
+// The octet with bit 6, 0x20, cleared: `octet & !0x20` in arithmetic, as the definition `without_bit_6` says it.
 fn clear_bit_6(octet: u8) -> u8
     ensures { result ≡ without_bit_6 octet }
 {

@@ -165,7 +165,7 @@ pub anchors_believed : {I E : Type 0} (scheme : Relation) (id : I) (validity : V
 anchors_believed scheme id validity a b (Ok c) f m = anchor_believed scheme id validity a b c m
 anchors_believed scheme id validity a b (Err e) f m = tt
 
--- ---- and is read again
+-- ---- a trust anchor is read again
 
 first_bit_length : (octets : List ℕ) → length octets ≡ 20 → length (without_first_bit octets) ≡ 20
 first_bit_length [] e = e

@@ -34,8 +34,9 @@ names_itself c = is_itself c.authority_key_id c.subject_key_id
 
 -- ---- an end entity's certificate, under the issuer's key; q: it is signed under that
 
--- 1 subjectKeyIdentifier is the SHA-1 of the key (4.2.1.2); 2 notBefore and notAfter (4.1.2.5); 3 authorityKeyIdentifier, if it is there,
--- is the SHA-1 of the issuer's key (4.2.1.1); 4 cA isn't true (4.2.1.9); 5 q (6.1.3)
+-- By number, and behind it in brackets the number among the fourteen checks of a signed message:
+-- 1 (4) subjectKeyIdentifier is the SHA-1 of the key (4.2.1.2); 2 (5) notBefore and notAfter (4.1.2.5); 3 (6) authorityKeyIdentifier,
+-- if it is there, is the SHA-1 of the issuer's key (4.2.1.1); 4 (7) cA isn't true (4.2.1.9); 5 (8) q (6.1.3)
 abbrev pub ee_checks : CertificateFields → KeyFields → ℤ → Bool → List Bool
 ee_checks c issuer when q =
     has_own_identifier c.tbs

@@ -1,4 +1,8 @@
 -- How identity certificates are made (RFC 5280, 4.1.2 and 4.2.1).
+--
+-- `IsMadeFor` is of the fields alone; `IsIssued` of these in DER, with a signature under a key; `IsSignedAs` of that signature as a
+-- call of the signer gives it; `IsAnchorMade`, `IsIssuedTo` and `IsEndEntityMade` of a whole certificate, with the signer's state before
+-- and behind.
 use Rattle.std.specs.Prelude.{◌≡◌, ◌⊎◌, Decides, ℕ, Bool, true, false, Option, None, Some, List, ◌++◌, length}
 use Rattle.hex.specs.Hex.{encode_upper}
 use Rattle.sha1.specs.Sha1.{sha1}
@@ -52,6 +56,7 @@ made_fields own issuing key serial validity = record {
   authority_key_id = issuer_of_other own issuing;
 }
 
+-- the fields are those of a certificate for the key under the issuing key, which may be one
 pub record IsMadeFor (issuing key : KeyFields) (serial : List ℕ) (validity : ValidityFields)
     (t : TbsFields) : Type 0 where
   pub own : Bool
@@ -67,7 +72,7 @@ pub record IsIssued (scheme : Relation) (issuing : KeyFields) (c : CertificateFi
   pub signed : IsSigned scheme c issuing
   pub short : IsShort c.signed.signature.value
 
--- the same for these fields, as the signer's call gives it
+-- These fields in DER, with the signature that the signer's call gives under the identifier.
 pub record IsSignedAs {Id : Type 0} (scheme : Relation) (t : TbsFields) (id : Id)
     (before after : SignerState Id) (c : CertificateFields) : Type 0 where
   pub tbs : c.tbs ≡ t
@@ -121,7 +126,7 @@ pub record RefusesDraw {Id E : Type 0} (before after : SignerState Id) (error : 
   pub is : error ≡ make.Signing (signing.Signer fault)
   pub told : Rose before.faults after.faults
 
--- it was, and then the issuing key or the signature wasn't given
+-- the serial number was drawn, and then the issuing key or the signature wasn't given
 pub record StopsBehindDraw {Id E : Type 0} (id : Id) (before after : SignerState Id)
     (error : MakeError E) : Type 0 where
   pub between : SignerState Id
@@ -137,7 +142,7 @@ StopsAtEndEntity id before after error =
 
 -- ---- what is written is read
 
--- its octets begin with it, whatever stands behind them
+-- a certificate's octets begin with it, whatever stands behind them
 abbrev pub IsReadAgain : Mode → CertificateFields → Type 0
 IsReadAgain mode c = (rest : List ℕ) → CanBeSpelled spelled_x509 c.signed
     → BeginsAs (identity_certificate mode) mode (spelled_data spelled_x509 c.signed ++ rest) c

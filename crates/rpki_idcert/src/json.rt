@@ -44,7 +44,7 @@ impl IdCert {
         ensures text { IfOk result (λ s. string_bytes s ≡ compact_text (string
             (encode_of standard (spelled_data spelled_x509 self.now.signed)))) }
 
-        // It is read as this certificate, where what is written of it is: so it is with each that was made or decoded in DER.
+        // The text is read as this certificate, where what is written of it is: so it is with each that was made or decoded in DER.
         ensures again { IfOk result (λ s. IsReadAgain Der self.now
             → in_json (identity_certificate Der) (string_bytes s) ≡ Some self.now) }
     {

@@ -84,7 +84,7 @@ impl UnsignedIdCert {
     }
 }
 
-// Both ends of a validity are in the years 0 to 9999.
+// For the proof: both ends of a validity are in the years 0 to 9999, by their type.
 fn are_moments(validity: Validity)
     ensures { IsMoment validity.not_before × IsMoment validity.not_after }
 {
@@ -156,13 +156,14 @@ impl IdCert {
         ensures first_refusal { IfErr result (StopsInTurn issuing_key_id.now
             (S.state signer.old) (S.state signer.new)) }
 
-        // It is believed at each second of its validity.
+        // The certificate is believed at each second of its validity.
         ensures believed { IfOk result (λ c. (when : ℤ) → validity.not_before ≤ℤ when
             → when ≤ℤ validity.not_after → IsTaBelieved P.checks c when) }
 
-        // What is written of it is read again, in both modes.
+        // What is written of the certificate is read again, in both modes.
         ensures again { IfOk result (λ c. (mode : Mode) → IsReadAgain mode c) }
     {
+        // For the proof: both ends of the validity are in the years 0 to 9999.
         are_moments(validity);
         let key = key_within_limit(alloc, issuing_key_id, signer)?;
         let tbs = TbsIdCert::new(alloc, Serial::from(1), validity, &key, &key)?;
@@ -193,9 +194,10 @@ impl IdCert {
         ensures first_refusal { IfErr result (StopsAtEndEntity issuing_key_id.now
             (S.state signer.old) (S.state signer.new)) }
 
-        // What is written of it is read again, in both modes.
+        // What is written of the certificate is read again, in both modes.
         ensures again { IfOk result (λ c. (mode : Mode) → IsReadAgain mode c) }
     {
+        // For the proof: both ends of the validity are in the years 0 to 9999.
         are_moments(validity);
         let serial = random_serial(signer)?;
         issue_to(alloc, serial, ee_key, validity, issuing_key_id, signer)

@@ -196,7 +196,7 @@ impl TbsIdCert {
         self.subject_key_id
     }
 
-    /// The same as `subject_key_identifier`.
+    /// The key identifier of the subject, as `subject_key_identifier` gives it.
     pub fn subject_key_id(&self) -> KeyIdentifier
         ensures { result ≡ self.now.subject_key_id }
     {
@@ -248,7 +248,8 @@ pub fn take_version<L: Ledger>(
 
 /// # Decoding
 impl TbsIdCert {
-    /// The fields that stand next, as `take_from` reads them. It ticks each time it looks at a header, and for each end mark.
+    /// The fields that stand next, as `take_from` reads them. It ticks each time it looks at a header, and for each end mark,
+    /// but not where it reads an algorithm again from its octets.
     pub fn take_from_counted<L: Ledger>(
         alloc: Global,
         cursor: &mut Cursor<'_>,

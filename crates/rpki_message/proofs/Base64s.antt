@@ -94,7 +94,7 @@ index t k o n lt = member is_octet t k o (omega arith)
 rest_bytes : (x : ℕ) (m : List ℕ) → IsBytes (x ∷ m) → IsBytes m
 rest_bytes x m h i = h (suc i)
 
--- the same of any alphabet of such octets
+-- symbols of any alphabet of octets that a document may have are such octets
 pub symbols-octets : (t m : List ℕ) → AreOctets t → length t ≡ 64 → IsBytes m → AreOctets (encode_symbols t m)
 unfolding encode_symbols
 symbols-octets t [] o n h = refl

@@ -23,7 +23,7 @@ always h = ((λ t. h), (λ p. refl))
 pub decided : {P : Type 0} (b t : Bool) → b ≡ t → ((t ≡ true) ↔ P) → IsTrue b ↔ P
 decided b t e h = ((λ f. h.0 (sym e ∙ f)), (λ q. e ∙ h.1 q))
 
--- the same of an answer
+-- what is so of equal values is so of an answer whether payloads that hold them are equal
 pub alike_of : {X E : Type 0} (r : Result Bool E) (a c : X) (make : X → PayloadShape) (p : Payload) → payload_shape p ≡ make c → ((make a ≡ make c) → a ≡ c) → IfOk r (λ b. IsTrue b ↔ (a ≡ c))
     → IfOk r (λ b. IsTrue b ↔ (make a ≡ payload_shape p))
 alike_of (Ok b) a c make p e h k = alike b a c make p e h k

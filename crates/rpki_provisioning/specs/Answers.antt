@@ -58,8 +58,8 @@ RefusesMessage octets _ = ⊥
 
 -- ---- messages from a source
 
--- The same of what a source had still to give; and Read only where its faults rose, TooLong only where it had more than 2^31 octets to
--- give.
+-- Why no message is read of what a source had still to give: as of octets; Read only where its faults rose, TooLong only where it had
+-- more than 2^31 octets to give.
 abbrev pub RefusesSource : Option (List ℕ) → ℕ → ℕ → Error → Type 0
 RefusesSource rest faults now (errors.XmlError e) = (e ≡ xml.Malformed) × IfSome rest HasNoShape
 RefusesSource rest faults now errors.CertSyntax = IfSome rest HoldsNoCertificate

@@ -77,7 +77,7 @@ abbrev pub request_of : List ℕ → Option CaRequest
 request_of octets =
     decoded (certification_request ca_attributes (whole_of x509_algorithm) Der) Der octets
 
--- the same with what the octets are read as, where they all are
+-- a shape, or a part of one, with what its octets are read as, where they all are
 unfoldable pub issued_by : {C D : Type 0} → (C → Option D) → IssuedOf C → Option (IssuedOf D)
 issued_by f c = f c.cert >>= λ d. Some (record { uri = c.uri; req_limit = c.req_limit; cert = d })
 

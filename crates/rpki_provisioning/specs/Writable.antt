@@ -32,7 +32,7 @@ pub record IsWritableSet (s : Resources) : Type 0 where
 
 -- ---- certificates
 
--- Its octets are octets, and read as it: so it is with each certificate that was decoded in DER.
+-- The certificate's octets are octets, and read as it: so it is with each certificate that was decoded in DER.
 pub record IsCertificate (c : CertFields) : Type 0 where
   pub octets : IsBytes c.slice
   pub read : certificate_of c.slice ≡ Some c

@@ -1,9 +1,10 @@
 //! Messages of the provisioning protocol (RFC 6492).
 //!
 //! - [`Message`] is a message (3.2): who sends it, to whom, and a [`Payload`]. It is decoded from XML and written as XML.
-//! - [`Payload`] is what it says, one of seven: the question for the resource classes and the answer with them (3.3), the question for a
-//!   certificate and the answer with it (3.4), the question to revoke the certificates of a key and the answer that they were (3.5), and
-//!   the answer that a request was not performed (3.6). What they hold are types of rpki_updown. [`CONTENT_TYPE`] is the media type.
+//! - [`Payload`] is what it says, one of seven: the list request and the response with the resource classes (3.3), the certificate
+//!   request and the response with the certificate (3.4), the request to revoke the certificates of a key and the response that they
+//!   were (3.5), and the response that a request was not performed (3.6). What they hold are types of rpki_updown. [`CONTENT_TYPE`]
+//!   is the media type.
 //! - [`ProvisioningCms`] is a signed message with the message that it holds (3.1): it is decoded in BER, validated under an issuer's key
 //!   at a moment, and created with a signer.
 //! - [`written_is_read`]: what is written of a message that keeps to specs/Writable.antt is read as that message.

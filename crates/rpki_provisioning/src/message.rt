@@ -81,7 +81,7 @@ impl Message {
         }
     }
 
-    /// The question for the resource classes (RFC 6492, 3.3.1).
+    /// The list request (RFC 6492, 3.3.1).
     pub fn list(sender: SenderHandle, recipient: RecipientHandle) -> Message
         ensures { result
             ≡ record { sender = sender; recipient = recipient; payload = payloads.List } }
@@ -89,7 +89,7 @@ impl Message {
         Message::of(sender, recipient, Payload::List)
     }
 
-    /// The answer with the resource classes (RFC 6492, 3.3.2).
+    /// The response with the resource classes (RFC 6492, 3.3.2).
     pub fn list_response(
         sender: SenderHandle,
         recipient: RecipientHandle,
@@ -104,7 +104,7 @@ impl Message {
         Message::of(sender, recipient, Payload::ListResponse(response))
     }
 
-    /// The question for a certificate (RFC 6492, 3.4.1).
+    /// The certificate request (RFC 6492, 3.4.1).
     pub fn issue(
         sender: SenderHandle,
         recipient: RecipientHandle,
@@ -119,7 +119,7 @@ impl Message {
         Message::of(sender, recipient, Payload::Issue(request))
     }
 
-    /// The answer with a certificate (RFC 6492, 3.4.2).
+    /// The response with a certificate (RFC 6492, 3.4.2).
     pub fn issue_response(
         sender: SenderHandle,
         recipient: RecipientHandle,
@@ -134,7 +134,7 @@ impl Message {
         Message::of(sender, recipient, Payload::IssueResponse(response))
     }
 
-    /// The question to revoke the certificates of a key (RFC 6492, 3.5.1).
+    /// The request to revoke the certificates of a key (RFC 6492, 3.5.1).
     pub fn revoke(
         sender: SenderHandle,
         recipient: RecipientHandle,
@@ -149,7 +149,7 @@ impl Message {
         Message::of(sender, recipient, Payload::Revoke(request))
     }
 
-    /// The answer that they were revoked (RFC 6492, 3.5.2).
+    /// The response that the certificates of a key were revoked (RFC 6492, 3.5.2).
     pub fn revoke_response(
         sender: SenderHandle,
         recipient: RecipientHandle,
@@ -164,7 +164,7 @@ impl Message {
         Message::of(sender, recipient, Payload::RevokeResponse(response))
     }
 
-    /// The answer that a request was not performed (RFC 6492, 3.6).
+    /// The response that a request was not performed (RFC 6492, 3.6).
     pub fn not_performed_response(
         sender: SenderHandle,
         recipient: RecipientHandle,
@@ -229,7 +229,7 @@ impl Message {
         payload
     }
 
-    /// Whether it is the answer with the resource classes.
+    /// Whether it is the response with the resource classes.
     pub fn is_list_response(&self) -> bool
         ensures { IsTrue result ↔ (payload_type_of self.now.payload ≡ kinds.ListResponse) }
     {
@@ -298,8 +298,9 @@ impl Message {
         Message::decode_slice_counted(alloc, octets, &mut steps)
     }
 
-    /// As [`Message::decode_slice`]. It ticks each time it looks at a header, in certificates and requests: at most twice for each octet
-    /// that it was given, and 8 times more.
+    /// As [`Message::decode_slice`]. It ticks each time it looks at a header in certificates and requests, and for each end mark, but not
+    /// where it reads an algorithm, a kept identifier or a location again from its octets: at most twice for each octet that it was
+    /// given, and 8 times more.
     pub fn decode_slice_counted<L: Ledger>(
         alloc: Global,
         octets: &[u8],

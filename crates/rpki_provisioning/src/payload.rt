@@ -23,11 +23,11 @@ pub enum Payload {
     ListResponse(ResourceClassListResponse),
     /// A certificate is asked for (3.4.1).
     Issue(IssuanceRequest),
-    /// It was issued (3.4.2).
+    /// A certificate was issued (3.4.2).
     IssueResponse(IssuanceResponse),
     /// The certificates of a key are to be revoked (3.5.1).
     Revoke(RevocationRequest),
-    /// They were (3.5.2).
+    /// The certificates of a key were revoked (3.5.2).
     RevokeResponse(RevocationResponse),
     /// What was asked for is not done (3.6).
     ErrorResponse(NotPerformedResponse),
@@ -84,7 +84,7 @@ impl Payload {
     }
 }
 
-// Whether it is the question for the classes.
+// Whether it is the list request.
 fn is_list(other: &Payload) -> bool
     ensures { IsTrue result ↔ (shape.List ≡ payload_shape other.now) }
 {
@@ -96,6 +96,7 @@ fn is_list_response(classes: &ResourceClassListResponse, other: &Payload) -> boo
     ensures { IsTrue result ↔ (shape.ListResponse (map (class_with certificate_octets) classes.now)
         ≡ payload_shape other.now) }
 {
+    // For the proof: what `==` of lists of classes says.
     equal_class_lists_have_the_same_octets();
     match other {
         Payload::ListResponse(others) => *classes == *others,
@@ -119,6 +120,7 @@ fn is_issue_response(response: &IssuanceResponse, other: &Payload) -> bool
     ensures { IsTrue result ↔ (shape.IssueResponse (issuance_with certificate_octets response.now)
         ≡ payload_shape other.now) }
 {
+    // For the proof: what `==` of what is issued says.
     equal_classes_have_the_same_octets();
     match other {
         Payload::IssueResponse(others) => *response == *others,
@@ -130,6 +132,7 @@ fn is_issue_response(response: &IssuanceResponse, other: &Payload) -> bool
 fn is_revoke(request: &RevocationRequest, other: &Payload) -> bool
     ensures { IsTrue result ↔ (shape.Revoke request.now ≡ payload_shape other.now) }
 {
+    // For the proof: what `==` says of what holds no certificate.
     equal_values_are_the_same();
     match other {
         Payload::Revoke(others) => *request == *others,
@@ -141,6 +144,7 @@ fn is_revoke(request: &RevocationRequest, other: &Payload) -> bool
 fn is_revoke_response(response: &RevocationResponse, other: &Payload) -> bool
     ensures { IsTrue result ↔ (shape.RevokeResponse response.now ≡ payload_shape other.now) }
 {
+    // For the proof: what `==` says of what holds no certificate.
     equal_values_are_the_same();
     match other {
         Payload::RevokeResponse(others) => *response == *others,
@@ -152,6 +156,7 @@ fn is_revoke_response(response: &RevocationResponse, other: &Payload) -> bool
 fn is_error_response(response: &NotPerformedResponse, other: &Payload) -> bool
     ensures { IsTrue result ↔ (shape.ErrorResponse response.now ≡ payload_shape other.now) }
 {
+    // For the proof: what `==` says of what holds no certificate.
     equal_values_are_the_same();
     match other {
         Payload::ErrorResponse(others) => *response == *others,

@@ -137,7 +137,7 @@ abbrev pub IsWritablePdu : QueryPdu → Type 0
 IsWritablePdu pdu.List = Unit {0}
 IsWritablePdu (pdu.PublishDeltaElement c) = IsWritableChange c
 
--- as what it is read again: with the tag that was written
+-- the form in which a change is read back: with the tag that was written
 unfoldable pub normal_change : PublishDeltaElement → PublishDeltaElement
 normal_change (change.Publish p) =
     change.Publish (record { tag = Some (tag_text p.tag); uri = p.uri; content = p.content })
@@ -157,7 +157,7 @@ normal_pdu (pdu.PublishDeltaElement c) = pdu.PublishDeltaElement (normal_change 
 
 -- ---- changes of which a query's text is short
 
--- its tag, its URI and its base64 text have at most 64 octets each, and a hash is a digest
+-- a change's tag, its URI and its base64 text have at most 64 octets each, and a hash is a digest
 abbrev pub IsSmallChange : PublishDeltaElement → Type 0
 IsSmallChange (change.Publish p) =
     IfSome p.tag (λ tag. length tag ≤ 64)

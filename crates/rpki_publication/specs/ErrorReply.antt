@@ -7,7 +7,7 @@ abbrev pub shown_rest : Option (List ℕ) → List ℕ
 shown_rest None = codes " "
 shown_rest (Some text) = codes ", text: " ++ (text ++ codes " ")
 
--- its code, and its text where it has one of its own
+-- what an error prints: its code, and its text where it has one of its own
 abbrev pub shown_one : ReportErrorFields → List ℕ
 shown_one r = codes "error code: " ++ (code_text r.error_code ++ shown_rest r.error_text)
 

@@ -150,7 +150,7 @@ abbrev pub IsWritable : Message → Type 0
 IsWritable (message.Query q) = IsWritableQuery q
 IsWritable (message.Reply r) = IsWritableReply r
 
--- as what it is read again: each missing tag of a change is the empty one, each missing text of an error its code's
+-- the form in which a message is read back: each missing tag of a change is the empty one, each missing text of an error its code's
 abbrev pub normal_query : Query → Query
 normal_query query.List = query.List
 normal_query (query.Delta changes) = query.Delta (map normal_change changes)

@@ -23,7 +23,7 @@ query_attributes_in h = do
   hash ← optional_by digest_of_text (codes "hash") h
   Some (record { tag = tag; uri = uri; hash = hash })
 
--- The same of an element in a reply.
+-- The attributes of an element in a reply. Each that is there has to be lawful, also where the element has no use for it.
 pub record ReplyAttributes : Type 0 where
   pub hash : Option (List ℕ)
   pub uri : Option (List ℕ)

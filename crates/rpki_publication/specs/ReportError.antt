@@ -117,7 +117,7 @@ abbrev pub normal_failed : Option QueryPdu → Option QueryPdu
 normal_failed None = None
 normal_failed (Some pdu) = Some (normal_pdu pdu)
 
--- as what it is read again: with the text that was written
+-- the form in which an error is read back: with the text that was written
 unfoldable pub normal_error : ReportErrorFields → ReportErrorFields
 normal_error r = record {
   error_code = r.error_code;

@@ -95,7 +95,8 @@ impl PublicationCms {
         PublicationCms::decode_counted(alloc, octets, &mut steps)
     }
 
-    /// As [`PublicationCms::decode`]. It ticks each time it looks at a header, and for each end mark, in the signed message alone.
+    /// As [`PublicationCms::decode`]. It ticks each time it looks at a header, and for each end mark, in the signed message alone, but
+    /// not where it reads an algorithm again from its octets.
     pub fn decode_counted<L: Ledger>(
         alloc: Global,
         octets: &[u8],
@@ -228,14 +229,14 @@ impl PublicationCms {
             (S.state signer.old) (S.state signer.new)) }
         ensures message { IfOk result (λ c. c.message ≡ message) }
 
-        // It is believed under the issuing key at each second of the window.
+        // The message is believed under the issuing key at each second of the window.
         ensures believed { IfOk result (λ c. (key : KeyFields)
             → Holds (S.state signer.old).keyring issuing_key_id.now key
             → (when : ℤ) → (making.window now).not_before ≤ℤ when
             → when ≤ℤ (making.window now).not_after
             → checks.IsBelieved P.checks c.signed key when) }
 
-        // What is written of it is read again, in both modes, whatever stands behind it.
+        // What is written of the message is read again, in both modes, whatever stands behind it.
         ensures again { IfOk result (λ c. (mode : Mode) (rest : List ℕ) → CanBeSpelled c.signed
             → BeginsAs (signed_message mode) mode (rewritten c.signed ++ rest) c.signed) }
 

@@ -46,7 +46,7 @@ impl ErrorReply {
         }
     }
 
-    /// One error. On want of memory it comes back.
+    /// The reply with one error. On want of memory the error comes back.
     pub fn for_error(alloc: Global, error: ReportError) -> Result<ErrorReply, ReportError>
         ensures value { IfOk result (λ r. r ≡ error ∷ []) }
         ensures back { IfErr result (λ e. e ≡ error) }

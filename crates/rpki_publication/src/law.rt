@@ -92,7 +92,7 @@ pub fn equal_values_are_the_same()
         → (⟦<ReplyPduType as PartialEq>⟧.eq a b ≡ true) ↔ (a ≡ b) }
 {}
 
-/// The same of errors that are reported.
+/// `==` of errors that are reported holds exactly between equal ones.
 pub fn equal_reports_are_the_same()
     ensures { (a b : ReportErrorFields)
         → (⟦<ReportError as PartialEq>⟧.eq a b ≡ true) ↔ (a ≡ b) }
@@ -100,7 +100,7 @@ pub fn equal_reports_are_the_same()
     equal_values_are_the_same();
 }
 
-/// The same of elements of a reply.
+/// `==` of elements of a reply holds exactly between equal ones.
 pub fn equal_reply_elements_are_the_same()
     ensures { (a b : Answer) → (⟦<ReplyPdu as PartialEq>⟧.eq a b ≡ true) ↔ (a ≡ b) }
 {
@@ -108,7 +108,7 @@ pub fn equal_reply_elements_are_the_same()
     equal_reports_are_the_same();
 }
 
-/// The same of lists.
+/// `==` of the three lists, of changes, of objects and of errors, holds exactly between equal ones.
 pub fn equal_lists_are_the_same()
     ensures delta { (a b : List Change) → (⟦<PublishDelta as PartialEq>⟧.eq a b ≡ true) ↔ (a ≡ b) }
     ensures list { (a b : List ListElementFields)
@@ -120,7 +120,7 @@ pub fn equal_lists_are_the_same()
     equal_reports_are_the_same();
 }
 
-/// The same of messages.
+/// `==` of messages, and of queries and replies, holds exactly between equal ones.
 pub fn equal_messages_are_the_same()
     ensures query { (a b : QueryValue) → (⟦<Query as PartialEq>⟧.eq a b ≡ true) ↔ (a ≡ b) }
     ensures reply { (a b : ReplyValue) → (⟦<Reply as PartialEq>⟧.eq a b ≡ true) ↔ (a ≡ b) }

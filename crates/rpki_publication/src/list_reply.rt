@@ -39,7 +39,7 @@ impl ListReply {
         }
     }
 
-    /// These objects.
+    /// The list of these objects.
     pub fn new(elements: Vec<ListElement>) -> ListReply
         ensures { result ≡ elements.items }
     {

@@ -109,8 +109,8 @@ impl Message {
 
 /// # Reading and writing
 impl Message {
-    /// The message that all that a source has to give is: a document of XML of at most 2^31 octets. XmlError exactly where it is none,
-    /// TooLong where it is longer, Read only where the source failed.
+    /// The message that all that a source has to give is, a document of XML. TooLong where there are more than 2^31 octets, and
+    /// otherwise XmlError exactly where they are no message; Read only where the source failed.
     pub fn decode<I: Source>(alloc: Global, source: &mut I) -> Result<Message, Error>
         ensures { Parses cause_of message_of (I.rest source.old) (I.rest source.new)
             (I.faults source.old) (I.faults source.new) result }

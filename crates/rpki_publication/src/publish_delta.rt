@@ -62,7 +62,7 @@ impl PublishDelta {
         }
     }
 
-    /// Adds an object in another one's place. On want of memory the changes are as before, and it comes back.
+    /// Adds the replacement of an object. On want of memory the changes are as before, and it comes back.
     pub fn add_update(&mut self, update: Update) -> Result<(), Update>
         ensures ok { OnOk result (self.new ≡ self.old ++ change.Update update ∷ []) }
         ensures err { OnErr result (self.new ≡ self.old) }
@@ -77,7 +77,7 @@ impl PublishDelta {
         }
     }
 
-    /// Adds an object less. On want of memory the changes are as before, and it comes back.
+    /// Adds the removal of an object. On want of memory the changes are as before, and it comes back.
     pub fn add_withdraw(&mut self, withdraw: Withdraw) -> Result<(), Withdraw>
         ensures ok { OnOk result (self.new ≡ self.old ++ change.Withdraw withdraw ∷ []) }
         ensures err { OnErr result (self.new ≡ self.old) }

@@ -13,9 +13,9 @@ use std::alloc::Global;
 pub enum PublishDeltaElement {
     /// A new object.
     Publish(Publish),
-    /// An object in another one's place.
+    /// The replacement of an object.
     Update(Update),
-    /// An object less.
+    /// The removal of an object.
     Withdraw(Withdraw),
 }
 

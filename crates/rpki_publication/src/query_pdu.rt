@@ -11,7 +11,7 @@ use std::alloc::Global;
 pub enum QueryPduType {
     /// `list`.
     List,
-    /// `publish`, for a new object or in another one's place.
+    /// `publish`, for a new object or the replacement of one.
     Publish,
     /// `withdraw`.
     Withdraw,

@@ -75,8 +75,8 @@ impl Update {
         }
     }
 
-    /// An object in another one's place, as `new` makes it: its tag is the SHA-256 digest of the new octets, in hexadecimal digits of
-    /// lower case.
+    /// The replacement of an object, as `new` makes it: its tag is the SHA-256 digest of the new octets, in hexadecimal digits of lower
+    /// case.
     pub fn with_hash_tag(
         alloc: Global,
         uri: uri::Rsync,

@@ -57,7 +57,7 @@ module _ {I E : Type 0} (scheme : Relation) (server : ServerFields) (octets : Li
     fails = subst (λ (m : Message). FailsToSign scheme when signer (received.Publication m) e) same (fails other);
   }
 
-  -- and the objects stay
+  -- what is answered where the objects stay
   pub answered_only : (r : Result CmsFields (CreateError E)) (message : Message) → IsReply scheme server octets when reply → message ≡ reply.message → IfOk r (IsSigned scheme when signer message) → reply.next ≡ server.store → IfOk r (λ c. IsAnswered scheme server octets when signer c server)
   answered_only r message is same signed stays = answered_so r message server is same signed (always r)
     where

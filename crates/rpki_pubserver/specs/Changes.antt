@@ -23,8 +23,8 @@ tag_of (change.Withdraw w) = w.tag
 
 -- ---- one change
 
--- why an object isn't replaced or withdrawn that has to have this digest, where these octets are
--- there
+-- why a replacement or a withdrawal that names this digest is refused, by the octets at the URI, if
+-- any
 abbrev pub code_by_hash : List ℕ → Option (List ℕ) → Option ReportErrorCode
 code_by_hash hash None = Some code.NoObjectPresent
 code_by_hash hash (Some octets) =

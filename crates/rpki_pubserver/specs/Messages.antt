@@ -14,7 +14,7 @@ use Rattle.rpki_pubserver.specs.Changes.{Refused, tag_of}
 abbrev pub error_message : ReportErrorFields → Message
 error_message error = messages.Reply (replies.ErrorReply (error ∷ []))
 
--- one that is of no change: its code, and the code's text
+-- the error reply that is of no change: its code, and the code's text
 abbrev pub error_alone : ReportErrorCode → Message
 error_alone code = error_message (record {
   error_code = code;
@@ -23,7 +23,7 @@ error_alone code = error_message (record {
   failed_pdu = None;
 })
 
--- one that is of a change: its code, the change's tag, the code's text, and the change
+-- the error reply that is of a change: its code, the change's tag, the code's text, and the change
 abbrev pub error_of : Refused → Message
 error_of refused = error_message (record {
   error_code = refused.code;

@@ -12,7 +12,7 @@ use Rattle.rpki_pubserver.specs.Store.{Store, put, without}
 abbrev pub Places : Type 0
 Places = List (List ℕ × Option (List ℕ))
 
--- the same by their texts
+-- places, by the texts of their URIs
 abbrev pub placed : {Z : Type 0} → List (String Z × Option (List ℕ)) → Places
 placed entries = map (λ e. (string_bytes e.0, e.1)) entries
 
@@ -48,7 +48,7 @@ object_of (change.Publish p) = Some p.content
 object_of (change.Update u) = Some u.content
 object_of (change.Withdraw w) = None
 
--- there is a place for each
+-- there is a place for the URI of each change
 abbrev pub HavePlaces : Places → List PublishDeltaElement → Type 0
 HavePlaces places changes = AllByRecursion (λ e. HasPlace places (uri_of e)) changes
 

@@ -5,7 +5,7 @@ use Rattle.rpki_pubserver.specs.declared.changes.Refused as held
 use Rattle.rpki_pubserver.specs.Changes.{after_all}
 use Rattle.rpki_pubserver.specs.Store.{Store}
 
--- it is the first that isn't made
+-- the change is the first that isn't made
 pub record IsRefused (base : List ℕ) (store : Store) (changes : List PublishDeltaElement)
     (refused : held.Refused) : Type 0 where
   pub element : PublishDeltaElement

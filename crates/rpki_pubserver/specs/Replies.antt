@@ -19,7 +19,7 @@ pub record Reply : Type 0 where
   pub message : Message
   pub next : Store
 
--- one that leaves the store
+-- a reply that leaves the store as it is
 abbrev pub only : Message → Store → Reply
 only message store = record { message = message; next = store }
 

@@ -54,7 +54,7 @@ pub record EndsAnswered {Id : Type 0} (scheme : Relation) (when : ℤ) (signer :
       (AreFirstReplied scheme when signer server messages)
       (StopsReplying scheme when signer server messages) status sink
 
--- or the moment has none; or some line is that of no octets; or memory ran out
+-- how it ends: with the answers to all lines; or the moment has no window; or some line is that of no octets; or memory ran out
 abbrev pub EndsServed : {Id : Type 0} → Relation → ℤ → SignerSeen Id → ServerFields
     → List (List ℕ) → ℕ → Seen → Type 0
 EndsServed scheme when signer server lines status sink =

@@ -24,7 +24,7 @@ pub record ServerFields : Type 0 where
   pub publisher : KeyFields
   pub store : Store
 
--- the same server with other objects
+-- the server with these objects in the place of its own
 abbrev pub with_store : ServerFields → Store → ServerFields
 with_store server store = record {
   base = server.base;
@@ -32,7 +32,8 @@ with_store server store = record {
   store = store;
 }
 
--- the reply to octets at a moment: that to what is received of them under the publisher's key
+-- the reply to these octets at this moment: `reply_to` of what is received from them under the
+-- publisher's key
 pub record IsReply (scheme : Relation) (server : ServerFields) (octets : List ℕ) (when : ℤ)
     (reply : Reply) : Type 0 where
   pub result : Result Received ReceiveError
@@ -48,7 +49,7 @@ pub record IsSigned {Id : Type 0} (scheme : Relation) (when : ℤ) (signer : Sig
   pub message_is : c.message ≡ message
   pub signed : IsSignedAs scheme when signer (received.Publication message) c.signed
 
--- it holds the reply to octets, and the server has the objects behind it
+-- the signed message holds the reply to octets, and the server has the objects behind it
 pub record IsAnswered {Id : Type 0} (scheme : Relation) (server : ServerFields) (octets : List ℕ)
     (when : ℤ) (signer : SignerSeen Id) (c : CmsFields) (next : ServerFields) : Type 0 where
   pub reply : Reply
@@ -63,7 +64,7 @@ pub record FailsReply {Id E : Type 0} (scheme : Relation) (server : ServerFields
   pub is : IsReply scheme server octets when reply
   pub fails : FailsToSign scheme when signer (received.Publication reply.message) error
 
--- there is a reply whose text has more than 2^31 octets
+-- a reply to the octets has a text of more than 2^31 octets
 pub record HasLongReply (scheme : Relation) (server : ServerFields) (octets : List ℕ) (when : ℤ)
     : Type 0 where
   pub reply : Reply

@@ -24,11 +24,11 @@ pub record ServerAndSigner (Id : Type 0) : Type 0 where
 abbrev pub with_signer : {Id : Type 0} → ServerFields → SignerState Id → ServerAndSigner Id
 with_signer server signer = record { server = server; signer = signer }
 
--- The text is the hexadecimal of a signed message that the signer, which did nothing else, created with
--- the reply to these octets, as `create` does: at the moment, under the issuing key, which it holds.
--- The reply's text has at most 2^31 octets. Of that message the reply is received: it is accepted as
--- its normal form, under every list of keys that holds the issuing key, at each second from 300 before
--- the moment to 300 after it.
+-- The text is the hexadecimal of a signed message that was created with the reply to these octets, as
+-- `create` does: at the moment, under the issuing key, which the signer holds. The reply's text has at
+-- most 2^31 octets. Of that message the reply is received: it is accepted as its normal form, under
+-- every list of keys that holds the issuing key, at each second from 300 before the moment to 300 after
+-- it. Server and signer are then so.
 pub record IsReplied {Id : Type 0} (scheme : Relation) (when : ℤ) (id : Id)
     (before : ServerAndSigner Id) (octets text : List ℕ) (next : ServerAndSigner Id) : Type 0 where
   pub reply : Reply
@@ -40,14 +40,14 @@ pub record IsReplied {Id : Type 0} (scheme : Relation) (when : ℤ) (id : Id)
   pub behind : next.server ≡ with_store before.server reply.next
 
 -- The texts are the replies to all lines, one behind the other, and nothing is behind them. The signer
--- did what they need, and nothing else.
+-- is then as the last reply left it.
 pub record AreAllReplied {Id : Type 0} (scheme : Relation) (when : ℤ) (signer : SignerSeen Id)
     (server : ServerFields) (messages texts : List (List ℕ)) (closing : List ℕ) : Type 0 where
   pub steps : AreAllSteps (IsReplied scheme when signer.id) (λ last. [])
       (with_signer server signer.before) messages texts closing
   pub signer_is : signer.after ≡ steps.last.signer
 
--- they are the replies to the first lines, and the signer did what they need, and nothing else
+-- the texts are the replies to the first lines, and the signer is then as the last one left it
 pub record AreFirstReplied {Id : Type 0} (scheme : Relation) (when : ℤ) (signer : SignerSeen Id)
     (server : ServerFields) (messages texts : List (List ℕ)) : Type 0 where
   pub steps : AreFirstSteps (IsReplied scheme when signer.id) (with_signer server signer.before)

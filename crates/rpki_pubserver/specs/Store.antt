@@ -14,7 +14,7 @@ use Rattle.rpki_publication.specs.ListElement.{ListElementFields}
 abbrev pub Store : Type 0
 Store = List (List ℕ × List ℕ)
 
--- they ascend by the texts' octets, so no text is there twice
+-- the objects ascend by the octets of their URIs' texts, so no URI is there twice
 abbrev pub IsStore : Store → Type 0
 IsStore store = IsStrictlySortedBy (slice_cmp nat_cmp) (keys_of store)
 

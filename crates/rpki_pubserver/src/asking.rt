@@ -17,7 +17,7 @@ pub(crate) enum Asked {
     List,
     /// For changes.
     Changes(PublishDelta),
-    /// Nothing that is done, and this is said of it.
+    /// Nothing is to be done; the reply is this error.
     Nothing(ReportErrorCode),
 }
 

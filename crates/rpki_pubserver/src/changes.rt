@@ -129,7 +129,7 @@ pub(crate) fn change_all(
     requires next { next.old ≡ map object_of changes.now }
     requires places { HavePlaces objects.old changes.now }
 
-    // The store behind all of them; and undone they give back what was there.
+    // On Ok the store is the one behind all of them, and undoing them gives back what was there.
     ensures made { OnOk result
         (definitions.after_all base.now (Ok (live objects.old)) changes.now
         ≡ Ok (live objects.new)) }
@@ -137,7 +137,7 @@ pub(crate) fn change_all(
     ensures places { OnOk result (HavePlaces objects.new changes.now) }
     ensures length { length next.new ≡ length changes.now }
 
-    // Or the first that isn't made, and all is as it was.
+    // An error tells the first one that isn't made, and all is as it was.
     ensures refused { IfErr result (IsRefused base.now (live objects.old) changes.now) }
     ensures unchanged { OnErr result (objects.new ≡ objects.old) }
 {

@@ -193,7 +193,7 @@ impl Server {
         answer
     }
 
-    // The same, with empty places left.
+    // The signed reply to changes, behind which places may be left where no object is.
     fn answer_changes<P: Scheme, S: Signer<P>>(
         &mut self,
         delta: &PublishDelta,

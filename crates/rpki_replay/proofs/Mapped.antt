@@ -32,7 +32,7 @@ placed m n bs place h cs =
       | false ↦ λ other. other_entries _ _ _ _ h.3 _ (λ x y. (eq_by_cmp_equiv nat_list_cmp_total).congr cs x.items y.items) (λ k. apart bs cs k.items other)
     ] refl
 
--- the same for the places of all keys
+-- the places of all keys after the octets of one were given a place
 pub placed_rsa : (old new elliptic : BTreeMap (Vec ℕ) ℕ) (key : KeyFields) (place : ℕ) → Rsa ≡ key.format
     → ((bits : List ℕ) → place_of_bits bits new ≡ (if bytes_eq key.bits bits then Some place else place_of_bits bits old))
     → (other : KeyFields) → place_at (record { rsa = new; elliptic = elliptic }) other ≡ (if same_key key other then Some place else place_at (record { rsa = old; elliptic = elliptic }) other)

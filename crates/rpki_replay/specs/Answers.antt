@@ -24,7 +24,7 @@ pub record IsJudged (scheme : Relation) (when : ℤ) (peers : List Peer) (sent :
   pub written : text ≡ answer_text answer
   pub behind : next ≡ state_behind peers sent.peer answer
 
--- they begin with none, which leaves the state
+-- the octets begin with no signed message, which leaves the state
 pub record IsNoMessage (peers : List Peer) (sent : Sent) (text : List ℕ) (next : List Peer) : Type 0
   where
     pub none : HoldsNoSigned sent.octets
@@ -45,6 +45,6 @@ closing_text peers = dash ++ (10 ∷ state_text peers)
 abbrev pub AreAllAnswered : Relation → ℤ → List Peer → List Sent → List (List ℕ) → List ℕ → Type 0
 AreAllAnswered scheme when = AreAllSteps (IsAnswered scheme when) closing_text
 
--- they are the answers to the first lines
+-- the texts are the answers to the first lines
 abbrev pub AreFirstAnswered : Relation → ℤ → List Peer → List Sent → List (List ℕ) → Type 0
 AreFirstAnswered scheme when = AreFirstSteps (IsAnswered scheme when)

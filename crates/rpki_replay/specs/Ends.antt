@@ -17,7 +17,7 @@ pub record AnswersAll (scheme : Relation) (when : ℤ) (input : List ℕ) (sink 
   pub are : AreSent lines messages
   pub wrote : WroteAll (AreAllAnswered scheme when peers messages) sink
 
--- it begins with one, and some line behind it is no message
+-- the input begins with a state, and some line behind it is no message
 pub record HasOtherLine (input : List ℕ) : Type 0 where
   pub peers : List Peer
   pub lines : List (List ℕ)

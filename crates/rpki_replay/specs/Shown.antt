@@ -12,7 +12,7 @@ error_text (Replayed last seen) =
     codes "Replayed " ++ (signed_decimal last ++ (codes " " ++ signed_decimal seen))
 error_text OutOfMemory = codes "OutOfMemory"
 
--- the same where it is admitted, with its time
+-- what is answered to a message: that it is admitted, with its time, or why not
 abbrev pub answer_text : Result ℤ GuardError → List ℕ
 answer_text (Ok time) = codes "ok " ++ signed_decimal time
 answer_text (Err error) = error_text error

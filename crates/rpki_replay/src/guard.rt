@@ -39,7 +39,7 @@ pub enum GuardError {
     Validation(ValidationError),
     /// The message doesn't say when it was signed.
     NoTime,
-    /// It was signed at `seen`, which isn't later than the last time that was admitted under the key.
+    /// The message was signed at `seen`, which isn't later than the last time that was admitted under the key.
     Replayed {
         /// The last time.
         last: Time,

@@ -47,7 +47,7 @@ fn answer_to<P: Scheme, V: Verifier<P>>(
     }
 }
 
-/// The same as a line, with its line feed.
+/// The line that is answered to a message, with its line feed; the message is admitted where it may be.
 pub(crate) fn answer_line<P: Scheme, V: Verifier<P>>(
     alloc: Global,
     guard: &mut Guard,

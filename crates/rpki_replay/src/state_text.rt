@@ -21,7 +21,7 @@ use std::alloc::Global;
 /// Why a text isn't read as a state.
 #[derive(Clone, Copy, Debug, PartialEq, Eq)]
 pub enum StateError {
-    /// It is no state's text.
+    /// The text is no state's.
     BadState,
     /// Memory ran out.
     OutOfMemory,

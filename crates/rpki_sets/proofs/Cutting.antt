@@ -18,7 +18,7 @@ pub cut_nowhere : (mark : ℕ) (text : List ℕ) → None ≡ position (λ octet
 unfolding cut ◌>>=◌
 cut_nowhere mark text e = rw (sym e) refl
 
--- the same, as slices of the text have it
+-- a text cut at a mark, as slices of the text have it
 pub cut_at_sliced : (mark : ℕ) (text : List ℕ) (place : ℕ) → Some place ≡ position (λ octet. eqb octet mark) text → place < length text → cut mark text ≡ Some (take place text, take (length text - (place + 1)) (drop (place + 1) text))
 cut_at_sliced mark text place e within =
     let whole : take (length text - (place + 1)) (drop (place + 1) text) ≡ drop (place + 1) text = take_all _ _ (simp length-drop (omega arith)) in

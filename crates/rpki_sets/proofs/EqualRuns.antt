@@ -36,7 +36,7 @@ module _ (xs ys : List Run) (answer : Bool) (is : answer ≡ pointwise is_same x
   pub same_lists : IsTrue answer ↔ (xs ≡ ys)
   same_lists = (λ h. lists_same xs ys (sym is ∙ h), λ e. is ∙ sym (ap (pointwise is_same xs) e) ∙ itself_same xs)
 
-  -- and so whether they have the same numbers
+  -- the comparison says whether two lists have the same numbers
   pub same_sets : IsMaximal xs → IsMaximal ys → IsTrue answer ↔ SameNumbers xs ys
   same_sets mx my = (
     λ h n. let e = lists_same xs ys (sym is ∙ h) in subst (λ zs. (Has xs n → Has zs n) × (Has zs n → Has xs n)) e (λ g. g, λ g. g),

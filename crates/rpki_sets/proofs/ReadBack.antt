@@ -212,7 +212,7 @@ module _ (kind : Kind) (lawful : IsLawful kind) where
   AllOrdered-maximal [] m = tt
   AllOrdered-maximal (run ∷ more) m = (m.0, AllOrdered-maximal more m.2)
 
-  -- and as the same set
+  -- what is printed of a set is read as the same set
   pub blocks_of-text_of : (runs : List Run) → IsSet kind.width runs → blocks_of kind (text_of kind runs) ≡ Some runs
   blocks_of-text_of runs set =
       blocks_of-some kind (text_of kind runs) runs (runs_of-text_of runs set)

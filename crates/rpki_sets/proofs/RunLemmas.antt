@@ -44,7 +44,7 @@ others_included r s xs ys ma all e n h =
     let behind = above_gap r.last xs ma.1 ma.2 n h in
     in_others s ys n (omega arith) (all n (inr h))
 
--- the same numbers, either list first
+-- lists with the same numbers include each other
 pub SameNumbers-includes : (a b : List Run) → SameNumbers a b → Includes b a × Includes a b
 SameNumbers-includes a b same = (λ n h. (same n).0 h, λ n h. (same n).1 h)
 

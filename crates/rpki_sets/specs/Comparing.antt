@@ -3,7 +3,7 @@ use Rattle.std.specs.Prelude.{Bool, ◌&&◌, ◌==◌}
 use Rattle.std.specs.Cmp.{IsEquivalence, and_equiv, on_equiv, nat_eq_equiv}
 use Rattle.rpki_sets.specs.declared.run.Run.{Run}
 
--- both have the same ends
+-- both runs have the same ends
 abbrev pub is_same : Run → Run → Bool
 is_same a b = a.first == b.first && a.last == b.last
 

@@ -14,7 +14,7 @@ pub record Resources : Type 0 where
   pub ipv4 : List Run
   pub ipv6 : List Run
 
--- both have the same sets
+-- both hold the same sets
 abbrev pub are_same : Resources → Resources → Bool
 are_same a b =
     pointwise is_same a.asn b.asn && (pointwise is_same a.ipv4 b.ipv4 && pointwise is_same a.ipv6

@@ -44,7 +44,7 @@ at_commas text = slice_split (λ octet. octet == comma) text
 unfoldable pub parts : List ℕ → List (List ℕ)
 parts text = if length (trimmed text) == 0 then [] else at_commas text
 
--- each is read; nothing is read where one of them can't be
+-- what each is read as, in order; nothing where one of them can't be read
 unfoldable pub read_all : {A B : Type 0} → (A → Option B) → List A → Option (List B)
 read_all read [] = Some []
 read_all read (a ∷ more) = read a >>= λ b. read_all read more >>= λ found. Some (b ∷ found)

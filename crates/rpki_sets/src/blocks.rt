@@ -52,7 +52,7 @@ impl<N: Numbers> Blocks<N> {
     }
 
     /// The set that a text stands for: the union of its items, which are separated by `,` and may have spaces round them, overlap and
-    /// stand in any order; the empty set where the text is empty or spaces. What an item is the kind of numbers says. Malformed exactly
+    /// stand in any order; the empty set where the text is empty or spaces. The kind of numbers says what an item is. Malformed exactly
     /// where the text isn't by the rule.
     pub fn from_str(alloc: Global, text: &str) -> Result<Self, BlocksError>
         ensures set { IfOk result (λ blocks. blocks_of N.kind text.now ≡ Some blocks) }
@@ -62,6 +62,7 @@ impl<N: Numbers> Blocks<N> {
             → blocks_of N.kind text.now ≡ None }
     {
         let runs = read_runs::<N>(alloc, text.as_bytes())?;
+        // For the proof: the laws of this kind of numbers.
         N::law();
         Ok(Blocks {
             runs: union(alloc, runs)?,
@@ -89,7 +90,9 @@ impl<N: Numbers> Blocks<N> {
         ensures runs { runs_of N.kind (text_of N.kind self.now) ≡ Some self.now }
         ensures set { blocks_of N.kind (text_of N.kind self.now) ≡ Some self.now }
     {
+        // For the proof: the set's runs are maximal, by its type.
         let _runs = self.runs();
+        // For the proof: the laws of this kind of numbers.
         N::law();
     }
 

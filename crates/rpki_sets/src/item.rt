@@ -37,6 +37,7 @@ fn read_prefix<N: Numbers>(address: &[u8], len: &[u8]) -> Option<Run>
     ensures { result ≡ prefix_of N.kind (address.now, len.now) }
 {
     let address = N::read(address)?;
+    // For the proof: the laws of this kind of numbers.
     N::law();
     let width = N::width();
     let len = decimal_below(u64::from(width) + 1, len)?;

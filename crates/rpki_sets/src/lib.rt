@@ -6,7 +6,8 @@
 //! - A text means the union of its items, whatever way it is spelled. What a set prints is the one text that is made of
 //!   its maximal runs, and is read as the same set ([`Blocks::text_is_read_back`], [`printed_set_is_read`]). Its octets and
 //!   its length are known ([`printed_sets_are_plain`], [`printed_sets_are_short`]).
-//! - Reading takes time in proportion to n log n of the number of items, `contains` and `==` to the number of runs.
+//! - Reading takes time in proportion to n log n of the number of items, `contains` and `==` to the number of runs; the code shows
+//!   it, and no clause says it.
 //! - [`ResourceSet`] holds one set of each kind.
 #![tactic(auto)]
 

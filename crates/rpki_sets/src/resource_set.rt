@@ -35,7 +35,7 @@ impl Model for ResourceSet {
 }
 
 impl ResourceSet {
-    /// These three sets.
+    /// The set of these three.
     pub fn new(asn: AsBlocks, ipv4: Ipv4Blocks, ipv6: Ipv6Blocks) -> ResourceSet
         ensures { result ≡ record { asn = asn; ipv4 = ipv4; ipv6 = ipv6 } }
     {

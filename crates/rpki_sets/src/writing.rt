@@ -29,6 +29,7 @@ pub fn write_run<N: Numbers, W: fmt::Write>(f: &mut fmt::Formatter<W>, run: &Run
         f.new }
 {
     if N::has_prefixes() {
+        // For the proof: the laws of this kind of numbers.
         N::law();
         match prefix_length(N::width(), run) {
             Some(len) => {

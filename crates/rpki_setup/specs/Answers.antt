@@ -83,13 +83,13 @@ RefusesServiceUri text _ = ⊥
 abbrev pub BeginsCertificate : List ℕ → CertificateFields → Type 0
 BeginsCertificate octets c = BeginsAs (identity_certificate Der) Der octets c
 
--- the octets begin with an identity certificate that is not believed as a trust anchor's at the moment
+-- the octets begin with an identity certificate that is not accepted as a trust anchor's certificate at the moment
 pub record HoldsUnbelieved (scheme : Relation) (octets : List ℕ) (when : ℤ) : Type 0 where
   pub certificate : CertificateFields
   pub begins : BeginsCertificate octets certificate
   pub unbelieved : ¬ (IsTaBelieved scheme certificate when)
 
--- the octets begin with this certificate, and it is believed as a trust anchor's at the moment
+-- the octets begin with this certificate, and it is accepted as a trust anchor's certificate at the moment
 pub record IsBelievedIn (scheme : Relation) (octets : List ℕ) (when : ℤ)
     (certificate : CertificateFields) : Type 0 where
   pub begins : BeginsCertificate octets certificate

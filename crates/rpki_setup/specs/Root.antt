@@ -14,7 +14,7 @@ use Rattle.rpki_xml.specs.Tables.{require, is_named, required, given_or_absent, 
 abbrev pub setup_namespace : List ℕ
 setup_namespace = codes "http://www.hactrn.net/uris/rpki/rpki-setup/"
 
--- the same without its last `/`
+-- the namespace of the setup messages without its last `/`
 abbrev pub setup_namespace_bare : List ℕ
 setup_namespace_bare = codes "http://www.hactrn.net/uris/rpki/rpki-setup"
 

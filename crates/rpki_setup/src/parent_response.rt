@@ -176,8 +176,8 @@ impl ParentResponse {
         })
     }
 
-    /// The response that all that a source has to give is: a document of XML of at most 2^31 octets. InvalidXml exactly where it is
-    /// none, TooLong where it is longer, Read only where the source failed.
+    /// The response that all that a source has to give is, a document of XML. TooLong where there are more than 2^31 octets, and
+    /// otherwise InvalidXml exactly where they are no response; Read only where the source failed.
     pub fn parse<I: Source>(alloc: Global, source: &mut I) -> Result<ParentResponse, Error>
         ensures { Parses cause_of parent_response_in (I.rest source.old) (I.rest source.new)
             (I.faults source.old) (I.faults source.new) result }

@@ -54,10 +54,11 @@ impl ServiceUri {
         ensures text { IfOk result (λ s.
             string_bytes s ≡ compact_text (string (service_text self.now))) }
 
-        // It is read as this service URI, where that was read of a text.
+        // The JSON text is read as this service URI, where that was read of a text.
         ensures again { IfOk result (λ s. (text : List ℕ) → service_uri_of_text text ≡ Some self.now
             → service_uri_of_json (string_bytes s) ≡ Some self.now) }
     {
+        // For the proof: the text of a service URI is read as it.
         printed_service_uri_is_read();
         write_string(alloc, self.as_str())
     }

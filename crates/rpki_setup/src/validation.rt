@@ -1,4 +1,4 @@
-//! Whether the certificate of a message may be believed as a trust anchor's.
+//! Whether the certificate of a message is accepted as a trust anchor's certificate.
 
 ghost use Rattle.std.specs.Prelude.{◌≡◌, MatchResult};
 ghost use Rattle.rpki_setup.specs.Answers.{IsBelievedIn, RefusesCertificate};
@@ -9,9 +9,9 @@ use rpki_idcert::IdCert;
 use rpki_text::Base64;
 use std::alloc::Global;
 
-/// The identity certificate with which the octets begin, in DER, believed as a trust anchor's at the moment, in seconds since 1970:
-/// all five checks of [`IdCert::validate_ta_at`] hold (RFC 8183, 5; RFC 5280, 6.1.3). InvalidTaCertEncoding exactly where they begin
-/// with none, InvalidTaCert exactly where a check fails.
+/// The identity certificate with which the octets begin, in DER, accepted as a trust anchor's certificate at the moment, in seconds
+/// since 1970: all five checks of [`IdCert::validate_ta_at`] hold (RFC 8183, 5; RFC 5280, 6.1.3). InvalidTaCertEncoding exactly where
+/// the octets begin with no identity certificate, InvalidTaCert exactly where a check fails.
 pub fn validate_idcert_at<P: Scheme, V: Verifier<P>>(
     alloc: Global,
     base64: &Base64,

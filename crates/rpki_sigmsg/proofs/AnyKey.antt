@@ -21,7 +21,7 @@ pub at_one : {X : Type 0} (P : X → Type 0) (before : List X) (x : X) (behind :
 at_one P [] x behind a = a.0
 at_one P (b ∷ before) x behind a = at_one P before x behind a.1
 
--- and of those before it
+-- what holds of each holds of those in front
 pub up_to : {X : Type 0} (P : X → Type 0) (before behind : List X) → AllByRecursion P (before ++ behind) → AllByRecursion P before
 up_to P [] behind a = tt
 up_to P (b ∷ before) behind a = (a.0, up_to P before behind a.1)

@@ -20,7 +20,7 @@ field grammar vs f y e =
     let b = bound (first grammar vs) f y e in
     record { x = b.x; is = first_is grammar vs b.x b.found; then' = b.then' }
 
--- the same among lawful values
+-- the next of lawful values was read as the first part of this, and the values behind it are the second
 pub record LawfulField {X Y : Type 0} (mode : Mode) (grammar : Value → Option X) (vs : Values) (f : X × Values → Option Y) (y : Y) : Type 0 where
   pub x : X × Values
   pub is : FirstIs grammar vs x

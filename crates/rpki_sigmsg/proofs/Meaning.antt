@@ -42,7 +42,7 @@ held_where_passed : {S : Type 0} (r : Result (Unit {0}) ℕ) → OnOk r S → r 
 held_where_passed (Ok u) s e = s
 held_where_passed (Err n) s e = cc
 
--- the same of the number of the check alone
+-- the number of the first failing check tells whether the message is believed
 pub number_believed : (scheme : Relation) (m : MessageFields) (issuer : KeyFields) (when : ℤ) (r : Result (Unit {0}) ℕ) → OnOk r (AreSigned scheme m issuer)
     → ((q : Asked scheme m issuer) → r ≡ first_failure 1 (checks m issuer when q.q3 q.q8 q.q10)) → (r ≡ Ok tt) ↔ IsBelieved scheme m issuer when
 number_believed scheme m issuer when r signed first = (
@@ -145,7 +145,7 @@ right_true : (a b : Bool) → (a && b) ≡ true → b ≡ true
 right_true true b e = e
 right_true false b e = cc
 
--- the same of each element
+-- a test of each element that holds of the list proves what it tests of each
 each_from : {X : Type 0} (f : X → Bool) (P : X → Type 0) → ((x : X) → f x ≡ true → P x) → (xs : List X) → list_all f xs ≡ true → AllByRecursion P xs
 each_from f P h [] e = tt
 each_from f P h (x ∷ xs) e = (h x (left_true (f x) (list_all f xs) e), each_from f P h xs (right_true (f x) (list_all f xs) e))

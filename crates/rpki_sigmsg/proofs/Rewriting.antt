@@ -49,7 +49,7 @@ pub record IsCrlHeld (c : CrlFields) : Type 0 where
   pub tbs : Piece Der (tbs_crl Der) c.signed.slice c.tbs
   pub named : c.signed.signature.algorithm.identifier ≡ RsaEncryption
 
--- the same of a message, by these rules
+-- what is signed of a message is read as its fields, by the rules of the mode
 pub record IsHeld (mode : Mode) (m : MessageFields) : Type 0 where
   pub octets : List ℕ
   pub values : Values

@@ -41,7 +41,7 @@ key_checks m issuer when q8 q10 =
     ++ (crl_checks m.crls issuer when q10
     ++ (is_not_revoked m ∷ []))
 
--- all fourteen
+-- all fourteen checks in their order
 abbrev pub checks : MessageFields → KeyFields → ℤ → Bool → Bool → Bool → List Bool
 checks m issuer when q3 q8 q10 =
     message_checks m q3 ++ key_checks m issuer when q8 q10
@@ -121,7 +121,7 @@ pub record HasOutcome (scheme : Relation) (m : MessageFields) (key : KeyFields) 
   pub asked : Asked scheme m key
   pub is : outcome ≡ first_failure 1 (checks m key when asked.q3 asked.q8 asked.q10)
 
--- the same under each key, in their order
+-- what comes of the checks under each key, in their order
 abbrev pub AreOutcomes : Relation → MessageFields → List KeyFields → ℤ
     → List (Result (Unit {0}) ℕ) → Type 0
 AreOutcomes scheme m [] when [] = ⊤
@@ -184,7 +184,7 @@ pub record SameAnswers (s t : Relation) (m : MessageFields) (issuer : KeyFields)
   pub certificate : IsSigned s m.certificate issuer ↔ IsSigned t m.certificate issuer
   pub crls : AreCrlsSigned s m.crls issuer ↔ AreCrlsSigned t m.crls issuer
 
--- the same under each key of a list
+-- two schemes answer the questions alike under each key of a list
 abbrev pub SameAnswersUnder : Relation → Relation → MessageFields → List KeyFields → Type 0
 SameAnswersUnder s t m keys = AllByRecursion (SameAnswers s t m) keys
 

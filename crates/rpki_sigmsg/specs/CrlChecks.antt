@@ -17,7 +17,7 @@ same_name RsaEncryption RsaEncryption = true
 same_name Sha256WithRsaEncryption Sha256WithRsaEncryption = true
 same_name a b = false
 
--- the same object identifier, and NULL is there in both or in neither
+-- both have one object identifier, and NULL is there in both or in neither
 abbrev pub same_algorithm : RpkiAlgorithm → RpkiAlgorithm → Bool
 same_algorithm a b = same_name a.identifier b.identifier && beq a.null b.null
 
@@ -50,6 +50,6 @@ pub record IsListBelieved (scheme : Relation) (c : CrlFields) (issuer : KeyField
   pub signed : IsSigned scheme c issuer
   pub passes : first_failure 9 (crl_checks (c ∷ []) issuer when true) ≡ Ok tt
 
--- all are verifications
+-- all checks of CRLs are verifications
 abbrev pub crl_kind : ℕ → ValidationKind
 crl_kind n = Verification

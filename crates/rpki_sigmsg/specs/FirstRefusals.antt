@@ -1,4 +1,4 @@
--- In which turn a signer is asked for a message (RFC 6492, 3.1): for the signature of the attributes under a key for this one use, for
+-- The order in which a signer is asked for a message (RFC 6492, 3.1): for the signature of the attributes under a key for this one use, for
 -- the issuing key, for the CRL's signature, for the certificate. Its first refusal decides: all that it gave before has at most 2^16
 -- octets.
 use Rattle.std.specs.Prelude.{◌≢◌, ◌<◌, ◌^◌, ◌⊎◌, ⊤, ℕ, ℤ, List, length}
@@ -26,7 +26,7 @@ pub record HasKeys {Id : Type 0} (scheme : Relation) (message : List ℕ) (id : 
 
 -- ---- where it stopped
 
--- at the issuing key, behind the signature of this message
+-- creation stops at the issuing key, behind the signature of this message
 pub record StopsAtKey {Id E : Type 0} (scheme : Relation) (message : List ℕ) (id : Id)
     (before after : SignerState Id) (error : MakeError E) : Type 0 where
   pub between : SignerState Id
@@ -35,14 +35,14 @@ pub record StopsAtKey {Id E : Type 0} (scheme : Relation) (message : List ℕ) (
   pub once : IsShortOneOff scheme RsaSha256 message before between octets key
   pub refuses : RefusesKey id between after error
 
--- at the signature, or at the issuing key
+-- creation stops at the signature, or at the issuing key
 abbrev pub StopsAtKeys : {Id E : Type 0} → Relation → List ℕ → Id → SignerState Id
     → SignerState Id → MakeError E → Type 0
 StopsAtKeys scheme message id before after error =
     RefusesOneOff scheme message before after error
     ⊎ StopsAtKey scheme message id before after error
 
--- at the certificate, behind the CRL of this issuing key
+-- creation stops at the certificate, behind the CRL of this issuing key
 pub record StopsAtCertificate {Id E : Type 0} (scheme : Relation) (issuing : KeyFields) (now : ℤ)
     (id : Id) (before after : SignerState Id) (error : MakeError E) : Type 0 where
   pub between : SignerState Id
@@ -50,14 +50,14 @@ pub record StopsAtCertificate {Id E : Type 0} (scheme : Relation) (issuing : Key
   pub crl_signed : IsCrlSigned scheme issuing now id before between crl
   pub stops : StopsAtEndEntity id between after error
 
--- at the CRL's signature, or at the certificate
+-- creation stops at the CRL's signature, or at the certificate
 abbrev pub StopsCertifying : {Id E : Type 0} → Relation → KeyFields → ℤ → Id → SignerState Id
     → SignerState Id → MakeError E → Type 0
 StopsCertifying scheme issuing now id before after error =
     RefusesSignature id before after error
     ⊎ StopsAtCertificate scheme issuing now id before after error
 
--- behind the two keys, which differ
+-- creation stops behind the two keys, which differ
 pub record StopsBehindKeys {Id E : Type 0} (scheme : Relation) (content : List ℕ) (now : ℤ)
     (id : Id) (before after : SignerState Id) (error : MakeError E) : Type 0 where
   pub between : SignerState Id
@@ -68,7 +68,7 @@ pub record StopsBehindKeys {Id E : Type 0} (scheme : Relation) (content : List �
   pub other : key ≢ issuing
   pub stops : StopsCertifying scheme issuing now id between after error
 
--- at one of the four
+-- creation stops at the signature, at the issuing key, at the CRL or at the certificate
 abbrev pub StopsCreating : {Id E : Type 0} → Relation → List ℕ → ℤ → Id → SignerState Id
     → SignerState Id → MakeError E → Type 0
 StopsCreating scheme content now id before after error =

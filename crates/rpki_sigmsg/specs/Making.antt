@@ -34,11 +34,11 @@ use Rattle.rpki_sigmsg.specs.TbsCrl.{TbsCrlFields}
 
 -- ---- the moment
 
--- from 300 seconds before it to 300 seconds after it
+-- the window of a moment: from 300 seconds before it to 300 seconds after it
 abbrev pub window : ℤ → ValidityFields
 window now = record { not_before = now -ℤ pos 300; not_after = now +ℤ pos 300 }
 
--- which begins in 1970 or later, and ends in the year 9999 or before
+-- the window of the moment begins in 1970 or later, and ends in the year 9999 or before
 pub record HasWindow (now : ℤ) : Type 0 where
   pub first : pos 0 ≤ℤ (now -ℤ pos 300)
   pub last : (now +ℤ pos 300) ≤ℤ pos 253402300799
@@ -80,7 +80,7 @@ pub record IsCrlMade (scheme : Relation) (issuing : KeyFields) (now : ℤ) (c : 
     pub algorithm : c.signed.signature.algorithm ≡ default_algorithm
     pub signed : IsSigned scheme c issuing
 
--- the same, as the signer's call gives it
+-- The CRL's fields in DER, with the signature that the signer's call gives under the identifier.
 pub record IsCrlSigned {Id : Type 0} (scheme : Relation) (issuing : KeyFields) (now : ℤ) (id : Id)
     (before after : SignerState Id) (c : CrlFields) : Type 0 where
   pub fields : c.tbs ≡ made_crl issuing now
@@ -134,7 +134,7 @@ pub record IsUnsignedFor (content : List ℕ) (now : ℤ) (serial : List ℕ) (k
   pub crl : u.crl ≡ made_crl issuing now
   pub certificate : IsMadeFor issuing key serial (window now) u.certificate
 
--- and the message with the three signatures
+-- the message of what is to be signed, with the three signatures
 abbrev pub signed_message_of : UnsignedFields → SignatureParts RpkiAlgorithm
     → SignatureParts RpkiAlgorithm → SignatureParts RpkiAlgorithm → MessageFields
 signed_message_of u attributes crl certificate = assembled u.content attributes
@@ -144,8 +144,8 @@ signed_message_of u attributes crl certificate = assembled u.content attributes
     })
     (record { signed = record { slice = spelled_tbs_crl u.crl; signature = crl }; tbs = u.crl })
 
--- It has this content, says this moment as the time of signing, and is signed under this key, for which the issuing key issued a
--- certificate and a CRL.
+-- The message has this content, says this moment as the time of signing, and is signed under this key; the issuing key issued a
+-- certificate for that key, and a CRL.
 pub record IsMessageMade (scheme : Relation) (content : List ℕ) (now : ℤ)
     (issuing key : KeyFields) (serial : List ℕ) (m : MessageFields) : Type 0 where
   pub signature : SignatureParts RpkiAlgorithm
@@ -159,7 +159,7 @@ pub record IsMessageMade (scheme : Relation) (content : List ℕ) (now : ℤ)
   pub crl_made : IsCrlMade scheme issuing now crl
 
 -- The key for this one use is the one that the signer drew, and not the issuing key; the serial number is what it drew last. The keys
--- and the signatures have at most 2^16 octets each, the certificate's as it is issued.
+-- and the signatures have at most 2^16 octets each; that of the certificate's signature is in `IsIssued`.
 pub record IsCreated {Id : Type 0} (scheme : Relation) (content : List ℕ) (now : ℤ) (id : Id)
     (before after : SignerState Id) (m : MessageFields) : Type 0 where
   pub window_is : HasWindow now

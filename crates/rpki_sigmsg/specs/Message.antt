@@ -33,12 +33,12 @@ pub record MessageFields : Type 0 where
   pub certificate : CertificateFields
   pub crls : List CrlFields
 
--- one or two
+-- a list of one or two
 abbrev pub AreOneOrTwo : {X : Type 0} → List X → Type 0
 AreOneOrTwo list = (1 ≤ length list) × (length list ≤ 2)
 
--- the same, and the octets of its parts as they stand in the message: the OCTET STRING of the content, the certificate, the first CRL
--- and, where there are two, the second, the signed attributes without what is round them, and the OCTET STRING of the signature
+-- the message, and the octets of its parts as they stand in it: the OCTET STRING of the content, the certificate, the first CRL and,
+-- where there are two, the second, the signed attributes without what is round them, and the OCTET STRING of the signature
 pub record ViewFields : Type 0 where
   pub message : MessageFields
   pub content_value : List ℕ

@@ -41,7 +41,7 @@ fn is_same(a: &PublicKey, b: &PublicKey) -> bool
     a == b
 }
 
-// The moment and both ends of its window are in the years 0 to 9999.
+// For the proof: the moment and both ends of its window are in the years 0 to 9999, by their types.
 fn are_moments(window: Window)
     ensures moment { IsMoment window }
     ensures first { IsMoment (spec.window window).not_before }
@@ -174,13 +174,13 @@ impl SignedMessage {
             (spec.CreateFails content now issuing_key_id.now
             (S.state signer.old) (S.state signer.new)) }
 
-        // It is believed under the issuing key at each second of the window.
+        // The message is believed under the issuing key at each second of the window.
         ensures believed { IfOk result (λ m. (key : KeyFields)
             → Holds (S.state signer.old).keyring issuing_key_id.now key
             → (when : ℤ) → (spec.window now).not_before ≤ℤ when
             → when ≤ℤ (spec.window now).not_after → IsBelieved P.checks m key when) }
 
-        // What is written of it is read again, in both modes, whatever stands behind it.
+        // What is written of the message is read again, in both modes, whatever stands behind it.
         ensures again { IfOk result (λ m. (mode : Mode) (rest : List ℕ) → CanBeSpelled m
             → BeginsAs (signed_message mode) mode (rewritten m ++ rest) m) }
 
@@ -206,6 +206,7 @@ impl SignedMessage {
         if !content_is_within_limit(content.as_slice()) {
             return Err(CreateError::TooLong);
         }
+        // For the proof: the moment and both ends of its window are in the years 0 to 9999.
         are_moments(window);
         create_within(alloc, content, window, issuing_key_id, signer)
     }

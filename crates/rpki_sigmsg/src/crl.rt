@@ -155,7 +155,8 @@ impl SignedMessageCrl {
         SignedMessageCrl::take_from_counted(alloc, cursor, &mut steps)
     }
 
-    /// The CRL that stands next, as `take_from` reads it. It ticks each time it looks at a header, and for each end mark.
+    /// The CRL that stands next, as `take_from` reads it. It ticks each time it looks at a header, and for each end mark,
+    /// but not where it reads an algorithm again from its octets.
     pub fn take_from_counted<L: Ledger>(
         alloc: Global,
         cursor: &mut Cursor<'_>,

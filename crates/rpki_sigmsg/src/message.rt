@@ -92,8 +92,8 @@ impl SignedMessage {
         SignedMessage::take_from(alloc, &mut cursor)
     }
 
-    /// The same as `decode`, and it ticks each time it looks at a header, and for each end mark: at most three times an octet, and eight
-    /// times more where it refuses.
+    /// Answers as `decode` does, and ticks each time it looks at a header, and for each end mark, but not where it reads an algorithm
+    /// again from its octets: at most three times an octet, and eight times more where it refuses.
     pub fn decode_counted<L: Ledger>(
         alloc: Global,
         octets: &[u8],
@@ -140,7 +140,8 @@ impl SignedMessage {
         SignedMessage::take_from_within::<Brand>(alloc, cursor, Blank::new(1))
     }
 
-    /// The message that stands next, as `take_from` reads it. It ticks each time it looks at a header, and for each end mark.
+    /// The message that stands next, as `take_from` reads it. It ticks each time it looks at a header, and for each end mark,
+    /// but not where it reads an algorithm again from its octets.
     pub fn take_from_counted<L: Ledger>(
         alloc: Global,
         cursor: &mut Cursor<'_>,

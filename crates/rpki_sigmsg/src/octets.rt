@@ -22,7 +22,7 @@ pub(crate) fn take_shared_octets<L: Ledger>(
     Ok(Bytes::from_vec(octets)?)
 }
 
-/// The same, behind the octets of the value itself.
+/// The octets of the OCTET STRING that stands next, as they stand there, and its contents, the segments joined.
 pub(crate) fn take_held_octets<'a, L: Ledger>(
     alloc: Global,
     cursor: &mut Cursor<'a>,

@@ -226,7 +226,8 @@ impl<'a> SignedMessageRef<'a> {
         SignedMessageRef::take_from_within::<Brand>(alloc, cursor, Blank::new(1))
     }
 
-    /// The view of the message that stands next, as `take_from` reads it. It ticks each time it looks at a header, and for each end mark.
+    /// The view of the message that stands next, as `take_from` reads it. It ticks each time it looks at a header, and for each end mark,
+    /// but not where it reads an algorithm again from its octets.
     pub fn take_from_counted<L: Ledger>(
         alloc: Global,
         cursor: &mut Cursor<'a>,

@@ -210,7 +210,8 @@ impl SignedMessageTbsCrl {
         SignedMessageTbsCrl::take_from_counted(alloc, cursor, &mut steps)
     }
 
-    /// The fields that stand next, as `take_from` reads them. It ticks each time it looks at a header, and for each end mark.
+    /// The fields that stand next, as `take_from` reads them. It ticks each time it looks at a header, and for each end mark,
+    /// but not where it reads an algorithm again from its octets.
     pub fn take_from_counted<L: Ledger>(
         alloc: Global,
         cursor: &mut Cursor<'_>,

@@ -100,15 +100,25 @@ impl SignedMessage {
         self.key_failure(verifier, issuer_key, when)
     }
 
-    /// Whether the key issued the certificate for the moment and the certificate's key signed the message; if not, the first of
-    /// these checks that fails: (1) the signer is named by the certificate's subject key identifier, (2) the content's SHA-256 is
-    /// the signed digest, (3) the attributes are signed under the certificate's key, (4) the subject key identifier is that of
-    /// the certificate's key, (5) the moment lies in the certificate's validity, both ends in, (6) the certificate's authority
-    /// key identifier, if it is there, is that of the issuer's key, (7) cA isn't true, (8) the certificate is signed under the
-    /// issuer's key, (9) each CRL names one algorithm in both places, NULL included, (10) each CRL is signed under the issuer's
-    /// key, (11) no thisUpdate is after the moment, (12) no nextUpdate is before it, (13) the authority key identifier of each
-    /// CRL, if it is there, is that of the issuer's key, (14) no CRL lists the certificate. Checks 1 and 4 are inspections, the
-    /// others are verifications. It takes no memory.
+    /// Whether the key issued the certificate for the moment and the certificate's key signed the message; if not, the first of these
+    /// checks that fails. It takes no memory.
+    ///
+    /// - 1: the signer is named by the certificate's subject key identifier.
+    /// - 2: the content's SHA-256 is the signed digest.
+    /// - 3: the attributes are signed under the certificate's key.
+    /// - 4: the subject key identifier is that of the certificate's key.
+    /// - 5: the moment lies in the certificate's validity, both ends in.
+    /// - 6: the certificate's authority key identifier, if it is there, is that of the issuer's key.
+    /// - 7: cA isn't true.
+    /// - 8: the certificate is signed under the issuer's key.
+    /// - 9: each CRL names one algorithm in both places, NULL included.
+    /// - 10: each CRL is signed under the issuer's key.
+    /// - 11: no thisUpdate is after the moment.
+    /// - 12: no nextUpdate is before it.
+    /// - 13: the authority key identifier of each CRL, if it is there, is that of the issuer's key.
+    /// - 14: no CRL lists the certificate.
+    ///
+    /// Checks 1 and 4 are inspections, the others are verifications.
     pub fn validate_at<P: Scheme, V: Verifier<P>>(
         &self,
         verifier: &V,
@@ -144,14 +154,14 @@ impl SignedMessage {
         issuer_key: &PublicKey,
         when: Time,
     ) -> [bool; 14]
-        // All are true exactly where the message is believed.
+        // All fourteen are true exactly where the message is believed.
         ensures believed { All (λ b. b ≡ true) result ↔
             spec.IsBelieved P.checks self.now issuer_key.now when }
 
         // They are the fourteen checks, where 3, 8 and 10 say which signatures hold under the scheme.
         ensures answered { spec.AreChecks P.checks self.now issuer_key.now when result }
 
-        // The same by any answers to the three questions that are right.
+        // They are the fourteen checks by any answers to the three questions that are right.
         ensures checks { (q : spec.Asked P.checks self.now issuer_key.now) →
             result ≡ spec.checks self.now issuer_key.now when q.q3 q.q8 q.q10 }
     {

@@ -25,7 +25,7 @@ use Rattle.rpki_signer.specs.ToySigner.{ToyState, key_of, state_of, IsSound, Are
 use Rattle.rpki_signer.specs.LongSigner.{LongState, long_state, long_signature, overlong_after, after_giving, with_toy, IsLongSigned, IsLongSignedOnce}
 use Rattle.rpki_signer.proofs.Promises.{created_is, key_is, destroyed_is, signed_is, once_is, random_is}
 
--- ---- the same with another count of what is too long
+-- ---- a state with another count of what is too long
 
 abbrev with_count : {I : Type 0} → SignerState I → ℕ → SignerState I
 with_count s n = record s { overlong = n }
@@ -175,7 +175,7 @@ long_once kind message old new (Err call.OutOfMemory) s c h e =
     subst (λ (x : LongState). Stays (long_state old) (long_state x) × CallFails {E = ToyFault} (long_state old) (long_state x) call.OutOfMemory) (sym e.1)
     (call_with {E = ToyFault} (state_of old.toy) (state_of toy) old.overlong call.OutOfMemory (once_is kind message old.toy toy (Err call.OutOfMemory) s c (e.0, refl)))
 
--- ---- the same of what is answered
+-- ---- what is answered
 
 pub long_answer : {A : Type 0} (kind : SigningAlgorithm) (number : ℕ) (message : List ℕ) (old new : LongState) (result : Result (SignatureParts A) (SigningError ToyFault)) → AreCounts old.toy → OnOk result (old.overlong < 18446744073709551616) → IsLongSigned kind number old new (octets_of result)
     → MatchResult result (λ s. IsSignature AnyChecks kind number message (long_state old) (long_state new) s.value) (λ e. Stays (long_state old) (long_state new) × SigningFails kind number (long_state old) (long_state new) e)

@@ -246,7 +246,7 @@ random_is old new was octets (Err call.OutOfMemory) c e = absurd e
 pub distinct_if_same : (old new : ToyState) → AreDistinct (keyring_of old.seed old.keys) → new.seed ≡ old.seed → new.keys ≡ old.keys → AreDistinct (keyring_of new.seed new.keys)
 distinct_if_same old new d e f = rw (e, f) d
 
--- ---- the same of what is answered
+-- ---- what is answered
 
 pub answer_signed : {A : Type 0} (kind : SigningAlgorithm) (number : ℕ) (message : List ℕ) (old new : ToyState) (result : Result (SignatureParts A) (SigningError ToyFault)) → AreCounts old → IsToySigned kind number message old new (octets_of result)
     → MatchResult result (λ s. IsSignature ToyChecks kind number message (state_of old) (state_of new) s.value) (λ e. Stays (state_of old) (state_of new) × SigningFails kind number (state_of old) (state_of new) e)

@@ -88,13 +88,13 @@ pub record StopsBehindKey {Id E : Type 0} (id : Id) (before after : SignerState 
   pub given : IsShortKey id before between key
   pub refuses : RefusesSignature id between after error
 
--- at one of both
+-- a call that asks for a key and signs under it stops at the key or at the signature
 abbrev pub StopsInTurn : {Id E : Type 0} → Id → SignerState Id → SignerState Id → MakeError E
     → Type 0
 StopsInTurn id before after error =
     RefusesKey id before after error ⊎ StopsBehindKey id before after error
 
--- ---- the same of a signature under a key for one use, which asks for no identifier
+-- ---- a signature under a key for one use, which asks for no identifier
 
 -- the signature and its key were given, and one of them is too long
 pub record GivesLongOneOff {Id : Type 0} (scheme : Relation) (message : List ℕ)
@@ -110,7 +110,7 @@ pub record IsFaulted {Id : Type 0} (before after : SignerState Id) : Type 0 wher
   pub uncounted : after.overlong ≡ before.overlong
   pub told : Rose before.faults after.faults
 
--- they weren't given, or are too long
+-- a signature under a key for one use, and that key, weren't given, or one of them is too long
 abbrev pub RefusesOneOff : {Id E : Type 0} → Relation → List ℕ → SignerState Id → SignerState Id
     → MakeError E → Type 0
 RefusesOneOff scheme message before after make.TooLong =

@@ -32,7 +32,7 @@ long_state s = record (state_of s.toy) { overlong = s.overlong }
 
 -- ---- its signatures
 
--- so many zeros
+-- a signature of so many octets, all of them 0
 abbrev pub long_signature : ℕ → List ℕ
 long_signature octets = replicate octets 0
 

@@ -18,9 +18,9 @@ pub record HeldKey (Id : Type 0) : Type 0 where
   pub id : Id
   pub key : KeyFields
 
--- The keys that it holds; how often it failed, how often it gave a key or a signature of more than 2^16 octets, and how often a
--- key for one use that it holds, counts that may stop at 2^64 - 1; the key that it gave last for one use, if it did; and the octets
--- that it drew last, none before the first.
+-- The keys that it holds; how often it failed, how often it gave a key or a signature of more than 2^16 octets, and how often it
+-- gave, for one use, a key that it holds, counts that may stop at 2^64 - 1; the key that it gave last for one use, if it did; and the
+-- octets that it drew last, none before the first.
 pub record SignerState (Id : Type 0) : Type 0 where
   pub keyring : List (HeldKey Id)
   pub faults : ℕ
@@ -50,7 +50,7 @@ pub record IsLater {Id : Type 0} (before after : SignerState Id) : Type 0 where
   pub overlong : before.overlong ≤ after.overlong
   pub reused : before.reused ≤ after.reused
 
--- and nothing else changes
+-- no count falls, and nothing else changes
 pub record Stays {Id : Type 0} (before after : SignerState Id) : Type 0 where
   pub later : IsLater before after
   pub keyring : after.keyring ≡ before.keyring

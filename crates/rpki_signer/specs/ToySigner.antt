@@ -67,7 +67,7 @@ held_key seed key = record { id = key.number; key = key_of seed key }
 abbrev pub keyring_of : ℕ → List ToyKey → List (HeldKey ℕ)
 keyring_of seed keys = map (held_key seed) keys
 
--- its identifiers are numbers, and it gives nothing that is too long
+-- a toy signer as a signer: its identifiers are numbers, and it gives nothing that is too long
 abbrev pub state_of : ToyState → SignerState ℕ
 state_of s = record {
   keyring = keyring_of s.seed s.keys;
@@ -83,7 +83,7 @@ pub record IsSound (seed next : ℕ) (keys : List ToyKey) : Type 0 where
   pub distinct : AreDistinct (keyring_of seed keys)
   pub below : AllByRecursion (λ k. k.number < next) keys
 
--- its counts and its next number are numbers of 64 bits
+-- a toy signer's counts and its next number are numbers of 64 bits
 pub record AreCounts (s : ToyState) : Type 0 where
   pub next : s.next < 2 ^ 64
   pub faults : s.faults < 2 ^ 64
@@ -150,7 +150,7 @@ after_choosing format s = if is_set format s.reuse
     then record s { calls = count_after s.calls; reused = count_after s.reused }
     else after_drawing s
 
--- and given
+-- the key was chosen and given
 abbrev pub after_signing_once : PublicKeyFormat → ToyState → ToyState
 after_signing_once format s =
     record (after_choosing format s) { drawn = Some (one_off_key format s.reuse s.next) }
@@ -162,13 +162,13 @@ abbrev pub random_block : ℕ → ℕ → ℕ → List ℕ
 random_block seed number block =
     sha256 ((to_be_bytes w64 seed ++ to_be_bytes w64 number) ++ to_be_bytes w64 block)
 
--- so many blocks from this one on, joined
+-- this many blocks from this one on, joined
 abbrev pub random_blocks : ℕ → ℕ → ℕ → ℕ → List ℕ
 random_blocks seed number block zero = []
 random_blocks seed number block (suc more) =
     random_block seed number block ++ random_blocks seed number (block + 1) more
 
--- so many octets of the blocks from this one on: these are joined and cut
+-- this many octets of the blocks from this one on: these are joined and cut
 abbrev pub octets_from : ℕ → ℕ → ℕ → ℕ → List ℕ
 octets_from seed number block count =
     take count (random_blocks seed number block (count / 32 + 1))
@@ -232,7 +232,7 @@ pub record IsToyFound (number : ℕ) (format : PublicKeyFormat) (before after : 
   pub fits : key.format ≡ format
   pub is : after ≡ counted before
 
--- it has another format
+-- the key has another format than the one that is asked for
 pub record IsToyUnfit (number : ℕ) (format : PublicKeyFormat) (before after : ToyState) : Type 0
   where
     pub key : ToyKey

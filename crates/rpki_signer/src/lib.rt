@@ -1,4 +1,4 @@
-//! Signers, and a signature scheme without any security, which stands in where no real one is handed in.
+//! Signers, and a signature scheme without any security, a toy for tests and demonstrations.
 //!
 //! - [`Signer`] holds keys and signs under them; [`random_serial`], [`key_within_limit`] and its like ask one.
 //! - [`ToyScheme`] says which signatures hold: the SHA-256 of the key's bits and the message. [`ToyVerifier`] answers that, and

@@ -40,7 +40,7 @@ impl Model for LongSigner {
     ghost inverse = { λ s. record { toy = s.toy; octets = s.octets; overlong = s.overlong } };
 }
 
-// So many zeros.
+// As many zeros as `count` says.
 fn zeros(alloc: Global, count: usize) -> Result<Bytes, OutOfMemory>
     ensures { IfOk result (λ b. b ≡ spec.long_signature count) }
 {

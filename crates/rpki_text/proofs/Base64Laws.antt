@@ -171,6 +171,6 @@ size_high n len e = omega (arith, e)
 pub base64_content_of_json-is : (text spelling : List ℕ) → string_of_json text ≡ Some spelling → base64_content_of_json text ≡ base64_content spelling
 base64_content_of_json-is text spelling e = ap (λ (o : Option (List ℕ)). option_and_then base64_content o) e
 
--- the same of octets whose base64 text has no white space
+-- the octets of a JSON text whose base64 has no white space
 pub octets_of_json-is : (text spelling given : List ℕ) (o : Option (List ℕ)) → string_of_json text ≡ Some spelling → given ≡ spelling → decoded_of standard given ≡ o → octets_of_json text ≡ o
 octets_of_json-is text spelling given o e p f = rw (e, ← p) f

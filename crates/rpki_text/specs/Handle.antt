@@ -15,7 +15,7 @@ is_handle_octet octet =
 abbrev pub IsHandle : List ℕ → Type 0
 IsHandle text = (1 ≤ length text) × (length text ≤ 255) × AllPass is_handle_octet text
 
--- The same as a test.
+-- Whether a text is 1 to 255 of these octets.
 abbrev pub is_handle : List ℕ → Bool
 is_handle text = nat_le 1 (length text) && nat_le (length text) 255 && list_all is_handle_octet text
 

@@ -77,6 +77,7 @@ fn digits_are_read_back(octets: &[u8])
     requires { length octets.now ≡ 32 }
     ensures { digest_of_text (encode_lower octets.now) ≡ Some octets.now }
 {
+    // For the proof: there are octets.
     let _first = octets[0];
 }
 

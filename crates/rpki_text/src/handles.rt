@@ -229,7 +229,7 @@ impl<T> Handle<T> {
         self.as_str().as_bytes()
     }
 
-    /// The same name in another part. The two share the text.
+    /// This name in another part. The two share the text.
     pub fn convert<Y>(&self) -> Result<Handle<Y>, OutOfMemory>
         ensures { IfOk result (λ h. h ≡ self.now) }
     {
@@ -239,7 +239,7 @@ impl<T> Handle<T> {
         })
     }
 
-    /// The same name in another part. It takes no memory.
+    /// This name in another part. It takes no memory.
     pub fn into_converted<Y>(self) -> Handle<Y>
         ensures { result ≡ self }
     {

@@ -56,9 +56,9 @@ fn append(out: &mut Vec<u8>, octets: &[u8]) -> Result<(), AllocError>
 /// read. `limit` counts octets, and every number is allowed. Read is answered exactly where the
 /// source failed, and TooLong where one octet more came.
 ///
-/// What was read before an error is gone. The octet past the limit takes no memory, nor does the
-/// end of input. While it reads, the result takes at most 2.25 times the memory of the octets read,
-/// and a block.
+/// What was read before an error is gone. How much memory it takes, no clause says: the octet past
+/// the limit takes none, nor does the end of input, and while it reads, the result takes at most
+/// 2.25 times the memory of the octets read, and a block.
 pub fn read_all<I: Source>(
     alloc: Global,
     source: &mut I,
@@ -89,6 +89,7 @@ pub fn read_all<I: Source>(
     let mut block = [0u8; BLOCK];
     'reading: loop {
         let left = limit - out.len() as u64;
+        // At most one octet more than is left of the limit, by which an input that is too long shows.
         let room = left.min(BLOCK as u64 - 1) as usize + 1;
         let Ok(count) = source.read(&mut block[..room]) else {
             return Err(ReadAllError::Read);

@@ -30,6 +30,6 @@ limits_same a b = (
   λ e. rw e (and_from _ _ (stated_itself b.asn) (and_from _ _ (stated_itself b.ipv4) (stated_itself b.ipv6))),
 )
 
--- the same of an answer that is this test's
+-- an answer that is the test of two limits says whether they are one
 pub same_limits : (answer : Bool) (a b : LimitFields) → answer ≡ are_same a b → IsTrue answer ↔ (a ≡ b)
 same_limits answer a b e = rw e (limits_same a b)

@@ -31,7 +31,7 @@ pub record ClassOf (C : Type 0) : Type 0 where
   pub issued_certs : List (IssuedOf C)
   pub signing_cert : SigningOf C
 
--- the same with one issued certificate
+-- a class with one issued certificate
 pub record IssuanceOf (C : Type 0) : Type 0 where
   pub class_name : List ℕ
   pub resource_set : Resources
@@ -45,7 +45,7 @@ pub record AskedOf (R : Type 0) : Type 0 where
   pub limit : LimitFields
   pub csr : R
 
--- ---- the same with f of each certificate in its place
+-- ---- records with f of each certificate, or of the request, in its place
 
 abbrev pub issued_with : {C D : Type 0} → (C → D) → IssuedOf C → IssuedOf D
 issued_with f c = record { uri = c.uri; req_limit = c.req_limit; cert = f c.cert }
@@ -74,7 +74,7 @@ issuance_with f r = record {
 abbrev pub asked_with : {R S : Type 0} → (R → S) → AskedOf R → AskedOf S
 asked_with f a = record { class_name = a.class_name; limit = a.limit; csr = f a.csr }
 
--- ---- the same of certificates and requests that were read
+-- ---- the records of certificates and requests that were read
 
 abbrev pub IssuedFields : Type 0
 IssuedFields = IssuedOf CertFields

@@ -16,7 +16,7 @@ abbrev pub stated_in_text : (List ℕ → Option (List Run)) → List ℕ → Op
 stated_in_text blocks text =
     if bytes_eq text (codes "none") then Some None else blocks text >>= λ set. Some (Some set)
 
--- the same of a value, which has to be a string
+-- what a value states of a kind, which has to be a string
 unfoldable pub stated_in : (List ℕ → Option (List Run)) → Data → Option (Option (List Run))
 stated_in blocks value = as_str value >>= stated_in_text blocks
 

@@ -50,7 +50,7 @@ limited_set limit set = record {
 
 -- ---- equality
 
--- both state the same
+-- both limits state the same
 abbrev pub are_same : LimitFields → LimitFields → Bool
 are_same a b =
     option_eq (pointwise is_same) a.asn b.asn && (option_eq (pointwise is_same) a.ipv4 b.ipv4

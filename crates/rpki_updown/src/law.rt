@@ -63,7 +63,7 @@ pub fn equal_certificates_have_the_same_octets()
     equal_certs_have_the_same_octets();
 }
 
-/// The same of what is issued, and of classes.
+/// `==` of what is issued, and of classes, means that all parts are the same, the certificates by their octets.
 pub fn equal_classes_have_the_same_octets()
     ensures issuance { (a b : IssuanceFields) → (⟦<IssuanceResponse as PartialEq>⟧.eq a b ≡ true)
         ↔ (issuance_with (λ c. c.slice) a ≡ issuance_with (λ c. c.slice) b) }
@@ -74,7 +74,7 @@ pub fn equal_classes_have_the_same_octets()
     equal_certs_have_the_same_octets();
 }
 
-/// The same of lists of classes.
+/// `==` of lists of classes means that all parts are the same, the certificates by their octets.
 pub fn equal_class_lists_have_the_same_octets()
     ensures { (a b : List ClassFields)
         → (⟦<ResourceClassListResponse as PartialEq>⟧.eq a b ≡ true)

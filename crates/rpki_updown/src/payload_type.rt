@@ -22,7 +22,7 @@ pub enum PayloadType {
     IssueResponse,
     /// Asks that the certificates of a key be revoked (3.5.1).
     Revoke,
-    /// They are revoked (3.5.2).
+    /// Says that the certificates of a key are revoked (3.5.2).
     RevokeResponse,
     /// What was asked is not done (3.6).
     ErrorResponse,

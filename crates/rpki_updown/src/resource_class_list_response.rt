@@ -7,7 +7,7 @@ use rpki_common::{OutOfMemory, Sequence};
 use std::alloc::Global;
 use std::marker::Model;
 
-/// The answer to the question for the resource classes (RFC 6492, 3.3.2). In a clause it is the list of the classes.
+/// The response to a list request (RFC 6492, 3.3.2). In a clause it is the list of the resource classes.
 #[derive(Drop, PartialEq, Eq)]
 pub struct ResourceClassListResponse {
     classes: Sequence<ResourceClassEntitlements>,
@@ -25,7 +25,7 @@ impl Model for ResourceClassListResponse {
 }
 
 impl ResourceClassListResponse {
-    /// These classes. It takes no memory.
+    /// The response with these classes. It takes no memory.
     pub fn new(classes: Vec<ResourceClassEntitlements>) -> ResourceClassListResponse
         ensures { result ≡ classes.items }
     {

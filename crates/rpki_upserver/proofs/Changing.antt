@@ -14,7 +14,7 @@ use Rattle.rpki_upserver.proofs.Places.{all_put, all_without, without_placed}
 abbrev pub IsKept : ClassState → Type 0
 IsKept c = IsBase c.base × IsSound c.resource_set c.not_after c.signing_cert c.issued_certs
 
--- the same class with other certificates
+-- the class with these certificates
 abbrev pub with_certs : ClassState → List IssuedFields → ClassState
 with_certs c certs = record c { issued_certs = certs }
 

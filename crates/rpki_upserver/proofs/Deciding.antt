@@ -53,7 +53,7 @@ not_performed comes p after before issuer reason same h = record {
   behind = same_table p after same;
 }
 
--- ---- the question to revoke
+-- ---- the request to revoke
 
 module _ (scheme : Relation) (table : Table) (request : KeyElementFields) where
   abbrev pub RevokeComes : Outcome → Type 0
@@ -75,7 +75,7 @@ module _ (scheme : Relation) (table : Table) (request : KeyElementFields) where
       → next ≡ change request.class_name (with_revoked request.key) table → RevokeComes (comes_as (payloads.RevokeResponse request) next before after)
   revoke_done before after c next named held revoked next_is = by_named (Some c) _ named (inl (held, inr (record { revoked = revoked; payload = refl; next = next_is })))
 
--- ---- the same by the code, at the place of a class
+-- ---- the request to revoke by the code, at the place of a class
 
 -- the parent with another class at a place
 abbrev pub with_class : ParentState → ℕ → ClassState → ParentState
@@ -149,7 +149,7 @@ module _ (scheme : Relation) (before now : ParentState) (request : KeyElementFie
           behind = refl;
         })
 
--- ---- the question for a certificate
+-- ---- the certificate request
 
 same_class : (table : Table) (place : ℕ) (c x : ClassState) → place < length table → c ≡ get_or table place c → slice_get table place ≡ Some x → x ≡ c
 same_class table place c x lt at is = let e : Some (get_or table place c) ≡ Some x = sym (slice_get-get_or table place c lt) ∙ is in let same : x ≡ get_or table place c = cc in same ∙ sym at

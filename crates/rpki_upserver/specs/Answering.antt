@@ -67,7 +67,7 @@ pub record IsSigned {Id : Type 0} (scheme : Relation) (when : ℤ) (signer : Sig
   pub message_is : c.message ≡ message
   pub signed : IsSignedAs scheme when signer (received.Provisioning message) c.signed
 
--- it holds the reply that says what was decided on the octets
+-- the signed message holds the reply that says what was decided on the octets
 pub record IsAnswered {Id : Type 0} (scheme : Relation) (octets : List ℕ) (when : ℤ)
     (before after : ParentAndIssuer) (signer : SignerSeen Id) (c : CmsFields) : Type 0 where
   pub payload : Payload
@@ -103,7 +103,7 @@ pub record IsUnsent {Id E : Type 0} (scheme : Relation) (octets : List ℕ) (whe
     pub cause : error ≢ create.OutOfMemory
         → FailsToSign scheme when signer (received.Provisioning (reply before.parent payload)) error
 
--- each cause, and what it leaves
+-- each cause for which nothing is sent, and what it leaves
 abbrev pub SendsNothing : {Id E : Type 0} → Relation → List ℕ → ℤ → ParentAndIssuer
     → ParentAndIssuer → SignerSeen Id → AnswerError E → Type 0
 SendsNothing scheme octets when before after signer (answers.Refused error) =

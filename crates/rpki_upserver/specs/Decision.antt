@@ -54,7 +54,7 @@ IsPayloadOf table (decisions.Issued class_place place) payload =
 IsPayloadOf table (decisions.Revoked request) payload =
     payload ≡ payloads.RevokeResponse request
 
--- there is something to say, which can be written so that it is read again
+-- what a decision says is there, and can be written so that it is read again
 pub record CanBeSaid (table : Table) (decision : Decision) : Type 0 where
   pub payload : Payload
   pub said : IsPayloadOf table decision payload

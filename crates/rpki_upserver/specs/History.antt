@@ -18,7 +18,7 @@ pub record Call : Type 0 where
   pub message : MessageFields
   pub outcome : Outcome
 
--- each came of the parent and the issuer that the calls before it left
+-- each call came of the parent and the issuer that the calls before it left
 abbrev pub AreMade : Relation → ParentState → IssuerState → List Call → Type 0
 AreMade scheme p issuer [] = ⊤
 AreMade scheme p issuer (call ∷ calls) =
@@ -72,7 +72,7 @@ standing_behind name key (payloads.RevokeResponse k) before =
     if is_revoked_by name key k then None else before
 standing_behind name key other before = before
 
--- the same behind all replies: the last one that was issued, unless it was revoked since
+-- the certificate of a class and a key behind all replies: the last one that was issued, unless it was revoked since
 abbrev pub standing : List ℕ → List ℕ → List Call → Option IssuedFields → Option IssuedFields
 standing name key [] before = before
 standing name key (call ∷ calls) before =

@@ -55,13 +55,13 @@ pub record Fails (table : Table) (o : Outcome) : Type 0 where
   pub leaves : Leaves o.before o.after
   pub rose : Rose o.before.faults o.after.faults
 
--- ---- the question for the classes (3.3)
+-- ---- the list request (3.3)
 
 pub record Lists (table : Table) (o : Outcome) : Type 0 where
   pub payload : o.payload ≡ payloads.ListResponse (map entitled table)
   pub stays : Stays table o
 
--- ---- the question for a certificate (3.4)
+-- ---- the certificate request (3.4)
 
 -- the identifier of the key that is to be certified
 abbrev pub requested_key : IssuanceRequestFields → List ℕ
@@ -109,13 +109,13 @@ IsIssueAnswerIn scheme table request c o =
     (Unless (IsContained request.limit c.resource_set) (Refuses 1202 table o)
     (Fails table o ⊎ Issues table c request o))))
 
--- the same where there is such a class
+-- the rows for a request, by the class that it names, if there is one
 abbrev pub IsIssueAnswer : Relation → Table → IssuanceRequestFields → Option ClassState → Outcome
     → Type 0
 IsIssueAnswer scheme table request None o = Refuses 1201 table o
 IsIssueAnswer scheme table request (Some c) o = IsIssueAnswerIn scheme table request c o
 
--- ---- the question to revoke the certificates of a key (3.5)
+-- ---- the request to revoke the certificates of a key (3.5)
 
 -- The issuer revoked the certificate of the key in the class, and it is taken out of it.
 pub record Revokes (table : Table) (request : KeyElementFields) (o : Outcome) : Type 0 where

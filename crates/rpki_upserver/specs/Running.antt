@@ -44,7 +44,7 @@ pub record IsFirstClass (signing : SigningFields) (c : ClassState) : Type 0 wher
   pub set_is : IsFirstSet set
   pub is : c ≡ new_class (codes "0") set (pos 2524607999) (codes "rsync://localhost/repo/") signing
 
--- It calls itself `Bob` and the child `Carol`, and has this one class.
+-- The parent calls itself `Bob` and the child `Carol`, and has this one class.
 pub record IsFirstParent (key : KeyFields) (signing : SigningFields) (p : ParentState) : Type 0
   where
     pub c : ClassState
@@ -101,7 +101,7 @@ pub record EndsAnswered {Id : Type 0} (scheme : Relation) (run : Run Id) (lines 
   pub first : IsFirstParent run.key run.signing parent
   pub ends : EndsFrom scheme run parent messages status sink
 
--- or the moment has none; or some line is that of no octets; or memory ran out
+-- how it ends: with the answers from a first parent; or the moment has no window; or some line is that of no octets; or memory ran out
 abbrev pub EndsServed : {Id : Type 0} → Relation → Run Id → List (List ℕ) → ℕ → Seen → Type 0
 EndsServed scheme run lines status sink =
     EndsAnswered scheme run lines status sink

@@ -31,10 +31,10 @@ with_signer parties signer = record { parties = parties; signer = signer }
 -- ---- one line
 
 -- The octets are accepted under the child's key, and the text is the hexadecimal of a signed message
--- that the signer, which did nothing else, created with the reply to them, as `create` does: at the
--- moment, under the issuing key, which it holds. The reply's text has at most 2^31 octets. Of that
--- message the reply is received: it is accepted under every list of keys that holds the issuing key, at
--- each second from 300 before the moment to 300 after it.
+-- that was created with the reply to them, as `create` does: at the moment, under the issuing key, which
+-- the signer holds. The reply's text has at most 2^31 octets. Of that message the reply is received: it
+-- is accepted under every list of keys that holds the issuing key, at each second from 300 before the
+-- moment to 300 after it. Parent, issuer and signer are then so.
 pub record IsReplied {Id : Type 0} (scheme : Relation) (when : ℤ) (id : Id) (before : Service Id)
     (octets text : List ℕ) (after : Service Id) : Type 0 where
   pub payload : Payload
@@ -65,7 +65,7 @@ IsLineAnswered scheme when id before octets text after =
 -- ---- all lines
 
 -- The texts are the answers to all lines, one behind the other, and nothing is behind them. Issuer and
--- signer did what they say and need, and nothing else.
+-- signer are then as the last answer left them.
 pub record AreAllAnswered {Id : Type 0} (scheme : Relation) (when : ℤ) (signer : SignerSeen Id)
     (start : ParentAndIssuer) (issuer : IssuerState) (messages texts : List (List ℕ))
     (closing : List ℕ) : Type 0 where
@@ -74,8 +74,7 @@ pub record AreAllAnswered {Id : Type 0} (scheme : Relation) (when : ℤ) (signer
   pub issuer_is : issuer ≡ steps.last.parties.issuer
   pub signer_is : signer.after ≡ steps.last.signer
 
--- They are the answers to the first lines. Issuer and signer did what they say and need, and nothing
--- else.
+-- The texts are the answers to the first lines. Issuer and signer are then as the last one left them.
 pub record AreFirstAnswered {Id : Type 0} (scheme : Relation) (when : ℤ) (signer : SignerSeen Id)
     (start : ParentAndIssuer) (issuer : IssuerState) (messages texts : List (List ℕ)) : Type 0
   where

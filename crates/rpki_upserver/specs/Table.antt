@@ -130,7 +130,7 @@ pub record IsSound (set : Resources) (not_after : ℤ) (signing : SigningFields)
   pub signing_is : IsWritableSigning signing
   pub issued_are : AllByRecursion IsWritableIssued issued
 
--- the same of each class with its name
+-- what is told of each class, its name included, can be written so that it is read again
 abbrev pub AreWritable : Table → Type 0
 AreWritable table = AllByRecursion (λ c. IsWritableClass (entitled c)) table
 
@@ -153,8 +153,8 @@ new_parent me child key table = record { me = me; child = child; child_key = key
 abbrev pub with_table : Table → ParentState → ParentState
 with_table table p = record p { table = table }
 
--- both are handles, and the classes have distinct names, which can be written so that they are read
--- again
+-- The names of parent and child are handles, and the classes have distinct names, which can be written so that they are read
+-- again.
 pub record IsParent (me child : List ℕ) (table : Table) : Type 0 where
   pub me_is : IsHandle me
   pub child_is : IsHandle child

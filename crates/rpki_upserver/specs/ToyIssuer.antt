@@ -28,14 +28,14 @@ use Rattle.rpki_upserver.specs.declared.issuer.IssuerError.TheVariants as errors
 use Rattle.rpki_upserver.specs.declared.toy_issuer.ToyMade.{ToyMade}
 use Rattle.rpki_upserver.specs.Issuer.{IssuerState, Made}
 
--- its signer, the identifier of its key, from when its certificates are valid, and what it did
+-- a toy issuer: its signer, the identifier of its key, from when its certificates are valid, and what it did
 pub record ToyIssuerState : Type 0 where
   pub signer : ToyState
   pub key : ℕ
   pub from : ℤ
   pub issuer : IssuerState
 
--- one that did nothing yet
+-- a toy issuer that did nothing yet
 abbrev pub toy_issuer : ToyState → ℕ → ℤ → ToyIssuerState
 toy_issuer signer key from = record {
   signer = signer;
@@ -59,11 +59,11 @@ made_of m = record {
 
 -- ---- its answers
 
--- it fails: its count rises, unless it is at its end
+-- the toy issuer fails: its count rises, unless it is at its end
 abbrev pub after_fault : ToyIssuerState → ToyIssuerState
 after_fault i = record i { issuer = record i.issuer { faults = count_after i.issuer.faults } }
 
--- what it did is as before, and its key and the moment
+-- what the toy issuer did is as before, and its key and the moment
 pub record DidNothing (before after : ToyIssuerState) : Type 0 where
   pub is : after ≡ record before { signer = after.signer }
 
@@ -80,7 +80,7 @@ pub record IsToyCertificate (csr : CaRequest) (not_after : ℤ) (before after : 
   pub der : IsCertificate cert
   pub rest : DidNothing before after
 
--- its signer made none, for another reason than want of memory
+-- the toy issuer's signer made no certificate, for another reason than want of memory
 pub record MadeNone (before after : ToyIssuerState) : Type 0 where
   pub error : MakeError ToyFault
   pub other : error ≢ make.OutOfMemory
@@ -121,13 +121,13 @@ IsToyIssue name csr set not_after before after (Err error) = MakesNone before af
 abbrev pub with_gone : KeyElementFields → IssuerState → IssuerState
 with_gone key i = record i { gone = i.gone ++ key ∷ [] }
 
--- its signer gave the key
+-- the toy issuer's signer gave the key
 pub record GaveKey (before after : ToyIssuerState) : Type 0 where
   pub given : KeyFields
   pub asked : IsToyKey before.key before.signer after.signer (Ok given)
   pub rest : DidNothing before after
 
--- it didn't, for another reason than want of memory
+-- the toy issuer's signer didn't give the key, for another reason than want of memory
 pub record GaveNoKey (before after : ToyIssuerState) : Type 0 where
   pub error : KeyError ToyFault
   pub other : error ≢ keys.OutOfMemory

@@ -75,7 +75,7 @@ impl Model for Class {
         × IsSound c.set c.not_after c.signing c.issued.items };
 }
 
-// What holds of these parts by their types.
+// For the proof: what holds of these parts by their types.
 fn are_sound(set: &ResourceSet, not_after: Time, signing: &SigningCert)
     requires { IsCertificate signing.now.cert }
     ensures { IsSound set.now not_after signing.now [] }
@@ -106,6 +106,7 @@ impl Class {
         if !base.path_is_dir() || base.as_str().len() > MOST_OCTETS {
             return None;
         }
+        // For the proof: what holds of these parts by their types.
         are_sound(&set, not_after, &signing);
         Some(Class {
             name,
@@ -225,7 +226,7 @@ impl Class {
         Ok(ResourceClassEntitlements::new(name, set, self.not_after, certs, signing))
     }
 
-    /// The same with the one certificate at this place (RFC 6492, 3.4.2).
+    /// What the child is told of the class with the one certificate at this place (RFC 6492, 3.4.2).
     pub(crate) fn issuance(
         &self,
         alloc: Global,
@@ -311,6 +312,7 @@ impl Class {
     {
         let key = request.csr().public_key().key_identifier();
         let uri = self.uri_of(alloc, key)?;
+        // For the proof: the URI is lawful, by its type.
         let _uri = uri.as_str();
         let limit = request.limit().clone(alloc)?;
         make_room_for(&mut self.issued, alloc, key)?;

@@ -14,7 +14,7 @@ use std::alloc::Global;
 /// Why an issuer did nothing.
 #[derive(Clone, Copy, Debug, PartialEq, Eq)]
 pub enum IssuerError {
-    /// It failed, and its count of faults rose.
+    /// The issuer failed, and its count of faults rose.
     Failed,
     /// Memory ran out.
     OutOfMemory,
@@ -35,8 +35,8 @@ pub trait Issuer {
     ghost state: { Self → IssuerState };
 
     /// A certificate for the key of the request in this class, which has to be one in DER (RFC 6487, 4). The state notes it with these
-    /// resources and until this time; that it says so itself is the issuer's to see to. Failed only where its count rose; whatever the
-    /// error, nothing was issued.
+    /// resources and until this time; it is up to the issuer that the certificate itself says so. Failed only where its count rose;
+    /// whatever the error, nothing was issued.
     fn issue(
         &mut self,
         alloc: Global,

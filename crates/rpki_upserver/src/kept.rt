@@ -57,6 +57,7 @@ impl<T: Drop> Kept<T> {
         ensures { self.new.items ≡ self.old.items ++ item ∷ [] }
     {
         if let Some(items) = &mut self.items {
+            // `make_room` made room for the item, so this takes no memory and isn't refused.
             let _ = items.push(item);
         }
     }

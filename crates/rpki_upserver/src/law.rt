@@ -31,8 +31,8 @@ pub fn revoked_keys_are_not_certified_again<P: Scheme>()
         made.key ≢ key.key }
 {}
 
-/// What a parent tells of a class, in which nothing was issued at first, are the certificates that its replies brought, or were to bring
-/// where one wasn't sent, of each key the last one, without those that they said are revoked.
+/// If nothing had been issued in a class at first, the parent lists for each key the certificate issued last, unless it was revoked
+/// since. A reply counts also where it was decided and not sent.
 pub fn what_is_told_was_issued_and_not_revoked<P: Scheme>()
     ensures { (parent : ParentState) (issuer : IssuerState) (calls : List Call) →
         AreNew parent.table → AreMade P.checks parent issuer calls →

@@ -176,6 +176,7 @@ impl Parent {
             → RefusesReceipt P.checks kinds.Provisioning octets.now (self.now.child_key ∷ [])
             when e) }
     {
+        // For the proof: a message that was read is writable.
         read_is_writable();
         let kind = Kind::Provisioning;
         match receive(self.alloc, kind, octets, &self.child_key, when, verifier) {
@@ -302,7 +303,7 @@ impl Parent {
         }
         match message.payload() {
             Payload::List => {
-                // What stands in the table can be written.
+                // For the proof: what stands in the table can be written.
                 let _classes = self.classes();
                 Ok(Decision::Listed)
             }
@@ -356,7 +357,7 @@ impl Parent {
         }
     }
 
-    // The same, signed.
+    // The signed reply in which a decision is said.
     fn send<P: Scheme, S: Signer<P>>(
         &self,
         decision: &Decision,
@@ -407,7 +408,7 @@ impl Parent {
             (with_issuer self.old (N.state issuer.old)) (with_issuer self.new (N.state issuer.new))
             (seen_signer key.now (S.state signer.old) (S.state signer.new))) }
 
-        // Or nothing is sent, for a cause, and this is left.
+        // Where nothing is sent, there is a cause, and it says what was done.
         ensures unanswered { IfErr result (SendsNothing P.checks octets.now when
             (with_issuer self.old (N.state issuer.old)) (with_issuer self.new (N.state issuer.new))
             (seen_signer key.now (S.state signer.old) (S.state signer.new))) }

@@ -116,7 +116,7 @@ pub with_run : (source : List ℕ) (n : Node) (so_far new : Rest) (run : List �
 with_run source n so_far new run is more =
     ap (head_with (name_from source n.name)) (sym (same_some (with_more_text run (parts_in source so_far)) (parts_in source new) more) ∙ ap (λ (r : Rest). with_more_text run (parts_in source r)) is)
 
--- the same at the end of an element
+-- the text that is settled at the end of an element is put into its parts
 settled_as : (x : Option (List ℕ)) (p q : Parts) → (x >>= λ text. Some (with_part text p)) ≡ Some q → (x ≡ Some q.text) × (with_part q.text p ≡ q)
 unfolding ◌>>=◌
 settled_as (Some text) p q e = let same = same_some (with_part text p) q e in (ap (λ (r : Parts). Some r.text) same, ap (λ (r : Parts). with_part r.text p) (sym same) ∙ same)

@@ -108,7 +108,7 @@ attribute_less b =
     (λ n c h. then_rest k (length b) (behind (codes "=") (past_white c)) _ (behind_less (codes "=") (past_white c) k (back_less is_white c k h))
     (λ d l. then_less (length b) (length b) (quoted_at (past_white d)) (λ value. Some (record { name = n; value = value.0 }, value.1)) (quoted_less (past_white d) (length b) (back_less is_white d k l)) (λ v e m. m)))
 
--- ---- the same both ways
+-- ---- repetitions, both ways
 
 pair_of : {X Y : Type 0} (p q : X × Y) → Some p ≡ Some q → p ≡ q
 pair_of p q e = cc

@@ -23,7 +23,7 @@ root_of source nodes = first_of (tree_of (slots source (drop 1 nodes)))
 abbrev pub IsWhole : List ℕ → List Node → Type 0
 IsWhole source nodes = slots source (drop 1 nodes) ≡ flat (alone (root_of source nodes))
 
--- the same, of a document in memory
+-- the element of a document in memory
 abbrev pub root_in : Document → Element
 root_in d = root_of d.source.now d.nodes.items
 

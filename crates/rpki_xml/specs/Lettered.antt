@@ -4,7 +4,7 @@ use Rattle.std.specs.List.{list_all, AllByRecursion}
 use Rattle.rpki_xml.specs.Element.{Attribute, Head, Elements, none, first}
 use Rattle.rpki_xml.specs.Lexing.{is_octet}
 
--- all are octets that a document may have
+-- all octets are ones that a document may have
 abbrev pub AreOctets : List ℕ → Type 0
 AreOctets text = list_all is_octet text ≡ true
 

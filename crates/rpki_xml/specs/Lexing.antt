@@ -133,12 +133,12 @@ tag_at b = do
   attributes ← until no_attribute attribute_at name.1
   closed_at (record { name = name.0; attributes = attributes.0 }) (past_white attributes.1)
 
--- what follows the next such end
+-- what follows the first `close` in the octets
 abbrev pub past_next : List ℕ → List ℕ → Option (List ℕ)
 past_next close [] = None
 past_next close (c ∷ b) = or_else (behind close (c ∷ b)) (past_next close b)
 
--- behind the beginning of a comment or an instruction
+-- a comment or an instruction, from behind its beginning on
 unfoldable pub passed_at : List ℕ → List ℕ → Option (Piece × List ℕ)
 passed_at close b = do
   rest ← past_next close b

@@ -34,7 +34,7 @@ attributes_in source (rest.Bare attributes) = attributes_of source attributes.va
 attributes_in source (rest.Attributed more) = attributes_of source more.value.attributes.items
 attributes_in source (rest.Namespaced more) = attributes_of source more.value.attributes.items
 
--- the same together
+-- what a node holds beside its name: text, namespace and attributes
 pub record Parts : Type 0 where
   pub text : List ℕ
   pub namespace : Option (List ℕ)

@@ -135,7 +135,7 @@ fn own_node(source: &[u8]) -> Result<Node, XmlError>
     })
 }
 
-// One more piece.
+// Takes one more piece into the nodes.
 fn take(
     alloc: Global,
     source: &[u8],

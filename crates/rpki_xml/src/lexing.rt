@@ -229,7 +229,7 @@ fn characters_until<'a>(
     Ok((Text::Own(Box::new(alloc, value)?), rest))
 }
 
-// The same, in octets of their own.
+// The characters up to `stop`, or to the end where `at_end` says so, in octets of their own.
 fn resolved_until<'a>(
     alloc: Global,
     at_end: bool,
@@ -451,8 +451,9 @@ pub(crate) fn piece_at<'a>(
     }
 }
 
-/// Whether all are octets that a document may have. It looks at each octet, so that several are tested at once.
-pub(crate) fn are_octets(b: &[u8]) -> bool
+/// Whether all are octets that a document may have: the tab, the line feed, the carriage return and the printable ones of ASCII. It looks
+/// at each octet, so that several are tested at once.
+pub fn are_octets(b: &[u8]) -> bool
     ensures { result ≡ list_all is_octet b.now }
 {
     let mut all = true;

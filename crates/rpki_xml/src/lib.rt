@@ -12,8 +12,8 @@
 //!   [`optional_attributes_follow`], [`done_is_spelled`]: about what is written; [`equal_errors_are_the_same`].
 //!
 //! A document is defined as a grammar: specs/Lexing.antt says which octets a piece is, specs/Content.antt which pieces are
-//! an element. No call recurses on the depth of a document, and none takes more steps than a document is long, but for a
-//! factor of its logarithm.
+//! an element. No call recurses on the depth of a document. Time grows as n log n in the length of the document, which the
+//! code shows and no clause says.
 #![tactic(auto)]
 
 mod distinct;
@@ -36,5 +36,7 @@ pub use law::{
     equal_errors_are_the_same, optional_attributes_follow, runs_are_repetitions,
     spelled_attributes_are_read, spelled_is_read, texts_are_trimmed,
 };
+pub use lexing::are_octets;
 pub use lookup::require;
+pub use stack::is_trimmed;
 pub use writer::ElementWriter;

@@ -1,6 +1,6 @@
 //! The open elements, as they lie in the list of nodes. `source` is the document, in which the nodes have their places.
 
-ghost use Rattle.std.specs.Prelude.{◌≡◌, ◌≤◌, OnOk, length, reverse, Some};
+ghost use Rattle.std.specs.Prelude.{◌≡◌, ◌↔◌, ◌≤◌, IsTrue, OnOk, length, reverse, Some};
 ghost use Rattle.std.specs.List.{list_all};
 ghost use Rattle.rpki_xml.specs.Content.{is_white, trimmed, without_white};
 ghost use Rattle.rpki_xml.specs.Answers.{Gives};
@@ -14,7 +14,7 @@ use crate::kept::{Text, name_from, narrow};
 use std::alloc::Global;
 use std::mem;
 
-/// One more run in the innermost open element.
+/// Adds one more run to the innermost open element.
 pub(crate) fn add_run(
     alloc: Global,
     source: &[u8],
@@ -136,7 +136,7 @@ fn with_run(alloc: Global, source: &[u8], rest: Rest, run: Text) -> Result<Rest,
     rest_of(alloc, joined, namespace, attributes)
 }
 
-// The same, of an element with so many elements below it, at its end.
+// What an element has beside its name at its end, with so many elements below it.
 fn with_settled(alloc: Global, source: &[u8], below: u32, rest: Rest) -> Result<Rest, XmlError>
     ensures { Gives (settled_parts below (parts_in source.now rest)) (parts_in source.now) result }
 {
@@ -165,6 +165,14 @@ fn trimmed_of(alloc: Global, source: &[u8], text: &Text) -> Result<Text, XmlErro
     let begun = without_leading(text.octets(source));
     let trimmed = without_trailing(begun);
     text.part(alloc, source, trimmed, begun.len() - trimmed.len())
+}
+
+/// Whether a text has no outer white space, so that an element's text is read as it is.
+#[tactic(auto, unfolding(crate::specs::Content::trimmed))]
+pub fn is_trimmed(text: &[u8]) -> bool
+    ensures { IsTrue result ↔ (trimmed text.now ≡ text.now) }
+{
+    without_trailing(without_leading(text)) == text
 }
 
 /// Whether a text is white space alone.

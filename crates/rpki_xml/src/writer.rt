@@ -95,7 +95,7 @@ impl ElementWriter {
         Ok(())
     }
 
-    /// The same as `attr` where there is a value, and nothing where there is none.
+    /// Writes the attribute as `attr` does where there is a value, and nothing where there is none.
     pub fn attr_opt(&mut self, name: &str, value: Option<&str>) -> Result<(), OutOfMemory>
         ensures ok { let attributes = optional_attribute name.now (option_copied value.entry) in
             OnOk result (self.new ≡ with_attributes attributes self.old) }

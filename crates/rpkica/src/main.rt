@@ -42,7 +42,9 @@ rpkica reads, checks and makes the messages of RPKI certification authorities.
         Reads a setup message and writes it anew, if its certificate is that
         of a trust anchor and all checks of it hold at MOMENT. KIND is
         child_request, parent_response, publisher_request or
-        repository_response.
+        repository_response. The scheme is the toy's, so a certificate of a
+        real key is NOT verified: one that names its own key as its issuer's
+        is refused as InvalidTaCert, and of any other no signature is checked.
         Example: rpkica setup child_request 1700000000 < examples/child-request.xml
 
     rpkica make COUNT SEED
@@ -71,9 +73,9 @@ One line is written to standard output. The exit status is
                       message cannot be read, or a check of it fails
      6  Validation N  check N fails, as below
      7  KeyNotFound, IncompatibleKey, KeyReused, Signer: the signer refuses
-     8  Moment        the 600 seconds round it leave the years 1970 to 9999
-     9  TooLong       more than 67108864 octets of input, or of a message, a key
-                      or a signature more than may be
+     8  Moment        MOMENT - 300 is before 1970, or MOMENT + 300 after 9999
+     9  TooLong       more than 67108864 octets of input; or a message, a key or
+                      a signature that is over its limit
     10  ReadFault     standard input failed
     11                standard output failed
     12  OutOfMemory   memory ran out

@@ -56,8 +56,8 @@ The exit status is
      3  Hex           a line is not hexadecimal; none is answered
      7  KeyNotFound, IncompatibleKey, KeyReused, Signer: the signer refuses
      8  Moment        MOMENT is below 300, or from 253402300500 on
-     9  TooLong       more than 67108864 octets of input, or of a reply, a key
-                      or a signature more than may be
+     9  TooLong       more than 67108864 octets of input; or a reply, a key or
+                      a signature that is over its limit
     10  ReadFault     standard input failed
     11                standard output failed
     12  OutOfMemory   memory ran out; lines may have been answered before

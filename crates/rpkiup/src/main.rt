@@ -61,11 +61,10 @@ The exit status is
      2  Usage         the words are not a moment and a key; nothing is read
      3  Hex           a line isn't hexadecimal; none is answered
      7  KeyNotFound, IncompatibleKey, KeyReused, Signer: the signer refuses
-     8  Moment        300 seconds before MOMENT it isn't 1970 yet, or 300
-                      seconds after it the year 9999 is over; no line is
-                      answered
-     9  TooLong       more than 67108864 octets of input, or of a reply, a key
-                      or a signature more than may be
+     8  Moment        MOMENT is less than 300 seconds behind the start of
+                      1970 or before the end of 9999; no line is answered
+     9  TooLong       more than 67108864 octets of input; or a reply, a key or
+                      a signature that is over its limit
     10  ReadFault     standard input failed
     11                standard output failed
     12  OutOfMemory   memory ran out; lines may have been answered before

@@ -45,7 +45,7 @@ pub fn status_of(
     status
 }
 
-// The same with an RSA key, which it gives for one use too.
+// A signer of seed 1 whose first call makes an RSA key, which it gives for one use too, and the key's identifier.
 fn reusing_signer(alloc: Global) -> io::Result<(ToySigner, u64)> {
     let mut signer = ToySigner::new(alloc, 1, &[]).map_err(out_of_memory)?;
     match Signer::<ToyScheme>::create_key(&mut signer, alloc, PublicKeyFormat::Rsa) {

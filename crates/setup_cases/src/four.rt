@@ -52,7 +52,7 @@ pub fn shown<M: SetupMessage>(alloc: Global, message: &M) -> Result<Fields, Deco
     Ok(fields)
 }
 
-/// The same of the message that the octets are; read of a source that gives a hundred octets a call.
+/// What is shown of the message that the octets are, read of a source that gives a hundred octets a call; or why they are none.
 pub fn written<M: SetupMessage>(alloc: Global, octets: &[u8]) -> Result<Fields, DecodeError> {
     let mut source = MemorySource::new(alloc, octets, 100, &[])?;
     match M::read(alloc, &mut source) {
@@ -95,7 +95,7 @@ pub fn anchor<M: SetupMessage>(
     }
 }
 
-/// The same of a certificate by itself.
+/// The octets of a certificate by itself, accepted as a trust anchor's at the moment; or why it isn't.
 pub fn certificate(alloc: Global, octets: &[u8], argument: &[u8]) -> Result<Fields, DecodeError> {
     let text = Base64::from_content(alloc, octets)?;
     let Some(when) = moment_of(argument) else {

@@ -31,7 +31,7 @@ fn of_message(
     }
 }
 
-// The same of its certificate at a moment.
+// What comes of the trust anchor in the message that a step names, at a moment; None where it names none.
 fn of_anchor(alloc: Global, octets: &[u8], step: &Step<'_>) -> Option<Result<Fields, DecodeError>> {
     let moment = &step.argument;
     match step.call {

@@ -93,7 +93,7 @@ fn is_walked_once<C: Calls, L: Ledger>(
     Ok(true)
 }
 
-// The same with each form, from the beginning of the octets.
+// Whether a line's steps are answered as expected from the beginning of the octets, with each form looked for first.
 fn is_walked<C: Calls, L: Ledger>(
     alloc: Global,
     calls: &C,
@@ -119,7 +119,7 @@ fn subject_of<'a>(alloc: Global, line: &'a str) -> io::Result<(&'a str, Vec<u8>)
     Ok((mode, octets_of(alloc, octets)?))
 }
 
-// The same in each mode that the line names.
+// Whether a line's steps are answered as expected in each mode that the line names.
 fn holds<C: Calls, L: Ledger>(
     alloc: Global,
     calls: &C,
@@ -138,7 +138,7 @@ fn holds<C: Calls, L: Ledger>(
     }
 }
 
-// The same of the octets of a line: at a call that hands text on, no ledger can be picked.
+// Whether the line that these octets are is answered as expected: at a call that hands text on, no ledger can be picked.
 fn holds_within<C: Calls, L: Ledger>(
     alloc: Global,
     calls: &C,

@@ -192,7 +192,7 @@ fn of_content(alloc: Global, call: &str, content: &[u8]) -> io::Result<Answer> {
     }
 }
 
-// The same of the text of that content.
+// What is told of the base64 text that is held.
 fn of_held(alloc: Global, call: &str, held: &Base64) -> io::Result<Answer> {
     match call {
         "base64_of" => given(alloc, held.to_string(alloc)?.as_str().as_bytes()),

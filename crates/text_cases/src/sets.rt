@@ -41,7 +41,7 @@ fn of_sets<N: Numbers>(
     }
 }
 
-// The same of the sets that texts stand for.
+// What is told of the two sets that texts stand for.
 fn of_texts<N: Numbers>(
     alloc: Global,
     call: &str,

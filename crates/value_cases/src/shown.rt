@@ -211,7 +211,7 @@ pub fn key_fields(alloc: Global, key: &PublicKey) -> Result<Fields, DecodeError>
     both_fields(alloc, key, &key.clone(alloc)?)
 }
 
-/// The same of a key that was taken.
+/// The format, the bits, the key identifier, and what a copy writes, of a key that was taken.
 pub fn key_shown(
     alloc: Global,
     taken: Result<PublicKey, DecodeError>,
