@@ -16,7 +16,6 @@ use Rattle.rpki_der.specs.Takes.{BeginsAs}
 use Rattle.rpki_signer.specs.declared.errors.SigningError.TheVariants as signing
 use Rattle.rpki_signer.specs.declared.errors.SigningError.{SigningError}
 use Rattle.rpki_signer.specs.Signer.{Holds, SigningFails}
-use Rattle.rpki_signer.proofs.Keyrings.{one_key}
 use Rattle.rpki_sigmsg.specs.declared.create_error.CreateError.{CreateError}
 use Rattle.rpki_sigmsg.specs.declared.create_error.CreateError.TheVariants as create
 use Rattle.rpki_sigmsg.specs.Checks.{IsBelieved}
@@ -243,7 +242,7 @@ no_pure kind when input signer a can (inr (inr p)) =
 pub no_signed : {I : Type 0} (scheme : Relation) (kind : Kind) (when : ℤ) (signer : SignerSeen I) (message : Received) (r : Refusal) → CanSign signer → IsSigned scheme kind message when signer (Err r) → ⊥
 no_signed scheme kind when signer message refusals.TooLong can s = can.short_answers s
 no_signed scheme kind when signer message refusals.KeyReused can s =
-    can.other s.told (s.only can.issuing can.holds)
+    can.other s.told (s.drawn ∙ ap (λ (k : KeyFields). Some k) (sym (s.only can.issuing can.holds)))
 no_signed scheme kind when signer message refusals.KeyNotFound can s = s can.issuing can.holds
 no_signed scheme kind when signer message refusals.IncompatibleKey can s =
     s.only can.issuing can.holds can.format

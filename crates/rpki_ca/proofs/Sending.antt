@@ -82,7 +82,9 @@ module _ {I : Type 0} (when : ℤ) (id : I) (first between after : SignerState I
         | inl rose ↦ can.short_answers (then_rose first.overlong between.overlong after.overlong keeps.later.overlong rose)
         | inr long ↦ short long
       ]
-  no_cause refusals.KeyReused f = can.other (then_rose first.reused between.reused after.reused keeps.later.reused f.told) (f.only can.issuing (subst (λ (k : List (HeldKey I)). Holds k id can.issuing) (sym keeps.keyring) can.holds))
+  no_cause refusals.KeyReused f =
+      let same = f.only can.issuing (subst (λ (k : List (HeldKey I)). Holds k id can.issuing) (sym keeps.keyring) can.holds) in
+      can.other (then_rose first.reused between.reused after.reused keeps.later.reused f.told) (f.drawn ∙ ap (λ (k : KeyFields). Some k) (sym same))
   no_cause refusals.KeyNotFound f = f can.issuing (subst (λ (k : List (HeldKey I)). Holds k id can.issuing) (sym keeps.keyring) can.holds)
   no_cause refusals.IncompatibleKey f = f.only can.issuing (subst (λ (k : List (HeldKey I)). Holds k id can.issuing) (sym keeps.keyring) can.holds) can.format
   no_cause refusals.Signer f = can.no_fault (then_rose first.faults between.faults after.faults keeps.later.faults f)

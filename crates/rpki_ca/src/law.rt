@@ -1,13 +1,10 @@
 //! What holds of every answer.
 
-ghost use Rattle.std.specs.Prelude.{◌≡◌, ◌↔◌, ◌++◌, ◌≤ℤ◌, ℕ, ℤ, List, Option, Result, Some};
+ghost use Rattle.std.specs.Prelude.{◌≡◌, ◌↔◌, ◌++◌, ℕ, ℤ, List, Option, Result, Some};
 ghost use Rattle.rpki_base.specs.PublicKey.{KeyFields};
-ghost use Rattle.rpki_der.specs.declared.mode.Mode.{Mode};
-ghost use Rattle.rpki_der.specs.Takes.{BeginsAs};
-ghost use Rattle.rpki_signer.specs.Signer.{Holds};
-ghost use Rattle.rpki_sigmsg.specs.Checks.{SameAnswersUnder, AreAmong, IsBelieved, IsInSpan};
-ghost use Rattle.rpki_sigmsg.specs.Making.{IsCreated, window};
-ghost use Rattle.rpki_sigmsg.specs.Message.{MessageFields, signed_message};
+ghost use Rattle.rpki_sigmsg.specs.Checks.{SameAnswersUnder, AreAmong, IsInSpan};
+ghost use Rattle.rpki_sigmsg.specs.Making.{IsCreated};
+ghost use Rattle.rpki_sigmsg.specs.Message.{MessageFields};
 ghost use Rattle.rpki_sigmsg.specs.Spelling.{rewritten, CanBeSpelled};
 ghost use Rattle.rpki_sigmsg.specs.Beginning.{BeginsSigned};
 ghost use Rattle.rpki_ca.specs.declared.command.Command.{Command};
@@ -100,17 +97,11 @@ pub fn accepted_moments_are_one_span<P: Scheme>()
 
 /// What `create` of either protocol creates of a writable message is received as that message: the octets that `to_bytes` gives of
 /// it are accepted as the message's normal form, under every list of keys that holds the issuing key, at each second from 300 before
-/// the moment to 300 after it. Its premises are the clauses `created`, `believed` and `again` of `create` and `spelled` of
-/// `to_bytes`.
+/// the moment to 300 after it. Its premises are the clauses `created` of `create` and `spelled` of `to_bytes`.
 pub fn created_is_received<P: Scheme, S: Signer<P>>()
-    ensures { (message : Received) (now : ℤ) (signer : SignerSeen S.KeyId) (m : MessageFields)
+    ensures { (message : Received) (when : ℤ) (signer : SignerSeen S.KeyId) (m : MessageFields)
         → IsWritable message
-        → IsCreated P.checks (text_of message) now signer.id signer.before signer.after m
-        → ((key : KeyFields) → Holds signer.before.keyring signer.id key
-        → (when : ℤ) → (window now).not_before ≤ℤ when → when ≤ℤ (window now).not_after
-        → IsBelieved P.checks m key when)
-        → ((mode : Mode) (rest : List ℕ) → CanBeSpelled m
-        → BeginsAs (signed_message mode) mode (rewritten m ++ rest) m)
+        → IsCreated P.checks (text_of message) when signer.id signer.before signer.after m
         → CanBeSpelled m
-        → IsReceivable P.checks (protocol_of message) (rewritten m) message now signer }
+        → IsReceivable P.checks (protocol_of message) (rewritten m) message when signer }
 {}

@@ -22,11 +22,11 @@ module _ {I : Type 0} (scheme : Relation) (when : ℤ) (signer : SignerSeen I) (
   -- no line stops it, where the signer can sign and no reply is too long
   stops_for_memory : (messages texts : List (List ℕ)) (r : Refusal) → HasWindow when → CanSign signer → (HasLongLine scheme when signer server messages → ⊥) → StopsReplying scheme when signer server messages texts r → r ≡ refusals.OutOfMemory
   stops_for_memory messages texts r w can short stops = memory_unless r (λ other.
-    let f = stops.fails other in
-    let last = stops.steps.last in
-    let keeps = steps_keep (IsReplied scheme when signer.id) (λ (s : ServerAndSigner I). s.signer) (λ state line text next is. is.keeps) (with_signer server signer.before) (take (length texts) messages) texts last stops.steps.answered in
-    no_cause when signer.id signer.before last.signer signer.after (received.Publication f.fails.reply.message) can w keeps
-    (λ long. short (record { texts = texts; steps = stops.steps; octets = f.octets; stands = f.stands; long = record { reply = f.fails.reply; is = f.fails.is; long = long } })) r f.fails.cause)
+      let f = stops.fails other in
+      let last = stops.steps.last in
+      let keeps = steps_keep (IsReplied scheme when signer.id) (λ (s : ServerAndSigner I). s.signer) (λ state line text next is. is.keeps) (with_signer server signer.before) (take (length texts) messages) texts last stops.steps.answered in
+      no_cause when signer.id signer.before last.signer signer.after (received.Publication f.fails.reply.message) can w keeps
+      (λ long. short (record { texts = texts; steps = stops.steps; octets = f.octets; stands = f.stands; long = record { reply = f.fails.reply; is = f.fails.is; long = long } })) r f.fails.cause)
 
   served_end : (input : List ℕ) (status : ℕ) (sink : Seen) → CanServe scheme when signer server input → ¬ (HasFailed sink) → EndsServed scheme when signer server (lines_of input) status sink → EndsForCause when input status
   served_end input status sink can none (inl a) =

@@ -11,6 +11,7 @@ use Rattle.rpki_ca.specs.declared.receiving.Received.{Received}
 use Rattle.rpki_ca.specs.declared.receiving.Received.TheVariants as received
 use Rattle.rpki_ca.specs.declared.receiving.ReceiveError.{ReceiveError}
 use Rattle.rpki_ca.specs.declared.receiving.ReceiveError.TheVariants as errors
+use Rattle.rpki_ca.proofs.Laws.{one_received}
 use Rattle.rpki_pubserver.specs.Changes.{Refused, after_all, changed, code_of, refused_or}
 use Rattle.rpki_pubserver.specs.Replies.{Reply, reply_to, reply_to_changes}
 use Rattle.rpki_pubserver.specs.Server.{IsReply, ServerFields}
@@ -65,3 +66,7 @@ lie_still scheme server octets when reply is lie = kept_still scheme server octe
 
 pub ascend_still : (scheme : Relation) (server : ServerFields) (octets : List ℕ) (when : ℤ) (reply : Reply) → IsReply scheme server octets when reply → IsStore server.store → IsStore reply.next
 ascend_still scheme server octets when reply is ascend = kept_still scheme server octets when reply IsStore (λ store e none h. changed_ordered store e h) is ascend
+
+pub one_reply : (scheme : Relation) (server : ServerFields) (octets : List ℕ) (when : ℤ) (a b : Reply) → IsReply scheme server octets when a → IsReply scheme server octets when b → a ≡ b
+one_reply scheme server octets when a b p q =
+    p.is ∙ ap (λ (r : Result Received ReceiveError). reply_to server.base server.store r) (one_received scheme kinds.Publication octets (server.publisher ∷ []) when p.result q.result p.received q.received) ∙ sym q.is

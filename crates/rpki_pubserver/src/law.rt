@@ -17,6 +17,12 @@ ghost use Rattle.rpki_pubserver.specs.Store.{IsStore, LieUnder, Store, listed};
 use rpki_base::Scheme;
 use rpki_signer::Signer;
 
+/// A server has one reply to octets at a moment, and one store behind it.
+pub fn one_reply<P: Scheme>()
+    ensures { (server : ServerFields) (octets : List ℕ) (when : ℤ) (a b : Reply) →
+        IsReply P.checks server octets when a → IsReply P.checks server octets when b → a ≡ b }
+{}
+
 /// What isn't accepted under the publisher's key changes no object.
 pub fn others_change_nothing<P: Scheme>()
     ensures { (server : ServerFields) (octets : List ℕ) (when : ℤ) (reply : Reply) →

@@ -21,8 +21,8 @@ mod serving;
 mod signing;
 
 pub use law::{
-    objects_lie_under_the_base, objects_stay_in_order, others_change_nothing, runs_end_for_cause,
-    withdrawn_list_leaves_none, zero_replies_to_all,
+    objects_lie_under_the_base, objects_stay_in_order, one_reply, others_change_nothing,
+    runs_end_for_cause, withdrawn_list_leaves_none, zero_replies_to_all,
 };
 pub use server::Server;
 pub use serving::serve;

@@ -26,11 +26,11 @@ module _ {I : Type 0} (scheme : Relation) (run : Run I) where
   -- no line stops it, where the signer can sign and no reply is too long
   stops_for_memory : (start : ParentAndIssuer) (messages texts : List (List ℕ)) (r : Refusal) → HasWindow run.when → CanSign run.signer → (HasLongLine scheme run start messages → ⊥) → StopsAnswering scheme run.when run.signer start run.issuer_after messages texts r → r ≡ refusals.OutOfMemory
   stops_for_memory start messages texts r w can short stops = memory_unless r (λ other.
-    let f = stops.fails other in
-    let last = stops.steps.last in
-    let keeps = steps_keep (IsLineAnswered scheme run.when run.signer.id) (λ (s : Service I). s.signer) line_keeps (with_signer start run.signer.before) (take (length texts) messages) texts last stops.steps.answered in
-    no_cause run.when run.signer.id run.signer.before last.signer run.signer.after (received.Provisioning (reply last.parties.parent f.fails.payload)) can w keeps
-    (λ long. short (record { texts = texts; steps = stops.steps; octets = f.octets; stands = f.stands; parent = f.parent; payload = f.fails.payload; decided = f.fails.decided; long = long })) r f.fails.cause)
+      let f = stops.fails other in
+      let last = stops.steps.last in
+      let keeps = steps_keep (IsLineAnswered scheme run.when run.signer.id) (λ (s : Service I). s.signer) line_keeps (with_signer start run.signer.before) (take (length texts) messages) texts last stops.steps.answered in
+      no_cause run.when run.signer.id run.signer.before last.signer run.signer.after (received.Provisioning (reply last.parties.parent f.fails.payload)) can w keeps
+      (λ long. short (record { texts = texts; steps = stops.steps; octets = f.octets; stands = f.stands; parent = f.parent; payload = f.fails.payload; decided = f.fails.decided; long = long })) r f.fails.cause)
 
   served_end : (input : List ℕ) (status : ℕ) (sink : Seen) → CanServe scheme run input → ¬ (HasFailed sink) → EndsServed scheme run (lines_of input) status sink → EndsForCause run input status
   served_end input status sink can none (inl a) =
