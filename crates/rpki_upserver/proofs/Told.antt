@@ -8,7 +8,7 @@ use Rattle.rpki_base.specs.Scheme.{Relation}
 use Rattle.rpki_updown.specs.Entitlements.{IssuedFields}
 use Rattle.rpki_provisioning.specs.declared.payload.Payload.{Payload}
 use Rattle.rpki_provisioning.specs.declared.payload.Payload.TheVariants as payloads
-use Rattle.rpki_upserver.specs.History.{AreMade, AreNew, Call, Tells, standing, standing_behind, table_behind}
+use Rattle.rpki_upserver.specs.History.{AreAllOnce, AreMade, AreNew, AreOnce, Call, Tells, standing, standing_behind, table_behind}
 use Rattle.rpki_upserver.specs.Issuer.{IssuerState}
 use Rattle.rpki_upserver.specs.Response.{Outcome, published}
 use Rattle.rpki_upserver.specs.Table.{ClassState, ParentState, Table, change, class_named, has_key, is_named, key_of, put, with_issued, with_revoked, with_table, without}
@@ -61,10 +61,6 @@ taken true b y z none h k = h refl
 taken false b y z none h k = rw (k refl) refl
 
 -- ---- certificates by their keys, of each at most one
-
-abbrev pub AreOnce : List IssuedFields → Type 0
-AreOnce [] = Unit {0}
-AreOnce (c ∷ certs) = (list_any (has_key (key_of c)) certs ≡ false) × AreOnce certs
 
 none_found : (k : List ℕ) (certs : List IssuedFields) → list_any (has_key k) certs ≡ false → find (has_key k) certs ≡ None
 none_found k [] h = refl
@@ -136,9 +132,6 @@ once_without (held ∷ more) key once = one (has_key key held) (once_without mor
     one false rest = (none_without more key (key_of held) once.0, rest)
 
 -- ---- classes by their names
-
-abbrev pub AreAllOnce : Table → Type 0
-AreAllOnce table = AllByRecursion (λ c. AreOnce c.issued_certs) table
 
 once_changed : (name : List ℕ) (f : ClassState → ClassState) (table : Table) → ((c : ClassState) → AreOnce c.issued_certs → AreOnce (f c).issued_certs) → AreAllOnce table → AreAllOnce (change name f table)
 once_changed name f [] keeps once = tt
@@ -284,3 +277,11 @@ new_tells table new = λ name key c named. ap (λ (certs : List IssuedFields). f
 
 pub told_so : (scheme : Relation) (p : ParentState) (issuer : IssuerState) (calls : List Call) → AreNew p.table → AreMade scheme p issuer calls → Tells (table_behind p.table calls) (λ name key. standing name key calls None)
 told_so scheme p issuer calls new are = told_all scheme p issuer calls (λ name key. None) are (new_once p.table new) (new_tells p.table new)
+
+once_all : (scheme : Relation) (p : ParentState) (issuer : IssuerState) (calls : List Call) → AreMade scheme p issuer calls → AreAllOnce p.table → AreAllOnce (table_behind p.table calls)
+once_all scheme p issuer [] are once = once
+once_all scheme p issuer (call ∷ calls) are once =
+    once_all scheme (with_table call.outcome.next p) call.outcome.after calls are.1.1 (once_more p.table call.outcome (came scheme p call.message call.outcome are.1.0) once)
+
+pub once_so : (scheme : Relation) (p : ParentState) (issuer : IssuerState) (calls : List Call) → AreNew p.table → AreMade scheme p issuer calls → AreAllOnce (table_behind p.table calls)
+once_so scheme p issuer calls new are = once_all scheme p issuer calls are (new_once p.table new)

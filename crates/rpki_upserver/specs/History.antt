@@ -1,6 +1,6 @@
 -- Many messages to a parent, one behind the other.
-use Rattle.std.specs.Prelude.{◌≡◌, ◌&&◌, ⊤, ℕ, Bool, bytes_eq, if◌then◌else◌, Option, None, Some, List, [], ◌∷◌, ◌++◌, find}
-use Rattle.std.specs.List.{AllByRecursion}
+use Rattle.std.specs.Prelude.{◌≡◌, ◌&&◌, ⊤, ℕ, Bool, false, bytes_eq, if◌then◌else◌, Option, None, Some, List, [], ◌∷◌, ◌++◌, find}
+use Rattle.std.specs.List.{AllByRecursion, list_any}
 use Rattle.rpki_base.specs.Scheme.{Relation}
 use Rattle.rpki_sets.specs.Resources.{Resources}
 use Rattle.rpki_sets.specs.Runs.{Includes}
@@ -11,7 +11,7 @@ use Rattle.rpki_provisioning.specs.declared.payload.Payload.{Payload}
 use Rattle.rpki_provisioning.specs.declared.payload.Payload.TheVariants as payloads
 use Rattle.rpki_upserver.specs.Issuer.{IssuerState, Made}
 use Rattle.rpki_upserver.specs.Response.{IsResponse, Outcome}
-use Rattle.rpki_upserver.specs.Table.{ClassState, ParentState, Table, class_named, has_key, with_table}
+use Rattle.rpki_upserver.specs.Table.{ClassState, ParentState, Table, class_named, has_key, key_of, with_table}
 
 -- a message, and what came of it
 pub record Call : Type 0 where
@@ -82,3 +82,12 @@ standing name key (call ∷ calls) before =
 abbrev pub Tells : Table → (List ℕ → List ℕ → Option IssuedFields) → Type 0
 Tells table stands = (name key : List ℕ) (c : ClassState) → class_named name table ≡ Some c
     → find (has_key key) c.issued_certs ≡ stands name key
+
+-- no two of the certificates have one key
+abbrev pub AreOnce : List IssuedFields → Type 0
+AreOnce [] = ⊤
+AreOnce (issued ∷ more) = (list_any (has_key (key_of issued)) more ≡ false) × AreOnce more
+
+-- each class holds at most one certificate of a key
+abbrev pub AreAllOnce : Table → Type 0
+AreAllOnce table = AllByRecursion (λ c. AreOnce c.issued_certs) table

@@ -7,7 +7,7 @@ ghost use Rattle.rpki_provisioning.specs.Shape.{MessageFields};
 ghost use Rattle.rpki_provisioning.specs.declared.payload.Payload.TheVariants as payloads;
 ghost use Rattle.rpki_ca.specs.Seen.{HasFailed, Seen};
 ghost use Rattle.rpki_upserver.specs.Ends.{AnswersAll, CanServe, EndsForCause};
-ghost use Rattle.rpki_upserver.specs.History.{Adds, AreMade, AreNew, Call, IsEntitled, Tells, standing, table_behind};
+ghost use Rattle.rpki_upserver.specs.History.{Adds, AreAllOnce, AreMade, AreNew, Call, IsEntitled, Tells, standing, table_behind};
 ghost use Rattle.rpki_upserver.specs.Issuer.{IssuerState, Made};
 ghost use Rattle.rpki_upserver.specs.Response.{IsFromChild, IsResponse, Outcome, refusal};
 ghost use Rattle.rpki_upserver.specs.Running.{EndsServing, Run};
@@ -37,6 +37,13 @@ pub fn what_is_told_was_issued_and_not_revoked<P: Scheme>()
     ensures { (parent : ParentState) (issuer : IssuerState) (calls : List Call) →
         AreNew parent.table → AreMade P.checks parent issuer calls →
         Tells (table_behind parent.table calls) (λ name key. standing name key calls None) }
+{}
+
+/// A class in which nothing was issued at first holds at most one certificate of a key.
+pub fn a_class_holds_one_certificate_a_key<P: Scheme>()
+    ensures { (parent : ParentState) (issuer : IssuerState) (calls : List Call) →
+        AreNew parent.table → AreMade P.checks parent issuer calls →
+        AreAllOnce (table_behind parent.table calls) }
 {}
 
 /// The error 2001 comes only where the parties are others, or where the issuer's count of faults rose.

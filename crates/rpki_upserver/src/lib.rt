@@ -31,8 +31,8 @@ mod writable;
 pub use class::Class;
 pub use issuer::{Issuer, IssuerError};
 pub use law::{
-    internal_errors_have_causes, no_certificate_is_beyond_its_class,
-    revoked_keys_are_not_certified_again, runs_end_for_cause,
+    a_class_holds_one_certificate_a_key, internal_errors_have_causes,
+    no_certificate_is_beyond_its_class, revoked_keys_are_not_certified_again, runs_end_for_cause,
     what_is_told_was_issued_and_not_revoked, zero_answers_all,
 };
 pub use parent::{AnswerError, Parent};
