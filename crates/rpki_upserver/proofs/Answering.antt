@@ -27,13 +27,13 @@ use Rattle.rpki_ca.proofs.Sending.{not_memory, signing_cause}
 use Rattle.rpki_ca.proofs.Serving.{stopped_at}
 use Rattle.rpki_ca.proofs.Stepping.{all_steps, first_steps}
 use Rattle.rpki_upserver.specs.Answering.{IsAnswered, IsUnsent, ParentAndIssuer, RefusesOctets, error_of, reply}
-use Rattle.rpki_upserver.specs.Serving.{AreAllAnswered, AreFirstAnswered, FailsLine, IsLeft, IsLineAnswered, Service, StopsAnswering, with_signer}
+use Rattle.rpki_upserver.specs.Serving.{AreAllAnswered, AreFirstAnswered, FailsLine, IsLeft, IsLineAnswered, Service, StopsAnswering, service_of}
 
 -- ---- one line
 
 -- what is signed is written in hexadecimal
 pub replied_so : {I : Type 0} (scheme : Relation) (when : ℤ) (signer : SignerSeen I) (before : ParentAndIssuer) (octets : List ℕ) (c : CmsFields) (after : ParentAndIssuer) → IsAnswered scheme octets when before after signer c → CanBeSpelled c.signed
-    → Keeps signer.before signer.after → IsLineAnswered scheme when signer.id (with_signer before signer.before) octets (encode_lower (rewritten c.signed)) (with_signer after signer.after)
+    → Keeps signer.before signer.after → IsLineAnswered scheme when signer.id (service_of before signer.before) octets (encode_lower (rewritten c.signed)) (service_of after signer.after)
 replied_so scheme when signer before octets c after answered spelled keeps = inl (record {
   payload = answered.payload;
   decided = answered.decided;
@@ -64,7 +64,7 @@ not_told receipt.OutOfMemory other = absurd (other refl)
 
 -- a refusal is written as `receive` writes it
 pub turned_so : {I : Type 0} (scheme : Relation) (when : ℤ) (id : I) (before : ParentAndIssuer) (signer next : SignerState I) (octets : List ℕ) (e : Error) (after : ParentAndIssuer) → RefusesOctets scheme octets before.parent.child_key when e → after ≡ before → next ≡ signer
-    → IsLineAnswered scheme when id (with_signer before signer) octets (name_of (refusal_of (of_provisioning e))) (with_signer after next)
+    → IsLineAnswered scheme when id (service_of before signer) octets (name_of (refusal_of (of_provisioning e))) (service_of after next)
 turned_so {I = I} scheme when id before signer next octets e after r behind idle =
     let same : refusal_of r.reason ≡ refusal_of (of_provisioning e) = ap refusal_of (sym (ap of_provisioning r.is ∙ same_reason r.reason)) in
     inr (record {
@@ -72,7 +72,7 @@ turned_so {I = I} scheme when id before signer next octets e after r behind idle
       answer = subst (λ (x : Refusal). IsReceiveAnswer scheme kinds.Provisioning octets (before.parent.child_key ∷ []) when (Err x)) same
           (refusal scheme kinds.Provisioning octets (before.parent.child_key ∷ []) when r.reason r.refuses (not_told r.reason r.given));
       written = refl;
-      behind = ap (λ (p : ParentAndIssuer). with_signer p next) behind ∙ ap (λ (s : SignerState I). with_signer before s) idle;
+      behind = ap (λ (p : ParentAndIssuer). service_of p next) behind ∙ ap (λ (s : SignerState I). service_of before s) idle;
     })
 
 -- a reply isn't signed
@@ -92,18 +92,18 @@ cant_send scheme when signer before octets after e u other =
 
 module _ {I : Type 0} (scheme : Relation) (when : ℤ) (id : I) (first : SignerState I) (start : ParentAndIssuer) (messages : List (List ℕ)) (i : ℕ) (texts : List (List ℕ)) (last : Service I) where
   abbrev AreSoFar : Type 0
-  AreSoFar = AreSteps (IsLineAnswered scheme when id) (with_signer start first) (take i messages) texts last
+  AreSoFar = AreSteps (IsLineAnswered scheme when id) (service_of start first) (take i messages) texts last
 
   pub all_answered : length messages ≤ i → AreSoFar → AreAllAnswered scheme when (seen_signer id first last.signer) start last.parties.issuer messages texts []
   all_answered le are = record {
-    steps = record { last = last; answered = all_steps (IsLineAnswered scheme when id) (with_signer start first) messages i texts last le are; written = refl };
+    steps = record { last = last; answered = all_steps (IsLineAnswered scheme when id) (service_of start first) messages i texts last le are; written = refl };
     issuer_is = refl;
     signer_is = refl;
   }
 
   pub first_answered : i ≤ length messages → AreSoFar → AreFirstAnswered scheme when (seen_signer id first last.signer) start last.parties.issuer messages texts
   first_answered le are = record {
-    steps = record { last = last; answered = first_steps (IsLineAnswered scheme when id) (with_signer start first) messages i texts last le are };
+    steps = record { last = last; answered = first_steps (IsLineAnswered scheme when id) (service_of start first) messages i texts last le are };
     issuer_is = refl;
     signer_is = refl;
   }
@@ -112,7 +112,7 @@ module _ {I : Type 0} (scheme : Relation) (when : ℤ) (id : I) (first : SignerS
   pub stops_answering : (octets : List ℕ) (next : ParentAndIssuer) (after : SignerState I) (r : Refusal) → i < length messages → octets ≡ get_or messages i octets → AreSoFar → Keeps last.signer after → IsLeft scheme when last.parties octets next
       → (r ≢ refusals.OutOfMemory → FailsLine scheme when (seen_signer id last.signer after) last.parties octets next r) → StopsAnswering scheme when (seen_signer id first after) start next.issuer messages texts r
   stops_answering octets next after r lt at are keeps left fails =
-      let behind = stopped_at (IsLineAnswered scheme when id) (with_signer start first) messages i texts last octets lt at are in
+      let behind = stopped_at (IsLineAnswered scheme when id) (service_of start first) messages i texts last octets lt at are in
       record {
         steps = record { last = last; answered = behind.0 };
         keeps = keeps;

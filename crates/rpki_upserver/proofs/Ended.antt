@@ -16,7 +16,7 @@ use Rattle.rpki_ca.proofs.Ended.{lines_end, on_input_or_12, with_refusal}
 use Rattle.rpki_upserver.specs.Answering.{ParentAndIssuer, reply, with_issuer}
 use Rattle.rpki_upserver.specs.Ends.{CanServe, EndsForCause, HasLongLine}
 use Rattle.rpki_upserver.specs.Running.{EndsServed, EndsServing, Run}
-use Rattle.rpki_upserver.specs.Serving.{AreAllAnswered, AreFirstAnswered, IsLineAnswered, Service, StopsAnswering, with_signer}
+use Rattle.rpki_upserver.specs.Serving.{AreAllAnswered, AreFirstAnswered, IsLineAnswered, Service, StopsAnswering, service_of}
 
 module _ {I : Type 0} (scheme : Relation) (run : Run I) where
   line_keeps : (before : Service I) (octets text : List ℕ) (after : Service I) → IsLineAnswered scheme run.when run.signer.id before octets text after → Keeps before.signer after.signer
@@ -28,7 +28,7 @@ module _ {I : Type 0} (scheme : Relation) (run : Run I) where
   stops_for_memory start messages texts r w can short stops = memory_unless r (λ other.
       let f = stops.fails other in
       let last = stops.steps.last in
-      let keeps = steps_keep (IsLineAnswered scheme run.when run.signer.id) (λ (s : Service I). s.signer) line_keeps (with_signer start run.signer.before) (take (length texts) messages) texts last stops.steps.answered in
+      let keeps = steps_keep (IsLineAnswered scheme run.when run.signer.id) (λ (s : Service I). s.signer) line_keeps (service_of start run.signer.before) (take (length texts) messages) texts last stops.steps.answered in
       no_cause run.when run.signer.id run.signer.before last.signer run.signer.after (received.Provisioning (reply last.parties.parent f.fails.payload)) can w keeps
       (λ long. short (record { texts = texts; steps = stops.steps; octets = f.octets; stands = f.stands; parent = f.parent; payload = f.fails.payload; decided = f.fails.decided; long = long })) r f.fails.cause)
 

@@ -11,7 +11,7 @@ use Rattle.rpki_ca.specs.Sent.{AreNotSent, AreSent}
 use Rattle.rpki_ca.specs.Steps.{AreFirstSteps}
 use Rattle.rpki_upserver.specs.Answering.{IsDecided, ParentAndIssuer, reply, with_issuer}
 use Rattle.rpki_upserver.specs.Running.{IsFirstParent, Run}
-use Rattle.rpki_upserver.specs.Serving.{AreAllAnswered, IsLineAnswered, with_signer}
+use Rattle.rpki_upserver.specs.Serving.{AreAllAnswered, IsLineAnswered, service_of}
 use Rattle.rpki_upserver.specs.Table.{ParentState}
 
 -- All lines of the input are those of octets, and the answers to all of them were written, from the
@@ -31,7 +31,7 @@ pub record HasLongLine {Id : Type 0} (scheme : Relation) (run : Run Id) (start :
     (messages : List (List ℕ)) : Type 0 where
   pub texts : List (List ℕ)
   pub steps : AreFirstSteps (IsLineAnswered scheme run.when run.signer.id)
-      (with_signer start run.signer.before) messages texts
+      (service_of start run.signer.before) messages texts
   pub octets : List ℕ
   pub stands : slice_get messages (length texts) ≡ Some octets
   pub parent : ParentState

@@ -25,8 +25,8 @@ pub record Service (Id : Type 0) : Type 0 where
   pub parties : ParentAndIssuer
   pub signer : SignerState Id
 
-abbrev pub with_signer : {Id : Type 0} → ParentAndIssuer → SignerState Id → Service Id
-with_signer parties signer = record { parties = parties; signer = signer }
+abbrev pub service_of : {Id : Type 0} → ParentAndIssuer → SignerState Id → Service Id
+service_of parties signer = record { parties = parties; signer = signer }
 
 -- ---- one line
 
@@ -70,7 +70,7 @@ pub record AreAllAnswered {Id : Type 0} (scheme : Relation) (when : ℤ) (signer
     (start : ParentAndIssuer) (issuer : IssuerState) (messages texts : List (List ℕ))
     (closing : List ℕ) : Type 0 where
   pub steps : AreAllSteps (IsLineAnswered scheme when signer.id) (λ last. [])
-      (with_signer start signer.before) messages texts closing
+      (service_of start signer.before) messages texts closing
   pub issuer_is : issuer ≡ steps.last.parties.issuer
   pub signer_is : signer.after ≡ steps.last.signer
 
@@ -79,7 +79,7 @@ pub record AreFirstAnswered {Id : Type 0} (scheme : Relation) (when : ℤ) (sign
     (start : ParentAndIssuer) (issuer : IssuerState) (messages texts : List (List ℕ)) : Type 0
   where
     pub steps : AreFirstSteps (IsLineAnswered scheme when signer.id)
-        (with_signer start signer.before) messages texts
+        (service_of start signer.before) messages texts
     pub issuer_is : issuer ≡ steps.last.parties.issuer
     pub signer_is : signer.after ≡ steps.last.signer
 
@@ -129,7 +129,7 @@ pub record StopsAnswering {Id : Type 0} (scheme : Relation) (when : ℤ) (signer
     (start : ParentAndIssuer) (issuer : IssuerState) (messages texts : List (List ℕ))
     (refusal : Refusal) : Type 0 where
   pub steps : AreFirstSteps (IsLineAnswered scheme when signer.id)
-      (with_signer start signer.before) messages texts
+      (service_of start signer.before) messages texts
   pub keeps : Keeps steps.last.signer signer.after
   pub left : IsLeftAt scheme when steps.last.parties messages (length texts) issuer
   pub fails : refusal ≢ refusals.OutOfMemory → FailsLineAt scheme when

@@ -15,7 +15,7 @@ ghost use Rattle.rpki_ca.specs.Seen.{seen, seen_signer};
 ghost use Rattle.rpki_ca.specs.declared.refusals.Refusal.TheVariants as refusals;
 ghost use Rattle.rpki_upserver.specs.Answering.{with_issuer};
 ghost use Rattle.rpki_upserver.specs.Running.{AreNoWords, AreWords, EndsServed, EndsServing, run_of};
-ghost use Rattle.rpki_upserver.specs.Serving.{AreAllAnswered, AreFirstAnswered, FailsLine, IsLeft, IsLineAnswered, StopsAnswering, with_signer};
+ghost use Rattle.rpki_upserver.specs.Serving.{AreAllAnswered, AreFirstAnswered, FailsLine, IsLeft, IsLineAnswered, StopsAnswering, service_of};
 
 use crate::issuer::Issuer;
 use crate::parent::{AnswerError, Parent};
@@ -66,8 +66,8 @@ fn answer_line<P: Scheme, V: Verifier<P>, N: Issuer, S: Signer<P>>(
     key: &S::KeyId,
 ) -> Result<Vec<u8>, Refusal>
     ensures ok { IfOk result (λ line. (text : List ℕ) × IsLineAnswered P.checks when key.now
-        (with_signer (with_issuer parent.old (N.state issuer.old)) (S.state signer.old)) octets.now
-        text (with_signer (with_issuer parent.new (N.state issuer.new)) (S.state signer.new))
+        (service_of (with_issuer parent.old (N.state issuer.old)) (S.state signer.old)) octets.now
+        text (service_of (with_issuer parent.new (N.state issuer.new)) (S.state signer.new))
         × (line.items ≡ text ++ 10 ∷ [])) }
     ensures err { IfErr result (λ e. e ≢ refusals.OutOfMemory → FailsLine P.checks when
         (seen_signer key.now (S.state signer.old) (S.state signer.new))

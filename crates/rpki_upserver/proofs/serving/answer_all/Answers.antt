@@ -8,7 +8,7 @@ use Rattle.rpki_ca.specs.declared.lines.Stop.TheVariants.{Refused, WriteFault}
 use Rattle.rpki_ca.proofs.Outputs.{one_more_written, part_of_more}
 use Rattle.rpki_ca.proofs.Stepping.{one_more_so, stopped_so}
 use Rattle.rpki_upserver.specs.Answering.{with_issuer}
-use Rattle.rpki_upserver.specs.Serving.{AreAllAnswered, AreFirstAnswered, FailsLine, IsLeft, IsLineAnswered, StopsAnswering, with_signer}
+use Rattle.rpki_upserver.specs.Serving.{AreAllAnswered, AreFirstAnswered, FailsLine, IsLeft, IsLineAnswered, StopsAnswering, service_of}
 use Rattle.rpki_upserver.proofs.Answering.{all_answered, first_answered, stops_answering}
 use Rattle.rpki_upserver.proofs.serving.answer_all.Goals as goal
 
@@ -27,7 +27,7 @@ returns-in_err-line-clause-answered g c =
     let before = g.S.Signer.state c.loop-octets.signer in
     let after = g.S.Signer.state c.answer_line.new.signer in
     let start = with_issuer c.args.parent.now (g.N.Issuer.state c.args.issuer.now) in
-    let last = with_signer (with_issuer c.loop-octets.parent (g.N.Issuer.state c.loop-octets.issuer)) before in
+    let last = service_of (with_issuer c.loop-octets.parent (g.N.Issuer.state c.loop-octets.issuer)) before in
     let parties = with_issuer c.answer_line.new.parent (g.N.Issuer.state c.answer_line.new.issuer) in
     let step = IsLineAnswered g.P.Scheme.checks c.args.when c.args.key.now in
     let all = length-map c.args.messages.now (λ m. m.items) in
@@ -56,7 +56,7 @@ returns-in_err-write_all-clause-answered g c =
     let before = g.S.Signer.state c.loop-octets.signer in
     let after = g.S.Signer.state c.answer_line.new.signer in
     let start = with_issuer c.args.parent.now (g.N.Issuer.state c.args.issuer.now) in
-    let last = with_signer (with_issuer c.loop-octets.parent (g.N.Issuer.state c.loop-octets.issuer)) before in
+    let last = service_of (with_issuer c.loop-octets.parent (g.N.Issuer.state c.loop-octets.issuer)) before in
     let parties = with_issuer c.answer_line.new.parent (g.N.Issuer.state c.answer_line.new.issuer) in
     let step = IsLineAnswered g.P.Scheme.checks c.args.when c.args.key.now in
     let all = length-map c.args.messages.now (λ m. m.items) in
@@ -66,9 +66,9 @@ returns-in_err-write_all-clause-answered g c =
     let at : octets ≡ get_or ms i octets = ap (λ m. m.items) c.octets-item.is ∙ sym (get_or-map (λ m. m.items) c.args.messages.now i c.octets-item.result octets test) in
     let so_far = c.loop-octets.invariant.texts in
     let said = c.in_ok-line.ensures.ok in
-    let next = with_signer parties after in
+    let next = service_of parties after in
     let replied = subst (λ (o : List ℕ). step last o said.0 next) c.deref.ensures.value said.1 in
-    let more = one_more_so step (with_signer start first) ms i so_far.0 last next octets said.0 lt at so_far.1 replied in
+    let more = one_more_so step (service_of start first) ms i so_far.0 last next octets said.0 lt at so_far.1 replied in
     let signer = seen_signer c.args.key.now first after in
     let part = part_of_more g.O.Sink.written g.O.Sink.faults c.args.output.now c.loop-octets.output c.write_all.new.sink so_far.0 said.0 c.deref-in-loop-octets.result.now (c.deref-in-loop-octets.ensures.value ∙ said.2) so_far.2 c.loop-octets.invariant.steady
     c.in_err-write_all.ensures.err c.in_err-write_all.ensures.cause.failed in
@@ -90,7 +90,7 @@ loop-octets-preserved g c =
     let before = g.S.Signer.state c.loop-octets.signer in
     let after = g.S.Signer.state c.answer_line.new.signer in
     let start = with_issuer c.args.parent.now (g.N.Issuer.state c.args.issuer.now) in
-    let last = with_signer (with_issuer c.loop-octets.parent (g.N.Issuer.state c.loop-octets.issuer)) before in
+    let last = service_of (with_issuer c.loop-octets.parent (g.N.Issuer.state c.loop-octets.issuer)) before in
     let parties = with_issuer c.answer_line.new.parent (g.N.Issuer.state c.answer_line.new.issuer) in
     let step = IsLineAnswered g.P.Scheme.checks c.args.when c.args.key.now in
     let all = length-map c.args.messages.now (λ m. m.items) in
@@ -100,9 +100,9 @@ loop-octets-preserved g c =
     let at : octets ≡ get_or ms i octets = ap (λ m. m.items) c.octets-item.is ∙ sym (get_or-map (λ m. m.items) c.args.messages.now i c.octets-item.result octets test) in
     let so_far = c.loop-octets.invariant.texts in
     let said = c.in_ok-line.ensures.ok in
-    let next = with_signer parties after in
+    let next = service_of parties after in
     let replied = subst (λ (o : List ℕ). step last o said.0 next) c.deref.ensures.value said.1 in
-    let more = one_more_so step (with_signer start first) ms i so_far.0 last next octets said.0 lt at so_far.1 replied in
+    let more = one_more_so step (service_of start first) ms i so_far.0 last next octets said.0 lt at so_far.1 replied in
     let written = one_more_written g.O.Sink.written g.O.Sink.faults c.args.output.now c.loop-octets.output c.write_all.new.sink so_far.0 said.0 c.deref-in-loop-octets.result.now (c.deref-in-loop-octets.ensures.value ∙ said.2) so_far.2 c.loop-octets.invariant.steady
     c.in_ok-write_all.ensures.ok c.in_ok-write_all.ensures.kept in
     record { steady = written.1; keeps = keeps_then first before after c.loop-octets.invariant.keeps c.answer_line.ensures.keeps; texts = (so_far.0 ++ said.0 ∷ [], more, written.0) }
@@ -111,7 +111,7 @@ pub returns-clause-answered : goal.returns-clause-answered
 returns-clause-answered g c =
     let ms : List (List ℕ) = map (λ m. m.items) c.args.messages.now in
     let start = with_issuer c.args.parent.now (g.N.Issuer.state c.args.issuer.now) in
-    let last = with_signer (with_issuer c.loop-octets.parent (g.N.Issuer.state c.loop-octets.issuer)) (g.S.Signer.state c.loop-octets.signer) in
+    let last = service_of (with_issuer c.loop-octets.parent (g.N.Issuer.state c.loop-octets.issuer)) (g.S.Signer.state c.loop-octets.signer) in
     let all = length-map c.args.messages.now (λ m. m.items) in
     let test = c.loop-octets-test.false in
     let so_far = c.loop-octets.invariant.texts in
