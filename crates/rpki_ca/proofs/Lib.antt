@@ -21,3 +21,4 @@ pub mod SentLines
 pub mod Serving
 pub mod Unasked
 pub mod Digits
+pub mod Lined

@@ -1,7 +1,7 @@
 -- Lines: an input cut into them, a line cut into words, and what a program writes that answers line
 -- by line.
-use Rattle.std.specs.Prelude.{◌≡◌, ◌==◌, ◌<◌, ◌≤◌, ◌^◌, ◌⊎◌, ℕ, Bool, true, false, Option, List, [], ◌∷◌, ◌++◌, Result, Ok, Err, length}
-use Rattle.std.specs.List.{slice_split, flat_map}
+use Rattle.std.specs.Prelude.{◌≡◌, ◌≢◌, ◌==◌, ◌<◌, ◌≤◌, ◌^◌, ◌⊎◌, ℕ, Bool, true, false, Option, List, [], ◌∷◌, ◌++◌, Result, Ok, Err, length}
+use Rattle.std.specs.List.{AllByRecursion, slice_split, flat_map}
 use Rattle.std.specs.Io.{StartsWith}
 use Rattle.std.specs.Io.KnownBytes.{Appends, IsAtEnd}
 use Rattle.rpki_text.specs.Sink.{AppendsPart}
@@ -40,6 +40,12 @@ words_of line = pieces_of 32 line
 -- the answers, each on a line of its own
 abbrev pub answer_lines : List (List ℕ) → List ℕ
 answer_lines answers = flat_map (λ answer. answer ++ 10 ∷ []) answers
+
+-- The input is these lines, of which none holds a line feed, each with one behind it; behind the last
+-- one it may be missing.
+pub record AreLines (input : List ℕ) (lines : List (List ℕ)) : Type 0 where
+  pub are : (answer_lines lines ≡ input) ⊎ (answer_lines lines ≡ input ++ 10 ∷ [])
+  pub whole : AllByRecursion (λ line. AllByRecursion (λ octet. octet ≢ 10) line) lines
 
 -- an answer to a question as a digit, 1 for yes
 abbrev pub digit_of : Bool → ℕ

@@ -16,6 +16,7 @@ ghost use Rattle.rpki_ca.specs.Answer.{AnswersSpelled, IsAnswer};
 ghost use Rattle.rpki_ca.specs.Acceptance.{Accepted, IsReceived, IsReceivedUnder, IsWritable, protocol_of, text_of};
 ghost use Rattle.rpki_ca.specs.Creation.{IsReceivable};
 ghost use Rattle.rpki_ca.specs.Hexadecimal.{IsSpelling, hexadecimal};
+ghost use Rattle.rpki_ca.specs.Lines.{AreLines, lines_of};
 ghost use Rattle.rpki_ca.specs.Seen.{SignerSeen};
 
 use rpki_base::Scheme;
@@ -74,6 +75,11 @@ pub fn rewritten_is_received_alike<P: Scheme>()
 pub fn hexadecimal_is_digits()
     ensures { (input octets : List ℕ) →
         hexadecimal input ≡ Some octets ↔ IsSpelling input octets }
+{}
+
+/// The lines of an input, in their order, are the input.
+pub fn an_input_is_its_lines()
+    ensures { (input : List ℕ) → AreLines input (lines_of input) }
 {}
 
 /// What is accepted under a list of keys is accepted under each list that holds these keys, in any
