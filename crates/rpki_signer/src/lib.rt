@@ -16,9 +16,7 @@ mod toy;
 mod toy_signer;
 
 pub use any::{AnyScheme, AnyVerifier};
-pub use errors::{
-    CallError, KeyError, MakeError, SigningError, equal_errors_are_the_same,
-};
+pub use errors::{CallError, KeyError, MakeError, SigningError, equal_errors_are_the_same};
 pub use limits::{is_within_limit, key_within_limit, sign_once_within_limit, sign_within_limit};
 pub use long_signer::LongSigner;
 pub use serials::random_serial;
