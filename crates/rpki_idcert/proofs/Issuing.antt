@@ -57,6 +57,7 @@ anchor_made scheme id validity a b c key t cert d k m s =
       fields = s.tbs ∙ (m.is ∙ ap (λ own. made_fields own key key (serial_of 1) validity) (own_is_true m.own key m.decides));
       issued = issued_by scheme t id key b c cert d holds s;
       keeps = stays_keeps a c stays;
+      no_fault = s.signed.is.no_fault ∙ k.is.no_fault;
       drawn = stays.drawn;
     }
 
@@ -71,6 +72,7 @@ issued_to scheme key serial id validity b c e issuing t cert d k m s =
       fields = subst (λ f. IsMadeFor issuing key serial validity f) (sym s.tbs) m;
       issued = issued_by scheme t id issuing c e cert d holds s;
       stays = stays_then b c e k.is.stays s.signed.is.stays;
+      no_fault = s.signed.is.no_fault ∙ k.is.no_fault;
     }
 
 pub end_entity_made : {I : Type 0} (scheme : Relation) (key : KeyFields) (id : I) (validity : ValidityFields) (a b e : SignerState I) (serial : List ℕ) (cert : CertificateFields)
@@ -86,16 +88,17 @@ end_entity_made scheme key id validity a b e serial cert n m =
       fields = subst (λ o. IsMadeFor m.issuing key o validity cert.tbs) drawn' m.fields;
       issued = m.issued;
       keeps = keeps_then a b e first (stays_keeps b e m.stays);
+      no_fault = m.no_fault ∙ n.drawn.no_fault;
       drawn = m.stays.drawn ∙ n.drawn.drawn;
     }
 
 -- ---- results
 
 pub anchor_result : {I E : Type 0} (scheme : Relation) (id : I) (validity : ValidityFields) (a b c : SignerState I) (key : KeyFields) (t : TbsFields) (r : Result CertificateFields (MakeError E)) → AreDistinct b.keyring → IsShortKey id a b key
-    → IsMadeFor key key (serial_of 1) validity t → MatchResult r (IsSignedAs scheme t id b c) (RefusesSignature id b c) → MatchResult r (IsAnchorMade scheme id validity a c) (λ e. Stays a c × MakeFails RsaSha256 id a c e)
+    → IsMadeFor key key (serial_of 1) validity t → MatchResult r (IsSignedAs scheme t id b c) (RefusesSignature scheme id b c) → MatchResult r (IsAnchorMade scheme id validity a c) (λ e. Stays a c × MakeFails RsaSha256 id a c e)
 anchor_result scheme id validity a b c key t (Ok cert) d k m s = anchor_made scheme id validity a b c key t cert d k m s
 anchor_result scheme id validity a b c key t (Err e) d k m s =
-    let f = signature_refused id b c e s in
+    let f = signature_refused scheme id b c e s in
     (stays_then a b c k.is.stays f.0, fails_before RsaSha256 id a b c e (stays_keeps a b k.is.stays) f.1)
 
 -- the first call drew a serial number
@@ -106,11 +109,11 @@ pub refused_behind : {I E : Type 0} (id : I) (a b c : SignerState I) (serial : L
 refused_behind id a b c serial e n f = (keeps_then a b c (drew a b serial n) (stays_keeps b c f.0), f.0.drawn ∙ n.drawn.drawn, fails_before RsaSha256 id a b c e (drew a b serial n) f.1)
 
 pub issued_result : {I E : Type 0} (scheme : Relation) (key : KeyFields) (serial : List ℕ) (id : I) (validity : ValidityFields) (b c e : SignerState I) (issuing : KeyFields) (t : TbsFields) (r : Result CertificateFields (MakeError E)) → AreDistinct c.keyring
-    → IsShortKey id b c issuing → IsMadeFor issuing key serial validity t → MatchResult r (IsSignedAs scheme t id c e) (RefusesSignature id c e)
+    → IsShortKey id b c issuing → IsMadeFor issuing key serial validity t → MatchResult r (IsSignedAs scheme t id c e) (RefusesSignature scheme id c e)
     → MatchResult r (IsIssuedTo scheme key serial id validity b e) (λ x. Stays b e × MakeFails RsaSha256 id b e x)
 issued_result scheme key serial id validity b c e issuing t (Ok cert) d k m s = issued_to scheme key serial id validity b c e issuing t cert d k m s
 issued_result scheme key serial id validity b c e issuing t (Err x) d k m s =
-    let f = signature_refused id c e x s in
+    let f = signature_refused scheme id c e x s in
     (stays_then b c e k.is.stays f.0, fails_before RsaSha256 id b c e x (stays_keeps b c k.is.stays) f.1)
 
 pub end_entity_result : {I E : Type 0} (scheme : Relation) (key : KeyFields) (id : I) (validity : ValidityFields) (a b e : SignerState I) (serial : List ℕ) (r : Result CertificateFields (MakeError E))
@@ -121,17 +124,17 @@ end_entity_result scheme key id validity a b e serial (Err x) n m = refused_behi
 
 -- ---- which refusal was the first
 
-pub draw_refused : {T I E : Type 0} (id : I) (a b : SignerState I) (e : CallError E) → Stays a b × CallFails a b e → (IsErrOf {T = T} (Err e) call.OutOfMemory → ⊥) → StopsAtEndEntity id a b (make_error_of (signing_error_of e))
-draw_refused id a b (call.Signer e) f other = inl (record { stays = f.0; fault = e; is = refl; told = f.1 })
-draw_refused id a b call.OutOfMemory f other = absurd (other refl)
+pub draw_refused : {T I E : Type 0} (scheme : Relation) (id : I) (a b : SignerState I) (e : CallError E) → Stays a b × CallFails a b e → (IsErrOf {T = T} (Err e) call.OutOfMemory → ⊥) → StopsAtEndEntity scheme id a b (make_error_of (signing_error_of e))
+draw_refused scheme id a b (call.Signer e) f other = inl (record { stays = f.0; fault = e; is = refl; told = f.1 })
+draw_refused scheme id a b call.OutOfMemory f other = absurd (other refl)
 
-pub behind_draw : {I E : Type 0} (id : I) (a b c : SignerState I) (serial : List ℕ) (r : Result CertificateFields (MakeError E)) → IsSerialDrawn a b serial → IfErr r (StopsInTurn id b c) → IfErr r (StopsAtEndEntity id a c)
-behind_draw id a b c serial (Ok x) n s = tt
-behind_draw id a b c serial (Err e) n s = inr (record { between = b; serial = serial; drawn = n; stops = s })
+pub behind_draw : {I E : Type 0} (scheme : Relation) (id : I) (a b c : SignerState I) (serial : List ℕ) (r : Result CertificateFields (MakeError E)) → IsSerialDrawn a b serial → IfErr r (StopsInTurn scheme id b c) → IfErr r (StopsAtEndEntity scheme id a c)
+behind_draw scheme id a b c serial (Ok x) n s = tt
+behind_draw scheme id a b c serial (Err e) n s = inr (record { between = b; serial = serial; drawn = n; stops = s })
 
-pub end_entity_fails : {I E : Type 0} (id : I) (a b : SignerState I) (e : MakeError E) → StopsAtEndEntity id a b e → MakeFails RsaSha256 id a b e
-end_entity_fails {E = E} id a b e (inl r) = subst (λ (x : MakeError E). MakeFails RsaSha256 id a b x) (sym r.is) (call_fails RsaSha256 id a b (call.Signer r.fault) r.told)
-end_entity_fails id a b e (inr s) = fails_before RsaSha256 id a s.between b e (drew a s.between s.serial s.drawn) (in_turn_fails id s.between b e s.stops)
+pub end_entity_fails : {I E : Type 0} (scheme : Relation) (id : I) (a b : SignerState I) (e : MakeError E) → StopsAtEndEntity scheme id a b e → MakeFails RsaSha256 id a b e
+end_entity_fails {E = E} scheme id a b e (inl r) = subst (λ (x : MakeError E). MakeFails RsaSha256 id a b x) (sym r.is) (call_fails RsaSha256 id a b (call.Signer r.fault) r.told)
+end_entity_fails scheme id a b e (inr s) = fails_before RsaSha256 id a s.between b e (drew a s.between s.serial s.drawn) (in_turn_fails scheme id s.between b e s.stops)
 
 -- ---- a trust anchor is believed at each second of its validity
 

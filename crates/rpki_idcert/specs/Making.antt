@@ -90,6 +90,7 @@ pub record IsAnchorMade {Id : Type 0} (scheme : Relation) (id : Id) (validity : 
   pub fields : c.tbs ≡ made_fields true key key (serial_of 1) validity
   pub issued : IsIssued scheme key c
   pub keeps : Keeps before after
+  pub no_fault : after.faults ≡ before.faults
   pub drawn : after.drawn ≡ before.drawn
 
 -- A certificate with this serial number for the key, under the signer's key.
@@ -102,6 +103,7 @@ pub record IsIssuedTo {Id : Type 0} (scheme : Relation) (key : KeyFields) (seria
   pub fields : IsMadeFor issuing key serial validity c.tbs
   pub issued : IsIssued scheme issuing c
   pub stays : Stays before after
+  pub no_fault : after.faults ≡ before.faults
 
 -- A certificate for the key, whose serial number the signer drew.
 pub record IsEndEntityMade {Id : Type 0} (scheme : Relation) (key : KeyFields) (id : Id)
@@ -114,6 +116,7 @@ pub record IsEndEntityMade {Id : Type 0} (scheme : Relation) (key : KeyFields) (
     pub fields : IsMadeFor issuing key (without_first_bit after.random) validity c.tbs
     pub issued : IsIssued scheme issuing c
     pub keeps : Keeps before after
+    pub no_fault : after.faults ≡ before.faults
     pub drawn : after.drawn ≡ before.drawn
 
 -- ---- which refusal was the first
@@ -127,18 +130,18 @@ pub record RefusesDraw {Id E : Type 0} (before after : SignerState Id) (error : 
   pub told : Rose before.faults after.faults
 
 -- the serial number was drawn, and then the issuing key or the signature wasn't given
-pub record StopsBehindDraw {Id E : Type 0} (id : Id) (before after : SignerState Id)
-    (error : MakeError E) : Type 0 where
+pub record StopsBehindDraw {Id E : Type 0} (scheme : Relation) (id : Id)
+    (before after : SignerState Id) (error : MakeError E) : Type 0 where
   pub between : SignerState Id
   pub serial : List ℕ
   pub drawn : IsSerialDrawn before between serial
-  pub stops : StopsInTurn id between after error
+  pub stops : StopsInTurn scheme id between after error
 
 -- an end entity's certificate stops at the draw, at the issuing key or at the signature
-abbrev pub StopsAtEndEntity : {Id E : Type 0} → Id → SignerState Id → SignerState Id → MakeError E
-    → Type 0
-StopsAtEndEntity id before after error =
-    RefusesDraw before after error ⊎ StopsBehindDraw id before after error
+abbrev pub StopsAtEndEntity : {Id E : Type 0} → Relation → Id → SignerState Id → SignerState Id
+    → MakeError E → Type 0
+StopsAtEndEntity scheme id before after error =
+    RefusesDraw before after error ⊎ StopsBehindDraw scheme id before after error
 
 -- ---- what is written is read
 

@@ -18,7 +18,7 @@ mod validation;
 
 pub use id_cert::{IdCert, signed_octets_determine_the_fields};
 pub use json::read_certificates_are_read_again;
-pub use law::written_fields_are_read;
+pub use law::{made_fields_are_readable, written_fields_are_read};
 pub use making::UnsignedIdCert;
 pub use rpki_base::{ValidationError, ValidationKind, first_false_decides, names_issuer, require};
 pub use spelling::{write_authority_key, write_extension};

@@ -102,7 +102,8 @@ fn issue<P: Scheme, S: Signer<P>>(
     ensures signed { MatchResult result
         (IsSignedAs P.checks tbs issuing_key_id.now
         (S.state signer.old) (S.state signer.new))
-        (RefusesSignature issuing_key_id.now (S.state signer.old) (S.state signer.new)) }
+        (RefusesSignature P.checks issuing_key_id.now
+        (S.state signer.old) (S.state signer.new)) }
     ensures distinct { IsOk result → AreDistinct (S.state signer.new).keyring }
 {
     let unsigned = UnsignedIdCert::new(alloc, tbs)?;
@@ -124,7 +125,7 @@ fn issue_to<P: Scheme, S: Signer<P>>(
         (S.state signer.old) (S.state signer.new))
         (λ e. Stays (S.state signer.old) (S.state signer.new)
         × MakeFails RsaSha256 issuing_key_id.now (S.state signer.old) (S.state signer.new) e) }
-    ensures first_refusal { IfErr result (StopsInTurn issuing_key_id.now
+    ensures first_refusal { IfErr result (StopsInTurn P.checks issuing_key_id.now
         (S.state signer.old) (S.state signer.new)) }
 {
     let issuing_key = key_within_limit(alloc, issuing_key_id, signer)?;
@@ -153,7 +154,7 @@ impl IdCert {
 
         // The signer gives the key and then signs, and its first refusal decides: where the signature is
         // refused, the key has at most 2^16 octets.
-        ensures first_refusal { IfErr result (StopsInTurn issuing_key_id.now
+        ensures first_refusal { IfErr result (StopsInTurn P.checks issuing_key_id.now
             (S.state signer.old) (S.state signer.new)) }
 
         // The certificate is believed at each second of its validity.
@@ -191,7 +192,7 @@ impl IdCert {
             × MakeFails RsaSha256 issuing_key_id.now (S.state signer.old) (S.state signer.new) e) }
 
         // The signer draws, gives the issuing key and then signs, and its first refusal decides.
-        ensures first_refusal { IfErr result (StopsAtEndEntity issuing_key_id.now
+        ensures first_refusal { IfErr result (StopsAtEndEntity P.checks issuing_key_id.now
             (S.state signer.old) (S.state signer.new)) }
 
         // What is written of the certificate is read again, in both modes.

@@ -205,6 +205,10 @@ impl IdCert {
         ensures first_failing { (q : Bool) →
             Decides q (IsSigned P.checks self.now self.now.tbs.key) →
             result ≡ failing spec.ta_kind (first_failure 1 (spec.ta_checks self.now when q)) }
+
+        // Where the certificate doesn't name itself as its issuer, no signature is asked.
+        ensures unasked { spec.names_itself self.now.tbs ≡ false →
+            result ≡ failing spec.ta_kind (first_failure 1 (spec.ta_checks self.now when true)) }
     {
         match self.ta_failure(verifier, when) {
             Ok(()) => Ok(()),

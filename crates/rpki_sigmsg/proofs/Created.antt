@@ -12,7 +12,7 @@ use Rattle.rpki_signer.specs.Limits.{default_algorithm, IsShortKey, IsShortOneOf
 use Rattle.rpki_signer.specs.Serials.{without_first_bit}
 use Rattle.rpki_signer.specs.Signer.{SignerState, Holds, AreDistinct, Stays}
 use Rattle.rpki_signer.proofs.Keyrings.{one_key}
-use Rattle.rpki_signer.proofs.States.{rose_then, stays_keeps, keeps_then, fails_before, key_refused, one_off_refused, signature_refused}
+use Rattle.rpki_signer.proofs.States.{rose_then, stays_keeps, keeps_then, fails_before, key_refused, one_off_refused, signature_refused, spared_same}
 use Rattle.rpki_idcert.specs.IdCert.{CertificateFields}
 use Rattle.rpki_idcert.specs.Making.{made_fields, IsMadeFor, IsIssued, IsEndEntityMade, StopsAtEndEntity}
 use Rattle.rpki_idcert.proofs.Issuing.{end_entity_fails}
@@ -48,24 +48,25 @@ certified scheme issuing key now id a b c crl cert d e h s m =
       fields = subst (λ (i : KeyFields). IsMadeFor i key (without_first_bit c.random) (window now) cert.tbs) same m.fields;
       issued = subst (λ (i : KeyFields). IsIssued scheme i cert) same m.issued;
       keeps = keeps_then a b c (stays_keeps a b s.signed.is.stays) m.keeps;
+      no_fault = m.no_fault ∙ s.signed.is.no_fault;
       drawn = m.drawn ∙ s.signed.is.stays.drawn;
       short = s.signed.short;
     }
 
-pub uncertified : {I E : Type 0} (scheme : Relation) (issuing : KeyFields) (now : ℤ) (id : I) (a b c : SignerState I) (crl : CrlFields) (e : MakeError E) → IsCrlSigned scheme issuing now id a b crl → Keeps b c × (c.drawn ≡ b.drawn) × MakeFails RsaSha256 id b c e → StopsAtEndEntity id b c e
+pub uncertified : {I E : Type 0} (scheme : Relation) (issuing : KeyFields) (now : ℤ) (id : I) (a b c : SignerState I) (crl : CrlFields) (e : MakeError E) → IsCrlSigned scheme issuing now id a b crl → Keeps b c × (c.drawn ≡ b.drawn) × MakeFails RsaSha256 id b c e → StopsAtEndEntity scheme id b c e
     → Keeps a c × (c.drawn ≡ a.drawn) × StopsCertifying scheme issuing now id a c e
 uncertified scheme issuing now id a b c crl e s f t =
     let k = stays_keeps a b s.signed.is.stays in
     (keeps_then a b c k f.0, f.1 ∙ s.signed.is.stays.drawn, inr (record { between = b; crl = crl; crl_signed = s; stops = t }))
 
-pub without_crl : {I E : Type 0} (scheme : Relation) (issuing : KeyFields) (now : ℤ) (id : I) (a b : SignerState I) (e : MakeError E) → RefusesSignature id a b e → Keeps a b × (b.drawn ≡ a.drawn) × StopsCertifying scheme issuing now id a b e
+pub without_crl : {I E : Type 0} (scheme : Relation) (issuing : KeyFields) (now : ℤ) (id : I) (a b : SignerState I) (e : MakeError E) → RefusesSignature scheme id a b e → Keeps a b × (b.drawn ≡ a.drawn) × StopsCertifying scheme issuing now id a b e
 without_crl scheme issuing now id a b e f =
-    let s = signature_refused id a b e f in
+    let s = signature_refused scheme id a b e f in
     (stays_keeps a b s.0, s.0.drawn, inl f)
 
 certifying_fails : {I E : Type 0} (scheme : Relation) (issuing : KeyFields) (now : ℤ) (id : I) (a b : SignerState I) (e : MakeError E) → StopsCertifying scheme issuing now id a b e → MakeFails RsaSha256 id a b e
-certifying_fails scheme issuing now id a b e (inl f) = (signature_refused id a b e f).1
-certifying_fails scheme issuing now id a b e (inr s) = fails_before RsaSha256 id a s.between b e (stays_keeps a s.between s.crl_signed.signed.is.stays) (end_entity_fails id s.between b e s.stops)
+certifying_fails scheme issuing now id a b e (inl f) = (signature_refused scheme id a b e f).1
+certifying_fails scheme issuing now id a b e (inr s) = fails_before RsaSha256 id a s.between b e (stays_keeps a s.between s.crl_signed.signed.is.stays) (end_entity_fails scheme id s.between b e s.stops)
 
 -- ---- keys
 
@@ -92,6 +93,14 @@ keys_keep scheme message id a b octets key issuing k = keeps_then a k.between b 
 pub holds_before : {I : Type 0} (scheme : Relation) (message : List ℕ) (id : I) (a b : SignerState I) (octets : List ℕ) (key issuing : KeyFields) → HasKeys scheme message id a b octets key issuing → Holds a.keyring id issuing
 holds_before scheme message id a b octets key issuing k = subst (λ r. Holds r id issuing) k.once.is.keyring k.then_key.is.holds
 
+-- no two keys had one identifier before, so the issuing key is the only one under its own
+pub distinct_before : {I : Type 0} (scheme : Relation) (message : List ℕ) (id : I) (a b : SignerState I) (octets : List ℕ) (key issuing : KeyFields) → HasKeys scheme message id a b octets key issuing → AreDistinct b.keyring → AreDistinct a.keyring
+distinct_before scheme message id a b octets key issuing k d = subst AreDistinct (keys_keep scheme message id a b octets key issuing k).keyring d
+
+only_key : {I : Type 0} (scheme : Relation) (message : List ℕ) (id : I) (a b : SignerState I) (octets : List ℕ) (key issuing : KeyFields) → HasKeys scheme message id a b octets key issuing → AreDistinct b.keyring → (other : KeyFields) → Holds a.keyring id other → other ≡ issuing
+only_key scheme message id a b octets key issuing k d other h =
+    one_key a.keyring id other issuing (distinct_before scheme message id a b octets key issuing k d) h (holds_before scheme message id a b octets key issuing k)
+
 pub holds_then : {I : Type 0} (scheme : Relation) (message : List ℕ) (id : I) (a b : SignerState I) (octets : List ℕ) (key issuing : KeyFields) → HasKeys scheme message id a b octets key issuing → Holds b.keyring id issuing
 holds_then scheme message id a b octets key issuing k = subst (λ r. Holds r id issuing) (sym k.then_key.is.stays.keyring) k.then_key.is.holds
 
@@ -105,12 +114,13 @@ create_fails content now id a b make.OutOfMemory w h f = tt
 pub no_keys : {I E : Type 0} (scheme : Relation) (message content : List ℕ) (now : ℤ) (id : I) (a b : SignerState I) (e : MakeError E) → HasWindow now → length content ≤ 2147483648 → Keeps a b × StopsAtKeys scheme message id a b e → CreateFails content now id a b (create_error_of e)
 no_keys scheme message content now id a b e w h f = create_fails content now id a b e w h (keys_fail scheme message id a b e f.1)
 
-pub reused : {I : Type 0} (scheme : Relation) (message : List ℕ) (id : I) (a b : SignerState I) (octets : List ℕ) (key issuing : KeyFields) → key ≡ issuing → HasKeys scheme message id a b octets key issuing → IsReused id a b
-reused scheme message id a b octets key issuing e k =
+pub reused : {I : Type 0} (scheme : Relation) (message : List ℕ) (id : I) (a b : SignerState I) (octets : List ℕ) (key issuing : KeyFields) → key ≡ issuing → HasKeys scheme message id a b octets key issuing → AreDistinct b.keyring → IsReused id a b
+reused scheme message id a b octets key issuing e k d =
     let h = holds_before scheme message id a b octets key issuing k in
     record {
       issuing = issuing;
       holds = h;
+      only = only_key scheme message id a b octets key issuing k d;
       drawn = k.then_key.is.stays.drawn ∙ (k.once.is.drawn ∙ ap (λ (x : KeyFields). Some x) e);
       told = rose_then a.reused k.between.reused b.reused (k.once.is.fresh id (subst (λ (x : KeyFields). Holds a.keyring id x) (sym e) h)) k.then_key.is.stays.later.reused;
     }
@@ -124,7 +134,7 @@ uncreated scheme message content now id a b c octets key issuing e w h k f = cre
 first_refusal : {I E : Type 0} (scheme : Relation) (content : List ℕ) (now : ℤ) (id : I) (a b : SignerState I) (e : MakeError E) → StopsCreating scheme content now id a b e → IsFirstRefusal scheme content now id a b (create_error_of e)
 first_refusal scheme content now id a b make.TooLong s = inr s
 first_refusal scheme content now id a b (make.Signing e) s = s
-first_refusal scheme content now id a b make.OutOfMemory s = tt
+first_refusal scheme content now id a b make.OutOfMemory s = inl s
 
 pub first_keys : {I E : Type 0} (scheme : Relation) (message content : List ℕ) (now : ℤ) (id : I) (a b : SignerState I) (e : MakeError E) → message ≡ made_covered content now → Keeps a b × StopsAtKeys scheme message id a b e → IsFirstRefusal scheme content now id a b (create_error_of e)
 first_keys scheme message content now id a b e m f = first_refusal scheme content now id a b e (inl (subst (λ t. StopsAtKeys scheme t id a b e) m f.1))
@@ -141,6 +151,20 @@ pub first_behind : {I E : Type 0} (scheme : Relation) (message content : List �
 first_behind scheme message content now id a b c octets key issuing e m n k f =
     first_refusal scheme content now id a c e (inr (record { between = b; octets = octets; key = key; issuing = issuing; keys = subst (λ t. HasKeys scheme t id a b octets key issuing) m k; other = n; stops = f.2 }))
 
+-- memory ran out before the signer was asked, or behind its last call
+pub first_memory : {I E : Type 0} (scheme : Relation) (content : List ℕ) (now : ℤ) (id : I) (a : SignerState I) → IsFirstRefusal {E = E} scheme content now id a a create.OutOfMemory
+first_memory scheme content now id a = inl (inl (inl (spared_same a)))
+
+pub last_memory : {I E : Type 0} (scheme : Relation) (message content : List ℕ) (now : ℤ) (id : I) (a b c : SignerState I) (octets : List ℕ) (key issuing : KeyFields) (crl : CrlFields) (cert : CertificateFields) → message ≡ made_covered content now → key ≢ issuing → HasKeys scheme message id a b octets key issuing
+    → IsCertified scheme issuing key now b c crl cert → IsFirstRefusal {E = E} scheme content now id a c create.OutOfMemory
+last_memory scheme message content now id a b c octets key issuing crl cert m n k t =
+    inr (record { between = b; octets = octets; key = key; issuing = issuing; keys = subst (λ t. HasKeys scheme t id a b octets key issuing) m k; other = n; crl = crl; certificate = cert; certified = t })
+
+-- ---- no fault
+
+pub created_kept : {I : Type 0} (scheme : Relation) (message : List ℕ) (now : ℤ) (id : I) (a b c : SignerState I) (octets : List ℕ) (key issuing : KeyFields) (crl : CrlFields) (cert : CertificateFields) → HasKeys scheme message id a b octets key issuing → IsCertified scheme issuing key now b c crl cert → c.faults ≡ a.faults
+created_kept scheme message now id a b c octets key issuing crl cert k t = t.no_fault ∙ (k.then_key.is.no_fault ∙ k.once.is.no_fault)
+
 -- ---- the message
 
 own_is_false : (own : Bool) (key issuing : KeyFields) → Decides own (key ≡ issuing) → key ≢ issuing → own ≡ false
@@ -148,11 +172,12 @@ own_is_false true key issuing d n = absurd (n (d.0 refl))
 own_is_false false key issuing d n = refl
 
 pub created : {I : Type 0} (scheme : Relation) (content : List ℕ) (now : ℤ) (id : I) (a b c : SignerState I) (signature : SignatureParts RpkiAlgorithm) (key issuing : KeyFields) (crl : CrlFields) (cert : CertificateFields) (m : MessageFields) → HasWindow now → signature.algorithm ≡ default_algorithm
-    → HasKeys scheme (made_covered content now) id a b signature.value key issuing → key ≢ issuing → IsCertified scheme issuing key now b c crl cert → m ≡ assembled (record { content = content; moment = now }) signature cert crl → IsCreated scheme content now id a c m
-created scheme content now id a b c signature key issuing crl cert m w g k n t e = record {
+    → HasKeys scheme (made_covered content now) id a b signature.value key issuing → key ≢ issuing → AreDistinct b.keyring → IsCertified scheme issuing key now b c crl cert → m ≡ assembled (record { content = content; moment = now }) signature cert crl → IsCreated scheme content now id a c m
+created scheme content now id a b c signature key issuing crl cert m w g k n d t e = record {
   window_is = w;
   issuing = issuing;
   holds = holds_before scheme (made_covered content now) id a b signature.value key issuing k;
+  only = only_key scheme (made_covered content now) id a b signature.value key issuing k d;
   key = key;
   drawn = t.drawn ∙ (k.then_key.is.stays.drawn ∙ k.once.is.drawn);
   other = n;

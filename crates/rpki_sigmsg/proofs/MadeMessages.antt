@@ -1,6 +1,7 @@
 -- Messages that are made hold what is written of them, and are believed in their window.
 use Rattle.std.proofs.Common.{◌≡◌, ℕ, ◌+◌, ◌*◌, ◌≤◌, ◌<◌, ℤ, ◌≤ℤ◌, Bool, true, false, Option, Some, Result, Ok, Err, List, [], ◌∷◌, ◌++◌, length, refl, sym, ap, subst, ◌∙◌, arith, length-append}
 use Rattle.std.specs.Prelude.{if◌then◌else◌, nat_lt, ◌==◌, T, int_le, unsigned_abs, bytes_eq, not, unwrap_or}
+use Rattle.std.proofs.lemmas.Int.{ints}
 use Rattle.std.proofs.lemmas.List.Elements.{All-from_recursion}
 use Rattle.sha1.specs.Sha1.{sha1}
 use Rattle.sha2.specs.Sha256.{sha256}
@@ -43,12 +44,12 @@ use Rattle.rpki_idcert.proofs.ReadAgain.{is_integer, is_context_0, Pieces, and_p
 use Rattle.rpki_idcert.proofs.Sizes.{primitive_size, constructed_size, content_within, time_size}
 use Rattle.rpki_sigmsg.specs.Attributes.{AttributeFields, type_in, digest_in, time_in, attributes}
 use Rattle.rpki_sigmsg.specs.CrlExtensions.{issuer_key, authority_in, number_in, known_extensions, extension_list}
-use Rattle.rpki_sigmsg.specs.Making.{window, spelled_attribute, made_attributes, made_covered, made_crl}
+use Rattle.rpki_sigmsg.specs.Making.{window, HasWindow, spelled_attribute, made_attributes, made_covered, made_crl}
 use Rattle.rpki_sigmsg.specs.ObjectIdentifiers.{content_type, message_digest, signing_time, xml_content}
 use Rattle.rpki_sigmsg.specs.RevokedCertificates.{revoked_certificates, none_revoked}
 use Rattle.rpki_sigmsg.specs.Spelling as spec
 use Rattle.rpki_sigmsg.specs.TbsCrl.{TbsCrlFields, tbs_crl}
-use Rattle.std.specs.Prelude.{◌&&◌, MatchResult, IfOk, IsOk}
+use Rattle.std.specs.Prelude.{◌&&◌, MatchResult, IfOk}
 use Rattle.rpki_der.specs.Takes.{BeginsAs}
 use Rattle.rpki_base.specs.declared.algorithm.SigningAlgorithm.TheVariants.{RsaSha256}
 use Rattle.rpki_base.specs.declared.rpki_algorithm.RsaIdentifier.TheVariants.{RsaEncryption}
@@ -56,8 +57,7 @@ use Rattle.rpki_base.specs.Bits.{spelled_bits}
 use Rattle.rpki_base.specs.PublicKey.{names_issuer}
 use Rattle.rpki_base.specs.SignedData.{CanBeSpelled as DataCanBeSpelled}
 use Rattle.rpki_signer.specs.Serials.{without_first_bit}
-use Rattle.rpki_signer.specs.Signer.{SignerState, Holds, AreDistinct}
-use Rattle.rpki_signer.proofs.Keyrings.{one_key}
+use Rattle.rpki_signer.specs.Signer.{SignerState, Holds}
 use Rattle.rpki_idcert.specs.Checks.{has_own_identifier, is_true, is_within}
 use Rattle.rpki_idcert.specs.Spelling.{spelled_fields}
 use Rattle.rpki_idcert.specs.TbsIdCert.{TbsFields, tbs_certificate}
@@ -288,6 +288,13 @@ pub record AreMoments (now : ℤ) : Type 0 where
   pub first : IsMoment (window now).not_before
   pub last : IsMoment (window now).not_after
 
+pub window_moments : (now : ℤ) → HasWindow now → AreMoments now
+window_moments now w = record {
+  now' = omega (arith, ints, w.first, w.last);
+  first = omega (arith, ints, w.first, w.last);
+  last = omega (arith, ints, w.first, w.last);
+}
+
 assembled_held : (mode : Mode) (scheme : Relation) (content : List ℕ) (now : ℤ) (issuing key : KeyFields) (serial' : List ℕ) (m : MessageFields) (d : IsMessageMade scheme content now issuing key serial' m) → AreMoments now → length serial' ≡ 20
     → spec.CanBeSpelled (assembled (record { content = content; moment = now }) d.signature d.certificate d.crl) → IsHeld mode (assembled (record { content = content; moment = now }) d.signature d.certificate d.crl)
 unfolding made_covered
@@ -366,16 +373,22 @@ first_bit : (octets : List ℕ) → length octets ≡ 20 → length (without_fir
 first_bit [] e = e
 first_bit (a ∷ more) e = e
 
-believed_result : {I E : Type 0} (scheme : Relation) (content : List ℕ) (now : ℤ) (id : I) (a b : SignerState I) (r : Result MessageFields E) (f : E → Type 0) → (IsOk r → AreDistinct a.keyring) → MatchResult r (IsCreated scheme content now id a b) f
-    → IfOk r (λ m. (key : KeyFields) → Holds a.keyring id key → (when : ℤ) → (window now).not_before ≤ℤ when → when ≤ℤ (window now).not_after → IsBelieved scheme m key when)
-believed_result scheme content now id a b (Ok m) f d c = λ key h when p q. subst (λ (k : KeyFields). IsBelieved scheme m k when) (one_key a.keyring id c.issuing key (d refl) c.holds h) (made_believed scheme content now c.issuing c.key (without_first_bit b.random) m c.made when p q)
-believed_result scheme content now id a b (Err e) f d c = tt
+-- what is created is believed under the issuing key at each second of its window
+pub created_believed : {I : Type 0} (scheme : Relation) (content : List ℕ) (now : ℤ) (id : I) (a b : SignerState I) (m : MessageFields) → IsCreated scheme content now id a b m
+    → (key : KeyFields) → Holds a.keyring id key → (when : ℤ) → (window now).not_before ≤ℤ when → when ≤ℤ (window now).not_after → IsBelieved scheme m key when
+created_believed scheme content now id a b m c key h when p q = subst (λ (k : KeyFields). IsBelieved scheme m k when) (sym (c.only key h)) (made_believed scheme content now c.issuing c.key (without_first_bit b.random) m c.made when p q)
 
-pub believed_within : {I E : Type 0} (scheme : Relation) (content : List ℕ) (w now : ℤ) (id : I) (a b : SignerState I) (r : Result MessageFields E) (f : E → Type 0) → w ≡ now → (IsOk r → AreDistinct a.keyring) → MatchResult r (IsCreated scheme content w id a b) f
-    → IfOk r (λ m. (key : KeyFields) → Holds a.keyring id key → (when : ℤ) → (window now).not_before ≤ℤ when → when ≤ℤ (window now).not_after → IsBelieved scheme m key when)
-believed_within scheme content w now id a b r f e d c = subst (λ (n : ℤ). IfOk r (λ m. (key : KeyFields) → Holds a.keyring id key → (when : ℤ) → (window n).not_before ≤ℤ when → when ≤ℤ (window n).not_after → IsBelieved scheme m key when)) e (believed_result scheme content w id a b r f d c)
+-- and what is written of it is read again
+pub created_again : {I : Type 0} (scheme : Relation) (content : List ℕ) (now : ℤ) (id : I) (a b : SignerState I) (m : MessageFields) → IsCreated scheme content now id a b m
+    → (mode : Mode) (rest : List ℕ) → spec.CanBeSpelled m → BeginsAs (signed_message mode) mode (spec.rewritten m ++ rest) m
+created_again scheme content now id a b m c mode rest k = begins_again mode m rest (made_held mode scheme content now c.issuing c.key (without_first_bit b.random) m c.made (window_moments now c.window_is) (first_bit b.random c.twenty) k) k
 
-pub again_result : {I E : Type 0} (scheme : Relation) (content : List ℕ) (now : ℤ) (id : I) (a b : SignerState I) (r : Result MessageFields E) (f : E → Type 0) → AreMoments now → MatchResult r (IsCreated scheme content now id a b) f
+pub believed_within : {I E : Type 0} (scheme : Relation) (content : List ℕ) (w now : ℤ) (id : I) (a b : SignerState I) (r : Result MessageFields E) (f : E → Type 0) → w ≡ now → MatchResult r (IsCreated scheme content w id a b) f
+    → IfOk r (λ m. (key : KeyFields) → Holds a.keyring id key → (when : ℤ) → (window now).not_before ≤ℤ when → when ≤ℤ (window now).not_after → IsBelieved scheme m key when)
+believed_within scheme content w now id a b (Ok m) f e c = subst (λ (n : ℤ). (key : KeyFields) → Holds a.keyring id key → (when : ℤ) → (window n).not_before ≤ℤ when → when ≤ℤ (window n).not_after → IsBelieved scheme m key when) e (created_believed scheme content w id a b m c)
+believed_within scheme content w now id a b (Err x) f e c = tt
+
+pub again_result : {I E : Type 0} (scheme : Relation) (content : List ℕ) (now : ℤ) (id : I) (a b : SignerState I) (r : Result MessageFields E) (f : E → Type 0) → MatchResult r (IsCreated scheme content now id a b) f
     → IfOk r (λ m. (mode : Mode) (rest : List ℕ) → spec.CanBeSpelled m → BeginsAs (signed_message mode) mode (spec.rewritten m ++ rest) m)
-again_result scheme content now id a b (Ok m) f t c = λ mode rest k. begins_again mode m rest (made_held mode scheme content now c.issuing c.key (without_first_bit b.random) m c.made t (first_bit b.random c.twenty) k) k
-again_result scheme content now id a b (Err e) f t c = tt
+again_result scheme content now id a b (Ok m) f c = created_again scheme content now id a b m c
+again_result scheme content now id a b (Err e) f c = tt

@@ -9,11 +9,12 @@ use Rattle.rpki_signer.specs.declared.errors.MakeError.{MakeError}
 use Rattle.rpki_signer.specs.declared.errors.MakeError.TheVariants as make
 use Rattle.rpki_signer.specs.Limits.{IsShortKey, IsShortOneOff, RefusesKey, RefusesOneOff, RefusesSignature}
 use Rattle.rpki_signer.specs.Signer.{SignerState}
+use Rattle.rpki_idcert.specs.IdCert.{CertificateFields}
 use Rattle.rpki_idcert.specs.Making.{StopsAtEndEntity}
 use Rattle.rpki_sigmsg.specs.declared.create_error.CreateError.{CreateError}
 use Rattle.rpki_sigmsg.specs.declared.create_error.CreateError.TheVariants as create
 use Rattle.rpki_sigmsg.specs.Crl.{CrlFields}
-use Rattle.rpki_sigmsg.specs.Making.{made_covered, IsCrlSigned}
+use Rattle.rpki_sigmsg.specs.Making.{made_covered, IsCertified, IsCrlSigned}
 
 -- ---- what it gave
 
@@ -48,13 +49,13 @@ pub record StopsAtCertificate {Id E : Type 0} (scheme : Relation) (issuing : Key
   pub between : SignerState Id
   pub crl : CrlFields
   pub crl_signed : IsCrlSigned scheme issuing now id before between crl
-  pub stops : StopsAtEndEntity id between after error
+  pub stops : StopsAtEndEntity scheme id between after error
 
 -- creation stops at the CRL's signature, or at the certificate
 abbrev pub StopsCertifying : {Id E : Type 0} → Relation → KeyFields → ℤ → Id → SignerState Id
     → SignerState Id → MakeError E → Type 0
 StopsCertifying scheme issuing now id before after error =
-    RefusesSignature id before after error
+    RefusesSignature scheme id before after error
     ⊎ StopsAtCertificate scheme issuing now id before after error
 
 -- creation stops behind the two keys, which differ
@@ -82,7 +83,20 @@ pub record HasOneKey {Id : Type 0} (scheme : Relation) (message : List ℕ) (id 
   pub issuing : KeyFields
   pub keys : HasKeys scheme message id before after octets issuing issuing
 
--- ---- the refusals of creation; the moment is told before the signer is asked, and of want of memory nothing is said
+-- all was given
+pub record HasAll {Id : Type 0} (scheme : Relation) (content : List ℕ) (now : ℤ) (id : Id)
+    (before after : SignerState Id) : Type 0 where
+  pub between : SignerState Id
+  pub octets : List ℕ
+  pub key : KeyFields
+  pub issuing : KeyFields
+  pub keys : HasKeys scheme (made_covered content now) id before between octets key issuing
+  pub other : key ≢ issuing
+  pub crl : CrlFields
+  pub certificate : CertificateFields
+  pub certified : IsCertified scheme issuing key now between after crl certificate
+
+-- ---- the refusals of creation; the moment is told before the signer is asked, and memory may run out behind its last call too
 
 abbrev pub IsFirstRefusal : {Id E : Type 0} → Relation → List ℕ → ℤ → Id → SignerState Id
     → SignerState Id → CreateError E → Type 0
@@ -94,4 +108,6 @@ IsFirstRefusal scheme content now id before after create.KeyReused =
     HasOneKey scheme (made_covered content now) id before after
 IsFirstRefusal scheme content now id before after (create.Signing error) =
     StopsCreating scheme content now id before after (make.Signing error)
-IsFirstRefusal scheme content now id before after create.OutOfMemory = ⊤
+IsFirstRefusal {E = E} scheme content now id before after create.OutOfMemory =
+    StopsCreating {E = E} scheme content now id before after make.OutOfMemory
+    ⊎ HasAll scheme content now id before after

@@ -98,6 +98,7 @@ pub record IsCertified {Id : Type 0} (scheme : Relation) (issuing key : KeyField
     pub fields : IsMadeFor issuing key (without_first_bit after.random) (window now) certificate.tbs
     pub issued : IsIssued scheme issuing certificate
     pub keeps : Keeps before after
+    pub no_fault : after.faults ≡ before.faults
     pub drawn : after.drawn ≡ before.drawn
     pub short : IsShort crl.signed.signature.value
 
@@ -158,13 +159,15 @@ pub record IsMessageMade (scheme : Relation) (content : List ℕ) (now : ℤ)
   pub issued : IsIssued scheme issuing certificate
   pub crl_made : IsCrlMade scheme issuing now crl
 
--- The key for this one use is the one that the signer drew, and not the issuing key; the serial number is what it drew last. The keys
--- and the signatures have at most 2^16 octets each; that of the certificate's signature is in `IsIssued`.
+-- The signer holds the issuing key alone under this identifier. The key for this one use is the one that it drew, and not the issuing
+-- key; the serial number is what it drew last. The keys and the signatures have at most 2^16 octets each; that of the certificate's
+-- signature is in `IsIssued`.
 pub record IsCreated {Id : Type 0} (scheme : Relation) (content : List ℕ) (now : ℤ) (id : Id)
     (before after : SignerState Id) (m : MessageFields) : Type 0 where
   pub window_is : HasWindow now
   pub issuing : KeyFields
   pub holds : Holds before.keyring id issuing
+  pub only : (other : KeyFields) → Holds before.keyring id other → other ≡ issuing
   pub key : KeyFields
   pub drawn : after.drawn ≡ Some key
   pub other : key ≢ issuing
@@ -177,10 +180,11 @@ pub record IsCreated {Id : Type 0} (scheme : Relation) (content : List ℕ) (now
 
 -- ---- why nothing is created
 
--- the key that the signer gave for one use is the issuing key, and it told so by its count
+-- the key that the signer gave for one use is the issuing key, the only one under its identifier, and it told so by its count
 pub record IsReused {Id : Type 0} (id : Id) (before after : SignerState Id) : Type 0 where
   pub issuing : KeyFields
   pub holds : Holds before.keyring id issuing
+  pub only : (other : KeyFields) → Holds before.keyring id other → other ≡ issuing
   pub drawn : after.drawn ≡ Some issuing
   pub told : Rose before.reused after.reused
 

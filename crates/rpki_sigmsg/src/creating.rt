@@ -1,9 +1,8 @@
 //! Creating signed messages.
 
-ghost use Rattle.std.specs.Prelude.{◌≡◌, ◌++◌, ◌≤ℤ◌, ◌<◌, ◌≤◌, ◌^◌, ◌⊎◌, ℕ, ℤ, List, length, Decides, IsOk, IfOk, IfErr, IsErrOf, MatchResult};
+ghost use Rattle.std.specs.Prelude.{◌≡◌, ◌++◌, ◌≤ℤ◌, ◌<◌, ◌≤◌, ◌^◌, ◌⊎◌, ℕ, ℤ, List, length, Decides, IsOk, IfOk, OnOk, IfErr, IsErrOf, MatchResult};
 ghost use Rattle.rpki_der.specs.declared.mode.Mode.{Mode};
 ghost use Rattle.rpki_der.specs.Takes.{BeginsAs};
-ghost use Rattle.rpki_base.specs.Civil.{IsMoment};
 ghost use Rattle.rpki_base.specs.PublicKey.{KeyFields};
 ghost use Rattle.rpki_signer.specs.Limits.{Keeps, RefusesSignature, default_algorithm};
 ghost use Rattle.rpki_signer.specs.Signer.{Holds, AreDistinct};
@@ -41,18 +40,6 @@ fn is_same(a: &PublicKey, b: &PublicKey) -> bool
     a == b
 }
 
-// For the proof: the moment and both ends of its window are in the years 0 to 9999, by their types.
-fn are_moments(window: Window)
-    ensures moment { IsMoment window }
-    ensures first { IsMoment (spec.window window).not_before }
-    ensures last { IsMoment (spec.window window).not_after }
-{
-    let validity = window.validity();
-    let _ = window.moment().seconds();
-    let _ = validity.not_before().seconds();
-    let _ = validity.not_after().seconds();
-}
-
 // The signature of the message under a key for this one use, that key, and the issuing key.
 fn sign_once_and_get_key<P: Scheme, S: Signer<P>>(
     alloc: Global,
@@ -85,7 +72,8 @@ fn sign_crl<P: Scheme, S: Signer<P>>(
     ensures signed { MatchResult result
         (spec.IsCrlSigned P.checks issuing_key.now window issuing_key_id.now
         (S.state signer.old) (S.state signer.new))
-        (RefusesSignature issuing_key_id.now (S.state signer.old) (S.state signer.new)) }
+        (RefusesSignature P.checks issuing_key_id.now
+        (S.state signer.old) (S.state signer.new)) }
     ensures distinct { IsOk result → AreDistinct (S.state signer.new).keyring }
 {
     let crl = UnsignedCrl::new(alloc, issuing_key, window)?;
@@ -135,7 +123,8 @@ fn create_within<P: Scheme, S: Signer<P>>(
     ensures first_refusal { IfErr result (IsFirstRefusal P.checks content window issuing_key_id.now
         (S.state signer.old) (S.state signer.new)) }
     ensures keeps { Keeps (S.state signer.old) (S.state signer.new) }
-    ensures distinct { IsOk result → AreDistinct (S.state signer.old).keyring }
+    ensures kept { OnOk result
+        ((S.state signer.new).faults ≡ (S.state signer.old).faults) }
 {
     let content = UnsignedContent::new(alloc, content, window.moment())?;
     let (signature, key, issuing_key) = sign_once_and_get_key(
@@ -197,8 +186,10 @@ impl SignedMessage {
         ensures first_refusal { IfErr result (IsFirstRefusal P.checks content now issuing_key_id.now
             (S.state signer.old) (S.state signer.new)) }
 
-        // The signer holds the same keys, whatever the answer.
+        // The signer holds the same keys, whatever the answer, and where there is a message, it didn't fail.
         ensures keeps { Keeps (S.state signer.old) (S.state signer.new) }
+        ensures kept { OnOk result
+            ((S.state signer.new).faults ≡ (S.state signer.old).faults) }
     {
         let Some(window) = Window::new(now) else {
             return Err(CreateError::Moment);
@@ -206,8 +197,6 @@ impl SignedMessage {
         if !content_is_within_limit(content.as_slice()) {
             return Err(CreateError::TooLong);
         }
-        // For the proof: the moment and both ends of its window are in the years 0 to 9999.
-        are_moments(window);
         create_within(alloc, content, window, issuing_key_id, signer)
     }
 }

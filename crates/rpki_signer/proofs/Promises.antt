@@ -1,6 +1,6 @@
 -- What the toy signer answers exactly is what each signer promises.
 use Rattle.std.proofs.Common.{◌⊎◌, inl, inr, ◌≡◌, ℕ, ◌<◌, ◌≤◌, Option, None, Some, Result, Ok, Err, List, [], ◌∷◌, ◌++◌, length, refl, sym, ap, subst, ◌∙◌, arith}
-use Rattle.std.specs.Prelude.{MatchResult}
+use Rattle.std.specs.Prelude.{◌≢◌, IfErr, MatchResult}
 use Rattle.std.specs.Option.{option_map}
 use Rattle.std.specs.Int.{to_be_bytes, from_be_bytes, w64}
 use Rattle.std.proofs.lemmas.List.{append_cancel_left}
@@ -24,9 +24,9 @@ use Rattle.rpki_signer.specs.declared.errors.SigningError.{SigningError}
 use Rattle.rpki_signer.specs.declared.errors.SigningError.TheVariants as signing
 use Rattle.rpki_signer.specs.declared.toy_signer.ToyKey.{ToyKey}
 use Rattle.rpki_signer.specs.Toy.{ToyChecks, toy_signature}
-use Rattle.rpki_signer.specs.Signer.{HeldKey, Holds, AreDistinct, Stays, CallFails, KeyFails, SigningFails, IsUnfit, IsCreated, IsDestroyed, IsKeyOf, IsSignature, IsOneOff, IsDrawn}
-use Rattle.rpki_signer.specs.ToySigner.{ToyState, key_of, held_key, keyring_of, state_of, IsSound, AreCounts, key_numbered, after_creating, counted, after_fault, after_drawing, after_choosing, after_signing_once, one_off_key, IsToyGone, IsToyCreated, IsToyKey, IsToyDestroyed, IsToyFound, IsToyUnfit, IsToySigned, IsToySignedOnce, IsToyRandom, octets_of, once_of}
-use Rattle.rpki_signer.proofs.Keyrings.{none_in, first_or_behind}
+use Rattle.rpki_signer.specs.Signer.{HeldKey, Holds, AreDistinct, Stays, CallFails, KeyFails, SigningFails, CallSpares, KeySpares, SigningSpares, IsUnfit, IsCreated, IsDestroyed, IsKeyOf, IsSignature, IsOneOff, IsDrawn}
+use Rattle.rpki_signer.specs.ToySigner.{ToyState, key_of, held_key, keyring_of, state_of, IsSound, AreCounts, key_numbered, after_creating, counted, after_fault, after_drawing, after_choosing, after_signing_once, one_off_key, IsToyGone, IsToyCreated, IsToyKey, IsToyDestroyed, IsToyFound, IsToyUnfit, IsToySigned, RefusesToyKey, IsToySignedOnce, IsToyRandom, octets_of, once_of}
+use Rattle.rpki_signer.proofs.Keyrings.{none_in, first_or_behind, one_key}
 use Rattle.rpki_signer.proofs.ToySigners.{AreBelow, lacks_next, keyring_push, keyring_parts, found_is_held, missing_is_lacked}
 
 -- ---- counts
@@ -63,6 +63,57 @@ stays_fault old new c e = stays_by old (after_fault old) new e (fault_stays old 
 rose_fault : (old new : ToyState) → new ≡ after_fault old → Rose old.faults new.faults
 rose_fault old new e = subst (λ (x : ToyState). Rose old.faults x.faults) (sym e) (rose old.faults)
 
+-- ---- and what a call leaves that gives something, or is refused without a fault
+
+faults_of : (old is new : ToyState) → new ≡ is → is.faults ≡ old.faults → new.faults ≡ old.faults
+faults_of old is new e f = ap (λ (x : ToyState). x.faults) e ∙ f
+
+counted_spares : (old new : ToyState) → new ≡ counted old → new.faults ≡ old.faults
+counted_spares old new e = faults_of old (counted old) new e refl
+
+drawing_spares : (old new : ToyState) → new ≡ after_drawing old → new.faults ≡ old.faults
+drawing_spares old new e = faults_of old (after_drawing old) new e refl
+
+choosing_by : (format : PublicKeyFormat) (reuse : Option ℕ) (s : ToyState) → s.reuse ≡ reuse → (after_choosing format s).faults ≡ s.faults
+choosing_by Rsa (Some number) s e = rw e refl
+choosing_by Rsa None s e = rw e refl
+choosing_by EcdsaP256 o s e = refl
+
+pub choosing_spares : (format : PublicKeyFormat) (s : ToyState) → (after_choosing format s).faults ≡ s.faults
+choosing_spares format s = choosing_by format s.reuse s refl
+
+pub created_spares : (format : PublicKeyFormat) (old new : ToyState) (result : Result ℕ (CallError ToyFault)) → IsToyCreated format old new result → IfErr result (CallSpares (state_of old) (state_of new))
+created_spares format old new (Ok id) e = tt
+created_spares format old new (Err (call.Signer fault)) e = tt
+created_spares format old new (Err call.OutOfMemory) e = drawing_spares old new e.1
+
+pub key_spares : (number : ℕ) (old new : ToyState) (result : Result KeyFields (KeyError ToyFault)) → IsToyKey number old new result → IfErr result (KeySpares (state_of old) (state_of new))
+key_spares number old new (Ok key) e = tt
+key_spares number old new (Err keys.KeyNotFound) e = counted_spares old new e.2
+key_spares number old new (Err (keys.Signer fault)) e = tt
+key_spares number old new (Err keys.OutOfMemory) e = counted_spares old new e.1
+
+pub destroyed_spares : (number : ℕ) (old new : ToyState) (result : Result (Unit {0}) (KeyError ToyFault)) → IsToyDestroyed number old new result → IfErr result (KeySpares (state_of old) (state_of new))
+destroyed_spares number old new (Ok u) e = tt
+destroyed_spares number old new (Err keys.KeyNotFound) e = counted_spares old new e.2
+destroyed_spares number old new (Err (keys.Signer fault)) e = tt
+destroyed_spares number old new (Err keys.OutOfMemory) e = absurd e
+
+pub refused_spares : (number : ℕ) (format : PublicKeyFormat) (old new : ToyState) (error : SigningError ToyFault) → RefusesToyKey number format old new error → SigningSpares (state_of old) (state_of new) error
+refused_spares number format old new signing.KeyNotFound e = counted_spares old new e.2
+refused_spares number format old new signing.IncompatibleKey e = counted_spares old new e.is
+refused_spares number format old new (signing.Signer fault) e = tt
+refused_spares number format old new signing.OutOfMemory e = counted_spares old new e.1.is
+
+pub signed_spares : {A : Type 0} (kind : SigningAlgorithm) (number : ℕ) (message : List ℕ) (old new : ToyState) (result : Result (SignatureParts A) (SigningError ToyFault)) → IsToySigned kind number message old new (octets_of result) → IfErr result (SigningSpares (state_of old) (state_of new))
+signed_spares kind number message old new (Ok s) e = tt
+signed_spares kind number message old new (Err error) e = refused_spares number (format_of kind) old new error e
+
+pub once_spares : {A : Type 0} (kind : SigningAlgorithm) (message : List ℕ) (old new : ToyState) (result : Result (SignatureParts A × KeyFields) (CallError ToyFault)) → IsToySignedOnce kind message old new (once_of result) → IfErr result (CallSpares (state_of old) (state_of new))
+once_spares kind message old new (Ok (s, k)) e = tt
+once_spares kind message old new (Err (call.Signer fault)) e = tt
+once_spares kind message old new (Err call.OutOfMemory) e = faults_of old (after_choosing (format_of kind) old) new e.1 (choosing_spares (format_of kind) old)
+
 -- ---- making a key
 
 after_added : (s : ToyState) (format : PublicKeyFormat) → IsSound s.seed s.next s.keys → IsCreated format (state_of s) (state_of (after_creating format s)) s.next
@@ -72,6 +123,7 @@ after_added s format sound = record {
   new = lacks_next s.seed s.next s.keys sound.below;
   keyring = keyring_push s.seed s.keys (record { number = s.next; format = format });
   later = record { faults = omega arith; overlong = omega arith; reused = omega arith };
+  no_fault = refl;
   drawn = refl;
   random = refl;
 }
@@ -106,6 +158,7 @@ is_key old new number key e f =
     let k = some_key old.seed (key_numbered old.keys number) key e in
     record {
       stays = stays_counted old new f;
+      no_fault = counted_spares old new f;
       holds = subst (λ x. Holds (keyring_of old.seed old.keys) number x) k.2 (found_is_held old.seed old.keys number k.0 k.1);
       told = λ long. absurd (short_key old.seed k.0 key k.2 long);
     }
@@ -131,6 +184,7 @@ gone_is old new number g =
       held = parts;
       keyring = left;
       later = record { faults = omega arith; overlong = omega arith; reused = omega arith };
+      no_fault = refl;
       drawn = refl;
       random = refl;
     })
@@ -153,22 +207,30 @@ found_signs : (kind : SigningAlgorithm) (old new : ToyState) (number : ℕ) (mes
     → IsSignature ToyChecks kind number message (state_of old) (state_of new) octets
 found_signs kind old new number message octets key f e = record {
   stays = stays_counted old new f.is;
+  no_fault = counted_spares old new f.is;
   key = key_of old.seed key;
   holds = found_is_held old.seed old.keys number key f.found;
   signed = (f.fits, e);
   told = λ long. absurd (short_signature octets (key_of old.seed key) message e long);
 }
 
-unfit_is : (kind : SigningAlgorithm) (old new : ToyState) (number : ℕ) → IsToyUnfit number (format_of kind) old new → IsUnfit kind (keyring_of old.seed old.keys) number
-unfit_is kind old new number u = record { key = key_of old.seed u.key; holds = found_is_held old.seed old.keys number u.key u.found; format = u.unfit }
+unfit_is : (kind : SigningAlgorithm) (old new : ToyState) (number : ℕ) → AreDistinct (keyring_of old.seed old.keys) → IsToyUnfit number (format_of kind) old new → IsUnfit kind (keyring_of old.seed old.keys) number
+unfit_is kind old new number d u =
+    let key = key_of old.seed u.key in
+    let holds = found_is_held old.seed old.keys number u.key u.found in
+    record {
+      key = key;
+      holds = holds;
+      only = λ other held. subst (λ (k : KeyFields). k.format ≢ format_of kind) (one_key (keyring_of old.seed old.keys) number key other d holds held) u.unfit;
+    }
 
-pub signed_is : (kind : SigningAlgorithm) (number : ℕ) (message : List ℕ) (old new : ToyState) (result : Result (List ℕ) (SigningError ToyFault)) → AreCounts old → IsToySigned kind number message old new result
+pub signed_is : (kind : SigningAlgorithm) (number : ℕ) (message : List ℕ) (old new : ToyState) (result : Result (List ℕ) (SigningError ToyFault)) → IsSound old.seed old.next old.keys → AreCounts old → IsToySigned kind number message old new result
     → MatchResult result (λ octets. IsSignature ToyChecks kind number message (state_of old) (state_of new) octets) (λ e. Stays (state_of old) (state_of new) × SigningFails kind number (state_of old) (state_of new) e)
-signed_is kind number message old new (Ok octets) c e = found_signs kind old new number message octets e.0 e.1 e.2
-signed_is kind number message old new (Err signing.KeyNotFound) c e = (stays_counted old new e.2, missing_is_lacked old.seed old.keys number e.1)
-signed_is kind number message old new (Err signing.IncompatibleKey) c e = (stays_counted old new e.is, unfit_is kind old new number e)
-signed_is kind number message old new (Err (signing.Signer fault)) c e = (stays_fault old new c e.1, rose_fault old new e.1)
-signed_is kind number message old new (Err signing.OutOfMemory) c e = (stays_counted old new e.1.is, tt)
+signed_is kind number message old new (Ok octets) s c e = found_signs kind old new number message octets e.0 e.1 e.2
+signed_is kind number message old new (Err signing.KeyNotFound) s c e = (stays_counted old new e.2, missing_is_lacked old.seed old.keys number e.1)
+signed_is kind number message old new (Err signing.IncompatibleKey) s c e = (stays_counted old new e.is, unfit_is kind old new number s.distinct e)
+signed_is kind number message old new (Err (signing.Signer fault)) s c e = (stays_fault old new c e.1, rose_fault old new e.1)
+signed_is kind number message old new (Err signing.OutOfMemory) s c e = (stays_counted old new e.1.is, tt)
 
 -- ---- a key for one use
 
@@ -199,14 +261,15 @@ pub record IsChosen (old : ToyState) (format : PublicKeyFormat) : Type 0 where
   pub new : (id : ℕ) → Holds (keyring_of old.seed old.keys) id (key_of old.seed (one_off_key format old.reuse old.next)) → Rose old.reused (after_choosing format old).reused
   pub format_is : (one_off_key format old.reuse old.next).format ≡ format
   pub seed : (after_choosing format old).seed ≡ old.seed
+  pub no_fault : (after_choosing format old).faults ≡ old.faults
 
 set_again : (s : ToyState) (number : ℕ) → AreCounts s → Stays (state_of s) (state_of (record s { calls = count_after s.calls; reused = count_after s.reused }))
 set_again s number c = record { later = record { faults = omega arith; overlong = omega arith; reused = rises s.reused c.reused }; keyring = refl; drawn = refl; random = refl }
 
 chosen_by : (format : PublicKeyFormat) (reuse : Option ℕ) (s : ToyState) → s.reuse ≡ reuse → IsSound s.seed s.next s.keys → AreCounts s → IsChosen s format
-chosen_by Rsa (Some number) s e sound c = rw e (record { stays = set_again s number c; new = λ id h. rose s.reused; format_is = refl; seed = refl })
-chosen_by Rsa None s e sound c = rw e (record { stays = drawing_stays s; new = λ id h. absurd (fresh s.seed s.next Rsa s.keys id c.next sound.below h); format_is = refl; seed = refl })
-chosen_by EcdsaP256 o s e sound c = record { stays = drawing_stays s; new = λ id h. absurd (fresh s.seed s.next EcdsaP256 s.keys id c.next sound.below h); format_is = refl; seed = refl }
+chosen_by Rsa (Some number) s e sound c = rw e (record { stays = set_again s number c; new = λ id h. rose s.reused; format_is = refl; seed = refl; no_fault = refl })
+chosen_by Rsa None s e sound c = rw e (record { stays = drawing_stays s; new = λ id h. absurd (fresh s.seed s.next Rsa s.keys id c.next sound.below h); format_is = refl; seed = refl; no_fault = refl })
+chosen_by EcdsaP256 o s e sound c = record { stays = drawing_stays s; new = λ id h. absurd (fresh s.seed s.next EcdsaP256 s.keys id c.next sound.below h); format_is = refl; seed = refl; no_fault = refl }
 
 pub chosen : (format : PublicKeyFormat) (s : ToyState) → IsSound s.seed s.next s.keys → AreCounts s → IsChosen s format
 chosen format s sound c = chosen_by format s.reuse s refl sound c
@@ -218,6 +281,7 @@ signed_once kind message old octets key s c e f =
     let k = one_off_key (format_of kind) old.reuse old.next in
     record {
       later = record { faults = d.stays.later.faults; overlong = d.stays.later.overlong; reused = d.stays.later.reused };
+      no_fault = d.no_fault;
       keyring = d.stays.keyring;
       drawn = ap (λ seed. Some (key_of seed k)) d.seed ∙ ap (λ (x : KeyFields). Some x) (sym e);
       random = d.stays.random;
@@ -237,7 +301,7 @@ once_is kind message old new (Err call.OutOfMemory) s c e = (stays_by old (after
 
 pub random_is : (old new : ToyState) (was octets : List ℕ) (result : Result (Unit {0}) (CallError ToyFault)) → AreCounts old → IsToyRandom old new was octets result
     → MatchResult result (λ _. IsDrawn (state_of old) (state_of new) octets) (λ e. Stays (state_of old) (state_of new) × CallFails (state_of old) (state_of new) e)
-random_is old new was octets (Ok u) c e = subst (λ (x : ToyState). IsDrawn (state_of old) (state_of x) octets) (sym e.2) (record { later = record { faults = omega arith; overlong = omega arith; reused = omega arith }; keyring = refl; drawn = refl; random = refl })
+random_is old new was octets (Ok u) c e = subst (λ (x : ToyState). IsDrawn (state_of old) (state_of x) octets) (sym e.2) (record { later = record { faults = omega arith; overlong = omega arith; reused = omega arith }; no_fault = refl; keyring = refl; drawn = refl; random = refl })
 random_is old new was octets (Err (call.Signer fault)) c e = (stays_fault old new c e.1, rose_fault old new e.1)
 random_is old new was octets (Err call.OutOfMemory) c e = absurd e
 
@@ -248,10 +312,10 @@ distinct_if_same old new d e f = rw (e, f) d
 
 -- ---- what is answered
 
-pub answer_signed : {A : Type 0} (kind : SigningAlgorithm) (number : ℕ) (message : List ℕ) (old new : ToyState) (result : Result (SignatureParts A) (SigningError ToyFault)) → AreCounts old → IsToySigned kind number message old new (octets_of result)
+pub answer_signed : {A : Type 0} (kind : SigningAlgorithm) (number : ℕ) (message : List ℕ) (old new : ToyState) (result : Result (SignatureParts A) (SigningError ToyFault)) → IsSound old.seed old.next old.keys → AreCounts old → IsToySigned kind number message old new (octets_of result)
     → MatchResult result (λ s. IsSignature ToyChecks kind number message (state_of old) (state_of new) s.value) (λ e. Stays (state_of old) (state_of new) × SigningFails kind number (state_of old) (state_of new) e)
-answer_signed kind number message old new (Ok s) c e = signed_is kind number message old new (Ok s.value) c e
-answer_signed kind number message old new (Err error) c e = signed_is kind number message old new (Err error) c e
+answer_signed kind number message old new (Ok s) sound c e = signed_is kind number message old new (Ok s.value) sound c e
+answer_signed kind number message old new (Err error) sound c e = signed_is kind number message old new (Err error) sound c e
 
 pub answer_once : {A : Type 0} (kind : SigningAlgorithm) (message : List ℕ) (old new : ToyState) (result : Result (SignatureParts A × KeyFields) (CallError ToyFault)) → IsSound old.seed old.next old.keys → AreCounts old → IsToySignedOnce kind message old new (once_of result)
     → MatchResult result (λ r. IsOneOff ToyChecks kind message (state_of old) (state_of new) r.0.value r.1) (λ e. Stays (state_of old) (state_of new) × CallFails (state_of old) (state_of new) e)

@@ -1,5 +1,5 @@
 -- Random octets, block by block.
-use Rattle.std.proofs.Common.{◌≡◌, ℕ, suc, ◌+◌, ◌-◌, ◌/◌, ◌<◌, ◌≤◌, ◌⊎◌, inl, inr, List, ◌++◌, length, sym, ap, ◌∙◌, arith, append_assoc, length-append}
+use Rattle.std.proofs.Common.{◌≡◌, ℕ, zero, suc, ◌+◌, ◌-◌, ◌<◌, ◌≤◌, ◌⊎◌, inl, inr, List, ◌++◌, length, refl, sym, ap, ◌∙◌, arith, append_assoc, length-append}
 use Rattle.std.specs.Prelude.{min, take, drop}
 use Rattle.std.specs.Int.{to_be_bytes, w64}
 use Rattle.std.proofs.lemmas.Bool.{cases_lt}
@@ -11,14 +11,40 @@ use Rattle.rpki_signer.specs.ToySigner.{random_block, random_blocks, octets_from
 block_length : (seed number block : ℕ) → length (random_block seed number block) ≡ 32
 block_length seed number block = length-sha256 ((to_be_bytes w64 seed ++ to_be_bytes w64 number) ++ to_be_bytes w64 block)
 
-first_block : (seed number block m : ℕ) → octets_from seed number block m ≡ take m (random_block seed number block ++ random_blocks seed number (block + 1) (m / 32))
-first_block seed number block m = let e : m / 32 + 1 ≡ suc (m / 32) = omega arith in ap (λ k. take m (random_blocks seed number block k)) e
+-- blocks behind those that are needed change nothing
+more_by : (seed number block k j : ℕ) → ((32 < k) ⊎ (k ≤ 32)) → ((i : ℕ) → i ≤ j → take i (random_blocks seed number (block + 1) j) ≡ take i (random_blocks seed number (block + 1) (suc j))) → k ≤ suc j
+    → take k (random_blocks seed number block (suc j)) ≡ take k (random_blocks seed number block (suc (suc j)))
+more_by seed number block k j (inl h) more h' =
+    let l = block_length seed number block in
+    let b = random_block seed number block in
+    let x = random_blocks seed number (block + 1) j in
+    let y = random_blocks seed number (block + 1) (suc j) in
+    let split : k ≡ length b + (k - 32) = omega (arith, l, h) in
+    ap (λ i. take i (b ++ x)) split ∙ (take-append-add b x (k - 32) ∙ (ap (λ o. b ++ o) (more (k - 32) (omega (arith, h, h'))) ∙ (sym (take-append-add b y (k - 32)) ∙ ap (λ i. take i (b ++ y)) (sym split))))
+more_by seed number block k j (inr h) more h' =
+    let l = block_length seed number block in
+    let b = random_block seed number block in
+    take-append-le k b (random_blocks seed number (block + 1) j) (omega (arith, l, h)) ∙ sym (take-append-le k b (random_blocks seed number (block + 1) (suc j)) (omega (arith, l, h)))
 
-short_step : (seed number block m count : ℕ) → m ≤ 32 → count ≡ m → octets_from seed number block m ≡ take count (random_block seed number block) ++ octets_from seed number (block + 1) (m - count)
-short_step seed number block m count h e =
+more : (seed number block k j : ℕ) → k ≤ j → take k (random_blocks seed number block j) ≡ take k (random_blocks seed number block (suc j))
+more seed number block k zero h = let none : k ≡ 0 = omega (arith, h) in rw none refl
+more seed number block k (suc j) h = more_by seed number block k j (cases_lt 32 k) (λ i h. more seed number (block + 1) i j h) h
+
+enough : (seed number block k d : ℕ) → take k (random_blocks seed number block (k + d)) ≡ take k (random_blocks seed number block k)
+enough seed number block k zero = let e : k + 0 ≡ k = omega arith in ap (λ i. take k (random_blocks seed number block i)) e
+enough seed number block k (suc d) =
+    let e : k + suc d ≡ suc (k + d) = omega arith in
+    let h : k ≤ k + d = omega arith in
+    ap (λ i. take k (random_blocks seed number block i)) e ∙ (sym (more seed number block k (k + d) h) ∙ enough seed number block k d)
+
+first_block : (seed number block m : ℕ) → 0 < m → octets_from seed number block m ≡ take m (random_block seed number block ++ random_blocks seed number (block + 1) (m - 1))
+first_block seed number block m h = let e : m ≡ suc (m - 1) = omega (arith, h) in ap (λ k. take m (random_blocks seed number block k)) e
+
+short_step : (seed number block m count : ℕ) → 0 < m → m ≤ 32 → count ≡ m → octets_from seed number block m ≡ take count (random_block seed number block) ++ octets_from seed number (block + 1) (m - count)
+short_step seed number block m count some h e =
     let l = block_length seed number block in
     let none : m - count ≡ 0 = omega (arith, e) in
-    first_block seed number block m ∙ (take-append-le m (random_block seed number block) (random_blocks seed number (block + 1) (m / 32)) (omega (arith, l, h))
+    first_block seed number block m some ∙ (take-append-le m (random_block seed number block) (random_blocks seed number (block + 1) (m - 1)) (omega (arith, l, h))
     ∙ (ap (λ k. take k (random_block seed number block)) (sym e)
     ∙ (sym (append-nil (take count (random_block seed number block))) ∙ ap (λ k. take count (random_block seed number block) ++ octets_from seed number (block + 1) k) (sym none))))
 
@@ -27,19 +53,20 @@ long_step seed number block m count h e =
     let l = block_length seed number block in
     let b = random_block seed number block in
     let split : m ≡ length b + (m - count) = omega (arith, l, e, h) in
-    let more : m / 32 ≡ (m - count) / 32 + 1 = omega (arith, e, h) in
-    first_block seed number block m
-    ∙ (ap (λ k. take k (b ++ random_blocks seed number (block + 1) (m / 32))) split
-    ∙ (take-append-add b (random_blocks seed number (block + 1) (m / 32)) (m - count)
-    ∙ (ap (λ k. b ++ take (m - count) (random_blocks seed number (block + 1) k)) more
-    ∙ ap (λ o. o ++ octets_from seed number (block + 1) (m - count)) (sym (take_all count b (omega (arith, l, e)))))))
+    let beyond : m - 1 ≡ (m - count) + 31 = omega (arith, e, h) in
+    first_block seed number block m (omega (arith, h))
+    ∙ (ap (λ k. take k (b ++ random_blocks seed number (block + 1) (m - 1))) split
+    ∙ (take-append-add b (random_blocks seed number (block + 1) (m - 1)) (m - count)
+    ∙ (ap (λ k. b ++ take (m - count) (random_blocks seed number (block + 1) k)) beyond
+    ∙ (ap (λ o. b ++ o) (enough seed number (block + 1) (m - count) 31)
+    ∙ ap (λ o. o ++ octets_from seed number (block + 1) (m - count)) (sym (take_all count b (omega (arith, l, e))))))))
 
-step_by : (seed number block m count : ℕ) → ((32 < m) ⊎ (m ≤ 32)) → count ≡ min m 32 → octets_from seed number block m ≡ take count (random_block seed number block) ++ octets_from seed number (block + 1) (m - count)
-step_by seed number block m count (inl h) e = long_step seed number block m count h (omega (arith, e, h))
-step_by seed number block m count (inr h) e = short_step seed number block m count h (omega (arith, e, h))
+step_by : (seed number block m count : ℕ) → ((32 < m) ⊎ (m ≤ 32)) → 0 < m → count ≡ min m 32 → octets_from seed number block m ≡ take count (random_block seed number block) ++ octets_from seed number (block + 1) (m - count)
+step_by seed number block m count (inl h) some e = long_step seed number block m count h (omega (arith, e, h))
+step_by seed number block m count (inr h) some e = short_step seed number block m count some h (omega (arith, e, h))
 
-pub step : (seed number block m count : ℕ) → count ≡ min m 32 → octets_from seed number block m ≡ take count (random_block seed number block) ++ octets_from seed number (block + 1) (m - count)
-step seed number block m count e = step_by seed number block m count (cases_lt 32 m) e
+pub step : (seed number block m count : ℕ) → 0 < m → count ≡ min m 32 → octets_from seed number block m ≡ take count (random_block seed number block) ++ octets_from seed number (block + 1) (m - count)
+step seed number block m count some e = step_by seed number block m count (cases_lt 32 m) some e
 
 -- what was copied stands behind what stood before
 pub copied : (at count : ℕ) (target octets new : List ℕ) → at + count ≤ length target → count ≤ length octets → new ≡ take at target ++ (take count octets ++ drop (at + length (take count octets)) target)
@@ -67,7 +94,7 @@ filled seed number block at count target new all h e n i =
       ap (λ o. o ++ octets_from seed number (block + 1) (length new - (at + count))) c.0
           ∙ (ap (λ k. (take at target ++ take count b) ++ octets_from seed number (block + 1) k) left
           ∙ (append_assoc (take at target) (take count b) (octets_from seed number (block + 1) (length target - at - count))
-          ∙ (ap (λ o. take at target ++ o) (sym (step seed number block (length target - at) count e)) ∙ i))),
+          ∙ (ap (λ o. take at target ++ o) (sym (step seed number block (length target - at) count (omega (arith, h)) e)) ∙ i))),
       c.1,
       omega (arith, c.1, within),
       omega (arith, h, e),

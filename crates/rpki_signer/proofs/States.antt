@@ -13,7 +13,7 @@ use Rattle.rpki_signer.specs.Errors.{signing_error_of, make_error_of}
 use Rattle.rpki_base.specs.declared.algorithm.SigningAlgorithm.TheVariants.{RsaSha256}
 use Rattle.rpki_base.specs.PublicKey.{KeyFields}
 use Rattle.rpki_base.specs.Scheme.{Relation}
-use Rattle.rpki_signer.specs.Limits.{IsShortKey, Keeps, MakeFails, RefusesKey, RefusesSignature, RefusesOneOff, StopsInTurn}
+use Rattle.rpki_signer.specs.Limits.{IsShortKey, IsSpared, Keeps, MakeFails, RefusesKey, RefusesSignature, RefusesOneOff, StopsInTurn}
 use Rattle.rpki_signer.specs.Signer.{SignerState, Lacks, IsLater, Stays, IsUnfit, IsOneOff, CallFails, SigningFails}
 
 -- ---- counts
@@ -86,12 +86,12 @@ handed_on (Err e) x ok Q p q = subst Q (sym p.1) q
 pub key_refused : {I E : Type 0} (id : I) (a b : SignerState I) (e : MakeError E) → RefusesKey id a b e → Stays a b × MakeFails RsaSha256 id a b e
 key_refused id a b make.TooLong r = (r.is.stays, r.is.told r.long)
 key_refused id a b (make.Signing e) r = (r.0.stays, (r.0.known, r.0.fails))
-key_refused id a b make.OutOfMemory r = (r, tt)
+key_refused id a b make.OutOfMemory r = (r.stays, tt)
 
-pub signature_refused : {I E : Type 0} (id : I) (a b : SignerState I) (e : MakeError E) → RefusesSignature id a b e → Stays a b × MakeFails RsaSha256 id a b e
-signature_refused id a b make.TooLong r = r
-signature_refused id a b (make.Signing e) r = (r.stays, (r.known, r.fails))
-signature_refused id a b make.OutOfMemory r = (r, tt)
+pub signature_refused : {I E : Type 0} (scheme : Relation) (id : I) (a b : SignerState I) (e : MakeError E) → RefusesSignature scheme id a b e → Stays a b × MakeFails RsaSha256 id a b e
+signature_refused scheme id a b make.TooLong r = (r.is.stays, r.is.told r.long)
+signature_refused scheme id a b (make.Signing e) r = (r.stays, (r.known, r.fails))
+signature_refused scheme id a b make.OutOfMemory r = (r.stays, tt)
 
 once_told : {I : Type 0} (scheme : Relation) (message : List ℕ) (a b : SignerState I) (octets : List ℕ) (key : KeyFields) → IsOneOff scheme RsaSha256 message a b octets key → (65536 < length octets) ⊎ (65536 < length key.bits) → Rose a.overlong b.overlong
 once_told scheme message a b octets key o (inl h) = o.told h
@@ -103,21 +103,25 @@ one_off_refused scheme message id a b (make.Signing signing.KeyNotFound) r = abs
 one_off_refused scheme message id a b (make.Signing signing.IncompatibleKey) r = absurd r
 one_off_refused scheme message id a b (make.Signing (signing.Signer e)) r = (stays_keeps a b r.stays, (not_memory e, r.told))
 one_off_refused scheme message id a b (make.Signing signing.OutOfMemory) r = absurd r
-one_off_refused scheme message id a b make.OutOfMemory r = (r, tt)
+one_off_refused scheme message id a b make.OutOfMemory r = (stays_keeps a b r.stays, tt)
 
 -- ---- in turn
 
 -- behind the key
-pub stops_behind_key : {I E : Type 0} (id : I) (a b c : SignerState I) (key : KeyFields) (e : MakeError E) → IsShortKey id a b key → RefusesSignature id b c e → StopsInTurn id a c e
-stops_behind_key id a b c key e k f = inr (record { between = b; key = key; given = k; refuses = f })
+pub stops_behind_key : {I E : Type 0} (scheme : Relation) (id : I) (a b c : SignerState I) (key : KeyFields) (e : MakeError E) → IsShortKey id a b key → RefusesSignature scheme id b c e → StopsInTurn scheme id a c e
+stops_behind_key scheme id a b c key e k f = inr (record { between = b; key = key; given = k; refuses = f })
 
-pub stops_for_memory : {I E : Type 0} (id : I) (a b : SignerState I) (key : KeyFields) → IsShortKey id a b key → StopsInTurn {E = E} id a b make.OutOfMemory
-stops_for_memory id a b key k = stops_behind_key id a b b key make.OutOfMemory k (stays_same b)
+-- memory ran out beside the signer
+pub spared_same : {I : Type 0} (s : SignerState I) → IsSpared s s
+spared_same s = record { stays = stays_same s; uncounted = refl; no_fault = refl }
 
-pub stops_so : {Y I E : Type 0} (id : I) (a b c : SignerState I) (key : KeyFields) (ok : Y → Type 0) (r : Result Y (MakeError E)) → IsShortKey id a b key → MatchResult r ok (RefusesSignature id b c) → IfErr r (StopsInTurn id a c)
-stops_so id a b c key ok (Ok y) k m = tt
-stops_so id a b c key ok (Err e) k m = stops_behind_key id a b c key e k m
+pub stops_for_memory : {I E : Type 0} (scheme : Relation) (id : I) (a b : SignerState I) (key : KeyFields) → IsShortKey id a b key → StopsInTurn {E = E} scheme id a b make.OutOfMemory
+stops_for_memory scheme id a b key k = stops_behind_key scheme id a b b key make.OutOfMemory k (spared_same b)
 
-pub in_turn_fails : {I E : Type 0} (id : I) (a b : SignerState I) (e : MakeError E) → StopsInTurn id a b e → MakeFails RsaSha256 id a b e
-in_turn_fails id a b e (inl r) = (key_refused id a b e r).1
-in_turn_fails id a b e (inr s) = fails_before RsaSha256 id a s.between b e (stays_keeps a s.between s.given.is.stays) (signature_refused id s.between b e s.refuses).1
+pub stops_so : {Y I E : Type 0} (scheme : Relation) (id : I) (a b c : SignerState I) (key : KeyFields) (ok : Y → Type 0) (r : Result Y (MakeError E)) → IsShortKey id a b key → MatchResult r ok (RefusesSignature scheme id b c) → IfErr r (StopsInTurn scheme id a c)
+stops_so scheme id a b c key ok (Ok y) k m = tt
+stops_so scheme id a b c key ok (Err e) k m = stops_behind_key scheme id a b c key e k m
+
+pub in_turn_fails : {I E : Type 0} (scheme : Relation) (id : I) (a b : SignerState I) (e : MakeError E) → StopsInTurn scheme id a b e → MakeFails RsaSha256 id a b e
+in_turn_fails scheme id a b e (inl r) = (key_refused id a b e r).1
+in_turn_fails scheme id a b e (inr s) = fails_before RsaSha256 id a s.between b e (stays_keeps a s.between s.given.is.stays) (signature_refused scheme id s.between b e s.refuses).1

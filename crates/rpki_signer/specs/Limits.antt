@@ -11,7 +11,7 @@ use Rattle.rpki_signer.specs.declared.errors.MakeError.{MakeError}
 use Rattle.rpki_signer.specs.declared.errors.MakeError.TheVariants as make
 use Rattle.rpki_signer.specs.declared.errors.SigningError.{SigningError}
 use Rattle.rpki_signer.specs.declared.errors.SigningError.TheVariants as signing
-use Rattle.rpki_signer.specs.Signer.{SignerState, IsLater, Stays, IsKeyOf, IsSignature, IsOneOff, SigningFails}
+use Rattle.rpki_signer.specs.Signer.{SignerState, IsLater, Stays, IsKeyOf, IsSignature, IsOneOff, SigningFails, SigningSpares}
 
 -- at most 2^16 octets
 abbrev pub IsShort : List ℕ → Type 0
@@ -57,6 +57,13 @@ pub record IsRefused {Id E : Type 0} (id : Id) (before after : SignerState Id)
   pub uncounted : after.overlong ≡ before.overlong
   pub known : error ≢ signing.OutOfMemory
   pub fails : SigningFails RsaSha256 id before after error
+  pub spares : SigningSpares before after error
+
+-- memory ran out: nothing was given, so no count of the signer's shows that it failed or gave too much
+pub record IsSpared {Id : Type 0} (before after : SignerState Id) : Type 0 where
+  pub stays : Stays before after
+  pub uncounted : after.overlong ≡ before.overlong
+  pub no_fault : after.faults ≡ before.faults
 
 -- the key was given, and is too long
 pub record GivesLongKey {Id : Type 0} (id : Id) (before after : SignerState Id) : Type 0 where
@@ -70,29 +77,36 @@ abbrev pub RefusesKey : {Id E : Type 0} → Id → SignerState Id → SignerStat
 RefusesKey id before after make.TooLong = GivesLongKey id before after
 RefusesKey id before after (make.Signing error) =
     IsRefused id before after error × (error ≢ signing.IncompatibleKey)
-RefusesKey id before after make.OutOfMemory = Stays before after
+RefusesKey id before after make.OutOfMemory = IsSpared before after
+
+-- a signature of some message was given, and is too long
+pub record GivesLongSignature {Id : Type 0} (scheme : Relation) (id : Id)
+    (before after : SignerState Id) : Type 0 where
+  pub message : List ℕ
+  pub octets : List ℕ
+  pub is : IsSignature scheme RsaSha256 id message before after octets
+  pub long : 2 ^ 16 < length octets
 
 -- the signature wasn't given, or is too long
-abbrev pub RefusesSignature : {Id E : Type 0} → Id → SignerState Id → SignerState Id → MakeError E
-    → Type 0
-RefusesSignature id before after make.TooLong =
-    Stays before after × Rose before.overlong after.overlong
-RefusesSignature id before after (make.Signing error) = IsRefused id before after error
-RefusesSignature id before after make.OutOfMemory = Stays before after
+abbrev pub RefusesSignature : {Id E : Type 0} → Relation → Id → SignerState Id → SignerState Id
+    → MakeError E → Type 0
+RefusesSignature scheme id before after make.TooLong = GivesLongSignature scheme id before after
+RefusesSignature scheme id before after (make.Signing error) = IsRefused id before after error
+RefusesSignature scheme id before after make.OutOfMemory = IsSpared before after
 
 -- the key was given, and is not too long
-pub record StopsBehindKey {Id E : Type 0} (id : Id) (before after : SignerState Id)
-    (error : MakeError E) : Type 0 where
+pub record StopsBehindKey {Id E : Type 0} (scheme : Relation) (id : Id)
+    (before after : SignerState Id) (error : MakeError E) : Type 0 where
   pub between : SignerState Id
   pub key : KeyFields
   pub given : IsShortKey id before between key
-  pub refuses : RefusesSignature id between after error
+  pub refuses : RefusesSignature scheme id between after error
 
 -- a call that asks for a key and signs under it stops at the key or at the signature
-abbrev pub StopsInTurn : {Id E : Type 0} → Id → SignerState Id → SignerState Id → MakeError E
-    → Type 0
-StopsInTurn id before after error =
-    RefusesKey id before after error ⊎ StopsBehindKey id before after error
+abbrev pub StopsInTurn : {Id E : Type 0} → Relation → Id → SignerState Id → SignerState Id
+    → MakeError E → Type 0
+StopsInTurn scheme id before after error =
+    RefusesKey id before after error ⊎ StopsBehindKey scheme id before after error
 
 -- ---- a signature under a key for one use, which asks for no identifier
 
@@ -120,7 +134,7 @@ RefusesOneOff scheme message before after (make.Signing signing.IncompatibleKey)
 RefusesOneOff scheme message before after (make.Signing (signing.Signer error)) =
     IsFaulted before after
 RefusesOneOff scheme message before after (make.Signing signing.OutOfMemory) = ⊥
-RefusesOneOff scheme message before after make.OutOfMemory = Keeps before after
+RefusesOneOff scheme message before after make.OutOfMemory = IsSpared before after
 
 -- the algorithm that is signed with: rsaEncryption and NULL
 abbrev pub default_algorithm : RpkiAlgorithm

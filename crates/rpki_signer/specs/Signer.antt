@@ -72,12 +72,12 @@ KeyFails id before after key.KeyNotFound = Lacks before.keyring id
 KeyFails id before after (key.Signer error) = Rose before.faults after.faults
 KeyFails id before after key.OutOfMemory = ⊤
 
--- the identifier's key has another format than signatures of this kind need
+-- there is a key under the identifier, and each has another format than signatures of this kind need
 pub record IsUnfit {Id : Type 0} (kind : SigningAlgorithm) (keyring : List (HeldKey Id)) (id : Id)
     : Type 0 where
   pub key : KeyFields
   pub holds : Holds keyring id key
-  pub format : key.format ≢ format_of kind
+  pub only : (other : KeyFields) → Holds keyring id other → other.format ≢ format_of kind
 
 abbrev pub SigningFails : {Id E : Type 0} → SigningAlgorithm → Id → SignerState Id
     → SignerState Id → SigningError E → Type 0
@@ -85,6 +85,26 @@ SigningFails kind id before after signing.KeyNotFound = Lacks before.keyring id
 SigningFails kind id before after signing.IncompatibleKey = IsUnfit kind before.keyring id
 SigningFails kind id before after (signing.Signer error) = Rose before.faults after.faults
 SigningFails kind id before after signing.OutOfMemory = ⊤
+
+-- ---- a refusal that isn't the signer's failing leaves the count of faults
+
+abbrev pub CallSpares : {Id E : Type 0} → SignerState Id → SignerState Id → CallError E → Type 0
+CallSpares before after (call.Signer error) = ⊤
+CallSpares before after call.OutOfMemory = after.faults ≡ before.faults
+
+abbrev pub KeySpares : {Id E : Type 0} → SignerState Id → SignerState Id → KeyError E → Type 0
+KeySpares before after key.KeyNotFound = after.faults ≡ before.faults
+KeySpares before after (key.Signer error) = ⊤
+KeySpares before after key.OutOfMemory = after.faults ≡ before.faults
+
+abbrev pub SigningSpares : {Id E : Type 0} → SignerState Id → SignerState Id → SigningError E
+    → Type 0
+SigningSpares before after signing.KeyNotFound = after.faults ≡ before.faults
+SigningSpares before after signing.IncompatibleKey = after.faults ≡ before.faults
+SigningSpares before after (signing.Signer error) = ⊤
+SigningSpares before after signing.OutOfMemory = after.faults ≡ before.faults
+
+-- ---- what is given, without a fault
 
 -- a key of this format was added under a new identifier
 pub record IsCreated {Id : Type 0} (format : PublicKeyFormat) (before after : SignerState Id)
@@ -94,6 +114,7 @@ pub record IsCreated {Id : Type 0} (format : PublicKeyFormat) (before after : Si
   pub new : Lacks before.keyring id
   pub keyring : after.keyring ≡ before.keyring ++ record { id = id; key = key } ∷ []
   pub later : IsLater before after
+  pub no_fault : after.faults ≡ before.faults
   pub drawn : after.drawn ≡ before.drawn
   pub random : after.random ≡ before.random
 
@@ -105,6 +126,7 @@ pub record IsDestroyed {Id : Type 0} (id : Id) (before after : SignerState Id) :
   pub held : before.keyring ≡ front ++ record { id = id; key = key } ∷ back
   pub keyring : after.keyring ≡ front ++ back
   pub later : IsLater before after
+  pub no_fault : after.faults ≡ before.faults
   pub drawn : after.drawn ≡ before.drawn
   pub random : after.random ≡ before.random
 
@@ -112,6 +134,7 @@ pub record IsDestroyed {Id : Type 0} (id : Id) (before after : SignerState Id) :
 pub record IsKeyOf {Id : Type 0} (id : Id) (before after : SignerState Id) (key : KeyFields)
     : Type 0 where
   pub stays : Stays before after
+  pub no_fault : after.faults ≡ before.faults
   pub holds : Holds before.keyring id key
   pub told : TellsLength before after key.bits
 
@@ -119,6 +142,7 @@ pub record IsKeyOf {Id : Type 0} (id : Id) (before after : SignerState Id) (key 
 pub record IsSignature {Id : Type 0} (scheme : Relation) (kind : SigningAlgorithm) (id : Id)
     (message : List ℕ) (before after : SignerState Id) (octets : List ℕ) : Type 0 where
   pub stays : Stays before after
+  pub no_fault : after.faults ≡ before.faults
   pub key : KeyFields
   pub holds : Holds before.keyring id key
   pub signed : scheme kind key message octets
@@ -128,6 +152,7 @@ pub record IsSignature {Id : Type 0} (scheme : Relation) (kind : SigningAlgorith
 pub record IsOneOff {Id : Type 0} (scheme : Relation) (kind : SigningAlgorithm) (message : List ℕ)
     (before after : SignerState Id) (octets : List ℕ) (key : KeyFields) : Type 0 where
   pub later : IsLater before after
+  pub no_fault : after.faults ≡ before.faults
   pub keyring : after.keyring ≡ before.keyring
   pub drawn : after.drawn ≡ Some key
   pub random : after.random ≡ before.random
@@ -139,6 +164,7 @@ pub record IsOneOff {Id : Type 0} (scheme : Relation) (kind : SigningAlgorithm) 
 -- the octets were drawn
 pub record IsDrawn {Id : Type 0} (before after : SignerState Id) (octets : List ℕ) : Type 0 where
   pub later : IsLater before after
+  pub no_fault : after.faults ≡ before.faults
   pub keyring : after.keyring ≡ before.keyring
   pub drawn : after.drawn ≡ before.drawn
   pub random : after.random ≡ octets

@@ -1,5 +1,5 @@
 -- A signer of the toy scheme, as clauses see it: all that it makes follows from a seed and from numbers that it draws in turn.
-use Rattle.std.specs.Prelude.{◌≡◌, ◌≢◌, ◌<◌, ◌+◌, ◌-◌, ◌/◌, ◌^◌, ◌==◌, ◌||◌, ℕ, zero, suc, Bool, true, false, if◌then◌else◌, Option, None, Some, Result, Ok, Err, List, [], ◌∷◌, ◌++◌, length, take, map}
+use Rattle.std.specs.Prelude.{◌≡◌, ◌≢◌, ◌<◌, ◌+◌, ◌-◌, ◌^◌, ◌==◌, ◌||◌, ℕ, zero, suc, Bool, true, false, if◌then◌else◌, Option, None, Some, Result, Ok, Err, List, [], ◌∷◌, ◌++◌, length, take, map}
 use Rattle.std.specs.List.{list_any, AllByRecursion}
 use Rattle.std.specs.Int.{to_be_bytes, w64}
 use Rattle.std.specs.Option.{option_map}
@@ -168,10 +168,9 @@ random_blocks seed number block zero = []
 random_blocks seed number block (suc more) =
     random_block seed number block ++ random_blocks seed number (block + 1) more
 
--- this many octets of the blocks from this one on: these are joined and cut
+-- this many octets of the blocks from this one on, of which as many are enough
 abbrev pub octets_from : ℕ → ℕ → ℕ → ℕ → List ℕ
-octets_from seed number block count =
-    take count (random_blocks seed number block (count / 32 + 1))
+octets_from seed number block count = take count (random_blocks seed number block count)
 
 abbrev pub random_octets : ℕ → ℕ → ℕ → List ℕ
 random_octets seed number count = octets_from seed number 0 count

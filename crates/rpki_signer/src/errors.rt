@@ -1,8 +1,12 @@
 //! Why a signer, or a call that asks one, answers nothing.
 
-ghost use Rattle.std.specs.Prelude.{◌≡◌};
+ghost use Rattle.std.specs.Prelude.{◌≡◌, ◌↔◌, true};
 ghost use Rattle.rpki_signer.specs.Errors.{call_text, key_text, signing_text, make_text};
 ghost use Rattle.rpki_signer.specs.Errors.{key_error_of, signing_error_of, signing_error_of_key, make_error_of};
+ghost use Rattle.rpki_signer.specs.declared.errors.CallError.{CallError};
+ghost use Rattle.rpki_signer.specs.declared.errors.KeyError.{KeyError};
+ghost use Rattle.rpki_signer.specs.declared.errors.SigningError.{SigningError};
+ghost use Rattle.rpki_signer.specs.declared.errors.MakeError.{MakeError};
 ghost use Rattle.rpki_signer.specs.declared.errors.CallError.TheVariants as call;
 ghost use Rattle.rpki_signer.specs.declared.errors.KeyError.TheVariants as key;
 ghost use Rattle.rpki_signer.specs.declared.errors.SigningError.TheVariants as signing;
@@ -55,6 +59,18 @@ pub enum MakeError<E> {
     /// Memory ran out.
     OutOfMemory,
 }
+
+/// `==` holds exactly between errors that are the same, where it does so between what the signer says.
+pub fn equal_errors_are_the_same<E: PartialEq>()
+    ensures call { ((x y : E) → (E.eq x y ≡ true) ↔ (x ≡ y)) → (a b : CallError E)
+        → (⟦<CallError<E> as PartialEq>⟧.eq a b ≡ true) ↔ (a ≡ b) }
+    ensures key { ((x y : E) → (E.eq x y ≡ true) ↔ (x ≡ y)) → (a b : KeyError E)
+        → (⟦<KeyError<E> as PartialEq>⟧.eq a b ≡ true) ↔ (a ≡ b) }
+    ensures signing { ((x y : E) → (E.eq x y ≡ true) ↔ (x ≡ y)) → (a b : SigningError E)
+        → (⟦<SigningError<E> as PartialEq>⟧.eq a b ≡ true) ↔ (a ≡ b) }
+    ensures make { ((x y : E) → (E.eq x y ≡ true) ↔ (x ≡ y)) → (a b : MakeError E)
+        → (⟦<MakeError<E> as PartialEq>⟧.eq a b ≡ true) ↔ (a ≡ b) }
+{}
 
 impl<E> From<OutOfMemory> for CallError<E> {
     ghost from_gives = { λ _ e. e ≡ call.OutOfMemory };

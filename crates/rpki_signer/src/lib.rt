@@ -16,10 +16,10 @@ mod toy;
 mod toy_signer;
 
 pub use any::{AnyScheme, AnyVerifier};
-pub use errors::{CallError, KeyError, MakeError, SigningError};
+pub use errors::{CallError, KeyError, MakeError, SigningError, equal_errors_are_the_same};
 pub use limits::{is_within_limit, key_within_limit, sign_once_within_limit, sign_within_limit};
 pub use long_signer::LongSigner;
 pub use serials::random_serial;
 pub use signer::Signer;
 pub use toy::{ToyScheme, ToyVerifier};
-pub use toy_signer::{ToyKey, ToySigner};
+pub use toy_signer::{ToyKey, ToySigner, equal_toy_keys_are_the_same};

@@ -51,7 +51,7 @@ pub fn sign_within_limit<P: Scheme, S: Signer<P>>(
     ensures signed { MatchResult result
         (λ s. IsShortSignature P.checks SigningAlgorithm.RsaSha256 id.now message.now
         (S.state signer.old) (S.state signer.new) s.value)
-        (RefusesSignature id.now (S.state signer.old) (S.state signer.new)) }
+        (RefusesSignature P.checks id.now (S.state signer.old) (S.state signer.new)) }
     ensures algorithm { IfOk result (λ s. s.algorithm ≡ default_algorithm) }
     ensures distinct { AreDistinct (S.state signer.new).keyring }
 {

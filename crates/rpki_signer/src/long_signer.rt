@@ -1,8 +1,9 @@
 //! The signer whose signatures have any length.
 
-ghost use Rattle.std.specs.Prelude.{◌≡◌, ◌<◌, ◌^◌, IfOk, OnOk, OnErr, IsErrOf, MatchResult};
+ghost use Rattle.std.specs.Prelude.{◌≡◌, ◌<◌, ◌^◌, IfOk, IfErr, OnOk, OnErr, IsErrOf, MatchResult};
 ghost use Rattle.rpki_signer.specs.Any.{AnyChecks};
 ghost use Rattle.rpki_signer.specs.Signer.{AreDistinct, Stays, CallFails, KeyFails, SigningFails};
+ghost use Rattle.rpki_signer.specs.Signer.{CallSpares, KeySpares, SigningSpares};
 ghost use Rattle.rpki_signer.specs.Signer.{IsCreated, IsDestroyed, IsKeyOf, IsSignature, IsOneOff, IsDrawn};
 ghost use Rattle.rpki_signer.specs.ToySigner as toy_spec;
 ghost use Rattle.rpki_signer.specs.LongSigner as spec;
@@ -138,6 +139,8 @@ impl Signer<AnyScheme> for LongSigner {
             (IsCreated format (spec.long_state self.old) (spec.long_state self.new))
             (λ e. Stays (spec.long_state self.old) (spec.long_state self.new)
             × CallFails (spec.long_state self.old) (spec.long_state self.new) e) }
+        ensures spares { IfErr result
+            (CallSpares (spec.long_state self.old) (spec.long_state self.new)) }
         ensures distinct { AreDistinct (spec.long_state self.new).keyring }
 
         // Which answer, and what the signer is then.
@@ -155,6 +158,8 @@ impl Signer<AnyScheme> for LongSigner {
             × KeyFails key.now (spec.long_state self.old) (spec.long_state self.new) e) }
         ensures uncounted { OnErr result
             ((spec.long_state self.new).overlong ≡ (spec.long_state self.old).overlong) }
+        ensures spares { IfErr result
+            (KeySpares (spec.long_state self.old) (spec.long_state self.new)) }
         ensures distinct { AreDistinct (spec.long_state self.new).keyring }
 
         // Which answer, and what the signer is then.
@@ -171,6 +176,8 @@ impl Signer<AnyScheme> for LongSigner {
             (λ e. Stays (spec.long_state self.old) (spec.long_state self.new)
             × KeyFails key.now (spec.long_state self.old) (spec.long_state self.new) e) }
         ensures no_memory { IsErrOf result KeyError.OutOfMemory → ⊥ }
+        ensures spares { IfErr result
+            (KeySpares (spec.long_state self.old) (spec.long_state self.new)) }
         ensures distinct { AreDistinct (spec.long_state self.new).keyring }
 
         // Which answer, and what the signer is then.
@@ -197,6 +204,8 @@ impl Signer<AnyScheme> for LongSigner {
         ensures algorithm { IfOk result (λ s. s.algorithm ≡ algorithm) }
         ensures uncounted { OnErr result
             ((spec.long_state self.new).overlong ≡ (spec.long_state self.old).overlong) }
+        ensures spares { IfErr result
+            (SigningSpares (spec.long_state self.old) (spec.long_state self.new)) }
         ensures distinct { AreDistinct (spec.long_state self.new).keyring }
 
         // Which answer, and what the signer is then.
@@ -221,6 +230,8 @@ impl Signer<AnyScheme> for LongSigner {
         ensures algorithm { IfOk result (λ r. r.0.algorithm ≡ algorithm) }
         ensures uncounted { OnErr result
             ((spec.long_state self.new).overlong ≡ (spec.long_state self.old).overlong) }
+        ensures spares { IfErr result
+            (CallSpares (spec.long_state self.old) (spec.long_state self.new)) }
         ensures distinct { AreDistinct (spec.long_state self.new).keyring }
 
         // Which answer, and what the signer is then.

@@ -1,8 +1,9 @@
 //! Who signs.
 
-ghost use Rattle.std.specs.Prelude.{◌≡◌, ◌<◌, IfOk, OnErr, IsErrOf, MatchResult};
+ghost use Rattle.std.specs.Prelude.{◌≡◌, ◌<◌, IfOk, IfErr, OnErr, IsErrOf, MatchResult};
 ghost use Rattle.rpki_signer.specs.declared.errors.CallError.TheVariants as call;
 ghost use Rattle.rpki_signer.specs.Signer.{SignerState, AreDistinct, Stays, CallFails, KeyFails, SigningFails};
+ghost use Rattle.rpki_signer.specs.Signer.{CallSpares, KeySpares, SigningSpares};
 ghost use Rattle.rpki_signer.specs.Signer.{IsCreated, IsDestroyed, IsKeyOf, IsSignature, IsOneOff, IsDrawn};
 
 use crate::errors::{CallError, KeyError, SigningError};
@@ -12,7 +13,7 @@ use std::fmt::Display;
 
 /// Holds keys under identifiers of its own, and signs under them, by one scheme. One value that no code holds gives it its
 /// meaning: `state`, the keys that it holds and what it has done. A refused call gives no key and no signature, so it counts none that
-/// is too long.
+/// is too long; its count of faults rises where the answer is that it failed, and stays with every other.
 pub trait Signer<P: Scheme> {
     /// By what a key is asked for.
     type KeyId: Drop;
@@ -32,6 +33,7 @@ pub trait Signer<P: Scheme> {
         ensures created { MatchResult result (IsCreated format (state self.old) (state self.new))
             (λ e. Stays (state self.old) (state self.new)
             × CallFails (state self.old) (state self.new) e) }
+        ensures spares { IfErr result (CallSpares (state self.old) (state self.new)) }
         ensures distinct { AreDistinct (state self.new).keyring };
 
     /// The key with this identifier; KeyNotFound only where there is none.
@@ -45,6 +47,7 @@ pub trait Signer<P: Scheme> {
             × KeyFails key.now (state self.old) (state self.new) e) }
         ensures uncounted { OnErr result
             ((state self.new).overlong ≡ (state self.old).overlong) }
+        ensures spares { IfErr result (KeySpares (state self.old) (state self.new)) }
         ensures distinct { AreDistinct (state self.new).keyring };
 
     /// Takes the key with this identifier out; KeyNotFound only where there is none. It takes no memory.
@@ -54,6 +57,7 @@ pub trait Signer<P: Scheme> {
             (λ e. Stays (state self.old) (state self.new)
             × KeyFails key.now (state self.old) (state self.new) e) }
         ensures no_memory { IsErrOf result KeyError.OutOfMemory → ⊥ }
+        ensures spares { IfErr result (KeySpares (state self.old) (state self.new)) }
         ensures distinct { AreDistinct (state self.new).keyring };
 
     /// Signs the message under the key with this identifier; KeyNotFound only where there is none, IncompatibleKey only where its
@@ -73,6 +77,7 @@ pub trait Signer<P: Scheme> {
         ensures algorithm { IfOk result (λ s. s.algorithm ≡ algorithm) }
         ensures uncounted { OnErr result
             ((state self.new).overlong ≡ (state self.old).overlong) }
+        ensures spares { IfErr result (SigningSpares (state self.old) (state self.new)) }
         ensures distinct { AreDistinct (state self.new).keyring };
 
     /// Signs the message under a key that is made for this one use, and answers it too. Where it is a key that the signer holds, its
@@ -91,6 +96,7 @@ pub trait Signer<P: Scheme> {
         ensures algorithm { IfOk result (λ r. r.0.algorithm ≡ algorithm) }
         ensures uncounted { OnErr result
             ((state self.new).overlong ≡ (state self.old).overlong) }
+        ensures spares { IfErr result (CallSpares (state self.old) (state self.new)) }
         ensures distinct { AreDistinct (state self.new).keyring };
 
     /// Draws random octets, as many as there is room for in `target`. It takes no memory.

@@ -1,10 +1,11 @@
 //! The signer of the toy scheme.
 
-ghost use Rattle.std.specs.Prelude.{◌≡◌, ◌+◌, ◌-◌, ◌<◌, ◌≤◌, ◌++◌, [], length, take, drop, true, false, Some, None, IfOk, OnOk, OnErr, IsErrOf, IfErr, IsNone, IfSome, MatchResult, slice_index_or};
+ghost use Rattle.std.specs.Prelude.{◌≡◌, ◌↔◌, ◌+◌, ◌-◌, ◌<◌, ◌≤◌, ◌++◌, [], length, take, drop, true, false, Some, None, IfOk, OnOk, OnErr, IsErrOf, IfErr, IsNone, IfSome, MatchResult, slice_index_or};
 ghost use Rattle.sha2.specs.Sha256.{sha256};
 ghost use Rattle.rpki_base.specs.declared.algorithm.PublicKeyFormat.TheVariants.{Rsa};
 ghost use Rattle.rpki_signer.specs.Toy.{ToyChecks, toy_signature};
 ghost use Rattle.rpki_signer.specs.Signer.{AreDistinct, Stays, CallFails, KeyFails, SigningFails};
+ghost use Rattle.rpki_signer.specs.Signer.{CallSpares, KeySpares, SigningSpares};
 ghost use Rattle.rpki_signer.specs.Signer.{IsCreated, IsDestroyed, IsKeyOf, IsSignature, IsOneOff, IsDrawn};
 ghost use Rattle.rpki_signer.specs.ToySigner as spec;
 ghost use Rattle.rpki_signer.specs.declared.toy_signer.ToyKey.{ToyKey as Key};
@@ -27,6 +28,11 @@ pub struct ToyKey {
     /// The format.
     pub format: PublicKeyFormat,
 }
+
+/// `==` holds exactly between keys that are the same.
+pub fn equal_toy_keys_are_the_same()
+    ensures { (a b : Key) → (⟦<ToyKey as PartialEq>⟧.eq a b ≡ true) ↔ (a ≡ b) }
+{}
 
 /// A signer of the toy scheme, without security: all that it makes follows from a seed. It draws numbers from 0 on; keys, keys for
 /// one use and random octets are made from one each. It fails at listed calls, and where no number is left.
@@ -462,6 +468,8 @@ impl Signer<ToyScheme> for ToySigner {
             (IsCreated format (spec.state_of self.old) (spec.state_of self.new))
             (λ e. Stays (spec.state_of self.old) (spec.state_of self.new)
             × CallFails (spec.state_of self.old) (spec.state_of self.new) e) }
+        ensures spares { IfErr result
+            (CallSpares (spec.state_of self.old) (spec.state_of self.new)) }
         ensures distinct { AreDistinct (spec.state_of self.new).keyring }
 
         // Which answer, and what the signer is then.
@@ -478,6 +486,8 @@ impl Signer<ToyScheme> for ToySigner {
             × KeyFails key.now (spec.state_of self.old) (spec.state_of self.new) e) }
         ensures uncounted { OnErr result
             ((spec.state_of self.new).overlong ≡ (spec.state_of self.old).overlong) }
+        ensures spares { IfErr result
+            (KeySpares (spec.state_of self.old) (spec.state_of self.new)) }
         ensures distinct { AreDistinct (spec.state_of self.new).keyring }
 
         // Which answer, and what the signer is then.
@@ -493,6 +503,8 @@ impl Signer<ToyScheme> for ToySigner {
             (λ e. Stays (spec.state_of self.old) (spec.state_of self.new)
             × KeyFails key.now (spec.state_of self.old) (spec.state_of self.new) e) }
         ensures no_memory { IsErrOf result KeyError.OutOfMemory → ⊥ }
+        ensures spares { IfErr result
+            (KeySpares (spec.state_of self.old) (spec.state_of self.new)) }
         ensures distinct { AreDistinct (spec.state_of self.new).keyring }
 
         // Which answer, and what the signer is then.
@@ -518,6 +530,8 @@ impl Signer<ToyScheme> for ToySigner {
         ensures algorithm { IfOk result (λ s. s.algorithm ≡ algorithm) }
         ensures uncounted { OnErr result
             ((spec.state_of self.new).overlong ≡ (spec.state_of self.old).overlong) }
+        ensures spares { IfErr result
+            (SigningSpares (spec.state_of self.old) (spec.state_of self.new)) }
         ensures distinct { AreDistinct (spec.state_of self.new).keyring }
 
         // Which answer, and what the signer is then.
@@ -542,6 +556,8 @@ impl Signer<ToyScheme> for ToySigner {
         ensures algorithm { IfOk result (λ r. r.0.algorithm ≡ algorithm) }
         ensures uncounted { OnErr result
             ((spec.state_of self.new).overlong ≡ (spec.state_of self.old).overlong) }
+        ensures spares { IfErr result
+            (CallSpares (spec.state_of self.old) (spec.state_of self.new)) }
         ensures distinct { AreDistinct (spec.state_of self.new).keyring }
 
         // Which answer, and what the signer is then.

@@ -1,13 +1,13 @@
 //! Digests.
 
-ghost use Rattle.std.specs.Prelude.{◌≡◌, ◌↔◌, length, nat_eq, Ok, Some, IsSome, IfSome, IsTrue};
+ghost use Rattle.std.specs.Prelude.{◌≡◌, ◌↔◌, ℕ, List, length, nat_eq, Ok, Some, IsSome, IfSome, IsTrue};
 ghost use Rattle.std.specs.Hash as fed;
 ghost use Rattle.std.specs.Cmp.Lexicographic.{pointwise, nat_list_eq_equiv};
 ghost use Rattle.std.specs.Cmp.{partial_equiv_from_equiv};
 ghost use Rattle.std.specs.Cmp.Rules.{hashing};
 ghost use Rattle.std.proofs.Common.{rules};
 ghost use Rattle.std.specs.List.{AllPass};
-ghost use Rattle.hex.specs.Hex.{decode_of, encode_lower, is_hex_digit};
+ghost use Rattle.hex.specs.Hex.{decode_of, encode_lower, is_hex_digit, IsBytes};
 ghost use Rattle.sha2.specs.Sha256.{sha256};
 ghost use Rattle.rpki_text.specs.Hash.{digest_of_text};
 
@@ -56,13 +56,6 @@ impl Hash {
         }
     }
 
-    /// The text that this digest prints is read as the same digest.
-    pub fn text_is_read_back(&self)
-        ensures { digest_of_text (encode_lower self.now) ≡ Some self.now }
-    {
-        digits_are_read_back(&self.octets);
-    }
-
     /// The 32 octets.
     pub fn as_slice(&self) -> &[u8]
         ensures octets { result.now ≡ self.now }
@@ -72,14 +65,11 @@ impl Hash {
     }
 }
 
-/// The digits of 32 octets are read as these octets.
-fn digits_are_read_back(octets: &[u8])
-    requires { length octets.now ≡ 32 }
-    ensures { digest_of_text (encode_lower octets.now) ≡ Some octets.now }
-{
-    // For the proof: there are octets.
-    let _first = octets[0];
-}
+/// What is printed of a digest, which has 32 octets, is read as that digest.
+pub fn printed_hash_is_read()
+    ensures { (digest : List ℕ) → length digest ≡ 32 → IsBytes digest
+        → digest_of_text (encode_lower digest) ≡ Some digest }
+{}
 
 impl PartialEq for Hash {
     ghost eq = { pointwise nat_eq };

@@ -32,6 +32,7 @@ mod digests;
 mod handles;
 mod json;
 mod key_identifiers;
+mod law;
 mod memory_sink;
 mod memory_source;
 mod reading;
@@ -41,7 +42,7 @@ pub mod uri;
 mod writing;
 
 pub use base64_text::{Base64, Base64Error, read_octets, write_octets};
-pub use digests::Hash;
+pub use digests::{Hash, printed_hash_is_read};
 pub use handles::{
     CaHandle, Child, ChildHandle, Handle, InvalidHandle, MyHandle, Myself, Parent, ParentHandle,
     Publisher, PublisherHandle, Recipient, RecipientHandle, Repository, RepositoryHandle, Sender,
@@ -49,6 +50,7 @@ pub use handles::{
 };
 pub use json::{JsonError, read_string, read_value, write_string};
 pub use key_identifiers::{key_identifier_text, read_key_identifier};
+pub use law::equal_errors_are_the_same;
 pub use memory_sink::MemorySink;
 pub use memory_source::MemorySource;
 pub use reading::{ReadAllError, read_all};

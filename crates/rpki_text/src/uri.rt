@@ -2,7 +2,7 @@
 //!
 //! A URI is kept as it was written, and two are equal where their texts are.
 
-ghost use Rattle.std.specs.Prelude.{ℕ, Bool, List, ◌≡◌, ◌≢◌, ◌↔◌, ◌≤◌, ◌<◌, ◌∷◌, [], length, drop, nat_eq, Some, None, IfOk, IfErr, IfSome, OnOk, IsErrOf, IsTrue};
+ghost use Rattle.std.specs.Prelude.{ℕ, Bool, List, Decides, ◌≡◌, ◌≢◌, ◌↔◌, ◌≤◌, ◌<◌, ◌∷◌, [], length, drop, nat_eq, Some, None, IfOk, IfErr, IfSome, OnOk, IsErrOf, IsTrue};
 ghost use Rattle.std.specs.List.{list_all, slice_split, position, after_first};
 ghost use Rattle.std.specs.Option.{option_map_or};
 ghost use Rattle.std.specs.Str.{IsAscii};
@@ -133,13 +133,18 @@ impl<K: UriKind> Uri<K> {
 
     /// This URI with `path` behind it: a slash is put between where this one doesn't end with one, and
     /// a slash with which `path` begins is left out. If the text that comes of it is no URI of this kind, the
-    /// first rule that it breaks, in the order of [`Error`].
+    /// first rule that it breaks, in the order of [`Error`]. Where it is too long, no memory is taken.
     pub fn join(&self, alloc: Global, path: &[u8]) -> Result<Self, Error>
         ensures text { IfOk result (λ u. u ≡ joined_text self.now path.now) }
         ensures accepted { OnOk result (fault_of K.kind (joined_text self.now path.now) ≡ None) }
         ensures fault { IfErr result (λ e.
             e ≢ Error.OutOfMemory → fault_of K.kind (joined_text self.now path.now) ≡ Some e) }
+        ensures memory { IsErrOf result Error.OutOfMemory
+            → length (joined_text self.now path.now) ≤ 65535 }
     {
+        if !joins_within_limit(self.as_str().as_bytes(), path) {
+            return Err(Error::TooLong);
+        }
         let joined = joined(alloc, self.as_str().as_bytes(), path)?;
         check::<K>(&joined)?;
         Ok(Uri {
@@ -390,6 +395,15 @@ fn joined(alloc: Global, base: &[u8], path: &[u8]) -> Result<Vec<u8>, AllocError
     }
     text.extend_from_slice(without_slash(path))?;
     Ok(text)
+}
+
+/// Whether what `joined` gives has at most 65535 octets.
+fn joins_within_limit(base: &[u8], path: &[u8]) -> bool
+    ensures { Decides result (length (joined_text base.now path.now) ≤ 65535) }
+{
+    let slash = if base.ends_with(b"/") { 0 } else { 1 };
+    let front = base.len().saturating_add(slash);
+    front.saturating_add(without_slash(path).len()) <= MOST_OCTETS
 }
 
 /// `path` without its first slash, if it begins with one.

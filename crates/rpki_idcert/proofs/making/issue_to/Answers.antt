@@ -10,10 +10,10 @@ pub returns-in_err-issuing_key-clause-first_refusal : goal.returns-in_err-issuin
 returns-in_err-issuing_key-clause-first_refusal g c = handed_on _ _ _ _ c.from_residual.ensures (inl c.in_err-issuing_key.ensures.key)
 
 pub returns-in_err-tbs-clause-first_refusal : goal.returns-in_err-tbs-clause-first_refusal
-returns-in_err-tbs-clause-first_refusal g c = handed_on _ _ _ _ c.from_residual-in_err-tbs.ensures (stops_for_memory _ _ _ c.in_ok-issuing_key.issuing_key c.in_ok-issuing_key.ensures.key)
+returns-in_err-tbs-clause-first_refusal g c = handed_on _ _ _ _ c.from_residual-in_err-tbs.ensures (stops_for_memory _ _ _ _ c.in_ok-issuing_key.issuing_key c.in_ok-issuing_key.ensures.key)
 
 pub returns-clause-issued : goal.returns-clause-issued
 returns-clause-issued g c = issued_result _ _ _ _ _ _ _ _ c.in_ok-issuing_key.issuing_key c.in_ok-tbs.tbs _ c.key_within_limit.ensures.distinct c.in_ok-issuing_key.ensures.key c.in_ok-tbs.ensures c.issue.ensures.signed
 
 pub returns-clause-first_refusal : goal.returns-clause-first_refusal
-returns-clause-first_refusal g c = stops_so _ _ _ _ c.in_ok-issuing_key.issuing_key _ _ c.in_ok-issuing_key.ensures.key c.issue.ensures.signed
+returns-clause-first_refusal g c = stops_so _ _ _ _ _ c.in_ok-issuing_key.issuing_key _ _ c.in_ok-issuing_key.ensures.key c.issue.ensures.signed

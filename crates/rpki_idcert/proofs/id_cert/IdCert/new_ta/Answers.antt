@@ -20,7 +20,7 @@ pub returns-in_err-key-clause-first_refusal : goal.returns-in_err-key-clause-fir
 returns-in_err-key-clause-first_refusal g c = handed_on _ _ _ _ c.from_residual.ensures (inl c.in_err-key.ensures.key)
 
 pub returns-in_err-tbs-clause-first_refusal : goal.returns-in_err-tbs-clause-first_refusal
-returns-in_err-tbs-clause-first_refusal g c = handed_on _ _ _ _ c.from_residual-in_err-tbs.ensures (stops_for_memory _ _ _ c.in_ok-key.key c.in_ok-key.ensures.key)
+returns-in_err-tbs-clause-first_refusal g c = handed_on _ _ _ _ c.from_residual-in_err-tbs.ensures (stops_for_memory _ _ _ _ c.in_ok-key.key c.in_ok-key.ensures.key)
 
 pub returns-clause-first_refusal : goal.returns-clause-first_refusal
-returns-clause-first_refusal g c = stops_so _ _ _ _ c.in_ok-key.key _ _ c.in_ok-key.ensures.key c.issue.ensures.signed
+returns-clause-first_refusal g c = stops_so _ _ _ _ _ c.in_ok-key.key _ _ c.in_ok-key.ensures.key c.issue.ensures.signed

@@ -1,5 +1,8 @@
-use Rattle.rpki_signer.proofs.LongSigners.{long_answer_once}
+use Rattle.rpki_signer.proofs.LongSigners.{long_answer_once, long_once_spares}
 use Rattle.rpki_signer.proofs.long_signer.LongSignerSignerAnyScheme.sign_one_off.Goals as goal
 
 pub returns-clause-signed : goal.returns-clause-signed
 returns-clause-signed g c = long_answer_once _ _ _ _ _ c.sign_once.ensures.sound c.sign_once.ensures.counts c.sign_once.ensures.count c.sign_once.ensures.signed
+
+pub returns-clause-spares : goal.returns-clause-spares
+returns-clause-spares g c = long_once_spares (g.Alg.SignatureAlgorithm.kind c.args.algorithm) c.args.self.now c.sign_once.new.self c.sign_once.result c.sign_once.ensures.signed
