@@ -35,7 +35,8 @@ pub trait CsrAttributes: Drop {
     fn take_from(alloc: Global, octets: &[u8]) -> Result<Self, DecodeError>
         ensures { HoldsOne (reads Der) (λ a. a) Der octets.now result };
 
-    /// The attributes that stand next under [0]. It ticks each time it looks at a header, and for each end mark.
+    /// The attributes that stand next under [0]. It ticks once for each header and each end mark that it passes; a header of a kept
+    /// identifier or a location is read twice, and ticks once.
     fn take_from_counted<L: Ledger>(
         alloc: Global,
         cursor: &mut Cursor<'_>,

@@ -6,6 +6,7 @@
 //!   exactly for a text that is none.
 //! - [`write_attribute`], [`write_optional`], [`write_text`], [`write_inside`], [`write_base64`], [`write_end`]: the parts of elements are
 //!   printed in their one spelling, in pieces and without memory.
+//! - [`is_plain`], [`is_plain_or_absent`], [`is_trimmed_or_absent`]: whether texts can be written so that they are read again.
 //! - [`lent`], [`shared`], [`handed_out`], [`taken_in`], [`cloned`]: texts that may be absent.
 //!
 //! A table of messages is a partial function from elements to what they mean, and what octets are read as by it stands in
@@ -19,6 +20,7 @@ mod optional_text;
 mod printing;
 mod texts;
 mod transfer;
+mod writable;
 
 pub use cause::Cause;
 pub use optional_text::{cloned, handed_out, lent, shared, taken_in};
@@ -27,3 +29,4 @@ pub use printing::{
 };
 pub use texts::{base64_of, handle_of, tag_in, uri_of};
 pub use transfer::{MOST_OCTETS, write_octets};
+pub use writable::{is_plain, is_plain_or_absent, is_trimmed_or_absent};

@@ -95,7 +95,8 @@ impl ProvisioningCms {
         ProvisioningCms::decode_counted(alloc, octets, &mut steps)
     }
 
-    /// As [`ProvisioningCms::decode`]. It ticks each time it looks at a header, and for each end mark, in certificates and requests too.
+    /// As [`ProvisioningCms::decode`]. It ticks once for each header and each end mark that it passes, in certificates and requests
+    /// too; a header of an algorithm, a kept identifier or a location is read twice, and ticks once.
     pub fn decode_counted<L: Ledger>(
         alloc: Global,
         octets: &[u8],

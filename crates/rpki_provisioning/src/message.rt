@@ -1,8 +1,8 @@
 //! Messages.
 
 ghost use Rattle.std.specs.Prelude.{◌≡◌, ◌↔◌, ◌≤◌, ◌+◌, ◌*◌, ◌<◌, ◌^◌, length, IfOk, IfErr, OnOk, IsTrue, MatchResult, string_bytes};
-ghost use Rattle.rpki_message.specs.Answers.{WritesText};
-ghost use Rattle.rpki_provisioning.specs.Answers.{Parses, RefusesMessage, RefusesText};
+ghost use Rattle.rpki_message.specs.Answers.{Parses, WritesText};
+ghost use Rattle.rpki_provisioning.specs.Answers.{RefusesMessage, RefusesText};
 ghost use Rattle.rpki_provisioning.specs.Message.{Reads, text_of};
 ghost use Rattle.rpki_provisioning.specs.Shape.{payload_type_of, shape_of};
 ghost use Rattle.rpki_provisioning.specs.declared.payload.Payload.TheVariants as payloads;
@@ -269,8 +269,8 @@ impl Message {
     /// form of one, CertSyntax and InvalidCsrSyntax exactly where it has, and a certificate or the request in it is none; TooLong where
     /// it is longer, Read only where the source failed.
     pub fn decode<I: Source>(alloc: Global, source: &mut I) -> Result<Message, Error>
-        ensures { Parses (I.rest source.old) (I.rest source.new) (I.faults source.old)
-            (I.faults source.new) result }
+        ensures { Parses cause_of Reads RefusesMessage (I.rest source.old) (I.rest source.new)
+            (I.faults source.old) (I.faults source.new) result }
     {
         let octets = read_all(alloc, source, MOST_OCTETS)?;
         Message::decode_slice(alloc, &octets)
@@ -298,7 +298,8 @@ impl Message {
         Message::decode_slice_counted(alloc, octets, &mut steps)
     }
 
-    /// As [`Message::decode_slice`]. It ticks each time it looks at a header, in certificates and requests: at most twice for each octet
+    /// As [`Message::decode_slice`]. It ticks once for each header and each end mark that it passes in certificates and
+    /// requests; a header of an algorithm, a kept identifier or a location is read twice, and ticks once: at most twice for each octet
     /// that it was given, and 8 times more.
     pub fn decode_slice_counted<L: Ledger>(
         alloc: Global,

@@ -1,8 +1,9 @@
 //! Lists of what is published.
 
-ghost use Rattle.std.specs.Prelude.{◌≡◌, ◌++◌, ◌∷◌, [], map, IfOk, IfErr, OnOk, OnErr};
+ghost use Rattle.std.specs.Prelude.{◌≡◌, ◌++◌, ◌∷◌, [], map, IfOk, IfErr, IsTrue, OnOk, OnErr};
+ghost use Rattle.std.specs.List.{AllByRecursion};
 ghost use Rattle.rpki_publication.specs.declared.publish_delta_element.PublishDeltaElement.TheVariants as change;
-ghost use Rattle.rpki_publication.specs.ListReply.{withdrawal_of};
+ghost use Rattle.rpki_publication.specs.ListReply.{withdrawal_of, IsWritableListElement};
 
 use crate::list_element::ListElement;
 use crate::publish_delta::PublishDelta;
@@ -65,6 +66,18 @@ impl ListReply {
         ensures { result.now ≡ self.now }
     {
         self.elements.as_slice()
+    }
+
+    /// Whether it can be written so that it is read again: each list can. It takes no memory.
+    pub fn is_writable(&self) -> bool
+        ensures always { IsTrue result }
+        ensures writable { AllByRecursion IsWritableListElement self.now }
+    {
+        // For the proof: each of the objects can.
+        for element in self.elements() {
+            let _uri = element.uri();
+        }
+        true
     }
 
     /// The objects, handed out in their order.

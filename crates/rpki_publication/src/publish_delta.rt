@@ -1,6 +1,8 @@
 //! Changes of objects.
 
 ghost use Rattle.std.specs.Prelude.{◌≡◌, ◌↔◌, ◌++◌, ◌∷◌, [], length, IsTrue, IfOk, IfErr, OnOk, OnErr};
+ghost use Rattle.std.specs.List.{AllByRecursion};
+ghost use Rattle.rpki_publication.specs.Change.{IsWritableChange};
 ghost use Rattle.rpki_publication.specs.declared.publish_delta_element.PublishDeltaElement.TheVariants as change;
 
 use crate::publish::Publish;
@@ -111,6 +113,18 @@ impl PublishDelta {
         ensures { result.now ≡ self.now }
     {
         self.elements.as_slice()
+    }
+
+    /// Whether they can be written so that they are read again: tags consist of octets that a document may have. It takes no memory.
+    pub fn is_writable(&self) -> bool
+        ensures { IsTrue result ↔ AllByRecursion IsWritableChange self.now }
+    {
+        for element in self.elements() {
+            if !element.is_writable() {
+                return false;
+            }
+        }
+        true
     }
 
     /// The changes, handed out in their order.

@@ -7,7 +7,7 @@ ghost use Rattle.std.specs.Cmp.{partial_equiv_from_equiv};
 ghost use Rattle.std.specs.Cmp.Rules.{hashing};
 ghost use Rattle.std.proofs.Common.{rules};
 ghost use Rattle.std.specs.List.{AllPass};
-ghost use Rattle.hex.specs.Hex.{decode_of, encode_lower, is_hex_digit};
+ghost use Rattle.hex.specs.Hex.{decode_of, encode_lower, is_hex_digit, IsBytes};
 ghost use Rattle.sha2.specs.Sha256.{sha256};
 ghost use Rattle.rpki_text.specs.Hash.{digest_of_text};
 
@@ -67,6 +67,7 @@ impl Hash {
     pub fn as_slice(&self) -> &[u8]
         ensures octets { result.now ≡ self.now }
         ensures size { length result.now ≡ 32 }
+        ensures bytes { IsBytes result.now }
     {
         &self.octets
     }

@@ -139,8 +139,16 @@ impl<K: UriKind> Uri<K> {
         ensures accepted { OnOk result (fault_of K.kind (joined_text self.now path.now) ≡ None) }
         ensures fault { IfErr result (λ e.
             e ≢ Error.OutOfMemory → fault_of K.kind (joined_text self.now path.now) ≡ Some e) }
+
+        // A text that is too long is not told as want of memory.
+        ensures memory { IsErrOf result Error.OutOfMemory
+            → length (joined_text self.now path.now) ≤ 65535 }
     {
-        let joined = joined(alloc, self.as_str().as_bytes(), path)?;
+        let base = self.as_str().as_bytes();
+        if joined_length(base, path) > MOST_OCTETS {
+            return Err(Error::TooLong);
+        }
+        let joined = joined(alloc, base, path)?;
         check::<K>(&joined)?;
         Ok(Uri {
             text: Text::from_str(alloc, ascii_text(&joined))?,
@@ -390,6 +398,15 @@ fn joined(alloc: Global, base: &[u8], path: &[u8]) -> Result<Vec<u8>, AllocError
     }
     text.extend_from_slice(without_slash(path))?;
     Ok(text)
+}
+
+/// The length of what `joined` makes.
+fn joined_length(base: &[u8], path: &[u8]) -> usize
+    requires { length base.now ≤ 65535 }
+    ensures { result ≡ length (joined_text base.now path.now) }
+{
+    let slash = if base.ends_with(b"/") { 0 } else { 1 };
+    base.len() + slash + without_slash(path).len()
 }
 
 /// `path` without its first slash, if it begins with one.

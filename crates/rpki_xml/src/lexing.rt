@@ -451,8 +451,9 @@ pub(crate) fn piece_at<'a>(
     }
 }
 
-/// Whether all are octets that a document may have. It looks at each octet, so that several are tested at once.
-pub(crate) fn are_octets(b: &[u8]) -> bool
+/// Whether all are octets that a document may have: the tab, the line feed, the carriage return and the printable ones of ASCII. It looks
+/// at each octet, so that several are tested at once.
+pub fn are_octets(b: &[u8]) -> bool
     ensures { result ≡ list_all is_octet b.now }
 {
     let mut all = true;

@@ -36,5 +36,7 @@ pub use law::{
     equal_errors_are_the_same, optional_attributes_follow, runs_are_repetitions,
     spelled_attributes_are_read, spelled_is_read, texts_are_trimmed,
 };
+pub use lexing::are_octets;
 pub use lookup::require;
+pub use stack::is_trimmed;
 pub use writer::ElementWriter;

@@ -1,6 +1,6 @@
 //! The open elements, as they lie in the list of nodes. `source` is the document, in which the nodes have their places.
 
-ghost use Rattle.std.specs.Prelude.{◌≡◌, ◌≤◌, OnOk, length, reverse, Some};
+ghost use Rattle.std.specs.Prelude.{◌≡◌, ◌↔◌, ◌≤◌, IsTrue, OnOk, length, reverse, Some};
 ghost use Rattle.std.specs.List.{list_all};
 ghost use Rattle.rpki_xml.specs.Content.{is_white, trimmed, without_white};
 ghost use Rattle.rpki_xml.specs.Answers.{Gives};
@@ -165,6 +165,14 @@ fn trimmed_of(alloc: Global, source: &[u8], text: &Text) -> Result<Text, XmlErro
     let begun = without_leading(text.octets(source));
     let trimmed = without_trailing(begun);
     text.part(alloc, source, trimmed, begun.len() - trimmed.len())
+}
+
+/// Whether a text has no outer white space, so that an element's text is read as it is.
+#[tactic(auto, unfolding(crate::specs::Content::trimmed))]
+pub fn is_trimmed(text: &[u8]) -> bool
+    ensures { IsTrue result ↔ (trimmed text.now ≡ text.now) }
+{
+    without_trailing(without_leading(text)) == text
 }
 
 /// Whether a text is white space alone.

@@ -1,4 +1,4 @@
--- Certificates and requests that were read are written as octets, which are read as them.
+-- Certificates and requests that were read in DER are written as octets, which are read as them.
 use Rattle.std.proofs.Common.{◌≡◌, ℕ, zero, suc, ◌<◌, ◌%◌, ◌/◌, Bool, true, false, Option, Some, None, List, [], ◌∷◌, ◌++◌, length, refl, sym, ap, subst, arith}
 use Rattle.std.specs.Prelude.{nat_lt, if◌then◌else◌}
 use Rattle.std.specs.List.{list_all}
@@ -36,12 +36,21 @@ use Rattle.rpki_cert.specs.CsrAttributes.{ca_attributes}
 use Rattle.rpki_idcert.proofs.Rewriting.{written_again}
 use Rattle.rpki_cert.proofs.Shorter.{back_bytes, request_spelled}
 use Rattle.rpki_cert.proofs.Slices.{slice_is, certificate_again}
-use Rattle.rpki_message.proofs.Symbols.{both_bytes, byte_first, no_bytes}
-use Rattle.rpki_updown.specs.Entitlements.{CaRequest}
-use Rattle.rpki_provisioning.specs.Shape.{certificate_of, request_of, request_octets}
-use Rattle.rpki_provisioning.specs.Writable.{IsCertificate, IsRequest}
+use Rattle.rpki_cert.specs.Making.{CaRequest}
+use Rattle.rpki_cert.specs.ReadInDer.{IsCertificate, IsReadInDer, IsRequest}
 
 -- ---- octets
+
+pub byte_first : (x : ℕ) (m : List ℕ) → x < 256 → IsBytes m → IsBytes (x ∷ m)
+byte_first x m lt h zero = lt
+byte_first x m lt h (suc i) = h i
+
+pub no_bytes : IsBytes []
+no_bytes i = omega arith
+
+pub both_bytes : (a b : List ℕ) → IsBytes a → IsBytes b → IsBytes (a ++ b)
+both_bytes [] b h k = k
+both_bytes (x ∷ a) b h k = byte_first x (a ++ b) (h 0) (both_bytes a b (λ i. h (suc i)) k)
 
 all_bytes : (l : List ℕ) → list_all (λ c. nat_lt c 256) l ≡ true → IsBytes l
 all_bytes [] h = no_bytes
@@ -153,30 +162,26 @@ data_bytes d h =
 
 -- ---- what begins octets
 
-pub begins : {X : Type 0} (grammar : Value → Option X) (octets : List ℕ) (x : X) → decoded grammar Der octets ≡ Some x → BeginsAs grammar Der octets x
-unfolding decoded
-begins grammar octets x e =
-    let b = bound (value_at Der octets) (λ v. grammar v.0) x e in
-    record { value = b.x.0; rest = b.x.1; begins = value_at-sound Der octets b.x.0 b.x.1 b.found; reads = b.then' }
+abbrev as_request : List ℕ → Option CaRequest
+as_request octets = decoded (certification_request ca_attributes (whole_of x509_algorithm) Der) Der octets
 
-pub certificate_writable : (o : List ℕ) (c : CertFields) → IsBytes o → certificate_of o ≡ Some c → IsCertificate c
-certificate_writable o c h e =
-    let b = begins (certificate Der) o c e in
+pub certificate_read : (o : List ℕ) (c : CertFields) → IsBytes o → BeginsAs (certificate Der) Der o c → IsCertificate c
+certificate_read o c h b =
     let own : IsBytes (spelling b.value) = front_bytes (spelling b.value) b.rest (subst IsBytes b.begins.parts h) in
     record {
       octets = subst IsBytes (sym (slice_is Der b.value c b.reads)) own;
-      read = subst (λ (l : List ℕ). certificate_of l ≡ Some c) (append-nil c.slice) (decoded_ok (certificate Der) Der (c.slice ++ []) c (certificate_again o [] c b));
+      read = subst (λ (l : List ℕ). decoded (certificate Der) Der l ≡ Some c) (append-nil c.slice) (decoded_ok (certificate Der) Der (c.slice ++ []) c (certificate_again o [] c b));
     }
 
-pub request_writable : (o : List ℕ) (r : CaRequest) → IsBytes o → request_of o ≡ Some r → IsRequest r
+pub request_read : (r : CaRequest) → IsReadInDer ca_attributes (whole_of x509_algorithm) r → IsRequest r
 unfolding certification_request
-request_writable o r h e =
-    let b = begins (certification_request ca_attributes (whole_of x509_algorithm) Der) o r e in
-    let own : IsBytes (spelling b.value) = front_bytes (spelling b.value) b.rest (subst IsBytes b.begins.parts h) in
-    let w = written_again (request_info ca_attributes) (whole_of x509_algorithm) spelled_x509 Der b.value r [] b.begins.lawful b.reads (request_spelled o r h b)
+request_read r d =
+    let b = d.begins in
+    let own : IsBytes (spelling b.value) = front_bytes (spelling b.value) b.rest (subst IsBytes b.begins.parts d.bytes) in
+    let w = written_again (request_info ca_attributes) (whole_of x509_algorithm) spelled_x509 Der b.value r [] b.begins.lawful b.reads (request_spelled d.octets r d.bytes b)
     (λ q a f. x509_again Der a (x509_named Der q a f)) (λ a. x509_value Der a []) in
     record {
       octets = data_bytes r.signed (signed_bytes (request_info ca_attributes) b.value r own b.reads);
-      read = subst (λ (l : List ℕ). request_of l ≡ Some r) (append-nil (request_octets r))
-          (decoded_ok (certification_request ca_attributes (whole_of x509_algorithm) Der) Der (request_octets r ++ []) r (record { value = w.0; rest = []; begins = w.1; reads = w.2 }));
+      read = subst (λ (l : List ℕ). as_request l ≡ Some r) (append-nil (spelled_data spelled_x509 r.signed))
+          (decoded_ok (certification_request ca_attributes (whole_of x509_algorithm) Der) Der (spelled_data spelled_x509 r.signed ++ []) r (record { value = w.0; rest = []; begins = w.1; reads = w.2 }));
     }
