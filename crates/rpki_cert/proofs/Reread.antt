@@ -165,6 +165,12 @@ data_bytes d h =
 abbrev as_request : List ℕ → Option CaRequest
 as_request octets = decoded (certification_request ca_attributes (whole_of x509_algorithm) Der) Der octets
 
+pub begins : {X : Type 0} (grammar : Value → Option X) (octets : List ℕ) (x : X) → decoded grammar Der octets ≡ Some x → BeginsAs grammar Der octets x
+unfolding decoded
+begins grammar octets x e =
+    let b = bound (value_at Der octets) (λ v. grammar v.0) x e in
+    record { value = b.x.0; rest = b.x.1; begins = value_at-sound Der octets b.x.0 b.x.1 b.found; reads = b.then' }
+
 pub certificate_read : (o : List ℕ) (c : CertFields) → IsBytes o → BeginsAs (certificate Der) Der o c → IsCertificate c
 certificate_read o c h b =
     let own : IsBytes (spelling b.value) = front_bytes (spelling b.value) b.rest (subst IsBytes b.begins.parts h) in
@@ -185,3 +191,9 @@ request_read r d =
       read = subst (λ (l : List ℕ). as_request l ≡ Some r) (append-nil (spelled_data spelled_x509 r.signed))
           (decoded_ok (certification_request ca_attributes (whole_of x509_algorithm) Der) Der (spelled_data spelled_x509 r.signed ++ []) r (record { value = w.0; rest = []; begins = w.1; reads = w.2 }));
     }
+
+pub certificate_decoded : (o : List ℕ) (c : CertFields) → IsBytes o → decoded (certificate Der) Der o ≡ Some c → IsCertificate c
+certificate_decoded o c h e = certificate_read o c h (begins (certificate Der) o c e)
+
+pub request_decoded : (o : List ℕ) (r : CaRequest) → IsBytes o → as_request o ≡ Some r → IsRequest r
+request_decoded o r h e = request_read r (record { octets = o; bytes = h; begins = begins (certification_request ca_attributes (whole_of x509_algorithm) Der) o r e })

@@ -1,6 +1,6 @@
 //! Making requests.
 
-ghost use Rattle.std.specs.Prelude.{◌≡◌, ◌≢◌, ◌↔◌, ◌++◌, true, Some, None, IfOk, IfErr, IsOk, OnOk, MatchResult};
+ghost use Rattle.std.specs.Prelude.{◌≡◌, ◌≢◌, ◌≤◌, ◌↔◌, ◌++◌, true, Some, None, length, IfOk, IfErr, IsErrOf, IsOk, OnOk, MatchResult};
 ghost use Rattle.std.specs.Option.{option_copied};
 ghost use Rattle.rpki_der.specs.Tags.{sequence, set};
 ghost use Rattle.rpki_der.specs.Writing.{der_primitive, der_constructed};
@@ -106,7 +106,12 @@ fn slashed(alloc: Global, uri: &Rsync) -> Result<Rsync, uri::Error>
     ensures lawful { OnOk result (fault_of rsync (spec.slashed uri.now) ≡ None) }
     ensures fault { IfErr result (λ e.
         e ≢ fault.OutOfMemory → fault_of rsync (spec.slashed uri.now) ≡ Some e) }
+
+    // A URI that its slash makes too long is not told as want of memory.
+    ensures memory { IsErrOf result fault.OutOfMemory → length (spec.slashed uri.now) ≤ 65535 }
 {
+    // For the proof: the URI is lawful, so it is short.
+    let _uri = uri.as_str();
     if uri.path_is_dir() {
         Ok(uri.clone(alloc)?)
     } else {

@@ -5,6 +5,7 @@ ghost use Rattle.rpki_message.specs.Answers.{Parses, WritesText};
 ghost use Rattle.rpki_provisioning.specs.Answers.{RefusesMessage, RefusesText};
 ghost use Rattle.rpki_provisioning.specs.Message.{Reads, text_of};
 ghost use Rattle.rpki_provisioning.specs.Shape.{payload_type_of, shape_of};
+ghost use Rattle.rpki_provisioning.specs.Writable.{IsWritable};
 ghost use Rattle.rpki_provisioning.specs.declared.payload.Payload.TheVariants as payloads;
 ghost use Rattle.rpki_updown.specs.Answers.{cause_of};
 ghost use Rattle.rpki_updown.specs.declared.payload_type.PayloadType.TheVariants as kinds;
@@ -250,6 +251,14 @@ impl Message {
             × (self.now.recipient ≡ other.now.recipient)) }
     {
         self.sender == other.sender && self.recipient == other.recipient
+    }
+
+    /// Whether it can be written so that it is read again: the handles have the pattern, names of classes and a description consist of
+    /// octets that a document may have, and a description has no outer white space. It takes no memory.
+    pub fn is_writable(&self) -> bool
+        ensures { IsTrue result ↔ IsWritable self.now }
+    {
+        self.sender.has_pattern() && self.recipient.has_pattern() && self.payload.is_writable()
     }
 
     /// An equal message, which shares its octets with this one.
