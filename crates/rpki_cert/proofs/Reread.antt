@@ -1,5 +1,5 @@
 -- Certificates and requests that were read in DER are written as octets, which are read as them.
-use Rattle.std.proofs.Common.{◌≡◌, ℕ, zero, suc, ◌<◌, ◌%◌, ◌/◌, Bool, true, false, Option, Some, None, List, [], ◌∷◌, ◌++◌, length, refl, sym, ap, subst, arith}
+use Rattle.std.proofs.Common.{◌≡◌, ℕ, zero, suc, ◌<◌, ◌%◌, ◌/◌, Bool, true, false, Option, Some, None, Result, Ok, List, [], ◌∷◌, ◌++◌, length, refl, sym, ap, subst, arith}
 use Rattle.std.specs.Prelude.{nat_lt, if◌then◌else◌}
 use Rattle.std.specs.List.{list_all}
 use Rattle.std.proofs.lemmas.Bool.{ltb-true}
@@ -15,9 +15,11 @@ use Rattle.rpki_der.specs.Bits.{BitFields, bits, bit_string}
 use Rattle.rpki_der.specs.Grammar.{primitive, within, first, so}
 use Rattle.rpki_der.specs.Held.{with_octets}
 use Rattle.rpki_der.specs.Identifier.{has_tag}
+use Rattle.rpki_der.specs.Position.{Position}
 use Rattle.rpki_der.specs.Reader.{value_at, decoded}
 use Rattle.rpki_der.specs.Tags.{sequence, bit_string_tag}
 use Rattle.rpki_der.specs.Takes.{BeginsAs}
+use Rattle.rpki_der.specs.Ticks.{CountedOne}
 use Rattle.rpki_der.specs.Value.{Value, Primitive, Constructed, Values, lengths_of, end_mark, spelling, spellings}
 use Rattle.rpki_der.specs.Whole.{whole_of}
 use Rattle.rpki_der.specs.Writing.{octets_of, der_length, with_bit_6, der_primitive, der_constructed}
@@ -31,9 +33,10 @@ use Rattle.rpki_base.specs.RpkiSignatureAlgorithm.{RpkiAlgorithm, x509_algorithm
 use Rattle.rpki_base.specs.Signature.{SignatureParts}
 use Rattle.rpki_base.specs.SignedData.{SignedParts, Signed, algorithm_in, signature_in, signed_as, signed_fields, signed_value, spelled_parts, spelled_data}
 use Rattle.rpki_cert.specs.Cert.{CertFields, certificate}
-use Rattle.rpki_cert.specs.Csr.{request_info, certification_request}
+use Rattle.rpki_cert.specs.Csr.{RequestFields, request_info, certification_request}
 use Rattle.rpki_cert.specs.CsrAttributes.{ca_attributes}
 use Rattle.rpki_idcert.proofs.Rewriting.{written_again}
+use Rattle.rpki_cert.proofs.Captured.{decodes_counted, decodes_uncounted}
 use Rattle.rpki_cert.proofs.Shorter.{back_bytes, request_spelled}
 use Rattle.rpki_cert.proofs.Slices.{slice_is, certificate_again}
 use Rattle.rpki_cert.specs.Making.{CaRequest}
@@ -197,3 +200,17 @@ certificate_decoded o c h e = certificate_read o c h (begins (certificate Der) o
 
 pub request_decoded : (o : List ℕ) (r : CaRequest) → IsBytes o → as_request o ≡ Some r → IsRequest r
 request_decoded o r h e = request_read r (record { octets = o; bytes = h; begins = begins (certification_request ca_attributes (whole_of x509_algorithm) Der) o r e })
+
+-- ---- what a cursor in DER took
+
+pub certificate_taken : (octets : List ℕ) (p q : Position) (b a : ℕ) (c : CertFields) → p ≡ record { mode = Der; here = octets; levels = [] } → IsBytes octets → CountedOne 2 (certificate p.mode) p q b a c → IsCertificate c
+certificate_taken octets p q b a c e h t =
+    certificate_read octets c h (decodes_uncounted 2 (certificate Der) Der octets (λ (x : CertFields). x) b a (Ok c) (decodes_counted 2 certificate Der octets p q (λ (x : CertFields). x) b a (Ok c) e t))
+
+pub request_taken : {A T : Type 0} (attributes : Mode → Value → Option T) (reads : Mode → List ℕ → Option A) (octets : List ℕ) (p q : Position) (b a : ℕ) (r : Signed A (RequestFields T)) → p ≡ record { mode = Der; here = octets; levels = [] } → IsBytes octets
+    → CountedOne 2 (certification_request attributes reads p.mode) p q b a r → IsReadInDer attributes reads r
+request_taken {A} {T} attributes reads octets p q b a r e h t = record {
+  octets = octets;
+  bytes = h;
+  begins = decodes_uncounted 2 (certification_request attributes reads Der) Der octets (λ (x : Signed A (RequestFields T)). x) b a (Ok r) (decodes_counted 2 (certification_request attributes reads) Der octets p q (λ (x : Signed A (RequestFields T)). x) b a (Ok r) e t);
+}

@@ -22,7 +22,7 @@ mod texts;
 mod transfer;
 mod writable;
 
-pub use cause::Cause;
+pub use cause::{Cause, equal_causes_are_the_same};
 pub use optional_text::{cloned, handed_out, lent, shared, taken_in};
 pub use printing::{
     write_attribute, write_base64, write_end, write_inside, write_optional, write_text,

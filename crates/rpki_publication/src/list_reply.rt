@@ -74,9 +74,7 @@ impl ListReply {
         ensures writable { AllByRecursion IsWritableListElement self.now }
     {
         // For the proof: each of the objects can.
-        for element in self.elements() {
-            let _uri = element.uri();
-        }
+        are_writable(self.elements());
         true
     }
 
@@ -105,6 +103,15 @@ impl ListReply {
         ensures { IfOk result (λ r. r ≡ self.now) }
     {
         Ok(ListReply::new(copied(alloc, self.elements())?))
+    }
+}
+
+// Each object can be written so that it is read again.
+fn are_writable(elements: &[ListElement])
+    ensures { AllByRecursion IsWritableListElement elements.now }
+{
+    for element in elements {
+        let _uri = element.uri();
     }
 }
 

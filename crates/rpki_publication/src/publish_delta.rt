@@ -119,12 +119,7 @@ impl PublishDelta {
     pub fn is_writable(&self) -> bool
         ensures { IsTrue result ↔ AllByRecursion IsWritableChange self.now }
     {
-        for element in self.elements() {
-            if !element.is_writable() {
-                return false;
-            }
-        }
-        true
+        are_writable(self.elements())
     }
 
     /// The changes, handed out in their order.
@@ -169,4 +164,16 @@ fn copied(
         copies.push(e.clone(alloc)?)?;
     }
     Ok(copies)
+}
+
+// Whether each change can be written so that it is read again.
+fn are_writable(changes: &[PublishDeltaElement]) -> bool
+    ensures { IsTrue result ↔ AllByRecursion IsWritableChange changes.now }
+{
+    for element in changes {
+        if !element.is_writable() {
+            return false;
+        }
+    }
+    true
 }

@@ -69,9 +69,16 @@ impl Hash {
         ensures size { length result.now ≡ 32 }
         ensures bytes { IsBytes result.now }
     {
+        // For the proof: they are octets.
+        are_bytes(&self.octets);
         &self.octets
     }
 }
+
+/// Each is below 256.
+fn are_bytes(octets: &[u8])
+    ensures { IsBytes octets.now }
+{}
 
 /// The digits of 32 octets are read as these octets.
 fn digits_are_read_back(octets: &[u8])
