@@ -10,7 +10,7 @@ use Rattle.rpki_text.specs.declared.reading.ReadAllError.TheVariants as read
 use Rattle.rpki_xml.specs.Element.{Element}
 use Rattle.rpki_message.specs.declared.cause.Cause.{Cause}
 use Rattle.rpki_message.specs.declared.cause.Cause.TheVariants as causes
-use Rattle.rpki_message.specs.Reading.{ReadsAs, IsNoMessage}
+use Rattle.rpki_message.specs.Reading.{IsNoMessage}
 
 -- an error that is nothing but its cause
 abbrev pub itself : Cause → Option Cause
