@@ -10,7 +10,7 @@
 //! - [`lent`], [`shared`], [`handed_out`], [`taken_in`], [`cloned`]: texts that may be absent.
 //!
 //! A table of messages is a partial function from elements to what they mean, and what octets are read as by it stands in
-//! specs/Reading.antt; what calls answer, for any such table and any type of errors, in specs/Answers.antt.
+//! specs/Reading.antt; what calls answer, for any messages and any type of errors, in specs/Answers.antt.
 //!
 //! [`XmlError::Malformed`]: rpki_xml::XmlError::Malformed
 #![tactic(auto)]
