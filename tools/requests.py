@@ -8,10 +8,10 @@ and their fields are what that prints.
 
 A line is `NAME MODE OCTETS STEP..`, with the steps of tools/stored.py; MODE is `der`, `ber` or `both`. What the calls answer:
 
-    authority next_authority
+    authority
         the subject; the key's format, bits and identifier; what authority_attributes answers; the signed octets, the signature, and
-        the request as it is written; the second call goes behind the request
-    router next_router
+        the request as it is written
+    router
         the same of a router's, with what router_attributes answers
     authority_attributes router_attributes
         whether the subject is an authority, `ca` or `ee` for the key's usage, the contents of the purposes with an octet 00 behind
@@ -22,7 +22,7 @@ A line is `NAME MODE OCTETS STEP..`, with the steps of tools/stored.py; MODE is 
         what is printed of an attribute that no request can have, by its object identifier
     authority_holds router_holds
         whether the request is signed with its own key by the toy scheme
-    certificate next_certificate
+    certificate
         the key's format, bits and identifier; the certificate's octets, and these in base64
     equal,OCTETS
         whether the certificates at the beginning of both are equal
@@ -136,17 +136,15 @@ def fields(o, router=False):
 KINDS = "authority", "router"
 
 
-def read(label, mode="der", router=False, reads=True, holds=True, strictly=None, goes_on=True, **options):
-    """A request of one kind, which is read as one, or isn't; it is never read as one of the other kind, nor as a certificate. Where
-    it is read and gone on from, that is by a cursor too."""
+def read(label, mode="der", router=False, reads=True, holds=True, strictly=None, **options):
+    """A request of one kind, which is read as one, or isn't; it is never read as one of the other kind, nor as a certificate."""
     o = options_of(router, **options)
     own, other = KINDS[router], KINDS[not router]
     octets, shown = request(o) + NULL, fields(o, router) if reads else None
     strict = shown if mode == "der" or strictly else None
     steps = [answered(own, strict), step(other, MALFORMED), step("certificate", MALFORMED)]
     steps.append(step(f"{own}_holds", *([holds] if strict else [MALFORMED])))
-    steps += [answered(f"next_{own}", shown)] if goes_on or not reads else []
-    yield line(label, mode, octets, *steps, *([step("capture", NULL)] if shown and goes_on else []))
+    yield line(label, mode, octets, *steps)
 
 
 def attributes_line(label, authority, router, **options):
@@ -159,14 +157,14 @@ def attributes_line(label, authority, router, **options):
 
 def both(label, authority=True, router=True, **options):
     """The same said in a request of each kind, and by itself."""
-    yield from read(label, reads=authority, goes_on=False, **options)
-    yield from read(f"{label}-router", router=True, reads=router, goes_on=False, **options)
+    yield from read(label, reads=authority, **options)
+    yield from read(f"{label}-router", router=True, reads=router, **options)
     yield from attributes_line(label, authority, router, **options)
 
 
 def alone(label, authority=True, router=True, **options):
     """The same said in a request of an authority, and by itself."""
-    yield from read(label, reads=authority, goes_on=False, **options)
+    yield from read(label, reads=authority, **options)
     yield from attributes_line(label, authority, router, **options)
 
 
@@ -253,8 +251,7 @@ def frame_cases():
         ("cut-router", request(options_of(router=True))[:-1]),
             ("null", NULL)):
         yield line(label, "both", octets, *[step(call, MALFORMED) for call in (
-            "authority", "router", "certificate", "next_authority", "next_router", "next_certificate", "authority_attributes",
-            "router_attributes")])
+            "authority", "router", "certificate", "authority_attributes", "router_attributes")])
 
 
 def attribute_cases():
@@ -657,7 +654,7 @@ def of_openssl(label, subject, asked, router=False, rsa=False):
         octets[first:last], octets[signature:], octets)
     own, other = KINDS[router], KINDS[not router]
     yield line(f"openssl-{label}", "der", octets, answered(own, shown), step(other, MALFORMED), step("certificate", MALFORMED),
-        step(f"{own}_holds", *([False] if shown else [MALFORMED])), answered(f"next_{own}", shown))
+        step(f"{own}_holds", *([False] if shown else [MALFORMED])))
 
 
 def openssl_cases():
@@ -674,7 +671,7 @@ def openssl_cases():
     octets, _, key, _ = openssl.PLACES["certificate"]
     shown = "rsa", octets[slice(*key)], openssl.RSA_IDENTIFIER, octets, base64.b64encode(octets)
     yield line("openssl-certificate", "both", octets, answered("certificate", shown), step("authority", MALFORMED),
-        step("router", MALFORMED), answered("next_certificate", shown), step("capture", MALFORMED))
+        step("router", MALFORMED))
 
 
 # ---- making

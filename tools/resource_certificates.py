@@ -62,7 +62,7 @@ def certified(label, mode="der", reads=True, key=1, **options):
     shown = certificate_fields(octets, key) if reads else None
     strict = shown if mode == "der" else None
     yield line(f"certificate-{label}", mode, octets + NULL, answered("certificate", strict), step("authority", MALFORMED),
-        step("router", MALFORMED), answered("next_certificate", shown), *([step("capture", NULL)] if shown else []))
+        step("router", MALFORMED))
 
 
 def certificate_cases():
@@ -121,8 +121,7 @@ def no_certificate_cases():
             "whole-set": dict(whole=lambda *parts: value(0x31, b"".join(parts))),
             "tbs-set": dict(tbs=lambda *parts: value(0x31, b"".join(parts)))}.items():
         yield from certified(label, reads=False, **options)
-    yield line("certificate-cut", "both", certificate_of()[:-1], step("certificate", MALFORMED),
-        step("next_certificate", MALFORMED))
+    yield line("certificate-cut", "both", certificate_of()[:-1], step("certificate", MALFORMED))
 
 
 def certificate_ber_cases():

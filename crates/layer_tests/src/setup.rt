@@ -1,6 +1,10 @@
 //! Of setup messages, what no clause shows: texts from outside, and faults in mid-stream. The octets in the certificates' places are 0, 1
 //! and 2.
 
+ghost use Rattle.std.specs.Prelude.{IfOk, IfSome, string_bytes};
+ghost use Rattle.rpki_message.specs.Reading.{ReadsAs};
+ghost use Rattle.rpki_setup.specs.ChildRequest.{child_request_in};
+
 use rpki_setup::*;
 use rpki_text::{Base64, MemorySink, MemorySource, uri};
 use std::alloc::Global;
@@ -116,5 +120,35 @@ fn a_fault_of_the_sink_is_told(rt: HostRuntime) -> Result<(), Fail> {
     let result = write_request(rt.alloc(), &mut sink);
     assert!(rt; matches!(result, Err(Error::Write)));
     assert_eq!(rt; sink.written(), b"<child_request".as_slice());
+    Ok(())
+}
+
+// The text of a request, where it can be read again: it is read as the request.
+fn text_if_writable(alloc: Global, request: &ChildRequest) -> Result<Option<String>, OutOfMemory>
+    ensures { IfOk result (λ text. IfSome text (λ t.
+        ReadsAs child_request_in (string_bytes t) request.now)) }
+{
+    written_is_read();
+    if !request.is_writable() {
+        return Ok(None);
+    }
+    Ok(Some(request.to_xml_string(alloc)?))
+}
+
+fn request_of(alloc: Global, name: &str) -> Result<ChildRequest, OutOfMemory> {
+    let octets = Base64::from_content(alloc, [0u8, 1, 2].as_slice())?;
+    let name = Text::from_str(alloc, name)?.into_rc_str();
+    Ok(ChildRequest::new(octets, Handle::new(name)))
+}
+
+fn is_written(alloc: Global, name: &str) -> Result<bool, OutOfMemory> {
+    let request = request_of(alloc, name)?;
+    Ok(text_if_writable(alloc, &request)?.is_some())
+}
+
+#[test]
+fn a_request_is_writable_where_its_handle_has_the_pattern(rt: HostRuntime) -> Result<(), Fail> {
+    assert!(rt; is_written(rt.alloc(), "Carol")?);
+    assert!(rt; !is_written(rt.alloc(), "Carol and Bob")?);
     Ok(())
 }

@@ -58,14 +58,6 @@ fn certificate_counted<L: Ledger>(
     certificate_shown(alloc, &Cert::decode_counted(alloc, octets, steps)?)
 }
 
-fn next_certificate<L: Ledger>(
-    alloc: Global,
-    cursor: &mut Cursor<'_>,
-    steps: &mut Steps<L>,
-) -> Result<Fields, DecodeError> {
-    certificate_shown(alloc, &Cert::take_from_counted(alloc, cursor, steps)?)
-}
-
 /// What a counted call answers; None where the step is none.
 pub fn counted_answer<L: Ledger>(
     alloc: Global,
@@ -75,7 +67,6 @@ pub fn counted_answer<L: Ledger>(
 ) -> Option<Result<Fields, DecodeError>> {
     match call {
         "certificate" => Some(certificate_counted(alloc, cursor.here(), steps)),
-        "next_certificate" => Some(next_certificate(alloc, cursor, steps)),
         _ => None,
     }
 }

@@ -90,22 +90,6 @@ fn router_counted<L: Ledger>(
     router_shown(alloc, &BgpsecCsr::decode_counted(alloc, octets, steps)?)
 }
 
-fn next_authority<L: Ledger>(
-    alloc: Global,
-    cursor: &mut Cursor<'_>,
-    steps: &mut Steps<L>,
-) -> Result<Fields, DecodeError> {
-    authority_shown(alloc, &RpkiCaCsr::take_from_counted(alloc, cursor, steps)?)
-}
-
-fn next_router<L: Ledger>(
-    alloc: Global,
-    cursor: &mut Cursor<'_>,
-    steps: &mut Steps<L>,
-) -> Result<Fields, DecodeError> {
-    router_shown(alloc, &BgpsecCsr::take_from_counted(alloc, cursor, steps)?)
-}
-
 fn next_authority_attributes<L: Ledger>(
     alloc: Global,
     cursor: &mut Cursor<'_>,
@@ -134,8 +118,6 @@ pub fn counted_answer<L: Ledger>(
     match call {
         "authority" => Some(authority_counted(alloc, cursor.here(), steps)),
         "router" => Some(router_counted(alloc, cursor.here(), steps)),
-        "next_authority" => Some(next_authority(alloc, cursor, steps)),
-        "next_router" => Some(next_router(alloc, cursor, steps)),
         "next_authority_attributes" => Some(next_authority_attributes(alloc, cursor, steps)),
         "next_router_attributes" => Some(next_router_attributes(alloc, cursor, steps)),
         _ => None,

@@ -6,3 +6,4 @@ pub mod Asking
 pub mod Constructing
 pub mod Slices
 pub mod Shorter
+pub mod Reread

@@ -1,5 +1,5 @@
 -- Said in contracts, and to be believed: ObjectIdentifiers, KeyUsage, ExtendedKeyUsage, Access, Extensions, CsrAttributes, Csr, Cert,
--- Making. Means for readers: Gathered.
+-- Making, ReadInDer. Means for readers: Gathered.
 pub mod ObjectIdentifiers
 pub mod KeyUsage
 pub mod ExtendedKeyUsage
@@ -10,3 +10,4 @@ pub mod CsrAttributes
 pub mod Csr
 pub mod Cert
 pub mod Making
+pub mod ReadInDer

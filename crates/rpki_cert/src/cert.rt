@@ -10,6 +10,7 @@ ghost use Rattle.rpki_der.specs.Whole.{whole_of};
 ghost use Rattle.rpki_base.specs.RpkiSignatureAlgorithm.{x509_algorithm};
 ghost use Rattle.rpki_base.specs.SignedData.{signed_as};
 ghost use Rattle.rpki_cert.specs.Cert.{CertFields, unread_extensions, tbs_certificate, what_is_signed, certificate};
+ghost use Rattle.rpki_cert.specs.ReadInDer.{IsCertificate};
 
 use bytes::Bytes;
 use rpki_base::{
@@ -23,9 +24,9 @@ use std::alloc::Global;
 use std::marker::{Brand, Model};
 use std::sync::ledger::{Blank, Ledger};
 
-/// A resource certificate: its exact octets, and the key of its subject (RFC 6487, 4).
+/// A resource certificate that was read in DER: its exact octets, and the key of its subject (RFC 6487, 4).
 ///
-/// In a clause it is these two. `==` compares the octets.
+/// In a clause it is these two; [`Cert::as_slice`] says that the octets are read as it. `==` compares the octets.
 #[derive_where(PartialEq, Eq)]
 pub struct Cert {
     slice: Bytes,
@@ -41,10 +42,13 @@ impl Drop for Cert {
 
 impl Model for Cert {
     ghost use Rattle.rpki_cert.specs.Cert.{CertFields};
+    ghost use Rattle.rpki_cert.specs.ReadInDer.{IsCertificate};
 
     ghost Value = { CertFields };
 
     ghost view = { λ c. record { slice = c.slice; key = c.key } };
+
+    ghost invariant = { λ c. IsCertificate (record { slice = c.slice; key = c.key }) };
 
     ghost inverse = { λ c. record { slice = c.slice; key = c.key } };
 }
@@ -63,9 +67,10 @@ impl Cert {
         &self.key
     }
 
-    /// The exact octets.
+    /// The exact octets, which are read as this certificate again.
     pub fn as_slice(&self) -> &[u8]
-        ensures { result.now ≡ self.now.slice }
+        ensures octets { result.now ≡ self.now.slice }
+        ensures der { IsCertificate self.now }
     {
         self.slice.as_slice()
     }
@@ -156,6 +161,23 @@ fn take_signed_key<L: Ledger>(
     Ok(key)
 }
 
+// The octets of the certificate that stands next, and the key of its subject, by the cursor's rules. It ticks each time it
+// looks at a header, and for each end mark, but not where it reads an algorithm again from its octets.
+fn take_parts<L: Ledger>(
+    alloc: Global,
+    cursor: &mut Cursor<'_>,
+    steps: &mut Steps<L>,
+) -> Result<(Bytes, PublicKey), DecodeError>
+    ensures { TakesCounted 2 (certificate cursor.old.mode) (λ p. record { slice = p.0; key = p.1 })
+        cursor.old cursor.new steps.old steps.new result }
+{
+    let start = cursor.here();
+    let key = take_signed_key(alloc, cursor, steps)?;
+    let octets = cursor.since(start);
+    let slice = Bytes::copy_from_slice(alloc, octets)?;
+    Ok((slice, key))
+}
+
 /// # Decoding
 impl Cert {
     /// The certificate at the beginning of the octets, in DER; what stands behind it isn't read. The fields of RFC 5280, 4.1.2, have to be
@@ -180,23 +202,7 @@ impl Cert {
             result }
     {
         let mut cursor = Cursor::new(alloc, Mode::Der, octets);
-        Cert::take_from_counted(alloc, &mut cursor, steps)
-    }
-
-    /// The certificate that stands next, by the cursor's rules. It ticks each time it looks at a header, and for each end mark,
-    /// but not where it reads an algorithm again from its octets.
-    pub fn take_from_counted<L: Ledger>(
-        alloc: Global,
-        cursor: &mut Cursor<'_>,
-        steps: &mut Steps<L>,
-    ) -> Result<Cert, DecodeError>
-        ensures { TakesCounted 2 (certificate cursor.old.mode) (λ c. c)
-            cursor.old cursor.new steps.old steps.new result }
-    {
-        let start = cursor.here();
-        let key = take_signed_key(alloc, cursor, steps)?;
-        let octets = cursor.since(start);
-        let slice = Bytes::copy_from_slice(alloc, octets)?;
+        let (slice, key) = take_parts(alloc, &mut cursor, steps)?;
         Ok(Cert { slice, key })
     }
 }

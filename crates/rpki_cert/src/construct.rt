@@ -1,6 +1,6 @@
 //! Making requests.
 
-ghost use Rattle.std.specs.Prelude.{◌≡◌, ◌≢◌, ◌++◌, Some, None, IfOk, IfErr, IsOk, OnOk, MatchResult};
+ghost use Rattle.std.specs.Prelude.{◌≡◌, ◌≢◌, ◌≤◌, ◌↔◌, ◌++◌, true, Some, None, length, IfOk, IfErr, IsErrOf, IsOk, OnOk, MatchResult};
 ghost use Rattle.std.specs.Option.{option_copied};
 ghost use Rattle.rpki_der.specs.Tags.{sequence, set};
 ghost use Rattle.rpki_der.specs.Writing.{der_primitive, der_constructed};
@@ -8,6 +8,7 @@ ghost use Rattle.rpki_signer.specs.Signer.{AreDistinct, Stays};
 ghost use Rattle.rpki_signer.specs.declared.errors.MakeError.TheVariants as make;
 ghost use Rattle.rpki_text.specs.Uri.{rsync, fault_of};
 ghost use Rattle.rpki_text.specs.declared.uri.Error.TheVariants as fault;
+ghost use Rattle.rpki_cert.specs.declared.construct.CsrError.{CsrError};
 ghost use Rattle.rpki_cert.specs.declared.construct.CsrError.TheVariants as variant;
 ghost use Rattle.rpki_cert.specs.Making as spec;
 
@@ -38,6 +39,12 @@ pub enum CsrError<E> {
     /// Memory ran out.
     OutOfMemory,
 }
+
+/// `==` holds exactly between errors that are the same, where it does so between what the signer says.
+pub fn equal_request_errors_are_the_same<E: PartialEq>()
+    ensures { ((x y : E) → (E.eq x y ≡ true) ↔ (x ≡ y)) → (a b : CsrError E)
+        → (⟦<CsrError<E> as PartialEq>⟧.eq a b ≡ true) ↔ (a ≡ b) }
+{}
 
 impl<E> From<OutOfMemory> for CsrError<E> {
     ghost from_gives = { λ _ e. e ≡ variant.OutOfMemory };
@@ -99,7 +106,12 @@ fn slashed(alloc: Global, uri: &Rsync) -> Result<Rsync, uri::Error>
     ensures lawful { OnOk result (fault_of rsync (spec.slashed uri.now) ≡ None) }
     ensures fault { IfErr result (λ e.
         e ≢ fault.OutOfMemory → fault_of rsync (spec.slashed uri.now) ≡ Some e) }
+
+    // A URI that its slash makes too long is not told as want of memory.
+    ensures memory { IsErrOf result fault.OutOfMemory → length (spec.slashed uri.now) ≤ 65535 }
 {
+    // For the proof: the URI is lawful, so it is short.
+    let _uri = uri.as_str();
     if uri.path_is_dir() {
         Ok(uri.clone(alloc)?)
     } else {

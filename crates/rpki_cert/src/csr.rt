@@ -8,6 +8,7 @@ ghost use Rattle.rpki_der.specs.Takes.{Decodes};
 ghost use Rattle.rpki_der.specs.Ticks.{TakesCounted, DecodesCounted};
 ghost use Rattle.rpki_base.specs.SignedData.{spelled_data, CanBeSpelled};
 ghost use Rattle.rpki_cert.specs.Csr.{request_info, certification_request};
+ghost use Rattle.rpki_cert.specs.ReadInDer.{IsReadInDer};
 
 use crate::csr_attributes::{BgpsecCsrAttributes, CsrAttributes, RpkiCaCsrAttributes};
 use crate::extended_key_usage::ExtendedKeyUsage;
@@ -56,9 +57,9 @@ impl<Attributes: CsrAttributes> Model for CsrContent<Attributes> {
     } };
 }
 
-/// A certificate request: the exact octets that are signed with their signature, and what they say (RFC 2986, 4).
+/// A certificate request that was read in DER: the exact octets that are signed with their signature, and what they say (RFC 2986, 4).
 ///
-/// In a clause it is these two.
+/// In a clause it is these two; [`Csr::signed_data`] says that some octets are read as it.
 pub struct Csr<Alg: SignatureAlgorithm, Attributes: CsrAttributes> {
     signed: SignedData<Alg>,
     content: CsrContent<Attributes>,
@@ -79,10 +80,14 @@ pub type BgpsecCsr = Csr<rpki_base::BgpsecSignatureAlgorithm, BgpsecCsrAttribute
 impl<Alg: SignatureAlgorithm, Attributes: CsrAttributes> Model for Csr<Alg, Attributes> {
     ghost use Rattle.rpki_base.specs.SignedData.{Signed};
     ghost use Rattle.rpki_cert.specs.Csr.{RequestFields};
+    ghost use Rattle.rpki_cert.specs.ReadInDer.{IsReadInDer};
 
     ghost Value = { Signed Alg (RequestFields Attributes) };
 
     ghost view = { λ c. record { signed = c.signed; tbs = c.content } };
+
+    ghost invariant = { λ c. IsReadInDer Attributes.reads Alg.reads
+        (record { signed = c.signed; tbs = c.content }) };
 }
 
 /// # Data access
@@ -109,9 +114,10 @@ impl<Alg: SignatureAlgorithm, Attributes: CsrAttributes> Csr<Alg, Attributes> {
         &self.content.attributes
     }
 
-    /// The exact octets that are signed, and their signature.
+    /// The exact octets that are signed, and their signature. The request was read in DER.
     pub fn signed_data(&self) -> &SignedData<Alg>
-        ensures { result.now ≡ self.now.signed }
+        ensures signed { result.now ≡ self.now.signed }
+        ensures der { IsReadInDer Attributes.reads Alg.reads self.now }
     {
         &self.signed
     }
@@ -202,6 +208,26 @@ fn take_held<'a, Attributes: CsrAttributes, L: Ledger>(
     Ok((octets, content))
 }
 
+// The signed octets of the request that stands next, and what they say, by the cursor's rules. It ticks each time it looks at a header,
+// and for each end mark, but not where it reads an algorithm, a kept identifier or a location again from its octets.
+fn take_parts<Alg: SignatureAlgorithm, Attributes: CsrAttributes, L: Ledger>(
+    alloc: Global,
+    cursor: &mut Cursor<'_>,
+    steps: &mut Steps<L>,
+) -> Result<(SignedData<Alg>, CsrContent<Attributes>), DecodeError>
+    ensures { TakesCounted 2
+        (certification_request Attributes.reads Alg.reads cursor.old.mode)
+        (λ p. record { signed = p.0; tbs = p.1 })
+        cursor.old cursor.new steps.old steps.new result }
+{
+    cursor.enter_counted(Tag::SEQUENCE, steps)?;
+    let (octets, content) = take_held::<Attributes, L>(alloc, cursor, steps)?;
+    let slice = Bytes::copy_from_slice(alloc, octets)?;
+    let signature = leave_signature::<Alg, L>(alloc, cursor, steps)?;
+    let signed = SignedData::new(slice, signature);
+    Ok((signed, content))
+}
+
 /// # Decoding
 impl<Alg: SignatureAlgorithm, Attributes: CsrAttributes> Csr<Alg, Attributes> {
     /// The request at the beginning of the octets, in DER; what stands behind it isn't read.
@@ -225,25 +251,7 @@ impl<Alg: SignatureAlgorithm, Attributes: CsrAttributes> Csr<Alg, Attributes> {
             Der octets.now steps.old steps.new result }
     {
         let mut cursor = Cursor::new(alloc, Mode::Der, octets);
-        Csr::<Alg, Attributes>::take_from_counted(alloc, &mut cursor, steps)
-    }
-
-    /// The request that stands next, by the cursor's rules. It ticks each time it looks at a header, and for each end mark, but
-    /// not where it reads an algorithm, a kept identifier or a location again from its octets.
-    pub fn take_from_counted<L: Ledger>(
-        alloc: Global,
-        cursor: &mut Cursor<'_>,
-        steps: &mut Steps<L>,
-    ) -> Result<Csr<Alg, Attributes>, DecodeError>
-        ensures { TakesCounted 2
-            (certification_request Attributes.reads Alg.reads cursor.old.mode) (λ c. c)
-            cursor.old cursor.new steps.old steps.new result }
-    {
-        cursor.enter_counted(Tag::SEQUENCE, steps)?;
-        let (octets, content) = take_held::<Attributes, L>(alloc, cursor, steps)?;
-        let slice = Bytes::copy_from_slice(alloc, octets)?;
-        let signature = leave_signature::<Alg, L>(alloc, cursor, steps)?;
-        let signed = SignedData::new(slice, signature);
+        let (signed, content) = take_parts::<Alg, Attributes, L>(alloc, &mut cursor, steps)?;
         Ok(Csr { signed, content })
     }
 }

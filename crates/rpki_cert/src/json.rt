@@ -1,12 +1,11 @@
 //! Certificate requests as JSON texts.
 
-ghost use Rattle.std.specs.Prelude.{◌≡◌, List, ℕ, Some, None, IfOk, IsErrOf, string_bytes};
+ghost use Rattle.std.specs.Prelude.{◌≡◌, Some, None, IfOk, IsErrOf, string_bytes};
 ghost use Rattle.base64.specs.Engines.{standard};
 ghost use Rattle.base64.specs.GeneralPurpose.{encode_of};
 ghost use Rattle.serde_json.specs.Data.{string};
 ghost use Rattle.serde_json.specs.Written.{compact_text};
 ghost use Rattle.rpki_der.specs.declared.mode.Mode.TheVariants.{Der};
-ghost use Rattle.rpki_der.specs.Takes.{BeginsAs};
 ghost use Rattle.rpki_base.specs.SignedData.{spelled_data};
 ghost use Rattle.rpki_idcert.specs.Json.{in_json};
 ghost use Rattle.rpki_cert.specs.Csr.{certification_request};
@@ -45,13 +44,13 @@ impl<Alg: SignatureAlgorithm, Attributes: CsrAttributes> Csr<Alg, Attributes> {
         ensures text { IfOk result (λ s. string_bytes s ≡ compact_text (string
             (encode_of standard (spelled_data Alg.spelled self.now.signed)))) }
 
-        // The text is read as this request, where that was read in DER.
-        ensures again { IfOk result (λ s. (octets : List ℕ)
-            → BeginsAs (certification_request Attributes.reads Alg.reads Der) Der octets self.now
-            → in_json (certification_request Attributes.reads Alg.reads Der) (string_bytes s)
+        // The text is read as this request.
+        ensures again { IfOk result (λ s.
+            in_json (certification_request Attributes.reads Alg.reads Der) (string_bytes s)
             ≡ Some self.now) }
     {
-        // For the proof: what is written of a request is read as it.
+        // For the proof: the request was read in DER, and what is written of it is read as it.
+        let _signed = self.signed_data();
         written_requests_are_read::<Alg, Attributes>();
         let octets = self.to_captured(alloc)?;
         write_octets(alloc, octets.as_slice())

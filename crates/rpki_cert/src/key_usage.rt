@@ -1,8 +1,9 @@
 //! What a key may be used for.
 
-ghost use Rattle.std.specs.Prelude.{◌≡◌};
+ghost use Rattle.std.specs.Prelude.{◌≡◌, ◌↔◌, true};
 ghost use Rattle.rpki_der.specs.Ticks.{TakesCounted};
 ghost use Rattle.rpki_cert.specs.KeyUsage.{usage_of, key_usage};
+ghost use Rattle.rpki_cert.specs.declared.key_usage.KeyUsage.{KeyUsage};
 
 use rpki_der::{Cursor, DecodeError, Steps, take_bits_counted};
 use std::sync::ledger::Ledger;
@@ -15,6 +16,11 @@ pub enum KeyUsage {
     /// An end entity's: to sign objects.
     Ee,
 }
+
+/// `==` holds exactly between usages that are the same.
+pub fn equal_usages_are_the_same()
+    ensures { (a b : KeyUsage) → (⟦<KeyUsage as PartialEq>⟧.eq a b ≡ true) ↔ (a ≡ b) }
+{}
 
 // What the bits say: those of an authority, or that of an end entity.
 fn usage_of(unused: u8, octets: &[u8]) -> Option<KeyUsage>

@@ -12,7 +12,9 @@ ghost use Rattle.rpki_cert.specs.Cert.{CertFields, certificate};
 ghost use Rattle.rpki_cert.specs.Csr.{RequestFields, certification_request};
 ghost use Rattle.rpki_cert.specs.CsrAttributes.{ca_attributes};
 ghost use Rattle.rpki_cert.specs.Making.{CaRequest};
+ghost use Rattle.rpki_cert.specs.ReadInDer.{IsRequest};
 
+use crate::csr::RpkiCaCsr;
 use crate::csr_attributes::CsrAttributes;
 use rpki_base::SignatureAlgorithm;
 
@@ -24,6 +26,14 @@ pub fn written_requests_are_read<Alg: SignatureAlgorithm, Attributes: CsrAttribu
         BeginsAs (certification_request Attributes.reads Alg.reads mode) mode
         (spelled_data Alg.spelled r.signed ++ rest) r }
 {}
+
+/// What `Csr::encode_ref` writes of an authority's request are octets, which are read as it.
+pub fn requests_are_read_again(request: &RpkiCaCsr)
+    ensures { IsRequest request.now }
+{
+    // For the proof: the request was read in DER.
+    let _signed = request.signed_data();
+}
 
 /// The octets of a certificate with which some octets begin are read again as that certificate, whatever stands behind them.
 pub fn written_certificates_are_read()

@@ -21,14 +21,14 @@ mod law;
 mod object_identifiers;
 
 pub use cert::{Cert, equal_certs_have_the_same_octets};
-pub use construct::{CsrError, construct_rpki_ca};
+pub use construct::{CsrError, construct_rpki_ca, equal_request_errors_are_the_same};
 pub use csr::{BgpsecCsr, Csr, RpkiCaCsr};
 pub use csr_attributes::{BgpsecCsrAttributes, CsrAttributes, RpkiCaCsrAttributes};
 pub use extended_key_usage::ExtendedKeyUsage;
 pub use invalid_attribute::InvalidAttribute;
-pub use key_usage::KeyUsage;
+pub use key_usage::{KeyUsage, equal_usages_are_the_same};
 pub use law::{
-    octets_determine_certificates, read_certificates_are_no_longer, written_certificates_are_read,
-    written_requests_are_no_longer, written_requests_are_read,
+    octets_determine_certificates, read_certificates_are_no_longer, requests_are_read_again,
+    written_certificates_are_read, written_requests_are_no_longer, written_requests_are_read,
 };
 pub use object_identifiers::request_identifiers_have_texts;

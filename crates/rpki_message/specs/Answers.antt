@@ -1,16 +1,16 @@
--- What calls answer that read messages and write them, for any table of messages and any type of errors. An error is seen by its cause,
+-- What calls answer that read messages and write them, for any messages and any type of errors. An error is seen by its cause,
 -- where it has one: `cause_of` says which.
 use Rattle.std.specs.Prelude.{◌≡◌, ◌≤◌, ◌<◌, ◌^◌, ◌+◌, ℕ, List, length, Result, Ok, Err, Option, Some, IfOk, IfErr, IfSome, OnOk, ⊤}
 use Rattle.std.specs.Io.KnownBytes.{Appends, IsAtEnd}
 use Rattle.rpki_common.specs.Causes.{Rose}
 use Rattle.rpki_text.specs.Sink.{AppendsPart}
-use Rattle.rpki_text.specs.Source.{TakesAtMost}
+use Rattle.rpki_text.specs.Source.{OfInput, TakesAtMost}
 use Rattle.rpki_text.specs.declared.reading.ReadAllError.{ReadAllError}
 use Rattle.rpki_text.specs.declared.reading.ReadAllError.TheVariants as read
 use Rattle.rpki_xml.specs.Element.{Element}
 use Rattle.rpki_message.specs.declared.cause.Cause.{Cause}
 use Rattle.rpki_message.specs.declared.cause.Cause.TheVariants as causes
-use Rattle.rpki_message.specs.Reading.{ReadsAs, IsNoMessage}
+use Rattle.rpki_message.specs.Reading.{IsNoMessage}
 
 -- an error that is nothing but its cause
 abbrev pub itself : Cause → Option Cause
@@ -40,33 +40,35 @@ RefusesMessage cause_of table octets e = IsNoMessageBy table octets (cause_of e)
 
 -- ---- messages from a source
 
-abbrev pub RefusesSourceBy : {M : Type 0} → (Element → Option M) → Option (List ℕ) → ℕ → ℕ
-    → Option Cause → Type 0
-RefusesSourceBy table rest faults now (Some causes.Malformed) = IfSome rest (IsNoMessage table)
-RefusesSourceBy table rest faults now (Some causes.Read) = Rose faults now
-RefusesSourceBy table rest faults now (Some causes.TooLong) =
-    IfSome rest (λ octets. 2 ^ 31 < length octets)
-RefusesSourceBy table rest faults now (Some causes.OutOfMemory) = ⊤
-RefusesSourceBy table rest faults now _ = ⊥
+abbrev pub RefusesSourceBy : (List ℕ → Type 0) → Option (List ℕ) → ℕ → ℕ → Option Cause → Type 0
+RefusesSourceBy unread rest faults now (Some causes.Malformed) = OfInput rest unread
+RefusesSourceBy unread rest faults now (Some causes.Read) = Rose faults now
+RefusesSourceBy unread rest faults now (Some causes.TooLong) =
+    OfInput rest (λ octets. 2 ^ 31 < length octets)
+RefusesSourceBy unread rest faults now (Some causes.OutOfMemory) = ⊤
+RefusesSourceBy unread rest faults now _ = ⊥
 
 -- The cause is Read only where the source's faults rose, TooLong only where it had more than 2^31 octets to give, and Malformed only
--- where these are no message of the table. OutOfMemory says nothing, and no other one comes.
-abbrev pub RefusesSource : {M E : Type 0} → (E → Option Cause) → (Element → Option M)
+-- where these are refused with this error. OutOfMemory says nothing, and no other one comes.
+abbrev pub RefusesSource : {E : Type 0} → (E → Option Cause) → (List ℕ → E → Type 0)
     → Option (List ℕ) → ℕ → ℕ → E → Type 0
-RefusesSource cause_of table rest faults now e = RefusesSourceBy table rest faults now (cause_of e)
+RefusesSource cause_of refuses rest faults now e =
+    RefusesSourceBy (λ octets. refuses octets e) rest faults now (cause_of e)
 
 -- the answer says that all that the source had to give was read: it is a message, or that it is none
 abbrev pub IsOfAll : {M E : Type 0} → (E → Option Cause) → Result M E → Type 0
 IsOfAll cause_of (Ok m) = ⊤
 IsOfAll cause_of (Err e) = cause_of e ≡ Some causes.Malformed
 
--- What a call answers that reads a source to its end and takes what it gives for a message of the table: by what the source had still
--- to give, before and after, and by its count of faults.
-pub record Parses {M E : Type 0} (cause_of : E → Option Cause) (table : Element → Option M)
-    (rest left : Option (List ℕ)) (faults now : ℕ) (result : Result M E) : Type 0 where
+-- What a call answers that reads a source to its end and takes what it gives for a message: by what the source had still to give, before
+-- and after, and by its count of faults. `reads` says what octets are read as, and `refuses` which error is answered where they are no
+-- message.
+pub record Parses {M E : Type 0} (cause_of : E → Option Cause) (reads : List ℕ → M → Type 0)
+    (refuses : List ℕ → E → Type 0) (rest left : Option (List ℕ)) (faults now : ℕ)
+    (result : Result M E) : Type 0 where
   -- all that there was is the message, or the answer has its cause
-  pub message : IfOk result (λ m. IfSome rest (λ octets. ReadsAs table octets m))
-  pub refused : IfErr result (RefusesSource cause_of table rest faults now)
+  pub message : IfOk result (λ m. OfInput rest (λ octets. reads octets m))
+  pub refused : IfErr result (RefusesSource cause_of refuses rest faults now)
   -- after a message, and where there is none, nothing is left, and no more than 2^31 octets were there
   pub end : IsOfAll cause_of result → IsAtEnd left
   pub within : IsOfAll cause_of result → IfSome rest (λ octets. length octets ≤ 2 ^ 31)

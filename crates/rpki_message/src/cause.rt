@@ -1,5 +1,8 @@
 //! Why a message was not read or written.
 
+ghost use Rattle.std.specs.Prelude.{◌≡◌, ◌↔◌, true};
+ghost use Rattle.rpki_message.specs.declared.cause.Cause.{Cause};
+
 /// Why a message was not read or written.
 #[derive(Clone, Copy, Debug, PartialEq, Eq)]
 pub enum Cause {
@@ -14,3 +17,8 @@ pub enum Cause {
     /// Memory ran out.
     OutOfMemory,
 }
+
+/// `==` holds exactly between causes that are the same.
+pub fn equal_causes_are_the_same()
+    ensures { (a b : Cause) → (⟦<Cause as PartialEq>⟧.eq a b ≡ true) ↔ (a ≡ b) }
+{}

@@ -6,10 +6,11 @@
 //!   exactly for a text that is none.
 //! - [`write_attribute`], [`write_optional`], [`write_text`], [`write_inside`], [`write_base64`], [`write_end`]: the parts of elements are
 //!   printed in their one spelling, in pieces and without memory.
+//! - [`is_plain`], [`is_plain_or_absent`], [`is_trimmed_or_absent`]: whether texts can be written so that they are read again.
 //! - [`lent`], [`shared`], [`handed_out`], [`taken_in`], [`cloned`]: texts that may be absent.
 //!
 //! A table of messages is a partial function from elements to what they mean, and what octets are read as by it stands in
-//! specs/Reading.antt; what calls answer, for any such table and any type of errors, in specs/Answers.antt.
+//! specs/Reading.antt; what calls answer, for any messages and any type of errors, in specs/Answers.antt.
 //!
 //! [`XmlError::Malformed`]: rpki_xml::XmlError::Malformed
 #![tactic(auto)]
@@ -19,11 +20,13 @@ mod optional_text;
 mod printing;
 mod texts;
 mod transfer;
+mod writable;
 
-pub use cause::Cause;
+pub use cause::{Cause, equal_causes_are_the_same};
 pub use optional_text::{cloned, handed_out, lent, shared, taken_in};
 pub use printing::{
     write_attribute, write_base64, write_end, write_inside, write_optional, write_text,
 };
 pub use texts::{base64_of, handle_of, tag_in, uri_of};
 pub use transfer::{MOST_OCTETS, write_octets};
+pub use writable::{is_plain, is_plain_or_absent, is_trimmed_or_absent};

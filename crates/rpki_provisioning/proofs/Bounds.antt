@@ -56,7 +56,7 @@ use Rattle.rpki_provisioning.specs.NotPerformed.{status_in, description_in, desc
 use Rattle.rpki_provisioning.specs.Request.{request_in, key_in}
 use Rattle.rpki_provisioning.specs.Shape.{MessageOf, MessageFields, MessageShape, certificate_octets, request_octets, certificate_of, request_of, issued_by, signing_by, class_by, issuance_by, asked_by, payload_shape, payload_of_shape, message_of_shape}
 use Rattle.rpki_provisioning.proofs.Keys.{key_read}
-use Rattle.rpki_provisioning.proofs.Requests.{begins}
+use Rattle.rpki_cert.proofs.Reread.{begins}
 use Rattle.rpki_provisioning.proofs.Tallies.{not_both, one_read, one_sum, child_within}
 use Rattle.rpki_provisioning.proofs.SpelledBounds.{called, distinct_sum, called_size, called_uri, limit_length, limit_size, set_length, resources_size, text_length, issued_bound, issuer_bound, class_bound, asked_bound, key_bound, description_bound, not_performed_bound, payload_bound, payload_spelled, root_spelled}
 

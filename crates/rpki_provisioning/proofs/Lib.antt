@@ -11,7 +11,6 @@ pub mod Octets
 pub mod Plain
 pub mod Readings
 pub mod Refused
-pub mod Requests
 pub mod SpelledBounds
 pub mod Statuses
 pub mod Tallies

@@ -1,13 +1,12 @@
 -- What octets are read as, and why they aren't.
-use Rattle.std.proofs.Common.{◌≡◌, ◌≤◌, ◌+◌, ◌*◌, ◌^◌, List, ℕ, Option, Some, None, Result, Ok, Err, IfOk, IfErr, IfSome, length, refl, sym, ap, subst, ◌∙◌, arith}
+use Rattle.std.proofs.Common.{◌≡◌, ◌≤◌, ◌+◌, ◌*◌, List, ℕ, Option, Some, None, Result, Ok, Err, refl, sym, ap, ◌∙◌, arith}
 use Rattle.std.specs.Prelude.{MatchResult}
-use Rattle.std.specs.Io.KnownBytes.{IsAtEnd}
 use Rattle.rpki_common.specs.Chaining.{◌>>=◌}
 use Rattle.rpki_common.proofs.Truths.{none_some, some_none}
-use Rattle.rpki_text.specs.Source.{TakesAtMost}
 use Rattle.rpki_updown.specs.declared.error.Error.{Error}
 use Rattle.rpki_updown.specs.declared.error.Error.TheVariants as errors
-use Rattle.rpki_updown.specs.Answers.{of_xml}
+use Rattle.rpki_updown.specs.Answers.{of_xml, cause_of}
+use Rattle.rpki_message.proofs.Transfers.{Blames}
 use Rattle.rpki_xml.specs.declared.error.XmlError.{XmlError}
 use Rattle.rpki_xml.specs.declared.error.XmlError.TheVariants as xml
 use Rattle.rpki_xml.specs.Answers.{IsRefused, Fails}
@@ -16,7 +15,7 @@ use Rattle.rpki_xml.specs.Lexing.{IsDocument}
 use Rattle.rpki_xml.proofs.Documents.{one_document}
 use Rattle.rpki_provisioning.specs.declared.shape.PayloadShape.{PayloadShape}
 use Rattle.rpki_provisioning.specs.declared.shape.PayloadShape.TheVariants as shape
-use Rattle.rpki_provisioning.specs.Answers.{RefusesMessage, RefusesSource, Parses}
+use Rattle.rpki_provisioning.specs.Answers.{RefusesMessage}
 use Rattle.rpki_provisioning.specs.Filling.{IsFault, Fills, fault_in}
 use Rattle.rpki_provisioning.specs.Message.{shape_in, message_of, HasShape, Reads}
 use Rattle.rpki_provisioning.specs.Shape.{MessageFields, MessageShape, payload_of_shape, message_of_shape}
@@ -84,60 +83,26 @@ at_most fault given view n m before after (Err e) within unfilled' = let most = 
 
 -- ---- from a source
 
-known : (rest : Option (List ℕ)) (v : List ℕ) (r : Result MessageFields Error) → IfSome rest (λ octets. v ≡ octets) → MatchResult r (Reads v) (RefusesMessage v) → IfOk r (λ m. IfSome rest (λ octets. Reads octets m))
-known None v (Ok m) same read = tt
-known (Some octets) v (Ok m) same read = subst (λ (b : List ℕ). Reads b m) same read
-known rest v (Err e) same read = tt
+xml_blames : (error : XmlError) (octets : List ℕ) → RefusesMessage octets (errors.XmlError error) → Blames (cause_of (errors.XmlError error))
+xml_blames xml.Malformed octets h = tt
+xml_blames xml.OutOfMemory octets h = absurd (memory h.0)
+  where
+    memory : xml.OutOfMemory ≡ xml.Malformed → ⊥
+    memory e = cc
 
-refused_so : (octets : List ℕ) (faults now : ℕ) (e : Error) → RefusesMessage octets e → RefusesSource (Some octets) faults now e
-refused_so octets faults now errors.InvalidVersion h = absurd h
-refused_so octets faults now (errors.XmlError error) h = h
-refused_so octets faults now (errors.InvalidPayloadType error) h = absurd h
-refused_so octets faults now errors.InvalidCsrSyntax h = h
-refused_so octets faults now errors.CertSyntax h = h
-refused_so octets faults now errors.CmsDecode h = absurd h
-refused_so octets faults now (errors.Validation error) h = absurd h
-refused_so octets faults now (errors.Limit set limit) h = absurd h
-refused_so octets faults now errors.Read h = absurd h
-refused_so octets faults now errors.Write h = absurd h
-refused_so octets faults now errors.TooLong h = absurd h
-refused_so octets faults now errors.OutOfMemory h = tt
-
-refused_unknown : (octets : List ℕ) (faults now : ℕ) (e : Error) → RefusesMessage octets e → RefusesSource None faults now e
-refused_unknown octets faults now errors.InvalidVersion h = absurd h
-refused_unknown octets faults now (errors.XmlError error) h = (h.0, tt)
-refused_unknown octets faults now (errors.InvalidPayloadType error) h = absurd h
-refused_unknown octets faults now errors.InvalidCsrSyntax h = tt
-refused_unknown octets faults now errors.CertSyntax h = tt
-refused_unknown octets faults now errors.CmsDecode h = absurd h
-refused_unknown octets faults now (errors.Validation error) h = absurd h
-refused_unknown octets faults now (errors.Limit set limit) h = absurd h
-refused_unknown octets faults now errors.Read h = absurd h
-refused_unknown octets faults now errors.Write h = absurd h
-refused_unknown octets faults now errors.TooLong h = absurd h
-refused_unknown octets faults now errors.OutOfMemory h = tt
-
-all_refused : (rest : Option (List ℕ)) (faults now : ℕ) (v : List ℕ) (r : Result MessageFields Error) → IfSome rest (λ octets. v ≡ octets) → MatchResult r (Reads v) (RefusesMessage v) → IfErr r (RefusesSource rest faults now)
-all_refused rest faults now v (Ok m) same h = tt
-all_refused None faults now v (Err e) same h = refused_unknown v faults now e h
-all_refused (Some octets) faults now v (Err e) same h = refused_so octets faults now e (subst (λ (b : List ℕ). RefusesMessage b e) same h)
-
-short : (rest : Option (List ℕ)) (v : List ℕ) → IfSome rest (λ octets. v ≡ octets) → length v ≤ 2 ^ 31 → IfSome rest (λ octets. length octets ≤ 2 ^ 31)
-short None v same h = tt
-short (Some octets) v same h = subst (λ (b : List ℕ). length b ≤ 2 ^ 31) same h
-
--- all that was there was taken for a message, or for none
-pub taken : (rest left : Option (List ℕ)) (faults now : ℕ) (v : List ℕ) (r : Result MessageFields Error) → IfSome rest (λ octets. v ≡ octets) → IsAtEnd left → length v ≤ 2 ^ 31 → now ≡ faults → faults ≤ now
-    → TakesAtMost rest left (2 ^ 31 + 1) → MatchResult r (Reads v) (RefusesMessage v) → Parses rest left faults now r
-taken rest left faults now v r same end within kept later most read = record {
-  message = known rest v r same read;
-  refused = all_refused rest faults now v r same read;
-  end = λ _. end;
-  within = λ _. short rest v same within;
-  kept = λ _. kept;
-  later = later;
-  most = most;
-}
+pub blames : (octets : List ℕ) (e : Error) → RefusesMessage octets e → Blames (cause_of e)
+blames octets errors.InvalidVersion h = h
+blames octets (errors.XmlError error) h = xml_blames error octets h
+blames octets (errors.InvalidPayloadType error) h = h
+blames octets errors.InvalidCsrSyntax h = tt
+blames octets errors.CertSyntax h = tt
+blames octets errors.CmsDecode h = h
+blames octets (errors.Validation error) h = h
+blames octets (errors.Limit set limit) h = h
+blames octets errors.Read h = h
+blames octets errors.Write h = h
+blames octets errors.TooLong h = h
+blames octets errors.OutOfMemory h = tt
 
 pub no_fewer : (s : MessageShape) (n before after : ℕ) (r : Result MessageFields Error) → Fills (fault_in s.payload) (message_of_shape s) (λ m. m) n before after r → before ≤ after
 no_fewer s n before after (Ok m) filled = filled.least

@@ -54,7 +54,7 @@ use Rattle.rpki_provisioning.specs.Request.{request_in, key_in}
 use Rattle.rpki_provisioning.specs.Shape.{MessageOf, MessageFields, MessageShape, certificate_of, request_of, issued_by, signing_by, class_by, issuance_by, asked_by, payload_of_shape, message_of_shape}
 use Rattle.rpki_provisioning.specs.Writable.{IsWritableLimit, IsWritableSet, IsWritableIssued, IsWritableSigning, IsWritableClass, IsWritableIssuance, IsWritableRequest, IsWritableKey, IsWritableNotPerformed, IsWritablePayload, IsWritable}
 use Rattle.rpki_provisioning.proofs.Keys.{key_read}
-use Rattle.rpki_provisioning.proofs.Requests.{certificate_writable, request_writable}
+use Rattle.rpki_cert.proofs.Reread.{certificate_decoded, request_decoded}
 
 -- ---- shapes of which what is read is writable
 
@@ -431,13 +431,13 @@ unfolding issued_by
 issued_fit i c h is =
     let p = then_some (certificate_of i.cert) _ c is in
     subst IsWritableIssued (same_some (record { uri = i.uri; req_limit = i.req_limit; cert = p.0 }) c p.2)
-    (record { uri = h.uri'; req_limit = h.limit'; cert = certificate_writable i.cert p.0 h.cert' p.1 })
+    (record { uri = h.uri'; req_limit = h.limit'; cert = certificate_decoded i.cert p.0 h.cert' p.1 })
 
 signing_fit : (i : SigningOf (List ℕ)) (c : SigningFields) → fault_of rsync i.url ≡ None → IsBytes i.cert → signing_by certificate_of i ≡ Some c → IsWritableSigning c
 unfolding signing_by
 signing_fit i c u b is =
     let p = then_some (certificate_of i.cert) _ c is in
-    subst IsWritableSigning (same_some (record { url = i.url; cert = p.0 }) c p.2) (record { url = u; cert = certificate_writable i.cert p.0 b p.1 })
+    subst IsWritableSigning (same_some (record { url = i.url; cert = p.0 }) c p.2) (record { url = u; cert = certificate_decoded i.cert p.0 b p.1 })
 
 all_fit : {A B : Type 0} (Q : A → Type 0) (P : B → Type 0) (f : A → Option B) → ((a : A) (b : B) → Q a → f a ≡ Some b → P b) → (list : List A) (xs : List B) → AllByRecursion Q list → read_all f list ≡ Some xs
     → AllByRecursion P xs
@@ -481,7 +481,7 @@ unfolding asked_by
 asked_fit a b h is =
     let p = then_some (request_of a.csr) _ b is in
     subst IsWritableRequest (same_some (record { class_name = a.class_name; limit = a.limit; csr = p.0 }) b p.2)
-    (record { class_name = h.name'; limit = h.limit'; csr = request_writable a.csr p.0 h.csr' p.1 })
+    (record { class_name = h.name'; limit = h.limit'; csr = request_decoded a.csr p.0 h.csr' p.1 })
 
 payload_fit : (s : PayloadShape) (p : Payload) → IsFit s → payload_of_shape s ≡ Some p → IsWritablePayload p
 unfolding payload_of_shape

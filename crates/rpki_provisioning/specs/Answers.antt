@@ -1,19 +1,16 @@
 -- What calls answer that read messages and write them.
-use Rattle.std.specs.Prelude.{◌≡◌, ℕ, ◌≤◌, ◌<◌, ◌^◌, ◌+◌, List, [], ◌∷◌, ◌++◌, length, map, Any, Option, None, Some, IfOk, IfErr, IfSome, Result, Ok, Err, ⊤}
-use Rattle.std.specs.Io.KnownBytes.{IsAtEnd}
+use Rattle.std.specs.Prelude.{◌≡◌, ℕ, ◌<◌, ◌^◌, List, [], ◌∷◌, ◌++◌, length, map, Any, Option, None, Some, Result, ⊤}
 use Rattle.std.specs.List.{flat_map}
 use Rattle.rpki_base.specs.declared.validation.ValidationError.{ValidationError}
-use Rattle.rpki_common.specs.Causes.{Rose}
 use Rattle.rpki_sigmsg.specs.Checks.{passed_on}
-use Rattle.rpki_text.specs.Source.{TakesAtMost}
 use Rattle.rpki_xml.specs.declared.error.XmlError.TheVariants as xml
 use Rattle.rpki_updown.specs.declared.error.Error.{Error}
 use Rattle.rpki_updown.specs.declared.error.Error.TheVariants as errors
 use Rattle.rpki_updown.specs.Entitlements.{ClassOf}
 use Rattle.rpki_provisioning.specs.declared.shape.PayloadShape.{PayloadShape}
 use Rattle.rpki_provisioning.specs.declared.shape.PayloadShape.TheVariants as shape
-use Rattle.rpki_provisioning.specs.Message.{HasShape, HasNoShape, Reads}
-use Rattle.rpki_provisioning.specs.Shape.{MessageFields, MessageShape, certificate_of, request_of}
+use Rattle.rpki_provisioning.specs.Message.{HasShape, HasNoShape}
+use Rattle.rpki_provisioning.specs.Shape.{MessageShape, certificate_of, request_of}
 
 -- ---- octets that are no certificate, or no request
 
@@ -55,42 +52,6 @@ RefusesMessage octets errors.CertSyntax = HoldsNoCertificate octets
 RefusesMessage octets errors.InvalidCsrSyntax = HoldsNoRequest octets
 RefusesMessage octets errors.OutOfMemory = ⊤
 RefusesMessage octets _ = ⊥
-
--- ---- messages from a source
-
--- Why no message is read of what a source had still to give: as of octets; Read only where its faults rose, TooLong only where it had
--- more than 2^31 octets to give.
-abbrev pub RefusesSource : Option (List ℕ) → ℕ → ℕ → Error → Type 0
-RefusesSource rest faults now (errors.XmlError e) = (e ≡ xml.Malformed) × IfSome rest HasNoShape
-RefusesSource rest faults now errors.CertSyntax = IfSome rest HoldsNoCertificate
-RefusesSource rest faults now errors.InvalidCsrSyntax = IfSome rest HoldsNoRequest
-RefusesSource rest faults now errors.Read = Rose faults now
-RefusesSource rest faults now errors.TooLong = IfSome rest (λ octets. 2 ^ 31 < length octets)
-RefusesSource rest faults now errors.OutOfMemory = ⊤
-RefusesSource rest faults now _ = ⊥
-
--- the answer says that all that the source had to give was read
-abbrev pub IsOfAll : {M : Type 0} → Result M Error → Type 0
-IsOfAll (Ok m) = ⊤
-IsOfAll (Err (errors.XmlError e)) = ⊤
-IsOfAll (Err errors.CertSyntax) = ⊤
-IsOfAll (Err errors.InvalidCsrSyntax) = ⊤
-IsOfAll _ = ⊥
-
--- What a call answers that reads a source to its end and takes what it gives for a message: by what the source had still to give, before
--- and after, and by its count of faults.
-pub record Parses (rest left : Option (List ℕ)) (faults now : ℕ)
-    (result : Result MessageFields Error) : Type 0 where
-  -- all that there was is the message, or the answer has its cause
-  pub message : IfOk result (λ m. IfSome rest (λ octets. Reads octets m))
-  pub refused : IfErr result (RefusesSource rest faults now)
-  -- after a message, and where there is none, nothing is left, and no more than 2^31 octets were there
-  pub end : IsOfAll result → IsAtEnd left
-  pub within : IsOfAll result → IfSome rest (λ octets. length octets ≤ 2 ^ 31)
-  -- the source fails only where the answer is Read, and no more than one octet past the limit is taken
-  pub kept : (result ≡ Err errors.Read → ⊥) → now ≡ faults
-  pub later : faults ≤ now
-  pub most : TakesAtMost rest left (2 ^ 31 + 1)
 
 -- ---- texts
 

@@ -1,14 +1,14 @@
 -- What can be written so that it is read again.
-use Rattle.std.specs.Prelude.{◌≡◌, ◌<◌, ◌^◌, None, Some, IfSome, length}
+use Rattle.std.specs.Prelude.{◌≡◌, ◌<◌, ◌^◌, None, IfSome, length}
 use Rattle.std.specs.List.{AllByRecursion}
 use Rattle.base64.specs.GeneralPurpose.{IsBytes}
 use Rattle.rpki_base.specs.Civil.{IsMoment}
-use Rattle.rpki_cert.specs.Cert.{CertFields}
+use Rattle.rpki_cert.specs.ReadInDer.{IsCertificate, IsRequest}
 use Rattle.rpki_sets.specs.Resources.{Resources}
 use Rattle.rpki_sets.specs.Runs.{IsSet}
 use Rattle.rpki_text.specs.Handle.{IsHandle}
 use Rattle.rpki_text.specs.Uri.{rsync, fault_of}
-use Rattle.rpki_updown.specs.Entitlements.{IssuedFields, SigningFields, ClassFields, IssuanceFields, IssuanceRequestFields, CaRequest}
+use Rattle.rpki_updown.specs.Entitlements.{IssuedFields, SigningFields, ClassFields, IssuanceFields, IssuanceRequestFields}
 use Rattle.rpki_updown.specs.KeyElement.{KeyElementFields}
 use Rattle.rpki_updown.specs.NotPerformedResponse.{NotPerformedFields}
 use Rattle.rpki_updown.specs.RequestResourceLimit.{LimitFields}
@@ -16,7 +16,7 @@ use Rattle.rpki_xml.specs.Content.{trimmed}
 use Rattle.rpki_xml.specs.Lettered.{AreOctets}
 use Rattle.rpki_provisioning.specs.declared.payload.Payload.{Payload}
 use Rattle.rpki_provisioning.specs.declared.payload.Payload.TheVariants as payload
-use Rattle.rpki_provisioning.specs.Shape.{MessageFields, certificate_of, request_octets, request_of}
+use Rattle.rpki_provisioning.specs.Shape.{MessageFields}
 
 -- ---- sets. That they are sets of their kind's numbers is kept by their types.
 
@@ -30,14 +30,8 @@ pub record IsWritableSet (s : Resources) : Type 0 where
   pub ipv4 : IsSet 32 s.ipv4
   pub ipv6 : IsSet 128 s.ipv6
 
--- ---- certificates
+-- ---- certificates. That URIs are lawful, and that certificates were read in DER, is kept by their types.
 
--- The certificate's octets are octets, and read as it: so it is with each certificate that was decoded in DER.
-pub record IsCertificate (c : CertFields) : Type 0 where
-  pub octets : IsBytes c.slice
-  pub read : certificate_of c.slice ≡ Some c
-
--- That the URI is lawful is kept by its type.
 pub record IsWritableIssued (c : IssuedFields) : Type 0 where
   pub uri : fault_of rsync c.uri ≡ None
   pub req_limit : IsWritableLimit c.req_limit
@@ -63,12 +57,7 @@ pub record IsWritableIssuance (i : IssuanceFields) : Type 0 where
   pub issued_cert : IsWritableIssued i.issued_cert
   pub signing_cert : IsWritableSigning i.signing_cert
 
--- ---- requests and keys
-
--- What is written of it are octets, and they read as it: so it is with each request that was decoded in DER.
-pub record IsRequest (r : CaRequest) : Type 0 where
-  pub octets : IsBytes (request_octets r)
-  pub read : request_of (request_octets r) ≡ Some r
+-- ---- requests and keys. That a request was read in DER is kept by its type.
 
 pub record IsWritableRequest (a : IssuanceRequestFields) : Type 0 where
   pub class_name : AreOctets a.class_name

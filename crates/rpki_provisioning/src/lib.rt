@@ -29,6 +29,7 @@ mod parts;
 mod payload;
 mod reading;
 mod shape;
+mod writable;
 mod writing;
 
 pub use cms::ProvisioningCms;

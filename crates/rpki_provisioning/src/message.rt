@@ -1,10 +1,11 @@
 //! Messages.
 
 ghost use Rattle.std.specs.Prelude.{◌≡◌, ◌↔◌, ◌≤◌, ◌+◌, ◌*◌, ◌<◌, ◌^◌, length, IfOk, IfErr, OnOk, IsTrue, MatchResult, string_bytes};
-ghost use Rattle.rpki_message.specs.Answers.{WritesText};
-ghost use Rattle.rpki_provisioning.specs.Answers.{Parses, RefusesMessage, RefusesText};
+ghost use Rattle.rpki_message.specs.Answers.{Parses, WritesText};
+ghost use Rattle.rpki_provisioning.specs.Answers.{RefusesMessage, RefusesText};
 ghost use Rattle.rpki_provisioning.specs.Message.{Reads, text_of};
 ghost use Rattle.rpki_provisioning.specs.Shape.{payload_type_of, shape_of};
+ghost use Rattle.rpki_provisioning.specs.Writable.{IsWritable};
 ghost use Rattle.rpki_provisioning.specs.declared.payload.Payload.TheVariants as payloads;
 ghost use Rattle.rpki_updown.specs.Answers.{cause_of};
 ghost use Rattle.rpki_updown.specs.declared.payload_type.PayloadType.TheVariants as kinds;
@@ -252,6 +253,14 @@ impl Message {
         self.sender == other.sender && self.recipient == other.recipient
     }
 
+    /// Whether it can be written so that it is read again: the handles have the pattern, names of classes and a description consist of
+    /// octets that a document may have, and a description has no outer white space. It takes no memory.
+    pub fn is_writable(&self) -> bool
+        ensures { IsTrue result ↔ IsWritable self.now }
+    {
+        self.sender.has_pattern() && self.recipient.has_pattern() && self.payload.is_writable()
+    }
+
     /// An equal message, which shares its octets with this one.
     pub fn clone(&self, alloc: Global) -> Result<Message, OutOfMemory>
         ensures { IfOk result (λ m. m ≡ self.now) }
@@ -269,8 +278,8 @@ impl Message {
     /// form of one, CertSyntax and InvalidCsrSyntax exactly where it has, and a certificate or the request in it is none; TooLong where
     /// it is longer, Read only where the source failed.
     pub fn decode<I: Source>(alloc: Global, source: &mut I) -> Result<Message, Error>
-        ensures { Parses (I.rest source.old) (I.rest source.new) (I.faults source.old)
-            (I.faults source.new) result }
+        ensures { Parses cause_of Reads RefusesMessage (I.rest source.old) (I.rest source.new)
+            (I.faults source.old) (I.faults source.new) result }
     {
         let octets = read_all(alloc, source, MOST_OCTETS)?;
         Message::decode_slice(alloc, &octets)

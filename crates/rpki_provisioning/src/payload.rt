@@ -2,9 +2,14 @@
 
 ghost use Rattle.std.specs.Prelude.{◌≡◌, ◌↔◌, IfOk, IsTrue, map};
 ghost use Rattle.rpki_provisioning.specs.Shape.{certificate_octets, payload_shape, payload_type_of, request_octets};
+ghost use Rattle.rpki_provisioning.specs.Writable.{IsWritablePayload};
 ghost use Rattle.rpki_provisioning.specs.declared.shape.PayloadShape.TheVariants as shape;
 ghost use Rattle.rpki_updown.specs.Entitlements.{asked_with, class_with, issuance_with};
 
+use crate::writable::{
+    are_writable_classes, is_writable_issuance, is_writable_key, is_writable_request,
+    is_writable_status,
+};
 use rpki_common::OutOfMemory;
 use rpki_updown::{
     IssuanceRequest, IssuanceResponse, NotPerformedResponse, PayloadType as Kind,
@@ -46,6 +51,22 @@ impl Payload {
             Payload::Revoke(_) => Kind::Revoke,
             Payload::RevokeResponse(_) => Kind::RevokeResponse,
             Payload::ErrorResponse(_) => Kind::ErrorResponse,
+        }
+    }
+
+    /// Whether it can be written so that it is read again: names of classes and a description consist of octets that a document may have,
+    /// and a description has no outer white space. It takes no memory.
+    pub fn is_writable(&self) -> bool
+        ensures { IsTrue result ↔ IsWritablePayload self.now }
+    {
+        match self {
+            Payload::List => true,
+            Payload::ListResponse(response) => are_writable_classes(response.classes()),
+            Payload::Issue(request) => is_writable_request(request),
+            Payload::IssueResponse(response) => is_writable_issuance(response),
+            Payload::Revoke(request) => is_writable_key(request.key_element()),
+            Payload::RevokeResponse(response) => is_writable_key(response.key_element()),
+            Payload::ErrorResponse(response) => is_writable_status(response),
         }
     }
 

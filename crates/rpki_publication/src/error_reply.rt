@@ -1,8 +1,10 @@
 //! Replies that report errors.
 
-ghost use Rattle.std.specs.Prelude.{◌≡◌, ◌++◌, ◌∷◌, [], Some, codes, IfOk, IfErr, OnOk, OnErr};
+ghost use Rattle.std.specs.Prelude.{◌≡◌, ◌≢◌, ◌↔◌, ◌++◌, ◌∷◌, [], Some, codes, IfOk, IfErr, IsTrue, OnOk, OnErr};
+ghost use Rattle.std.specs.List.{AllByRecursion};
 ghost use Rattle.std.specs.Fmt.{WritesOnOk};
 ghost use Rattle.rpki_publication.specs.ErrorReply.{shown_reply, shown_one, shown_errors};
+ghost use Rattle.rpki_publication.specs.ReportError.{IsWritableError};
 
 use crate::report_error::ReportError;
 use rpki_common::{OutOfMemory, Sequence};
@@ -77,12 +79,31 @@ impl ErrorReply {
         self.errors.as_slice()
     }
 
+    /// Whether it can be written so that it is read again: there is an error, and each can. It takes no memory.
+    pub fn is_writable(&self) -> bool
+        ensures { IsTrue result ↔ ((self.now ≢ []) × AllByRecursion IsWritableError self.now) }
+    {
+        !self.errors().is_empty() && are_writable(self.errors())
+    }
+
     /// An equal reply, whose texts are shared with this one.
     pub fn clone(&self, alloc: Global) -> Result<ErrorReply, OutOfMemory>
         ensures { IfOk result (λ r. r ≡ self.now) }
     {
         Ok(ErrorReply::of(copied(alloc, self.errors())?))
     }
+}
+
+// Whether each error can be written so that it is read again.
+fn are_writable(errors: &[ReportError]) -> bool
+    ensures { IsTrue result ↔ AllByRecursion IsWritableError errors.now }
+{
+    for error in errors {
+        if !error.is_writable() {
+            return false;
+        }
+    }
+    true
 }
 
 // Equal errors.

@@ -35,7 +35,7 @@ mod withdraw;
 mod writing;
 
 pub use cms::PublicationCms;
-pub use error::Error;
+pub use error::{Error, equal_errors_are_the_same};
 pub use error_reply::ErrorReply;
 pub use law::{
     added_changes_are_lists, at_most_one, content_type_is, equal_lists_are_the_same,

@@ -1,6 +1,7 @@
 //! An object in a list.
 
 ghost use Rattle.std.specs.Prelude.{◌≡◌, IfOk};
+ghost use Rattle.rpki_publication.specs.ListReply.{IsWritableListElement};
 
 use rpki_common::OutOfMemory;
 use rpki_text::{Hash, uri};
@@ -38,10 +39,14 @@ impl ListElement {
         ListElement { uri, hash }
     }
 
-    /// Where the object is published.
+    /// Where the object is published. Each list element can be written so that it is read again.
     pub fn uri(&self) -> &uri::Rsync
-        ensures { result.now ≡ self.now.uri }
+        ensures uri { result.now ≡ self.now.uri }
+        ensures writable { IsWritableListElement self.now }
     {
+        // For the proof: the URI is lawful, and the digest is one.
+        let _uri = self.uri.as_str();
+        let _hash = self.hash.as_slice();
         &self.uri
     }
 

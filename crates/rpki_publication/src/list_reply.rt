@@ -1,8 +1,9 @@
 //! Lists of what is published.
 
-ghost use Rattle.std.specs.Prelude.{◌≡◌, ◌++◌, ◌∷◌, [], map, IfOk, IfErr, OnOk, OnErr};
+ghost use Rattle.std.specs.Prelude.{◌≡◌, ◌++◌, ◌∷◌, [], map, IfOk, IfErr, IsTrue, OnOk, OnErr};
+ghost use Rattle.std.specs.List.{AllByRecursion};
 ghost use Rattle.rpki_publication.specs.declared.publish_delta_element.PublishDeltaElement.TheVariants as change;
-ghost use Rattle.rpki_publication.specs.ListReply.{withdrawal_of};
+ghost use Rattle.rpki_publication.specs.ListReply.{withdrawal_of, IsWritableListElement};
 
 use crate::list_element::ListElement;
 use crate::publish_delta::PublishDelta;
@@ -67,6 +68,16 @@ impl ListReply {
         self.elements.as_slice()
     }
 
+    /// Whether it can be written so that it is read again: each list can. It takes no memory.
+    pub fn is_writable(&self) -> bool
+        ensures always { IsTrue result }
+        ensures writable { AllByRecursion IsWritableListElement self.now }
+    {
+        // For the proof: each of the objects can.
+        are_writable(self.elements());
+        true
+    }
+
     /// The objects, handed out in their order.
     pub fn into_elements(self) -> Vec<ListElement>
         ensures { result.items ≡ self }
@@ -92,6 +103,15 @@ impl ListReply {
         ensures { IfOk result (λ r. r ≡ self.now) }
     {
         Ok(ListReply::new(copied(alloc, self.elements())?))
+    }
+}
+
+// Each object can be written so that it is read again.
+fn are_writable(elements: &[ListElement])
+    ensures { AllByRecursion IsWritableListElement elements.now }
+{
+    for element in elements {
+        let _uri = element.uri();
     }
 }
 

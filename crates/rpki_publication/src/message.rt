@@ -1,9 +1,9 @@
 //! Messages.
 
-ghost use Rattle.std.specs.Prelude.{◌≡◌, ◌≤◌, ◌^◌, length, Some, IfOk, IfErr, OnOk, MatchResult, string_bytes};
+ghost use Rattle.std.specs.Prelude.{◌≡◌, ◌↔◌, ◌≤◌, ◌^◌, length, Some, IfOk, IfErr, IsTrue, OnOk, MatchResult, string_bytes};
 ghost use Rattle.rpki_message.specs.Answers.{Parses, WritesText};
 ghost use Rattle.rpki_publication.specs.Answers.{cause_of, RefusesMessage, RefusesText, IsQueryResult, IsReplyResult};
-ghost use Rattle.rpki_publication.specs.Message.{Reads, message_of, text_of};
+ghost use Rattle.rpki_publication.specs.Message.{Reads, text_of, IsWritable};
 ghost use Rattle.rpki_publication.specs.declared.message.Message.TheVariants as message;
 ghost use Rattle.rpki_publication.specs.declared.query.Query.TheVariants as query;
 ghost use Rattle.rpki_publication.specs.declared.reply.Reply.TheVariants as replies;
@@ -96,6 +96,17 @@ impl Message {
         }
     }
 
+    /// Whether it can be written so that it is read again: tags and texts consist of octets that a document may have, no text of an error
+    /// has outer white space, and an error reply has an error. It takes no memory.
+    pub fn is_writable(&self) -> bool
+        ensures { IsTrue result ↔ IsWritable self.now }
+    {
+        match self {
+            Message::Query(query) => query.is_writable(),
+            Message::Reply(reply) => reply.is_writable(),
+        }
+    }
+
     /// An equal message, whose texts are shared with this one.
     pub fn clone(&self, alloc: Global) -> Result<Message, OutOfMemory>
         ensures { IfOk result (λ m. m ≡ self.now) }
@@ -112,7 +123,7 @@ impl Message {
     /// The message that all that a source has to give is, a document of XML. TooLong where there are more than 2^31 octets, and
     /// otherwise XmlError exactly where they are no message; Read only where the source failed.
     pub fn decode<I: Source>(alloc: Global, source: &mut I) -> Result<Message, Error>
-        ensures { Parses cause_of message_of (I.rest source.old) (I.rest source.new)
+        ensures { Parses cause_of Reads RefusesMessage (I.rest source.old) (I.rest source.new)
             (I.faults source.old) (I.faults source.new) result }
     {
         let octets = read_all(alloc, source, MOST_OCTETS)?;

@@ -1,15 +1,16 @@
 //! A publish element that replaces no object.
 
-ghost use Rattle.std.specs.Prelude.{◌≡◌, Some, IfOk};
+ghost use Rattle.std.specs.Prelude.{◌≡◌, ◌↔◌, Some, IfOk, IsTrue};
 ghost use Rattle.std.specs.Option.{option_map};
 ghost use Rattle.std.specs.Rc.{rc_str_bytes};
 ghost use Rattle.hex.specs.Hex.{encode_lower};
 ghost use Rattle.sha2.specs.Sha256.{sha256};
+ghost use Rattle.rpki_publication.specs.Change.{IsWritablePublish};
 ghost use Rattle.rpki_publication.specs.Publish.{tag_text};
 
 use crate::hash_tag::{hash_tag, tag_text};
 use rpki_common::{OutOfMemory, Text};
-use rpki_message::{cloned, handed_out, shared, taken_in};
+use rpki_message::{cloned, handed_out, is_plain_or_absent, shared, taken_in};
 use rpki_text::{Base64, uri};
 use std::alloc::Global;
 use std::marker::Model;
@@ -68,6 +69,16 @@ impl Publish {
             uri,
             content,
         })
+    }
+
+    /// Whether it can be written so that it is read again: the tag consists of octets that a document may have. It takes no memory.
+    pub fn is_writable(&self) -> bool
+        ensures { IsTrue result ↔ IsWritablePublish self.now }
+    {
+        // For the proof: the URI is lawful, and octets are octets.
+        let _uri = self.uri.as_str();
+        let _content = self.content.as_str();
+        is_plain_or_absent(&self.tag)
     }
 
     /// The tag, where there is one.

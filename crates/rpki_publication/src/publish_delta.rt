@@ -1,6 +1,8 @@
 //! Changes of objects.
 
 ghost use Rattle.std.specs.Prelude.{◌≡◌, ◌↔◌, ◌++◌, ◌∷◌, [], length, IsTrue, IfOk, IfErr, OnOk, OnErr};
+ghost use Rattle.std.specs.List.{AllByRecursion};
+ghost use Rattle.rpki_publication.specs.Change.{IsWritableChange};
 ghost use Rattle.rpki_publication.specs.declared.publish_delta_element.PublishDeltaElement.TheVariants as change;
 
 use crate::publish::Publish;
@@ -113,6 +115,13 @@ impl PublishDelta {
         self.elements.as_slice()
     }
 
+    /// Whether they can be written so that they are read again: tags consist of octets that a document may have. It takes no memory.
+    pub fn is_writable(&self) -> bool
+        ensures { IsTrue result ↔ AllByRecursion IsWritableChange self.now }
+    {
+        are_writable(self.elements())
+    }
+
     /// The changes, handed out in their order.
     pub fn into_elements(self) -> Vec<PublishDeltaElement>
         ensures { result.items ≡ self }
@@ -155,4 +164,16 @@ fn copied(
         copies.push(e.clone(alloc)?)?;
     }
     Ok(copies)
+}
+
+// Whether each change can be written so that it is read again.
+fn are_writable(changes: &[PublishDeltaElement]) -> bool
+    ensures { IsTrue result ↔ AllByRecursion IsWritableChange changes.now }
+{
+    for element in changes {
+        if !element.is_writable() {
+            return false;
+        }
+    }
+    true
 }

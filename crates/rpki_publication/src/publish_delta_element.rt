@@ -1,6 +1,7 @@
 //! An element of a query that changes an object.
 
-ghost use Rattle.std.specs.Prelude.{◌≡◌, IfOk};
+ghost use Rattle.std.specs.Prelude.{◌≡◌, ◌↔◌, IfOk, IsTrue};
+ghost use Rattle.rpki_publication.specs.Change.{IsWritableChange};
 
 use crate::publish::Publish;
 use crate::update::Update;
@@ -20,6 +21,17 @@ pub enum PublishDeltaElement {
 }
 
 impl PublishDeltaElement {
+    /// Whether it can be written so that it is read again: the tag consists of octets that a document may have. It takes no memory.
+    pub fn is_writable(&self) -> bool
+        ensures { IsTrue result ↔ IsWritableChange self.now }
+    {
+        match self {
+            PublishDeltaElement::Publish(p) => p.is_writable(),
+            PublishDeltaElement::Update(u) => u.is_writable(),
+            PublishDeltaElement::Withdraw(w) => w.is_writable(),
+        }
+    }
+
     /// An equal element, whose texts are shared with this one.
     pub fn clone(&self, alloc: Global) -> Result<PublishDeltaElement, OutOfMemory>
         ensures { IfOk result (λ e. e ≡ self.now) }

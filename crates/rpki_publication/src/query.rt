@@ -1,7 +1,7 @@
 //! Queries.
 
-ghost use Rattle.std.specs.Prelude.{◌≡◌, IfOk};
-ghost use Rattle.rpki_publication.specs.Message.{query_elements};
+ghost use Rattle.std.specs.Prelude.{◌≡◌, ◌↔◌, IfOk, IsTrue};
+ghost use Rattle.rpki_publication.specs.Message.{query_elements, IsWritableQuery};
 ghost use Rattle.rpki_xml.specs.Element.{is_none};
 
 use crate::publish_delta::PublishDelta;
@@ -25,6 +25,16 @@ impl Query {
         match self {
             Query::List => false,
             Query::Delta(delta) => delta.elements().is_empty(),
+        }
+    }
+
+    /// Whether it can be written so that it is read again: tags consist of octets that a document may have. It takes no memory.
+    pub fn is_writable(&self) -> bool
+        ensures { IsTrue result ↔ IsWritableQuery self.now }
+    {
+        match self {
+            Query::List => true,
+            Query::Delta(delta) => delta.is_writable(),
         }
     }
 

@@ -1,6 +1,7 @@
 //! An element of a query.
 
-ghost use Rattle.std.specs.Prelude.{◌≡◌, IfOk};
+ghost use Rattle.std.specs.Prelude.{◌≡◌, ◌↔◌, IfOk, IsTrue};
+ghost use Rattle.rpki_publication.specs.Change.{IsWritablePdu};
 
 use crate::publish_delta_element::PublishDeltaElement;
 use rpki_common::OutOfMemory;
@@ -27,6 +28,16 @@ pub enum QueryPdu {
 }
 
 impl QueryPdu {
+    /// Whether it can be written so that it is read again: a tag in it consists of octets that a document may have. It takes no memory.
+    pub fn is_writable(&self) -> bool
+        ensures { IsTrue result ↔ IsWritablePdu self.now }
+    {
+        match self {
+            QueryPdu::List => true,
+            QueryPdu::PublishDeltaElement(e) => e.is_writable(),
+        }
+    }
+
     /// An equal element, whose texts are shared with this one.
     pub fn clone(&self, alloc: Global) -> Result<QueryPdu, OutOfMemory>
         ensures { IfOk result (λ pdu. pdu ≡ self.now) }

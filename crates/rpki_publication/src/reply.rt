@@ -1,7 +1,7 @@
 //! Replies.
 
-ghost use Rattle.std.specs.Prelude.{◌≡◌, IfOk};
-ghost use Rattle.rpki_publication.specs.Message.{reply_elements};
+ghost use Rattle.std.specs.Prelude.{◌≡◌, ◌↔◌, IfOk, IsTrue};
+ghost use Rattle.rpki_publication.specs.Message.{reply_elements, IsWritableReply};
 ghost use Rattle.rpki_xml.specs.Element.{is_none};
 
 use crate::error_reply::ErrorReply;
@@ -31,6 +31,18 @@ impl Reply {
             Reply::List(list) => list.elements().is_empty(),
             Reply::Success => false,
             Reply::ErrorReply(errors) => errors.errors().is_empty(),
+        }
+    }
+
+    /// Whether it can be written so that it is read again: a list always can, and errors where there is one and each can. It takes no
+    /// memory.
+    pub fn is_writable(&self) -> bool
+        ensures { IsTrue result ↔ IsWritableReply self.now }
+    {
+        match self {
+            Reply::List(list) => list.is_writable(),
+            Reply::Success => true,
+            Reply::ErrorReply(errors) => errors.is_writable(),
         }
     }
 

@@ -1,15 +1,16 @@
 //! An error that is reported.
 
-ghost use Rattle.std.specs.Prelude.{◌≡◌, Some, None, IfOk};
+ghost use Rattle.std.specs.Prelude.{◌≡◌, ◌↔◌, Some, None, IfOk, IfSome, IsTrue};
 ghost use Rattle.std.specs.Option.{option_map};
 ghost use Rattle.std.specs.Rc.{rc_str_bytes};
-ghost use Rattle.rpki_publication.specs.ReportError.{shown_text};
+ghost use Rattle.rpki_publication.specs.Change.{IsWritablePdu};
+ghost use Rattle.rpki_publication.specs.ReportError.{shown_text, IsWritableError};
 ghost use Rattle.rpki_publication.specs.ReportErrorCode.{default_text};
 
 use crate::query_pdu::QueryPdu;
 use crate::report_error_code::ReportErrorCode;
 use rpki_common::{OutOfMemory, Text};
-use rpki_message::{cloned, shared, taken_in};
+use rpki_message::{cloned, is_plain_or_absent, is_trimmed_or_absent, shared, taken_in};
 use std::alloc::Global;
 use std::marker::Model;
 use std::rc::RcStr;
@@ -120,6 +121,17 @@ impl ReportError {
         }
     }
 
+    /// Whether it can be written so that it is read again: tag and text consist of octets that a document may have, the text has no outer
+    /// white space, and the element of the query can. It takes no memory.
+    pub fn is_writable(&self) -> bool
+        ensures { IsTrue result ↔ IsWritableError self.now }
+    {
+        is_plain_or_absent(&self.tag)
+            && is_plain_or_absent(&self.error_text)
+            && is_trimmed_or_absent(&self.error_text)
+            && is_writable_or_absent(&self.failed_pdu)
+    }
+
     /// The code.
     pub fn error_code(&self) -> ReportErrorCode
         ensures { result ≡ self.now.error_code }
@@ -185,6 +197,16 @@ impl ReportError {
             error_text,
             failed_pdu,
         })
+    }
+}
+
+// Whether an element can be written so that it is read again, or is absent.
+fn is_writable_or_absent(pdu: &Option<QueryPdu>) -> bool
+    ensures { IsTrue result ↔ IfSome pdu.now IsWritablePdu }
+{
+    match pdu {
+        None => true,
+        Some(pdu) => pdu.is_writable(),
     }
 }
 

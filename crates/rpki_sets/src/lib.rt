@@ -30,7 +30,7 @@ mod writing;
 
 pub use as_numbers::{AsBlocks, AsNumbers};
 pub use blocks::Blocks;
-pub use error::BlocksError;
+pub use error::{BlocksError, equal_errors_are_the_same};
 pub use ipv4::{Ipv4Addresses, Ipv4Blocks};
 pub use ipv6::{Ipv6Addresses, Ipv6Blocks};
 pub use laws::{

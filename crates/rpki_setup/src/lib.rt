@@ -26,7 +26,7 @@ mod validation;
 mod writing;
 
 pub use child_request::ChildRequest;
-pub use error::Error;
+pub use error::{Error, equal_errors_are_the_same};
 pub use law::{
     at_most_one, equal_values_are_the_same, printed_service_uri_is_read, read_is_writable,
     written_is_read,

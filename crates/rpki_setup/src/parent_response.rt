@@ -1,12 +1,12 @@
 //! The response of a parent.
 
-ghost use Rattle.std.specs.Prelude.{◌≡◌, Some, IfOk, MatchResult, string_bytes};
+ghost use Rattle.std.specs.Prelude.{◌≡◌, ◌↔◌, Some, IfOk, IsTrue, MatchResult, string_bytes};
 ghost use Rattle.std.specs.Option.{option_map};
 ghost use Rattle.std.specs.Rc.{rc_str_bytes};
 ghost use Rattle.rpki_xml.specs.Answers.{Gives};
 ghost use Rattle.rpki_message.specs.Answers.{Parses, WritesText, RefusesMessage};
 ghost use Rattle.rpki_setup.specs.Answers.{cause_of, IsBelievedIn, RefusesCertificate};
-ghost use Rattle.rpki_setup.specs.ParentResponse.{parent_response_in, parent_response_text};
+ghost use Rattle.rpki_setup.specs.ParentResponse.{parent_response_in, parent_response_text, IsWritableParentResponse};
 ghost use Rattle.rpki_message.specs.Reading.{ReadsAs};
 
 use crate::error::Error;
@@ -19,7 +19,7 @@ use rpki_base::{Scheme, Time, Verifier};
 use rpki_common::{OutOfMemory, Text};
 use rpki_idcert::IdCert;
 use rpki_message::{
-    MOST_OCTETS, cloned, lent, shared, tag_in, taken_in, write_attribute, write_optional,
+    MOST_OCTETS, cloned, is_plain_or_absent, lent, shared, tag_in, taken_in, write_attribute, write_optional,
 };
 use rpki_text::{Base64, ChildHandle, ParentHandle, Sink, Source, read_all};
 use rpki_xml::{ElementRef, XmlError, read_document};
@@ -136,6 +136,19 @@ impl ParentResponse {
         shared(&self.tag)
     }
 
+    /// Whether it can be written so that it is read again: the handles have the pattern, the service URI can be, and the tag consists of
+    /// octets that a document may have. It takes no memory.
+    pub fn is_writable(&self) -> bool
+        ensures { IsTrue result ↔ IsWritableParentResponse self.now }
+    {
+        // For the proof: octets are octets.
+        let _id_cert = self.id_cert.as_str();
+        self.parent_handle.has_pattern()
+            && self.child_handle.has_pattern()
+            && self.service_uri.is_writable()
+            && is_plain_or_absent(&self.tag)
+    }
+
     /// An equal response, whose texts are shared with this one.
     pub fn clone(&self, alloc: Global) -> Result<ParentResponse, OutOfMemory>
         ensures { IfOk result (λ m. m ≡ self.now) }
@@ -179,7 +192,8 @@ impl ParentResponse {
     /// The response that all that a source has to give is, a document of XML. TooLong where there are more than 2^31 octets, and
     /// otherwise InvalidXml exactly where they are no response; Read only where the source failed.
     pub fn parse<I: Source>(alloc: Global, source: &mut I) -> Result<ParentResponse, Error>
-        ensures { Parses cause_of parent_response_in (I.rest source.old) (I.rest source.new)
+        ensures { Parses cause_of (ReadsAs parent_response_in)
+            (RefusesMessage cause_of parent_response_in) (I.rest source.old) (I.rest source.new)
             (I.faults source.old) (I.faults source.new) result }
     {
         let octets = read_all(alloc, source, MOST_OCTETS)?;

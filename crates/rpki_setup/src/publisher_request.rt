@@ -1,12 +1,12 @@
 //! The request of a publisher.
 
-ghost use Rattle.std.specs.Prelude.{◌≡◌, Some, IfOk, MatchResult, string_bytes};
+ghost use Rattle.std.specs.Prelude.{◌≡◌, ◌↔◌, Some, IfOk, IsTrue, MatchResult, string_bytes};
 ghost use Rattle.std.specs.Option.{option_map};
 ghost use Rattle.std.specs.Rc.{rc_str_bytes};
 ghost use Rattle.rpki_xml.specs.Answers.{Gives};
 ghost use Rattle.rpki_message.specs.Answers.{Parses, WritesText, RefusesMessage};
 ghost use Rattle.rpki_setup.specs.Answers.{cause_of, IsBelievedIn, RefusesCertificate};
-ghost use Rattle.rpki_setup.specs.PublisherRequest.{publisher_request_in, publisher_request_text};
+ghost use Rattle.rpki_setup.specs.PublisherRequest.{publisher_request_in, publisher_request_text, IsWritablePublisherRequest};
 ghost use Rattle.rpki_message.specs.Reading.{ReadsAs};
 
 use crate::error::Error;
@@ -18,7 +18,7 @@ use rpki_base::{Scheme, Time, Verifier};
 use rpki_common::{OutOfMemory, Text};
 use rpki_idcert::IdCert;
 use rpki_message::{
-    MOST_OCTETS, cloned, handed_out, lent, shared, tag_in, taken_in, write_attribute,
+    MOST_OCTETS, cloned, handed_out, is_plain_or_absent, lent, shared, tag_in, taken_in, write_attribute,
     write_optional,
 };
 use rpki_text::{Base64, PublisherHandle, Sink, Source, read_all};
@@ -128,6 +128,16 @@ impl PublisherRequest {
         shared(&self.tag)
     }
 
+    /// Whether it can be written so that it is read again: the handle has the pattern, and the tag consists of octets that a document may
+    /// have. It takes no memory.
+    pub fn is_writable(&self) -> bool
+        ensures { IsTrue result ↔ IsWritablePublisherRequest self.now }
+    {
+        // For the proof: octets are octets.
+        let _id_cert = self.id_cert.as_str();
+        self.publisher_handle.has_pattern() && is_plain_or_absent(&self.tag)
+    }
+
     /// An equal request, whose texts are shared with this one.
     pub fn clone(&self, alloc: Global) -> Result<PublisherRequest, OutOfMemory>
         ensures { IfOk result (λ m. m ≡ self.now) }
@@ -164,7 +174,8 @@ impl PublisherRequest {
     /// The request that all that a source has to give is, a document of XML. TooLong where there are more than 2^31 octets, and
     /// otherwise InvalidXml exactly where they are no request; Read only where the source failed.
     pub fn parse<I: Source>(alloc: Global, source: &mut I) -> Result<PublisherRequest, Error>
-        ensures { Parses cause_of publisher_request_in (I.rest source.old) (I.rest source.new)
+        ensures { Parses cause_of (ReadsAs publisher_request_in)
+            (RefusesMessage cause_of publisher_request_in) (I.rest source.old) (I.rest source.new)
             (I.faults source.old) (I.faults source.new) result }
     {
         let octets = read_all(alloc, source, MOST_OCTETS)?;

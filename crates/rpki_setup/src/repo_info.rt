@@ -4,7 +4,7 @@ ghost use Rattle.std.specs.Prelude.{◌≡◌, ◌≢◌, ◌++◌, Some, None, 
 ghost use Rattle.std.specs.Option.{option_map};
 ghost use Rattle.rpki_text.specs.Uri.{rsync, fault_of, without_slash};
 ghost use Rattle.rpki_text.specs.declared.uri.Error.TheVariants as fault;
-ghost use Rattle.rpki_setup.specs.RepoInfo.{ca_repository_text, resolved_text};
+ghost use Rattle.rpki_setup.specs.RepoInfo.{ca_repository_text, resolved_text, IsWritableRepoInfo};
 
 use rpki_common::OutOfMemory;
 use rpki_text::uri;
@@ -57,10 +57,16 @@ impl RepoInfo {
         }
     }
 
-    /// The base, below which all objects stand.
+    /// The base, below which all objects stand. Each repository can be written so that it is read again.
     pub fn base_uri(&self) -> &uri::Rsync
-        ensures { result.now ≡ self.now.sia_base }
+        ensures base { result.now ≡ self.now.sia_base }
+        ensures writable { IsWritableRepoInfo self.now }
     {
+        // For the proof: the URIs are lawful.
+        let _base = self.sia_base.as_str();
+        if let Some(uri) = &self.rrdp_notification_uri {
+            let _uri = uri.as_str();
+        }
         &self.sia_base
     }
 

@@ -1,14 +1,15 @@
 //! Where a service is reached.
 
-ghost use Rattle.std.specs.Prelude.{◌≡◌, List, ℕ, Some, None, IfOk, IfErr, IsErrOf, string_bytes};
+ghost use Rattle.std.specs.Prelude.{◌≡◌, ◌↔◌, List, ℕ, Some, None, IfOk, IfErr, IsErrOf, IsTrue, string_bytes};
 ghost use Rattle.serde_json.specs.Data.{string};
 ghost use Rattle.serde_json.specs.Written.{compact_text};
 ghost use Rattle.rpki_setup.specs.Answers.{RefusesServiceUri, json_of};
-ghost use Rattle.rpki_setup.specs.ServiceUri.{service_uri_of_text, service_uri_of_json, service_text, is_http};
+ghost use Rattle.rpki_setup.specs.ServiceUri.{service_uri_of_text, service_uri_of_json, service_text, is_http, IsWritableService};
 
 use crate::error::Error;
 use crate::law::printed_service_uri_is_read;
 use rpki_common::{OutOfMemory, Text};
+use rpki_message::is_plain;
 use rpki_text::{JsonError, read_string, uri, write_string};
 use std::alloc::Global;
 use std::fmt;
@@ -70,6 +71,21 @@ impl ServiceUri {
         match self {
             ServiceUri::Https(uri) => uri.as_str(),
             ServiceUri::Http(text) => text.as_str(),
+        }
+    }
+
+    /// Whether it can be written so that it is read again: each https URI can, and another text where it begins with `http://`, in any
+    /// case, and consists of octets that a document may have. It takes no memory.
+    pub fn is_writable(&self) -> bool
+        ensures { IsTrue result ↔ IsWritableService self.now }
+    {
+        match self {
+            ServiceUri::Https(uri) => {
+                // For the proof: the URI is lawful.
+                let _uri = uri.as_str();
+                true
+            }
+            ServiceUri::Http(text) => is_http(text.as_str()) && is_plain(text.as_str()),
         }
     }
 

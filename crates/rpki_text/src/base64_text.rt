@@ -172,6 +172,7 @@ impl Base64 {
     pub fn as_str(&self) -> &str
         ensures text { result.now ≡ encode_of standard self.now }
         ensures again { base64_content result.now ≡ Some self.now }
+        ensures bytes { IsBytes self.now }
     {
         self.text.as_str()
     }

@@ -60,7 +60,10 @@ impl Hash {
     pub fn as_slice(&self) -> &[u8]
         ensures octets { result.now ≡ self.now }
         ensures size { length result.now ≡ 32 }
+        ensures bytes { IsBytes result.now }
     {
+        // For the proof: they are octets.
+        are_bytes(&self.octets);
         &self.octets
     }
 }
@@ -69,6 +72,11 @@ impl Hash {
 pub fn printed_hash_is_read()
     ensures { (digest : List ℕ) → length digest ≡ 32 → IsBytes digest
         → digest_of_text (encode_lower digest) ≡ Some digest }
+{}
+
+// Octets of a program are below 256.
+fn are_bytes(octets: &[u8])
+    ensures { IsBytes octets.now }
 {}
 
 impl PartialEq for Hash {

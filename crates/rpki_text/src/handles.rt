@@ -200,6 +200,13 @@ impl<T> Handle<T> {
         write_string(alloc, self.as_str())
     }
 
+    /// Whether the text has the pattern of a handle, as [`Handle::from_str`] asks.
+    pub fn has_pattern(&self) -> bool
+        ensures { IsTrue result ↔ IsHandle self.now }
+    {
+        is_handle(self.as_str())
+    }
+
     /// The shared text, lent.
     pub fn name(&self) -> &RcStr
         ensures { rc_str_bytes result.now ≡ self.now }

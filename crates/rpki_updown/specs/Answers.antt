@@ -36,9 +36,11 @@ of_cause causes.Write = errors.Write
 of_cause causes.TooLong = errors.TooLong
 of_cause causes.OutOfMemory = errors.OutOfMemory
 
--- the cause of an error of a call that reads or writes a message, where it is one of those that all messages share
+-- the cause of an error of a call that reads or writes a message; every other error has none, and never comes
 abbrev pub cause_of : Error → Option Cause
 cause_of (errors.XmlError xml.Malformed) = Some causes.Malformed
+cause_of errors.CertSyntax = Some causes.Malformed
+cause_of errors.InvalidCsrSyntax = Some causes.Malformed
 cause_of errors.Read = Some causes.Read
 cause_of errors.Write = Some causes.Write
 cause_of errors.TooLong = Some causes.TooLong

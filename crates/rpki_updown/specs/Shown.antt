@@ -1,5 +1,5 @@
--- What errors print; nothing is said of the texts of the others.
-use Rattle.std.specs.Prelude.{ℕ, List, ◌++◌, Option, None, Some, codes}
+-- What errors print.
+use Rattle.std.specs.Prelude.{ℕ, List, ◌++◌, Option, Some, codes}
 use Rattle.std.specs.Fmt.{decimal}
 use Rattle.rpki_sets.specs.Resources.{resources_text}
 use Rattle.rpki_xml.specs.declared.error.XmlError.TheVariants as xml
@@ -10,6 +10,7 @@ use Rattle.rpki_updown.specs.RequestResourceLimit.{limit_text}
 abbrev pub shown_error : Error → Option (List ℕ)
 shown_error errors.InvalidVersion = Some (codes "Invalid protocol version, MUST be 1")
 shown_error (errors.XmlError xml.Malformed) = Some (codes "malformed XML")
+shown_error (errors.XmlError xml.OutOfMemory) = Some (codes "out of memory")
 shown_error (errors.InvalidPayloadType e) = Some (codes "Invalid payload type: " ++ e.0)
 shown_error errors.InvalidCsrSyntax = Some (codes "Could not decode CSR")
 shown_error errors.CertSyntax = Some (codes "Could not decode certificate")
@@ -19,4 +20,7 @@ shown_error (errors.Validation e) =
 shown_error (errors.Limit set limit) =
     Some (codes "Limit '" ++ (limit_text limit ++ (codes "' contains resources not held in set '"
     ++ (resources_text set ++ codes "'"))))
-shown_error _ = None
+shown_error errors.Read = Some (codes "reading failed")
+shown_error errors.Write = Some (codes "writing failed")
+shown_error errors.TooLong = Some (codes "too long")
+shown_error errors.OutOfMemory = Some (codes "out of memory")

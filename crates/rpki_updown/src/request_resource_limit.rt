@@ -1,11 +1,12 @@
 //! The most that a certificate is asked for.
 
-ghost use Rattle.std.specs.Prelude.{◌≡◌, ◌↔◌, [], Some, None, IfOk, IfErr, OnOk, IsTrue, codes};
+ghost use Rattle.std.specs.Prelude.{◌≡◌, ◌↔◌, [], Some, None, IfOk, IfErr, IfSome, OnOk, IsTrue, codes};
 ghost use Rattle.std.specs.Bool.{OnTrue, OnFalse};
 ghost use Rattle.std.specs.Cmp.{partial_equiv_from_equiv};
 ghost use Rattle.std.specs.Fmt.{WritesOnOk};
 ghost use Rattle.std.specs.Option.{option_map};
 ghost use Rattle.rpki_sets.specs.Kinds.{text_of};
+ghost use Rattle.rpki_sets.specs.Runs.{IsSet};
 ghost use Rattle.rpki_updown.specs.Answers.{RefusesLimit};
 ghost use Rattle.rpki_updown.specs.RequestResourceLimit.{no_limit, HasStated, IsContained, limited, limited_set, are_same, are_same-equiv, limit_text};
 ghost use Rattle.rpki_updown.specs.Writing.{shown_part};
@@ -138,6 +139,17 @@ impl RequestResourceLimit {
             && has_stated(&self.ipv6, set.ipv6())
     }
 
+    /// What is stated of each kind is a set of its numbers.
+    pub fn stated_sets_are_sets(&self)
+        ensures asn { IfSome self.now.asn (IsSet 32) }
+        ensures ipv4 { IfSome self.now.ipv4 (IsSet 32) }
+        ensures ipv6 { IfSome self.now.ipv6 (IsSet 128) }
+    {
+        is_set_if_stated(&self.asn);
+        is_set_if_stated(&self.ipv4);
+        is_set_if_stated(&self.ipv6);
+    }
+
     /// An equal limit.
     pub fn clone(&self, alloc: Global) -> Result<RequestResourceLimit, OutOfMemory>
         ensures { IfOk result (λ l. l ≡ self.now) }
@@ -171,6 +183,16 @@ fn limited<N: Numbers>(
     match stated {
         None => held.clone(alloc),
         Some(stated) => stated.clone(alloc),
+    }
+}
+
+// What is stated is a set.
+fn is_set_if_stated<N: Numbers>(stated: &Option<Blocks<N>>)
+    ensures { IfSome stated.now (IsSet N.kind.width) }
+{
+    if let Some(blocks) = stated {
+        // For the proof: a set says that it is one.
+        let _runs = blocks.runs();
     }
 }
 

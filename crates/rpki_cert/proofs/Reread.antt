@@ -1,5 +1,5 @@
--- Certificates and requests that were read are written as octets, which are read as them.
-use Rattle.std.proofs.Common.{◌≡◌, ℕ, zero, suc, ◌<◌, ◌%◌, ◌/◌, Bool, true, false, Option, Some, None, List, [], ◌∷◌, ◌++◌, length, refl, sym, ap, subst, arith}
+-- Certificates and requests that were read in DER are written as octets, which are read as them.
+use Rattle.std.proofs.Common.{◌≡◌, ℕ, zero, suc, ◌<◌, ◌%◌, ◌/◌, Bool, true, false, Option, Some, None, Result, Ok, List, [], ◌∷◌, ◌++◌, length, refl, sym, ap, subst, arith}
 use Rattle.std.specs.Prelude.{nat_lt, if◌then◌else◌}
 use Rattle.std.specs.List.{list_all}
 use Rattle.std.proofs.lemmas.Bool.{ltb-true}
@@ -15,9 +15,11 @@ use Rattle.rpki_der.specs.Bits.{BitFields, bits, bit_string}
 use Rattle.rpki_der.specs.Grammar.{primitive, within, first, so}
 use Rattle.rpki_der.specs.Held.{with_octets}
 use Rattle.rpki_der.specs.Identifier.{has_tag}
+use Rattle.rpki_der.specs.Position.{Position}
 use Rattle.rpki_der.specs.Reader.{value_at, decoded}
 use Rattle.rpki_der.specs.Tags.{sequence, bit_string_tag}
 use Rattle.rpki_der.specs.Takes.{BeginsAs}
+use Rattle.rpki_der.specs.Ticks.{CountedOne}
 use Rattle.rpki_der.specs.Value.{Value, Primitive, Constructed, Values, lengths_of, end_mark, spelling, spellings}
 use Rattle.rpki_der.specs.Whole.{whole_of}
 use Rattle.rpki_der.specs.Writing.{octets_of, der_length, with_bit_6, der_primitive, der_constructed}
@@ -31,17 +33,27 @@ use Rattle.rpki_base.specs.RpkiSignatureAlgorithm.{RpkiAlgorithm, x509_algorithm
 use Rattle.rpki_base.specs.Signature.{SignatureParts}
 use Rattle.rpki_base.specs.SignedData.{SignedParts, Signed, algorithm_in, signature_in, signed_as, signed_fields, signed_value, spelled_parts, spelled_data}
 use Rattle.rpki_cert.specs.Cert.{CertFields, certificate}
-use Rattle.rpki_cert.specs.Csr.{request_info, certification_request}
+use Rattle.rpki_cert.specs.Csr.{RequestFields, request_info, certification_request}
 use Rattle.rpki_cert.specs.CsrAttributes.{ca_attributes}
 use Rattle.rpki_idcert.proofs.Rewriting.{written_again}
+use Rattle.rpki_cert.proofs.Captured.{decodes_counted, decodes_uncounted}
 use Rattle.rpki_cert.proofs.Shorter.{back_bytes, request_spelled}
 use Rattle.rpki_cert.proofs.Slices.{slice_is, certificate_again}
-use Rattle.rpki_message.proofs.Symbols.{both_bytes, byte_first, no_bytes}
-use Rattle.rpki_updown.specs.Entitlements.{CaRequest}
-use Rattle.rpki_provisioning.specs.Shape.{certificate_of, request_of, request_octets}
-use Rattle.rpki_provisioning.specs.Writable.{IsCertificate, IsRequest}
+use Rattle.rpki_cert.specs.Making.{CaRequest}
+use Rattle.rpki_cert.specs.ReadInDer.{IsCertificate, IsReadInDer, IsRequest}
 
 -- ---- octets
+
+pub byte_first : (x : ℕ) (m : List ℕ) → x < 256 → IsBytes m → IsBytes (x ∷ m)
+byte_first x m lt h zero = lt
+byte_first x m lt h (suc i) = h i
+
+pub no_bytes : IsBytes []
+no_bytes i = omega arith
+
+pub both_bytes : (a b : List ℕ) → IsBytes a → IsBytes b → IsBytes (a ++ b)
+both_bytes [] b h k = k
+both_bytes (x ∷ a) b h k = byte_first x (a ++ b) (h 0) (both_bytes a b (λ i. h (suc i)) k)
 
 all_bytes : (l : List ℕ) → list_all (λ c. nat_lt c 256) l ≡ true → IsBytes l
 all_bytes [] h = no_bytes
@@ -153,30 +165,52 @@ data_bytes d h =
 
 -- ---- what begins octets
 
+abbrev as_request : List ℕ → Option CaRequest
+as_request octets = decoded (certification_request ca_attributes (whole_of x509_algorithm) Der) Der octets
+
 pub begins : {X : Type 0} (grammar : Value → Option X) (octets : List ℕ) (x : X) → decoded grammar Der octets ≡ Some x → BeginsAs grammar Der octets x
 unfolding decoded
 begins grammar octets x e =
     let b = bound (value_at Der octets) (λ v. grammar v.0) x e in
     record { value = b.x.0; rest = b.x.1; begins = value_at-sound Der octets b.x.0 b.x.1 b.found; reads = b.then' }
 
-pub certificate_writable : (o : List ℕ) (c : CertFields) → IsBytes o → certificate_of o ≡ Some c → IsCertificate c
-certificate_writable o c h e =
-    let b = begins (certificate Der) o c e in
+pub certificate_read : (o : List ℕ) (c : CertFields) → IsBytes o → BeginsAs (certificate Der) Der o c → IsCertificate c
+certificate_read o c h b =
     let own : IsBytes (spelling b.value) = front_bytes (spelling b.value) b.rest (subst IsBytes b.begins.parts h) in
     record {
       octets = subst IsBytes (sym (slice_is Der b.value c b.reads)) own;
-      read = subst (λ (l : List ℕ). certificate_of l ≡ Some c) (append-nil c.slice) (decoded_ok (certificate Der) Der (c.slice ++ []) c (certificate_again o [] c b));
+      read = subst (λ (l : List ℕ). decoded (certificate Der) Der l ≡ Some c) (append-nil c.slice) (decoded_ok (certificate Der) Der (c.slice ++ []) c (certificate_again o [] c b));
     }
 
-pub request_writable : (o : List ℕ) (r : CaRequest) → IsBytes o → request_of o ≡ Some r → IsRequest r
+pub request_read : (r : CaRequest) → IsReadInDer ca_attributes (whole_of x509_algorithm) r → IsRequest r
 unfolding certification_request
-request_writable o r h e =
-    let b = begins (certification_request ca_attributes (whole_of x509_algorithm) Der) o r e in
-    let own : IsBytes (spelling b.value) = front_bytes (spelling b.value) b.rest (subst IsBytes b.begins.parts h) in
-    let w = written_again (request_info ca_attributes) (whole_of x509_algorithm) spelled_x509 Der b.value r [] b.begins.lawful b.reads (request_spelled o r h b)
+request_read r d =
+    let b = d.begins in
+    let own : IsBytes (spelling b.value) = front_bytes (spelling b.value) b.rest (subst IsBytes b.begins.parts d.bytes) in
+    let w = written_again (request_info ca_attributes) (whole_of x509_algorithm) spelled_x509 Der b.value r [] b.begins.lawful b.reads (request_spelled d.octets r d.bytes b)
     (λ q a f. x509_again Der a (x509_named Der q a f)) (λ a. x509_value Der a []) in
     record {
       octets = data_bytes r.signed (signed_bytes (request_info ca_attributes) b.value r own b.reads);
-      read = subst (λ (l : List ℕ). request_of l ≡ Some r) (append-nil (request_octets r))
-          (decoded_ok (certification_request ca_attributes (whole_of x509_algorithm) Der) Der (request_octets r ++ []) r (record { value = w.0; rest = []; begins = w.1; reads = w.2 }));
+      read = subst (λ (l : List ℕ). as_request l ≡ Some r) (append-nil (spelled_data spelled_x509 r.signed))
+          (decoded_ok (certification_request ca_attributes (whole_of x509_algorithm) Der) Der (spelled_data spelled_x509 r.signed ++ []) r (record { value = w.0; rest = []; begins = w.1; reads = w.2 }));
     }
+
+pub certificate_decoded : (o : List ℕ) (c : CertFields) → IsBytes o → decoded (certificate Der) Der o ≡ Some c → IsCertificate c
+certificate_decoded o c h e = certificate_read o c h (begins (certificate Der) o c e)
+
+pub request_decoded : (o : List ℕ) (r : CaRequest) → IsBytes o → as_request o ≡ Some r → IsRequest r
+request_decoded o r h e = request_read r (record { octets = o; bytes = h; begins = begins (certification_request ca_attributes (whole_of x509_algorithm) Der) o r e })
+
+-- ---- what a cursor in DER took
+
+pub certificate_taken : (octets : List ℕ) (p q : Position) (b a : ℕ) (c : CertFields) → p ≡ record { mode = Der; here = octets; levels = [] } → IsBytes octets → CountedOne 2 (certificate p.mode) p q b a c → IsCertificate c
+certificate_taken octets p q b a c e h t =
+    certificate_read octets c h (decodes_uncounted 2 (certificate Der) Der octets (λ (x : CertFields). x) b a (Ok c) (decodes_counted 2 certificate Der octets p q (λ (x : CertFields). x) b a (Ok c) e t))
+
+pub request_taken : {A T : Type 0} (attributes : Mode → Value → Option T) (reads : Mode → List ℕ → Option A) (octets : List ℕ) (p q : Position) (b a : ℕ) (r : Signed A (RequestFields T)) → p ≡ record { mode = Der; here = octets; levels = [] } → IsBytes octets
+    → CountedOne 2 (certification_request attributes reads p.mode) p q b a r → IsReadInDer attributes reads r
+request_taken {A} {T} attributes reads octets p q b a r e h t = record {
+  octets = octets;
+  bytes = h;
+  begins = decodes_uncounted 2 (certification_request attributes reads Der) Der octets (λ (x : Signed A (RequestFields T)). x) b a (Ok r) (decodes_counted 2 (certification_request attributes reads) Der octets p q (λ (x : Signed A (RequestFields T)). x) b a (Ok r) e t);
+}

@@ -2,7 +2,7 @@ use Rattle.std.proofs.Common.{ap, ◌∙◌}
 use Rattle.rpki_der.specs.Held.{up_to}
 use Rattle.rpki_der.proofs.Counting.{takes_err, refuses_memory}
 use Rattle.rpki_cert.proofs.Captured.{cert_taken, cert_refused}
-use Rattle.rpki_cert.proofs.cert.Cert.take_from_counted.Goals as goal
+use Rattle.rpki_cert.proofs.cert.take_parts.Goals as goal
 
 pub returns-in_err-key : goal.returns-in_err-key
 returns-in_err-key g c = takes_err _ _ _ _ _ _ _ _ _ c.from_residual.ensures.1 (cert_refused _ _ _ _ _ c.in_err-key.ensures)

@@ -1,4 +1,4 @@
--- written by tools/answers.py rpki_cert csr Csr.take_from_counted Csr certification_request+rpki_base.specs.SignedData.signed_value+rpki_base.specs.SignedData.signed_as enter_counted
+-- written by tools/answers.py rpki_cert csr take_parts Csr certification_request+rpki_base.specs.SignedData.signed_value+rpki_base.specs.SignedData.signed_as enter_counted
 --     'octets@rpki_der.specs.Held.with_octets+rpki_cert.specs.Csr.request_info=(λ m. with_octets (request_info g.Attributes.CsrAttributes.reads m))' '!slice'
 --     '&1signature@rpki_base.specs.SignedData.signature_in=(signature_in g.Alg.SignatureAlgorithm.reads)' =new-signed =in_ok-slice
 use Rattle.std.proofs.Common.{refl, ◌∙◌}
@@ -8,7 +8,7 @@ use Rattle.rpki_der.proofs.Counting.{reads_first, refuses_inside, refuses_within
 use Rattle.rpki_der.proofs.Leftovers.{reads_bind, reads_slower, stops_bind, stops_slower}
 use Rattle.rpki_der.proofs.Modes.{reads_in, refuses_in, stops_in, takes_in}
 use Rattle.rpki_der.specs.Held.{with_octets}
-use Rattle.rpki_cert.proofs.csr.Csr.take_from_counted.Goals as goal
+use Rattle.rpki_cert.proofs.csr.take_parts.Goals as goal
 
 pub returns-in_err-enter_counted : goal.returns-in_err-enter_counted
 unfolding certification_request signed_value signed_as
