@@ -471,6 +471,25 @@ class Build(InCopy):
         self.assertEqual([["low", "anew"], ["left", "anew"]], [[row[0], row[4]] for row in rows])
 
 
+class FirstRun(InCopy):
+    def test_measures_in_a_clone(self) -> None:
+        (self.top / "bench").mkdir()
+        shutil.copy(TOP / "bench" / "first_run.py", self.top / "bench")
+        git = ["git", "-c", "user.name=Test", "-c", "user.email=test@localhost"]
+        for words in (["init", "-q"], ["add", "-A"], ["commit", "-qm", "All"]):
+            self.assertEqual(0, self.run_it(*git, *words)[0])
+        self.run_it("tools/build.py", "low")
+        (self.fake / "log").write_text("")
+        self.tell("seconds", "0.3")
+        status, out, _ = self.run_it("bench/first_run.py", "--jobs", "2", "rpkica", "rpkiguard")
+        self.assertEqual(0, status)
+        self.assertEqual({"low", "left", "right", "tall", "rpkica", "rpkiguard"}, set(self.log()))
+        self.assertRegex(out, r"longest chain +0\.0  low, left, tall, rpkica\n")
+        self.assertRegex(out, r"processor minutes +0\.0  over 2 processors 0\.0\n")
+        self.assertRegex(out, r"by the clock +0\.[0-9]  [0-9.]+ times the longer of the two\n")
+        self.assertFalse(self.program().exists())
+
+
 class Shares(unittest.TestCase):
     def test_shares_are_those_of_the_table(self) -> None:
         rows = re.findall(r"\| (\w+) \| ([\d.]+) \|", (TOP / "CONTRIBUTING.md").read_text(encoding="utf-8"))
