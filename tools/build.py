@@ -41,7 +41,8 @@ KEPT = (b"begins with what a check kept", b"nothing has changed since")  # what 
 
 def closure(uses: dict[str, list[str]], names: list[str]) -> list[str]:
     """These crates and all below them, in the order of crates.txt, lowest first."""
-    found, left = set(), list(names)
+    found: set[str] = set()
+    left = list(names)
     while left:
         name = left.pop()
         if name not in found:
@@ -84,7 +85,8 @@ class Plan:
 
     def longest_chain(self, left: dict[str, float]) -> list[str]:
         """The crates of the longest chain, lowest first."""
-        longest, chain = self.chains(left), []
+        longest = self.chains(left)
+        chain: list[str] = []
         above: Optional[str] = max(self.crates, key=lambda crate: longest[crate])
         while above is not None:
             chain.append(above)
@@ -197,9 +199,12 @@ class Builder:
     def build(self) -> int:
         try:
             with self.rooms.opened(self.screen.say, self.signals.has_come):
-                status = self.work()
+                try:
+                    status = self.work()
+                finally:
+                    self.end_all()
         except rooms.Stopped:
-            status = 0
+            status = 1
         self.screen.wipe()
         if self.signals.number:
             self.screen.say("stopped; what was proved stays")
@@ -207,16 +212,15 @@ class Builder:
         return status
 
     def work(self) -> int:
+        """Proves all, and gives 0; or 1 where a crate isn't proved or a signal came, and some may still run."""
         self.began = time.monotonic()
         while self.left or self.running:
             if self.signals.has_come():
-                self.end_all()
                 return 1
             while start := self.next_start():
                 self.begin(*start)
             for run in [run for run in self.running if run.has_ended()]:
                 if not self.end(run):
-                    self.end_all()
                     return 1
             self.show()
             time.sleep(PAUSE)
@@ -231,7 +235,7 @@ class Builder:
             return None
         first = max(ready, key=lambda crate: self.chains[crate])
         jobs = max(1, idle // len(ready))
-        if self.is_waited_for(first):
+        if self.lanes > 2 and self.is_waited_for(first):
             jobs = max(jobs, min(2, idle))
         return first, min(jobs, MOST_JOBS)
 

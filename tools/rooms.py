@@ -39,7 +39,7 @@ def try_lock(number: int) -> bool:
 
 def lock(folders: Iterable[Path], say: Callable[[str], None], is_stopped: Callable[[], bool]) -> list[int]:
     """Waits until no rt works in these folders, and keeps others out until what it gives is closed."""
-    held = []
+    held: list[int] = []
     for folder in sorted(folders):
         held.append(os.open(folder, os.O_RDONLY))
         has_said = False

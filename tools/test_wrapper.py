@@ -102,6 +102,8 @@ def program():
 
 
 def attempt():
+    note("try")
+    time.sleep(float(told("seconds") or 0))
     words = sys.argv[sys.argv.index("--") + 1:]
     if told("try") == "large":
         print("checked: no-answer: the program wrote more than 1048576 bytes to standard output\\nrun=no-answer proved=no", file=sys.stderr)
@@ -377,6 +379,19 @@ class Trial(InCopy):
         self.addCleanup(os.close, theirs)
         self.assert_refused("terminal", self.run_it("./rpkica", "content", stdin=theirs))
         self.assertEqual(4, self.run_it("./rpkica", "--help", stdin=theirs)[0])
+
+    def test_output_that_nobody_takes(self) -> None:
+        self.assertIn("can't be written", self.run_it("sh", "-c", "./rpkica content </dev/null >/dev/full")[2])
+        self.assertIn("can't be written", self.run_it("sh", "-c", "./rpkica content </dev/null >&-")[2])
+
+    def test_interrupted(self) -> None:
+        self.tell("seconds", "30")
+        with self.start("./rpkica", "content") as process:
+            self.wait_for(lambda: self.log("try"))
+            os.killpg(process.pid, signal.SIGINT)
+            process.communicate(timeout=15)
+        self.assertEqual(130, process.returncode)
+        self.assert_tidy()
 
     def test_too_much_input(self) -> None:
         self.assert_refused("octets of input", self.run_it("sh", "-c", "head -c 67108864 /dev/zero | ./rpkica content"))

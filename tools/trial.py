@@ -65,21 +65,25 @@ def read_some(program: str) -> bytes:
         refuse(program, f"standard input can't be read: {error.strerror}")
 
 
-def run_try(program: str, words: list[str], room: pathlib.Path) -> int:
+def run_try(program: str, words: list[str], room: pathlib.Path) -> None:
     """Runs rt, which cleans up by itself where a signal ends it."""
     with open(room / "stdin", "rb") as given, open(room / "stdout", "wb") as out, open(room / "stderr", "wb") as said:
         process = subprocess.Popen(
             ["rt", "try", "--seconds", str(SECONDS), "--", *words],
-            cwd=TOP / "crates" / program, stdin=given, stdout=out, stderr=said, start_new_session=True,
+            cwd=TOP / "crates" / program,
+            stdin=given,
+            stdout=out,
+            stderr=said,
+            start_new_session=True,
         )
-        for number in (signal.SIGINT, signal.SIGTERM, signal.SIGHUP):
-            signal.signal(number, lambda number, _: stop(process, number))
-        return process.wait()
+        try:
+            process.wait()
+        finally:
+            process.terminate()
+            process.wait()
 
 
-def stop(process: subprocess.Popen[bytes], number: int) -> NoReturn:
-    process.send_signal(signal.SIGTERM)
-    process.wait()
+def leave(number: int, _frame: object) -> NoReturn:
     sys.exit(128 + number)
 
 
@@ -95,13 +99,16 @@ def why_not(said: bytes) -> str:
     return "rt try has no answer:\n" + said.decode(errors="replace").rstrip("\n")
 
 
-def hand_on(out: bytes, said: bytes) -> None:
+def hand_on(program: str, out: bytes, said: bytes) -> None:
     """Writes what the program wrote."""
     of_program = [line for line in said.splitlines(keepends=True) if not OF_RT.match(line)]
     sys.stderr.buffer.write(b"".join(of_program))
     sys.stderr.flush()
-    sys.stdout.buffer.write(out)
-    sys.stdout.flush()
+    try:
+        with open(1, "wb", closefd=False) as to:
+            to.write(out)
+    except OSError as error:
+        refuse(program, f"standard output can't be written: {error.strerror}")
 
 
 def attempt(program: str, words: list[str], room: pathlib.Path) -> int:
@@ -112,7 +119,7 @@ def attempt(program: str, words: list[str], room: pathlib.Path) -> int:
     status = own_status(said)
     if status is None:
         refuse(program, why_not(said))
-    hand_on((room / "stdout").read_bytes(), said)
+    hand_on(program, (room / "stdout").read_bytes(), said)
     return status
 
 
@@ -122,6 +129,8 @@ def main() -> int:
     program, words = sys.argv[1], sys.argv[2:]
     if not (TOP / "crates" / program / "src" / "main.rt").is_file():
         refuse(program, "there is no such program")
+    for number in (signal.SIGINT, signal.SIGTERM, signal.SIGHUP):
+        signal.signal(number, leave)
     if not shutil.which("rt"):
         refuse(program, "rt isn't found: README says which toolchain this needs")
     with tempfile.TemporaryDirectory(prefix="trial-") as room:
