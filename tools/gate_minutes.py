@@ -114,7 +114,7 @@ def markdown_of(rows):
 
 def shares_of(rows):
     """The lines of tools/minutes.txt."""
-    head = "# Each crate's minutes of proofs, of CONTRIBUTING.md's table: by them tools/build.py says what comes first, and how long it takes."
+    head = "# Each crate's minutes of proofs, of CONTRIBUTING.md's table: tools/build.py says by them what comes first."
     return "\n".join([head, *(f"{crate} {of['proofs']:.1f}" for crate, of in sums_of(rows).items() if crate != "rt")])
 
 

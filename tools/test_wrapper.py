@@ -1,9 +1,10 @@
 #!/usr/bin/env python3
-"""Tests the script `rpkica`, tools/build.py and tools/trial.py, in a copy with small crates and with a toolchain that is a script of its own.
+"""Tests the script `rpkica`, tools/build.py, tools/trial.py and bench/first_run.py, in a copy with small crates and with a toolchain that is
+a script of its own.
 
     tools/test_wrapper.py [NAME ..]
 
-Nothing is proved: the `rt` here notes what it is called for, waits, and writes what the real one would. It takes a minute."""
+Nothing is proved: the `rt` here notes what it is called for, waits, and writes what the real one would. It takes two minutes."""
 
 from __future__ import annotations
 
