@@ -58,6 +58,7 @@ RT = {
     "ci": {"--anew"},
     "check": {"--jobs", "--only", "--start"},
     "try": {"--test"},
+    "lib": set(),
     "run": set(),
     "must-fail": set(),
     "plant": set(),
@@ -193,6 +194,7 @@ SAID = {
     "bits of numbers, and of RSA keys": "32 2048",
     "of a word on Linux": "131071",
     "minutes that a gate took, on the machines that CONTRIBUTING.md tells of": "21 45 46 53 55 106 130 244 320 472",
+    "the status of a trial that can't be made, by tools/trial.py": "125",
     "instructions an octet, by bench/instructions.py": "22 48 49 82 88 97 142 147",
 }
 OUTSIDE = {int(number): place for place, numbers in SAID.items() for number in numbers.split()}

@@ -1,7 +1,7 @@
 #!/usr/bin/env python3
 """Says how much processor time the gate takes, crate by crate.
 
-    tools/gate_minutes.py [--watch PID] [--log FILE] [--read FILE ..] [--edits N] [--markdown]
+    tools/gate_minutes.py [--watch PID] [--log FILE] [--read FILE ..] [--edits N] [--markdown | --shares]
 
 Runs `rt ci` at the top, with `--anew` where rt knows that word, or watches a gate that runs already, of which PID is the process. Every
 second it reads how much processor time each process below it has taken, and when the gate ends it prints, for each crate, the minutes of
@@ -11,7 +11,8 @@ no `rattle`. Processes that end within the second are missed, so the sums are a 
 
 With --log each process is noted in a file as well, a line each: crate, what it counts for, seconds, place, which of a wrong body's try is
 the edit, and of the check with which they begin `seed`. With --read nothing runs, and the table is that of such files. With --edits the N
-edits that took longest are printed too. With --markdown the table is the one of CONTRIBUTING.md."""
+edits that took longest are printed too. With --markdown the table is the one of CONTRIBUTING.md, and with --shares it is
+tools/minutes.txt, by which tools/build.py orders crates."""
 
 import argparse
 import collections
@@ -111,6 +112,12 @@ def markdown_of(rows):
     return "\n".join(lines + [cells[at] + cells[at + half] + "|" for at in range(half)])
 
 
+def shares_of(rows):
+    """The lines of tools/minutes.txt."""
+    head = "# Each crate's minutes of proofs, of CONTRIBUTING.md's table: tools/build.py says by them what comes first."
+    return "\n".join([head, *(f"{crate} {of['proofs']:.1f}" for crate, of in sums_of(rows).items() if crate != "rt")])
+
+
 def table_of(rows):
     sums = sums_of(rows)
     lines = [f"{'minutes':20}" + "".join(f"{kind:>14}" for kind in KINDS) + f"{'all':>8}"]
@@ -144,11 +151,12 @@ def main():
     parser.add_argument("--read", nargs="+", metavar="FILE")
     parser.add_argument("--edits", type=int, default=0, metavar="N")
     parser.add_argument("--markdown", action="store_true")
+    parser.add_argument("--shares", action="store_true")
     asked = parser.parse_args()
-    table = markdown_of if asked.markdown else table_of
+    table = markdown_of if asked.markdown else shares_of if asked.shares else table_of
     if asked.read:
         rows = [row for path in asked.read for row in rows_in(path)]
-        print(table(rows), edits_of(rows, asked.edits), sep="\n")
+        print(table(rows), *[edits_of(rows, asked.edits)] * bool(asked.edits), sep="\n")
         return
     began, status = time.monotonic(), 0
     if asked.watch:
@@ -160,8 +168,8 @@ def main():
     if asked.log:
         with open(asked.log, "w", encoding="utf-8") as file:
             file.writelines(f"{crate}\t{kind}\t{taken:.2f}\t{place}\n" for crate, kind, place, taken in rows)
-    print(table(rows), edits_of(rows, asked.edits), sep="\n")
-    print(f"{(time.monotonic() - began) / 60:.1f} minutes by the clock")
+    print(table(rows), *[edits_of(rows, asked.edits)] * bool(asked.edits), sep="\n")
+    print(f"{(time.monotonic() - began) / 60:.1f} minutes by the clock", file=sys.stderr)
     sys.exit(status)
 
 
