@@ -9,7 +9,8 @@ use Rattle.rpki_ca.specs.Command.{IsCommand, IsNoCommand, IsMake, ReadsInput}
 use Rattle.rpki_ca.specs.Summary.{IsMakeAnswer}
 use Rattle.rpki_base.specs.Scheme.{Relation}
 use Rattle.rpki_ca.specs.Refusal.{status_of}
-use Rattle.rpki_ca.specs.Seen.{Seen, SignerSeen, IsSteady, OfInput}
+use Rattle.rpki_text.specs.Source.{OfInput}
+use Rattle.rpki_ca.specs.Seen.{Seen, SignerSeen, IsSteady}
 use Rattle.rpki_ca.specs.Answer.{octets_in, AnswersSpelled, AnswersSigned, Performs, IsAnswer, IsGiven, IsShown, IsAdmitted, IsLineOf, IsUnread, ReadsAll}
 use Rattle.rpki_ca.proofs.Commands.{one_command, is_make}
 

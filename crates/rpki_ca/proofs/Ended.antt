@@ -3,7 +3,8 @@ use Rattle.std.proofs.Common.{◌≡◌, ◌⊎◌, ◌<◌, ◌≤◌, ◌^◌,
 use Rattle.rpki_ca.specs.Answer.{Ends, IsUnread}
 use Rattle.rpki_ca.specs.Lines.{EndsBehind, EndsLines, EndsRun, EndsUnread, EndsWith, WroteAll}
 use Rattle.rpki_ca.specs.Refusal.{status_of}
-use Rattle.rpki_ca.specs.Seen.{HasFailed, OfInput, Seen}
+use Rattle.rpki_text.specs.Source.{OfInput}
+use Rattle.rpki_ca.specs.Seen.{HasFailed, Seen}
 use Rattle.rpki_ca.specs.declared.refusals.Refusal.{Refusal}
 use Rattle.rpki_ca.specs.declared.refusals.Refusal.TheVariants as refusals
 

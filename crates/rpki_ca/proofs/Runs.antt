@@ -22,7 +22,8 @@ use Rattle.rpki_ca.specs.Hexadecimal.{hexadecimal}
 use Rattle.rpki_ca.specs.Refusal.{status_of}
 use Rattle.rpki_base.specs.Scheme.{Relation}
 use Rattle.rpki_ca.specs.Acceptance.{text_of}
-use Rattle.rpki_ca.specs.Seen.{Seen, SignerSeen, HasFailed, IsSteady, OfInput}
+use Rattle.rpki_text.specs.Source.{OfInput}
+use Rattle.rpki_ca.specs.Seen.{Seen, SignerSeen, HasFailed, IsSteady}
 use Rattle.rpki_ca.specs.Answer.{AnswersSpelled, AnswersSigned, IsAnswer, IsGiven, IsShown, IsAdmitted, IsLineOf, Ends, EndsAs, ReadsAll, Delivers, Holds, Succeeds}
 use Rattle.rpki_ca.proofs.Commands.{is_command, is_setup, one_command}
 use Rattle.rpki_ca.proofs.Answering.{always_some, answers, each_input, sort_of, to_shown, told_input}

@@ -40,7 +40,8 @@ use Rattle.rpki_base.specs.Scheme.{Relation}
 use Rattle.rpki_ca.specs.Acceptance.{Accepted, HoldsNoSigned, HasNoForm, HoldsNoCertificate}
 use Rattle.rpki_ca.specs.Acceptance.{HoldsNoRequest, FailsCheck, text_of}
 use Rattle.rpki_ca.specs.Refusal.{status_of, name_of}
-use Rattle.rpki_ca.specs.Seen.{Seen, SignerSeen, HasFailed, IsSteady, OfInput}
+use Rattle.rpki_text.specs.Source.{OfInput}
+use Rattle.rpki_ca.specs.Seen.{Seen, SignerSeen, HasFailed, IsSteady}
 
 -- ---- the commands
 

@@ -11,7 +11,8 @@ use Rattle.rpki_ca.specs.declared.lines.Stop.{Stop}
 use Rattle.rpki_ca.specs.declared.lines.Stop.TheVariants.{Refused, WriteFault}
 use Rattle.rpki_ca.specs.Refusal.{status_of}
 use Rattle.rpki_ca.specs.Answer.{line_of, Ends, IsUnread}
-use Rattle.rpki_ca.specs.Seen.{Seen, HasFailed, IsSteady, OfInput}
+use Rattle.rpki_text.specs.Source.{OfInput}
+use Rattle.rpki_ca.specs.Seen.{Seen, HasFailed, IsSteady}
 
 -- ---- what is read
 

@@ -27,11 +27,6 @@ HasFailed s = Rose s.faults_before s.faults_after
 abbrev pub IsSteady : Seen → Type 0
 IsSteady s = s.faults_after ≡ s.faults_before
 
--- The fact holds of the input: of the octets that the source tells; where it tells none, of some octets.
-abbrev pub OfInput : Option (List ℕ) → (List ℕ → Type 0) → Type 0
-OfInput (Some input) fact = fact input
-OfInput None fact = (input : List ℕ) × fact input
-
 -- ---- the signer
 
 -- The identifier of the issuing key, and what the signer held and had done, as the call began and

@@ -5,7 +5,7 @@ ghost use Rattle.std.specs.Prelude.{IfOk, IfErr, IfSome, OnOk, IsErrOf, MatchRes
 ghost use Rattle.std.specs.Io.KnownBytes.{Appends, IsAtEnd};
 ghost use Rattle.rpki_base.specs.PublicKey.{KeyFields};
 ghost use Rattle.rpki_text.specs.Sink.{AppendsPart};
-ghost use Rattle.rpki_text.specs.Source.{TakesAtMost};
+ghost use Rattle.rpki_text.specs.Source.{OfInput, TakesAtMost};
 ghost use Rattle.rpki_ca.specs.declared.receiving.Kind.{Kind};
 ghost use Rattle.rpki_ca.specs.declared.refusals.Refusal.{Refusal};
 ghost use Rattle.rpki_ca.specs.Refusal.{status_of};
@@ -15,7 +15,7 @@ ghost use Rattle.rpki_ca.specs.Summary.{IsMakeAnswer, Makes};
 ghost use Rattle.rpki_ca.specs.Setup.{IsSetUp};
 ghost use Rattle.rpki_ca.specs.declared.setup_message.SetupKind.{SetupKind};
 ghost use Rattle.rpki_ca.specs.Creation.{Creates, CanCreate, CanSign};
-ghost use Rattle.rpki_ca.specs.Seen.{seen, seen_signer, HasFailed, IsSteady, OfInput};
+ghost use Rattle.rpki_ca.specs.Seen.{seen, seen_signer, HasFailed, IsSteady};
 ghost use Rattle.rpki_ca.specs.Answer.{AnswersSpelled, octets_in, Performs, IsAnswer, IsGiven, IsShown, IsAdmitted, IsUnread};
 ghost use Rattle.rpki_ca.specs.Answer.{IsLineOf, Ends, EndsAs, ReadsAll, Delivers, Holds, Succeeds};
 ghost use Rattle.rpki_signer.specs.Limits.{Keeps};
