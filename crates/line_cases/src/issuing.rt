@@ -1,7 +1,5 @@
 //! What a child is told of classes, and an issuer by itself.
 
-ghost use Rattle.rpki_provisioning.specs.Writable.{IsCertificate};
-
 use crate::parents::{add_did, class_of, set_of, until};
 use crate::up::{Failing, first_issuer, out_of_memory, push};
 use crate::{Case, text_in};
@@ -92,9 +90,7 @@ fn word(words: &Words, index: usize) -> io::Result<&str> {
     }
 }
 
-fn shown_under(alloc: Global, case: &Case, signing: &SigningCert) -> io::Result<Vec<u8>>
-    requires { IsCertificate signing.now.cert }
-{
+fn shown_under(alloc: Global, case: &Case, signing: &SigningCert) -> io::Result<Vec<u8>> {
     let (name, base) = (word(&case.words, 0)?, word(&case.words, 1)?);
     let class = class_of(alloc, name, base, word(&case.words, 2)?, signing)?;
     shown(alloc, &class, identifier_of(alloc, text_in(case)?)?)

@@ -1,7 +1,5 @@
 //! A parent of several classes, which goes on where a reply couldn't be made; and what its issuer did.
 
-ghost use Rattle.rpki_provisioning.specs.Writable.{IsCertificate};
-
 use crate::issuing::add_told;
 use crate::up::{Failing, first_issuer, first_signer, out_of_memory, push};
 use rpki_base::{PublicKey, Time, ToyFault};
@@ -58,9 +56,7 @@ fn class_under(
     set: ResourceSet,
     until: Time,
     signing: SigningCert,
-) -> io::Result<Class>
-    requires { IsCertificate signing.cert }
-{
+) -> io::Result<Class> {
     let (name, base) = name;
     match Class::new(name, set, until, base, signing) {
         Some(class) => Ok(class),
@@ -75,9 +71,7 @@ pub fn class_of(
     base: &str,
     asn: &str,
     signing: &SigningCert,
-) -> io::Result<Class>
-    requires { IsCertificate signing.now.cert }
-{
+) -> io::Result<Class> {
     let until = until()?;
     let name = place_of(alloc, name, base)?;
     let set = set_of(alloc, asn)?;
@@ -90,9 +84,7 @@ pub fn class_of(
 const BASE: &str = "rsync://localhost/repo/";
 
 // The classes `0`, `1` and `2`: the last one is empty.
-fn classes_of(alloc: Global, signing: &SigningCert) -> io::Result<Vec<Class>>
-    requires { IsCertificate signing.now.cert }
-{
+fn classes_of(alloc: Global, signing: &SigningCert) -> io::Result<Vec<Class>> {
     let mut classes = Vec::new(alloc);
     for (name, asn) in [("0", "1-10"), ("1", "1-10"), ("2", "")] {
         push(&mut classes, class_of(alloc, name, BASE, asn, signing)?)?;
@@ -128,9 +120,7 @@ fn parent_with(alloc: Global, words: &Words, classes: Vec<Class>) -> io::Result<
     }
 }
 
-fn parent_of(alloc: Global, words: &Words, signing: &SigningCert) -> io::Result<Parent>
-    requires { IsCertificate signing.now.cert }
-{
+fn parent_of(alloc: Global, words: &Words, signing: &SigningCert) -> io::Result<Parent> {
     parent_with(alloc, words, classes_of(alloc, signing)?)
 }
 
@@ -274,9 +264,7 @@ fn run_under(
     failing: &Failing,
     issuer: &mut ToyIssuer,
     signing: &SigningCert,
-) -> io::Result<Vec<u8>>
-    requires { IsCertificate signing.now.cert }
-{
+) -> io::Result<Vec<u8>> {
     let mut parent = parent_of(alloc, words, signing)?;
     told_with(alloc, words, input, failing, &mut parent, issuer)
 }

@@ -1,7 +1,6 @@
 //! The parent's program, as `rpkiup` runs it, or with signers of which one call fails.
 
 ghost use Rattle.std.specs.Prelude.{IfOk};
-ghost use Rattle.rpki_provisioning.specs.Writable.{IsCertificate};
 
 use rpki_base::{PublicKeyFormat, Time, Validity};
 use rpki_ca::{Status, Words};
@@ -54,9 +53,7 @@ fn signing_url(alloc: Global) -> io::Result<Rsync> {
     Rsync::from_str(alloc, "rsync://localhost/repo/ta.cer").map_err(|_| out_of_memory())
 }
 
-fn published(alloc: Global, anchor: &IdCert) -> io::Result<SigningCert>
-    ensures { IfOk result (λ s. IsCertificate s.cert) }
-{
+fn published(alloc: Global, anchor: &IdCert) -> io::Result<SigningCert> {
     let url = signing_url(alloc)?;
     match resource_certificate(alloc, anchor) {
         Ok(cert) => Ok(SigningCert::new(url, cert)),
@@ -65,9 +62,7 @@ fn published(alloc: Global, anchor: &IdCert) -> io::Result<SigningCert>
 }
 
 // The certificate of the issuer's key: its own, always valid.
-fn signing_cert(alloc: Global, signer: &mut ToySigner) -> io::Result<SigningCert>
-    ensures { IfOk result (λ s. IsCertificate s.cert) }
-{
+fn signing_cert(alloc: Global, signer: &mut ToySigner) -> io::Result<SigningCert> {
     match IdCert::new_ta::<ToyScheme, ToySigner>(alloc, always()?, &0, signer) {
         Ok(anchor) => published(alloc, &anchor),
         Err(_) => Err(invalid()),
@@ -129,9 +124,7 @@ pub fn first_signer(alloc: Global, failing: &Failing) -> io::Result<ToySigner> {
 }
 
 /// The issuer, and the certificate of its key.
-pub fn first_issuer(alloc: Global, failing: &Failing) -> io::Result<(ToyIssuer, SigningCert)>
-    ensures { IfOk result (λ pair. IsCertificate pair.1.cert) }
-{
+pub fn first_issuer(alloc: Global, failing: &Failing) -> io::Result<(ToyIssuer, SigningCert)> {
     let mut signer = signer_of(alloc, 3, failing.issuer)?;
     let signing = signing_cert(alloc, &mut signer)?;
     match Time::new(0) {
@@ -149,9 +142,7 @@ fn run_with(
     failing: &Failing,
     issuer: &mut ToyIssuer,
     signing: &SigningCert,
-) -> io::Result<Status>
-    requires { IsCertificate signing.now.cert }
-{
+) -> io::Result<Status> {
     let mut signer = first_signer(alloc, failing)?;
     let verifier = ToyVerifier::new();
     Ok(serve(

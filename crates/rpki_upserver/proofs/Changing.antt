@@ -6,7 +6,8 @@ use Rattle.rpki_cert.specs.Cert.{CertFields}
 use Rattle.rpki_text.specs.Uri.{fault_of, rsync}
 use Rattle.rpki_updown.specs.Entitlements.{IssuedFields}
 use Rattle.rpki_updown.specs.RequestResourceLimit.{LimitFields}
-use Rattle.rpki_provisioning.specs.Writable.{IsCertificate, IsWritableClass, IsWritableIssued, IsWritableLimit}
+use Rattle.rpki_cert.specs.ReadInDer.{IsCertificate}
+use Rattle.rpki_provisioning.specs.Writable.{IsWritableClass, IsWritableIssued, IsWritableLimit}
 use Rattle.rpki_upserver.specs.Table.{ClassState, IsBase, IsSound, entitled, has_key, put, with_issued, with_revoked, without}
 use Rattle.rpki_upserver.proofs.Places.{all_put, all_without, without_placed}
 

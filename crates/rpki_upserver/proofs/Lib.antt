@@ -10,7 +10,6 @@ pub mod Keeping
 pub mod Changing
 pub mod Tables
 pub mod Deciding
-pub mod Decoded
 pub mod Outer
 pub mod Toys
 pub mod Issuing

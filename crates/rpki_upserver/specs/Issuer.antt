@@ -6,7 +6,6 @@ use Rattle.rpki_cert.specs.Cert.{CertFields}
 use Rattle.rpki_sets.specs.Resources.{Resources}
 use Rattle.rpki_updown.specs.Entitlements.{CaRequest}
 use Rattle.rpki_updown.specs.KeyElement.{KeyElementFields}
-use Rattle.rpki_provisioning.specs.Writable.{IsCertificate}
 use Rattle.rpki_upserver.specs.declared.issuer.IssuerError.{IssuerError}
 use Rattle.rpki_upserver.specs.declared.issuer.IssuerError.TheVariants as errors
 
@@ -35,7 +34,7 @@ pub record Leaves (before after : IssuerState) : Type 0 where
   pub faults : before.faults ≤ after.faults
 
 -- The certificate was issued in this class on this request, for these resources and until then. It
--- has the request's key, and is one in DER.
+-- has the request's key.
 pub record IsIssued (class_name : List ℕ) (csr : CaRequest) (set : Resources) (not_after : ℤ)
     (before after : IssuerState) (cert : CertFields) : Type 0 where
   pub made : after.made ≡ before.made ++ (record {
@@ -48,7 +47,6 @@ pub record IsIssued (class_name : List ℕ) (csr : CaRequest) (set : Resources) 
   pub gone : after.gone ≡ before.gone
   pub faults : before.faults ≤ after.faults
   pub key : cert.key ≡ csr.tbs.key
-  pub der : IsCertificate cert
 
 -- the certificates of the key with this identifier were revoked in this class
 pub record IsRevoked (class_name key : List ℕ) (before after : IssuerState) : Type 0 where

@@ -22,7 +22,6 @@ use Rattle.rpki_signer.specs.declared.errors.MakeError.TheVariants as make
 use Rattle.rpki_text.specs.Counts.{count_after}
 use Rattle.rpki_updown.specs.Entitlements.{CaRequest}
 use Rattle.rpki_updown.specs.KeyElement.{KeyElementFields}
-use Rattle.rpki_provisioning.specs.Writable.{IsCertificate}
 use Rattle.rpki_upserver.specs.declared.issuer.IssuerError.{IssuerError}
 use Rattle.rpki_upserver.specs.declared.issuer.IssuerError.TheVariants as errors
 use Rattle.rpki_upserver.specs.declared.toy_issuer.ToyMade.{ToyMade}
@@ -68,7 +67,7 @@ pub record DidNothing (before after : ToyIssuerState) : Type 0 where
   pub is : after ≡ record before { signer = after.signer }
 
 -- The certificate is what the octets of the end entity certificate are read as that its signer
--- makes for the key of the request, valid until then. It has that key, and is one in DER.
+-- makes for the key of the request, valid until then. It has that key.
 pub record IsToyCertificate (csr : CaRequest) (not_after : ℤ) (before after : ToyIssuerState)
     (cert : CertFields) : Type 0 where
   pub made : CertificateFields
@@ -77,7 +76,6 @@ pub record IsToyCertificate (csr : CaRequest) (not_after : ℤ) (before after : 
       (state_of before.signer) (state_of after.signer) made
   pub decoded : BeginsAs (certificate Der) Der (spelled_data spelled_x509 made.signed) cert
   pub key : cert.key ≡ csr.tbs.key
-  pub der : IsCertificate cert
   pub rest : DidNothing before after
 
 -- the toy issuer's signer made no certificate, for another reason than want of memory

@@ -1,7 +1,7 @@
 //! Resource classes.
 
 ghost use Rattle.std.specs.Prelude.{◌≡◌, ◌↔◌, ◌<◌, [], true, length, position, IfErr, IfOk, IfSome, IsSome, IsTrue, OnErr, OnOk, Some, slice_get};
-ghost use Rattle.rpki_provisioning.specs.Writable.{IsCertificate, IsWritableClass, IsWritableLimit};
+ghost use Rattle.rpki_provisioning.specs.Writable.{IsWritableClass, IsWritableLimit};
 ghost use Rattle.rpki_xml.specs.Lettered.{AreOctets};
 ghost use Rattle.rpki_updown.specs.Entitlements.{IssuedFields, issuance};
 ghost use Rattle.rpki_upserver.specs.Decision.{IsIssuedAt};
@@ -77,7 +77,6 @@ impl Model for Class {
 
 // For the proof: what holds of these parts by their types.
 fn are_sound(set: &ResourceSet, not_after: Time, signing: &SigningCert)
-    requires { IsCertificate signing.now.cert }
     ensures { IsSound set.now not_after signing.now [] }
 {
     let _asn = set.asn().runs();
@@ -85,13 +84,14 @@ fn are_sound(set: &ResourceSet, not_after: Time, signing: &SigningCert)
     let _ipv6 = set.ipv6().runs();
     let _seconds = not_after.seconds();
     let _url = signing.url().as_str();
+    let _cert = signing.cert().as_slice();
 }
 
 /// # Making
 impl Class {
     /// A class of this name, in which nothing was issued and nothing revoked: the child has these resources in it until this time,
-    /// certificates are published in the directory `base`, and `signing` is the certificate of the key under which they are issued,
-    /// which has to be one in DER. None exactly where `base` is no directory, or has more than 65000 octets. It takes no memory.
+    /// certificates are published in the directory `base`, and `signing` is the certificate of the key under which they are issued.
+    /// None exactly where `base` is no directory, or has more than 65000 octets. It takes no memory.
     pub fn new(
         name: ResourceClassName,
         set: ResourceSet,
@@ -99,7 +99,6 @@ impl Class {
         base: Rsync,
         signing: SigningCert,
     ) -> Option<Class>
-        requires der { IsCertificate signing.cert }
         ensures some { IsSome result ↔ IsBase base }
         ensures value { IfSome result (λ c. c ≡ new_class name set not_after base signing) }
     {
@@ -317,6 +316,8 @@ impl Class {
         let limit = request.limit().clone(alloc)?;
         make_room_for(&mut self.issued, alloc, key)?;
         let cert = issuer.issue(alloc, &self.name, request.csr(), set, self.not_after)?;
+        // For the proof: the certificate was read in DER, by its type.
+        let _cert = cert.as_slice();
         Ok(put(&mut self.issued, IssuedCert::new(uri, limit, cert)))
     }
 

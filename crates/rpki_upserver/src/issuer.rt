@@ -34,7 +34,7 @@ pub trait Issuer {
     /// What it issued and revoked.
     ghost state: { Self → IssuerState };
 
-    /// A certificate for the key of the request in this class, which has to be one in DER (RFC 6487, 4). The state notes it with these
+    /// A certificate for the key of the request in this class (RFC 6487, 4). The state notes it with these
     /// resources and until this time; it is up to the issuer that the certificate itself says so. Failed only where its count rose;
     /// whatever the error, nothing was issued.
     fn issue(

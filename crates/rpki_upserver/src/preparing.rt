@@ -1,7 +1,6 @@
 //! What the program begins with: what its words ask for, and its parent.
 
 ghost use Rattle.std.specs.Prelude.{◌≡◌, IfOk, IfSome, IsNone, Some};
-ghost use Rattle.rpki_provisioning.specs.Writable.{IsCertificate};
 ghost use Rattle.rpki_sets.specs.Kinds.{blocks_of};
 ghost use Rattle.rpki_upserver.specs.Running.{AreNoWords, AreWords, IsFirstClass, IsFirstParent, IsFirstSet};
 
@@ -62,7 +61,6 @@ fn resources(alloc: Global) -> Result<ResourceSet, OutOfMemory>
 
 // The one class, or None where it isn't made.
 fn class(alloc: Global, signing: &SigningCert) -> Result<Option<Class>, OutOfMemory>
-    requires { IsCertificate signing.now.cert }
     ensures { IfOk result (λ o. IfSome o (IsFirstClass signing.now)) }
 {
     let name = ResourceClassName::default_name(alloc)?;
@@ -83,7 +81,6 @@ fn made_parent(
     child_key: PublicKey,
     signing: &SigningCert,
 ) -> Result<Option<Parent>, OutOfMemory>
-    requires { IsCertificate signing.now.cert }
     ensures { IfOk result (λ o. IfSome o (IsFirstParent child_key signing.now)) }
 {
     let Some(class) = class(alloc, signing)? else {
@@ -107,7 +104,6 @@ pub(crate) fn first_parent(
     child_key: PublicKey,
     signing: &SigningCert,
 ) -> Result<Parent, OutOfMemory>
-    requires { IsCertificate signing.now.cert }
     ensures { IfOk result (IsFirstParent child_key signing.now) }
 {
     match made_parent(alloc, child_key, signing)? {

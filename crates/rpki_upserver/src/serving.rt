@@ -5,7 +5,6 @@ ghost use Rattle.hex.specs.Hex.{encode_lower};
 ghost use Rattle.rpki_base.specs.PublicKey.{KeyFields};
 ghost use Rattle.rpki_signer.specs.Limits.{Keeps};
 ghost use Rattle.rpki_sigmsg.specs.Spelling.{CanBeSpelled, rewritten};
-ghost use Rattle.rpki_provisioning.specs.Writable.{IsCertificate};
 ghost use Rattle.rpki_text.specs.Source.{TakesAtMost};
 ghost use Rattle.rpki_ca.specs.Acceptance.{of_provisioning, refusal_of};
 ghost use Rattle.rpki_ca.specs.Answer.{Ends};
@@ -134,7 +133,6 @@ fn serve_lines<P: Scheme, O: Sink, V: Verifier<P>, N: Issuer, S: Signer<P>>(
     key: &S::KeyId,
     signing: &SigningCert,
 ) -> Status
-    requires { IsCertificate signing.now.cert }
     ensures ends { EndsServed P.checks
         (run_of when child_key signing.now (N.state issuer.old) (N.state issuer.new)
         (seen_signer key.now (S.state signer.old) (S.state signer.new))) lines.entry result.0
@@ -175,7 +173,7 @@ fn serve_lines<P: Scheme, O: Sink, V: Verifier<P>, N: Issuer, S: Signer<P>>(
 /// `rpkica receive provisioning` writes of them. The parent calls itself `Bob` and its child `Carol`, and has one class, `0`, in which
 /// nothing was issued: the child has the AS numbers 1 to 10 and the addresses 10.0.0.0/8 and 2001:db8::/32 in it until
 /// the second 2524607999, its certificates are published under `rsync://localhost/repo/`, and `signing` is the certificate of the issuing
-/// key, which has to be one in DER. Replies are signed under the issuing key with the identifier `key`.
+/// key. Replies are signed under the issuing key with the identifier `key`.
 ///
 /// The other exit statuses are 2 where the words are others, 3 where a line isn't hexadecimal, and 8 where the 300 seconds before or after
 /// the moment leave the years 1970 to 9999, and then no message is answered; 7 where the signer refuses, 9 where the input has more than
@@ -192,7 +190,6 @@ pub fn serve<P: Scheme, I: Source, O: Sink, V: Verifier<P>, N: Issuer, S: Signer
     key: &S::KeyId,
     signing: &SigningCert,
 ) -> Status
-    requires { IsCertificate signing.now.cert }
 
     // Other words are refused, the source is left unread, and issuer and signer unasked.
     ensures usage { AreNoWords words.now

@@ -7,7 +7,6 @@ ghost use Rattle.rpki_der.specs.Takes.{Decodes};
 ghost use Rattle.rpki_base.specs.RpkiSignatureAlgorithm.{spelled_x509};
 ghost use Rattle.rpki_base.specs.SignedData.{CanBeSpelled, spelled_data};
 ghost use Rattle.rpki_cert.specs.Cert.{certificate};
-ghost use Rattle.rpki_provisioning.specs.Writable.{IsCertificate};
 ghost use Rattle.rpki_upserver.specs.Issuer.{IsIssued, IsRevoked, IssuerFails};
 ghost use Rattle.rpki_upserver.specs.ToyIssuer.{GaveKey, GivesNoKey, IsToyCertificate, IsToyIssue, IsToyRevocation, MakesNone};
 ghost use Rattle.rpki_upserver.specs.ToyIssuer.{with_gone, with_made};
@@ -256,24 +255,15 @@ fn entry(
     })
 }
 
-// The resource certificate that the octets are.
-fn certificate_in(alloc: Global, octets: &[u8]) -> Result<Cert, DecodeError>
-    ensures decoded { Decodes (certificate Der) (λ c. c) Der octets.now result }
-    ensures der { IfOk result IsCertificate }
-{
-    Cert::decode(alloc, octets)
-}
-
 /// The resource certificate that the octets of an identity certificate are read as, of which it has the outer form (RFC 5280, 4.1;
 /// RFC 6487, 4). Malformed exactly where they are none.
 pub fn resource_certificate(alloc: Global, cert: &IdCert) -> Result<Cert, DecodeError>
     ensures decoded { Decodes (certificate Der) (λ c. c) Der
         (spelled_data spelled_x509 cert.now.signed) result }
-    ensures der { IfOk result IsCertificate }
     ensures spelled { OnOk result (CanBeSpelled spelled_x509 cert.now.signed) }
 {
     let octets = cert.to_bytes(alloc)?;
-    certificate_in(alloc, octets.as_slice())
+    Cert::decode(alloc, octets.as_slice())
 }
 
 impl Issuer for ToyIssuer {

@@ -2,7 +2,6 @@
 #![tactic(auto)]
 
 ghost use Rattle.std.specs.Prelude.{IfOk};
-ghost use Rattle.rpki_provisioning.specs.Writable.{IsCertificate};
 
 use command_line::{Own, own_text, signer_of, words_of, write_text};
 use rpki_base::{Time, Validity};
@@ -74,9 +73,7 @@ Example: rpkiup --help; echo $?
 const VERSION: &[u8] = b"rpkiup 0.1.0\n";
 
 // The certificate of the key under which certificates are issued: its own, always valid.
-fn signing_cert(alloc: Global, signer: &mut ToySigner, key: u64) -> Result<SigningCert, Refusal>
-    ensures { IfOk result (λ s. IsCertificate s.cert) }
-{
+fn signing_cert(alloc: Global, signer: &mut ToySigner, key: u64) -> Result<SigningCert, Refusal> {
     let (Some(first), Some(last), Ok(url)) = (
         Time::new(0),
         Time::new(253_402_300_799),
@@ -95,9 +92,7 @@ fn signing_cert(alloc: Global, signer: &mut ToySigner, key: u64) -> Result<Signi
 }
 
 // The issuer, and the certificate of its key.
-fn issuer_of(alloc: Global) -> Result<(ToyIssuer, SigningCert), Refusal>
-    ensures { IfOk result (λ pair. IsCertificate pair.1.cert) }
-{
+fn issuer_of(alloc: Global) -> Result<(ToyIssuer, SigningCert), Refusal> {
     let (mut signer, key) = signer_of(alloc, 3)?;
     let signing = signing_cert(alloc, &mut signer, key)?;
     match Time::new(0) {

@@ -44,6 +44,5 @@ returns-in-Ok-resource_certificate-clause-ok c =
       is_made = subst (λ (i : ToyIssuerState). IsEndEntityMade ToyChecks c.args.csr.now.tbs.key i.key (record { not_before = i.from; not_after = c.args.not_after }) (state_of i.signer) (state_of signer) c.in-Ok.cert) c.self.view_is until;
       decoded = c.in-Ok-resource_certificate.ensures.decoded;
       key = key;
-      der = c.in-Ok-resource_certificate.ensures.der;
       rest = record { is = ap (λ (i : ToyIssuerState). record i { signer = signer }) c.self.view_is };
     }
