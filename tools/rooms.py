@@ -1,7 +1,7 @@
 """Rooms, in which tools/build.py has rt prove one crate while it proves others.
 
 `rt lib` and `rt run` keep every other rt out of the folders of all crates below the one that they work on, so that in one tree one crate
-is proved at a time. A room is a folder with a crates.txt of its own, in which stand a crate, those below it, all as they were when the build
+is proved at a time. A room is a folder with a crates.txt of its own, in which stand a crate and those below it, as they were when the build
 began, and the proved libraries of those below. What rt keeps of its work on the crate, `out/incremental`, is moved into the room and back.
 What it makes takes the place of what was there only once it is whole, by renaming.
 
