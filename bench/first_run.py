@@ -4,8 +4,8 @@
     bench/first_run.py [PROGRAM ..] [--jobs N] [--at FOLDER]
 
 Clones this repository, as committed, into a new folder (in FOLDER, or where temporary files stand; it takes some 5 GB), has its
-tools/build.py prove and build the programs (rpkica, if none is named), and removes it. It prints for each crate its minutes by the clock and
-of processors, and then three sums: the longest chain of crates by the clock, the processor minutes, and the minutes by the clock of
+tools/build.py prove and build the programs (rpkica, if none is named), and removes it. It prints for each crate its minutes by the clock
+and of processors, and then three sums: the longest chain of crates by the clock, the processor minutes, and the minutes by the clock of
 all, beside the longer of the chain and the processor minutes shared out over the processors.
 
 rt begins with what it kept of other copies on the machine. So that it finds none, it is run from a folder of links to the toolchain beside

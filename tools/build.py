@@ -231,7 +231,8 @@ class Builder:
         """The crate that is to begin now, and with how many jobs."""
         ready = [crate for crate in self.left if all(name in self.done for name in self.plan.below[crate])]
         idle = self.lanes - sum(run.jobs for run in self.running)
-        if not ready or idle < 1 or (self.running and (rooms.memory_free() or EACH) < EACH):
+        free = rooms.memory_free()
+        if not ready or idle < 1 or (self.running and free is not None and free < EACH):
             return None
         first = max(ready, key=lambda crate: self.chains[crate])
         jobs = max(1, idle // len(ready))
@@ -282,7 +283,8 @@ class Builder:
     def to_go(self) -> float:
         """Seconds, by the shares of what is left and by how long others took beside theirs."""
         ended = [run for run in self.done.values() if run.seconds > 5]
-        pace = sum(run.seconds for run in ended) / sum(self.plan.share[run.crate] for run in ended) if ended else 60.0
+        shares = sum(self.plan.share[run.crate] for run in ended)
+        pace = sum(run.seconds for run in ended) / shares if shares else 60.0
         left = {crate: 0.0 if crate in self.done else pace * self.plan.share[crate] for crate in self.plan.crates}
         for run in self.running:
             left[run.crate] = max(0.0, left[run.crate] - (time.monotonic() - run.began))

@@ -1,9 +1,12 @@
 """Rooms, in which tools/build.py has rt prove one crate while it proves others.
 
-`rt lib` and `rt run` keep every other rt out of the folders of all crates below the one that they work on, so that in one tree one crate is
-proved at a time. A room is a folder with a crates.txt of its own, in which stand a crate, those below it, all as they were when the
-build began, and the proved libraries of those below. What rt keeps of its work on the crate, `out/incremental`, is moved into the room
-and back. What it makes takes the place of what was there only once it is whole, by renaming.
+`rt lib` and `rt run` keep every other rt out of the folders of all crates below the one that they work on, so that in one tree one crate
+is proved at a time. A room is a folder with a crates.txt of its own, in which stand a crate and those below it, as they were when the build
+began, and the proved libraries of those below. What rt keeps of its work on the crate, `out/incremental`, is moved into the room and back.
+What it makes takes the place of what was there only once it is whole, by renaming.
+
+(`rt all check --jobs N` in a program's folder works side by side too. It begins with a pass over all sources, gives each crate one job,
+knows of no chain of crates, and shows a crate when it has ended.)
 
 While rooms are in use, the crates' own folders are locked as rt locks them."""
 

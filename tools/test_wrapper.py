@@ -1,6 +1,6 @@
 #!/usr/bin/env python3
-"""Tests the script `rpkica`, tools/build.py, tools/trial.py and bench/first_run.py, in a copy with small crates and with a toolchain that is
-a script of its own.
+"""Tests the script `rpkica`, tools/build.py, tools/trial.py and bench/first_run.py, in a copy with small crates and with a toolchain that
+is a script of its own.
 
     tools/test_wrapper.py [NAME ..]
 

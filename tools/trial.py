@@ -4,7 +4,7 @@
     tools/trial.py PROGRAM [WORDS ..] < INPUT
 
 `RPKI_UNPROVED=1 ./rpkica WORDS < INPUT` calls it. Output and status are the program's own, and rt's lines are kept away; one line on
-standard error says that nothing was proved. The program gets all of the input at once, and its output comes when it has ended. What `rt try`
+standard error says that nothing was proved. The program gets all of the input at once, and its output comes when it has ended. What rt try
 can't do ends with status 125 and a line that says what: standard input that isn't there, or that is a terminal where it may be read; input
 of 64 MiB or more; output of more than 1 MiB; more than ten minutes; and a fault that its checks find, whose lines are shown. So does an
 unknown program, or no rt."""
