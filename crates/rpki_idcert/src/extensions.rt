@@ -213,39 +213,23 @@ impl FindsExtensions for Found {
         steps: &mut Steps<L>,
     ) -> Result<Found, DecodeError> {
         let Found {
-            subject,
-            basic_ca,
-            authority,
+            mut subject,
+            mut basic_ca,
+            mut authority,
         } = self;
         let value = extension.held();
         if extension.identifier == SUBJECT_KEY_IDENTIFIER.as_slice() {
-            let subject = add_subject(alloc, value, subject, steps)?;
-            Ok(Found {
-                subject,
-                basic_ca,
-                authority,
-            })
+            subject = add_subject(alloc, value, subject, steps)?;
         } else if extension.identifier == BASIC_CONSTRAINTS.as_slice() {
-            let basic_ca = add_ca(alloc, value, basic_ca, steps)?;
-            Ok(Found {
-                subject,
-                basic_ca,
-                authority,
-            })
+            basic_ca = add_ca(alloc, value, basic_ca, steps)?;
         } else if extension.identifier == AUTHORITY_KEY_IDENTIFIER.as_slice() {
-            let authority = read_authority(alloc, value, steps)?;
-            Ok(Found {
-                subject,
-                basic_ca,
-                authority,
-            })
-        } else {
-            Ok(Found {
-                subject,
-                basic_ca,
-                authority,
-            })
+            authority = read_authority(alloc, value, steps)?;
         }
+        Ok(Found {
+            subject,
+            basic_ca,
+            authority,
+        })
     }
 }
 
