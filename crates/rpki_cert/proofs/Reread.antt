@@ -1,7 +1,8 @@
 -- Certificates and requests that were read in DER are written as octets, which are read as them.
-use Rattle.std.proofs.Common.{◌≡◌, ℕ, zero, suc, ◌<◌, ◌%◌, ◌/◌, Bool, true, false, Option, Some, None, Result, Ok, Err, List, [], ◌∷◌, ◌++◌, length, refl, sym, ap, subst, arith}
+use Rattle.std.proofs.Common.{◌≡◌, ℕ, zero, suc, ◌<◌, ◌%◌, ◌/◌, Bool, true, false, Option, Some, None, Result, Ok, List, [], ◌∷◌, ◌++◌, length, refl, sym, ap, subst, arith}
 use Rattle.std.specs.Prelude.{nat_lt, if◌then◌else◌}
 use Rattle.std.specs.List.{list_all}
+use Rattle.std.specs.Result.{IsErrAnd}
 use Rattle.std.proofs.lemmas.Bool.{ltb-true}
 use Rattle.std.proofs.lemmas.List.{append-nil}
 use Rattle.base64.specs.GeneralPurpose.{IsBytes}
@@ -24,6 +25,7 @@ use Rattle.rpki_der.specs.Ticks.{CountedOne, CountedRefuses, CountedBegins, Deco
 use Rattle.rpki_der.specs.Value.{Value, Primitive, Constructed, Values, lengths_of, end_mark, spelling, spellings}
 use Rattle.rpki_der.specs.Whole.{whole_of}
 use Rattle.rpki_der.specs.Writing.{octets_of, der_length, with_bit_6, der_primitive, der_constructed}
+use Rattle.rpki_der.proofs.Counting.{takes_err}
 use Rattle.rpki_der.proofs.Decoding.{decoded_ok, value_at-sound}
 use Rattle.rpki_der.proofs.Firsts.{first_is, done_is}
 use Rattle.rpki_base.specs.AlgorithmLaws.{x509_named, x509_again, x509_value}
@@ -208,9 +210,9 @@ pub decodes_ok : {X : Type 0} (c : ℕ) (grammar : Mode → Value → Option X) 
     → CountedBegins c (grammar mode) mode octets b a x
 decodes_ok {X} c grammar mode octets p q b a x e t = decodes_counted c grammar mode octets p q (λ (y : X). y) b a (Ok x) e t
 
-pub decodes_err : {X Y : Type 0} (c : ℕ) (grammar : Mode → Value → Option X) (mode : Mode) (octets : List ℕ) (p : Position) (view : Y → X) (b a : ℕ) (e : DecodeError) (r : Result Y DecodeError) → p ≡ record { mode = mode; here = octets; levels = [] } → r ≡ Err e → CountedRefuses c (grammar p.mode) p b a e
+pub decodes_err : {X Y : Type 0} (c : ℕ) (grammar : Mode → Value → Option X) (mode : Mode) (octets : List ℕ) (p : Position) (view : Y → X) (b a : ℕ) (e : DecodeError) (r : Result Y DecodeError) → p ≡ record { mode = mode; here = octets; levels = [] } → IsErrAnd r (λ k. k ≡ e) → CountedRefuses c (grammar p.mode) p b a e
     → DecodesCounted c (grammar mode) view mode octets b a r
-decodes_err c grammar mode octets p view b a e r is same t = rw same (decodes_counted c grammar mode octets p p view b a (Err e) is t)
+decodes_err c grammar mode octets p view b a e r is h t = decodes_counted c grammar mode octets p p view b a r is (takes_err c (grammar p.mode) view p p b a e r h t)
 
 pub certificate_taken : (octets : List ℕ) (p q : Position) (b a : ℕ) (c : CertFields) → p ≡ record { mode = Der; here = octets; levels = [] } → IsBytes octets → CountedOne 2 (certificate p.mode) p q b a c → IsCertificate c
 certificate_taken octets p q b a c e h t =
