@@ -152,3 +152,15 @@ fn a_request_is_writable_where_its_handle_has_the_pattern(rt: HostRuntime) -> Re
     assert!(rt; !is_written(rt.alloc(), "Carol and Bob")?);
     Ok(())
 }
+
+fn has_pattern(alloc: Global, name: &str) -> Result<bool, OutOfMemory> {
+    let handle = ChildHandle::new(Text::from_str(alloc, name)?.into_rc_str());
+    Ok(handle.has_pattern())
+}
+
+#[test]
+fn a_handle_of_any_text_tells_whether_it_has_the_pattern(rt: HostRuntime) -> Result<(), Fail> {
+    assert!(rt; has_pattern(rt.alloc(), "Carol/a-b_1")?);
+    assert!(rt; !has_pattern(rt.alloc(), "")?);
+    Ok(())
+}

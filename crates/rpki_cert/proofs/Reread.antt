@@ -2,6 +2,7 @@
 use Rattle.std.proofs.Common.{◌≡◌, ℕ, zero, suc, ◌<◌, ◌%◌, ◌/◌, Bool, true, false, Option, Some, None, Result, Ok, List, [], ◌∷◌, ◌++◌, length, refl, sym, ap, subst, arith}
 use Rattle.std.specs.Prelude.{nat_lt, if◌then◌else◌}
 use Rattle.std.specs.List.{list_all}
+use Rattle.std.specs.Result.{IsErrAnd}
 use Rattle.std.proofs.lemmas.Bool.{ltb-true}
 use Rattle.std.proofs.lemmas.List.{append-nil}
 use Rattle.base64.specs.GeneralPurpose.{IsBytes}
@@ -9,6 +10,7 @@ use Rattle.base64.proofs.EngineFacts.{front_bytes}
 use Rattle.rpki_common.specs.Chaining.{◌>>=◌}
 use Rattle.rpki_common.proofs.Bounds.{bound, chosen}
 use Rattle.rpki_common.proofs.Truths.{none_some, same_some, both}
+use Rattle.rpki_der.specs.declared.error.DecodeError.{DecodeError}
 use Rattle.rpki_der.specs.declared.mode.Mode.{Mode}
 use Rattle.rpki_der.specs.declared.mode.Mode.TheVariants.{Der}
 use Rattle.rpki_der.specs.Bits.{BitFields, bits, bit_string}
@@ -19,10 +21,11 @@ use Rattle.rpki_der.specs.Position.{Position}
 use Rattle.rpki_der.specs.Reader.{value_at, decoded}
 use Rattle.rpki_der.specs.Tags.{sequence, bit_string_tag}
 use Rattle.rpki_der.specs.Takes.{BeginsAs}
-use Rattle.rpki_der.specs.Ticks.{CountedOne}
+use Rattle.rpki_der.specs.Ticks.{CountedOne, CountedRefuses, CountedBegins, DecodesCounted}
 use Rattle.rpki_der.specs.Value.{Value, Primitive, Constructed, Values, lengths_of, end_mark, spelling, spellings}
 use Rattle.rpki_der.specs.Whole.{whole_of}
 use Rattle.rpki_der.specs.Writing.{octets_of, der_length, with_bit_6, der_primitive, der_constructed}
+use Rattle.rpki_der.proofs.Counting.{takes_err}
 use Rattle.rpki_der.proofs.Decoding.{decoded_ok, value_at-sound}
 use Rattle.rpki_der.proofs.Firsts.{first_is, done_is}
 use Rattle.rpki_base.specs.AlgorithmLaws.{x509_named, x509_again, x509_value}
@@ -165,7 +168,7 @@ data_bytes d h =
 
 -- ---- what begins octets
 
-abbrev as_request : List ℕ → Option CaRequest
+abbrev pub as_request : List ℕ → Option CaRequest
 as_request octets = decoded (certification_request ca_attributes (whole_of x509_algorithm) Der) Der octets
 
 pub begins : {X : Type 0} (grammar : Value → Option X) (octets : List ℕ) (x : X) → decoded grammar Der octets ≡ Some x → BeginsAs grammar Der octets x
@@ -202,6 +205,14 @@ pub request_decoded : (o : List ℕ) (r : CaRequest) → IsBytes o → as_reques
 request_decoded o r h e = request_read r (record { octets = o; bytes = h; begins = begins (certification_request ca_attributes (whole_of x509_algorithm) Der) o r e })
 
 -- ---- what a cursor in DER took
+
+pub decodes_ok : {X : Type 0} (c : ℕ) (grammar : Mode → Value → Option X) (mode : Mode) (octets : List ℕ) (p q : Position) (b a : ℕ) (x : X) → p ≡ record { mode = mode; here = octets; levels = [] } → CountedOne c (grammar p.mode) p q b a x
+    → CountedBegins c (grammar mode) mode octets b a x
+decodes_ok {X} c grammar mode octets p q b a x e t = decodes_counted c grammar mode octets p q (λ (y : X). y) b a (Ok x) e t
+
+pub decodes_err : {X Y : Type 0} (c : ℕ) (grammar : Mode → Value → Option X) (mode : Mode) (octets : List ℕ) (p : Position) (view : Y → X) (b a : ℕ) (e : DecodeError) (r : Result Y DecodeError) → p ≡ record { mode = mode; here = octets; levels = [] } → IsErrAnd r (λ k. k ≡ e) → CountedRefuses c (grammar p.mode) p b a e
+    → DecodesCounted c (grammar mode) view mode octets b a r
+decodes_err c grammar mode octets p view b a e r is h t = decodes_counted c grammar mode octets p p view b a r is (takes_err c (grammar p.mode) view p p b a e r h t)
 
 pub certificate_taken : (octets : List ℕ) (p q : Position) (b a : ℕ) (c : CertFields) → p ≡ record { mode = Der; here = octets; levels = [] } → IsBytes octets → CountedOne 2 (certificate p.mode) p q b a c → IsCertificate c
 certificate_taken octets p q b a c e h t =

@@ -20,7 +20,8 @@ use rpki_base::{Scheme, Time, Verifier};
 use rpki_common::{OutOfMemory, Text};
 use rpki_idcert::IdCert;
 use rpki_message::{
-    MOST_OCTETS, cloned, is_plain_or_absent, lent, shared, tag_in, taken_in, write_attribute, write_optional,
+    MOST_OCTETS, cloned, is_plain_or_absent, lent, shared, tag_in, taken_in, write_attribute,
+    write_optional,
 };
 use rpki_text::{Base64, PublisherHandle, Sink, Source, read_all, uri};
 use rpki_xml::{ElementRef, XmlError, read_document};

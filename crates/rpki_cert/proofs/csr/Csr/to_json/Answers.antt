@@ -13,5 +13,5 @@ returns-clause-again g c =
     IfOk-weaker c.write_octets.result (λ s. octets_of_json (string_bytes s) ≡ Some c.as_slice.result.now)
     (λ s. in_json (certification_request g.Attributes.CsrAttributes.reads g.Alg.SignatureAlgorithm.reads Der) (string_bytes s) ≡ Some c.args.self.now)
     (λ s e. in_json-some (certification_request g.Attributes.CsrAttributes.reads g.Alg.SignatureAlgorithm.reads Der) _ _ _ _ e (sym (c.as_slice.ensures ∙ c.in_ok-octets.ensures.octets))
-    (alone (certification_request g.Attributes.CsrAttributes.reads g.Alg.SignatureAlgorithm.reads Der) _ _ (c.written_requests_are_read.ensures Der c.signed_data-_signed.ensures.der.octets [] c.args.self.now c.signed_data-_signed.ensures.der.begins c.in_ok-octets.ensures.spelled)))
+    (alone (certification_request g.Attributes.CsrAttributes.reads g.Alg.SignatureAlgorithm.reads Der) _ _ (c.written_requests_are_read.ensures Der c.signed_data-signed.ensures.der.octets [] c.args.self.now c.signed_data-signed.ensures.der.begins c.in_ok-octets.ensures.spelled)))
     c.write_octets.ensures.again
