@@ -23,15 +23,15 @@ retyped g (make.Signing s) = make.Signing (retyped_signing g s)
 retyped g make.OutOfMemory = make.OutOfMemory
 
 refused : {I A B : Type 0} (g : A → B) (id : I) (a b : SignerState I) (e : SigningError A) → IsRefused id a b e → IsRefused id a b (retyped_signing g e)
-refused {B = B} g id a b signing.KeyNotFound r = record { stays = r.stays; uncounted = r.uncounted; known = unlike; fails = r.fails }
+refused {B = B} g id a b signing.KeyNotFound r = record { stays = r.stays; uncounted = r.uncounted; known = unlike; fails = r.fails; spares = r.spares }
   where
     unlike : ◌≡◌ {A = SigningError B} signing.KeyNotFound signing.OutOfMemory → ⊥
     unlike k = cc
-refused {B = B} g id a b signing.IncompatibleKey r = record { stays = r.stays; uncounted = r.uncounted; known = unlike; fails = r.fails }
+refused {B = B} g id a b signing.IncompatibleKey r = record { stays = r.stays; uncounted = r.uncounted; known = unlike; fails = r.fails; spares = r.spares }
   where
     unlike : ◌≡◌ {A = SigningError B} signing.IncompatibleKey signing.OutOfMemory → ⊥
     unlike k = cc
-refused {B = B} g id a b (signing.Signer x) r = record { stays = r.stays; uncounted = r.uncounted; known = unlike; fails = r.fails }
+refused {B = B} g id a b (signing.Signer x) r = record { stays = r.stays; uncounted = r.uncounted; known = unlike; fails = r.fails; spares = r.spares }
   where
     unlike : ◌≡◌ {A = SigningError B} (signing.Signer (g x)) signing.OutOfMemory → ⊥
     unlike k = cc
@@ -57,32 +57,32 @@ refuses_key g id a b make.TooLong r = r
 refuses_key g id a b (make.Signing e) r = (refused g id a b e r.0, λ k. r.1 (was_unfit g e k))
 refuses_key g id a b make.OutOfMemory r = r
 
-refuses_signature : {I A B : Type 0} (g : A → B) (id : I) (a b : SignerState I) (e : MakeError A) → RefusesSignature id a b e → RefusesSignature id a b (retyped g e)
-refuses_signature g id a b make.TooLong r = r
-refuses_signature g id a b (make.Signing e) r = refused g id a b e r
-refuses_signature g id a b make.OutOfMemory r = r
+refuses_signature : {I A B : Type 0} (g : A → B) (scheme : Relation) (id : I) (a b : SignerState I) (e : MakeError A) → RefusesSignature scheme id a b e → RefusesSignature scheme id a b (retyped g e)
+refuses_signature g scheme id a b make.TooLong r = r
+refuses_signature g scheme id a b (make.Signing e) r = refused g id a b e r
+refuses_signature g scheme id a b make.OutOfMemory r = r
 
-behind_key : {I A B : Type 0} (g : A → B) (id : I) (a b : SignerState I) (e : MakeError A) → StopsBehindKey id a b e → StopsBehindKey id a b (retyped g e)
-behind_key g id a b e s = record { between = s.between; key = s.key; given = s.given; refuses = refuses_signature g id s.between b e s.refuses }
+behind_key : {I A B : Type 0} (g : A → B) (scheme : Relation) (id : I) (a b : SignerState I) (e : MakeError A) → StopsBehindKey scheme id a b e → StopsBehindKey scheme id a b (retyped g e)
+behind_key g scheme id a b e s = record { between = s.between; key = s.key; given = s.given; refuses = refuses_signature g scheme id s.between b e s.refuses }
 
-in_turn : {I A B : Type 0} (g : A → B) (id : I) (a b : SignerState I) (e : MakeError A) → StopsInTurn id a b e → StopsInTurn id a b (retyped g e)
-in_turn g id a b e (inl r) = inl (refuses_key g id a b e r)
-in_turn g id a b e (inr s) = inr (behind_key g id a b e s)
+in_turn : {I A B : Type 0} (g : A → B) (scheme : Relation) (id : I) (a b : SignerState I) (e : MakeError A) → StopsInTurn scheme id a b e → StopsInTurn scheme id a b (retyped g e)
+in_turn g scheme id a b e (inl r) = inl (refuses_key g id a b e r)
+in_turn g scheme id a b e (inr s) = inr (behind_key g scheme id a b e s)
 
 draw : {I A B : Type 0} (g : A → B) (a b : SignerState I) (e : MakeError A) → RefusesDraw a b e → RefusesDraw a b (retyped g e)
 draw g a b e r = record { stays = r.stays; fault = g r.fault; is = ap (retyped g) r.is; told = r.told }
 
-at_end_entity : {I A B : Type 0} (g : A → B) (id : I) (a b : SignerState I) (e : MakeError A) → StopsAtEndEntity id a b e → StopsAtEndEntity id a b (retyped g e)
-at_end_entity g id a b e (inl r) = inl (draw g a b e r)
-at_end_entity g id a b e (inr s) = inr (record { between = s.between; serial = s.serial; drawn = s.drawn; stops = in_turn g id s.between b e s.stops })
+at_end_entity : {I A B : Type 0} (g : A → B) (scheme : Relation) (id : I) (a b : SignerState I) (e : MakeError A) → StopsAtEndEntity scheme id a b e → StopsAtEndEntity scheme id a b (retyped g e)
+at_end_entity g scheme id a b e (inl r) = inl (draw g a b e r)
+at_end_entity g scheme id a b e (inr s) = inr (record { between = s.between; serial = s.serial; drawn = s.drawn; stops = in_turn g scheme id s.between b e s.stops })
 
 at_keys : {I A B : Type 0} (g : A → B) (scheme : Relation) (message : List ℕ) (id : I) (a b : SignerState I) (e : MakeError A) → StopsAtKeys scheme message id a b e → StopsAtKeys scheme message id a b (retyped g e)
 at_keys g scheme message id a b e (inl f) = inl (once g scheme message a b e f)
 at_keys g scheme message id a b e (inr s) = inr (record { between = s.between; octets = s.octets; key = s.key; once = s.once; refuses = refuses_key g id s.between b e s.refuses })
 
 certifying : {I A B : Type 0} (g : A → B) (scheme : Relation) (issuing : KeyFields) (now : ℤ) (id : I) (a b : SignerState I) (e : MakeError A) → StopsCertifying scheme issuing now id a b e → StopsCertifying scheme issuing now id a b (retyped g e)
-certifying g scheme issuing now id a b e (inl r) = inl (refuses_signature g id a b e r)
-certifying g scheme issuing now id a b e (inr s) = inr (record { between = s.between; crl = s.crl; crl_signed = s.crl_signed; stops = at_end_entity g id s.between b e s.stops })
+certifying g scheme issuing now id a b e (inl r) = inl (refuses_signature g scheme id a b e r)
+certifying g scheme issuing now id a b e (inr s) = inr (record { between = s.between; crl = s.crl; crl_signed = s.crl_signed; stops = at_end_entity g scheme id s.between b e s.stops })
 
 pub creating : {I A B : Type 0} (g : A → B) (scheme : Relation) (content : List ℕ) (now : ℤ) (id : I) (a b : SignerState I) (e : MakeError A) → StopsCreating scheme content now id a b e → StopsCreating scheme content now id a b (retyped g e)
 creating g scheme content now id a b e (inl s) = inl (at_keys g scheme _ id a b e s)

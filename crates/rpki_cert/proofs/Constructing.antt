@@ -84,20 +84,21 @@ request_made scheme id places a b c key octets u d k s =
       octets_are = s.is;
       read = λ rest. subst (λ o. BeginsAs (certification_request ca_attributes (whole_of x509_algorithm) Der) Der (o ++ rest) (request_of key places s.value)) (sym s.is) (begins_with _ _ _ piece rest);
       stays = stays_then a b c k.is.stays s.signed.is.stays;
+      no_fault = s.signed.is.no_fault ∙ k.is.no_fault;
     }
 
 -- ---- results
 
-pub fails_result : {I E : Type 0} (id : I) (repository : List ℕ) (a b c : SignerState I) (e : CsrError E) → Stays a b → SigningOnly id b c e → Stays a c × ConstructFails id repository a c e
-fails_result id repository a b c (csr.Uri x) k s = absurd s
-fails_result {E = E} id repository a b c csr.TooLong k s = (stays_then a b c k s.0, fails_before {E = E} RsaSha256 id a b c make.TooLong (stays_keeps a b k) s.1)
-fails_result id repository a b c (csr.Signing x) k s = (stays_then a b c k s.stays, fails_before RsaSha256 id a b c (make.Signing x) (stays_keeps a b k) (s.known, s.fails))
-fails_result id repository a b c csr.OutOfMemory k s = (stays_then a b c k s, tt)
+pub fails_result : {I E : Type 0} (scheme : Relation) (id : I) (repository : List ℕ) (a b c : SignerState I) (e : CsrError E) → Stays a b → SigningOnly scheme id b c e → Stays a c × ConstructFails id repository a c e
+fails_result scheme id repository a b c (csr.Uri x) k s = absurd s
+fails_result {E = E} scheme id repository a b c csr.TooLong k s = (stays_then a b c k s.is.stays, fails_before {E = E} RsaSha256 id a b c make.TooLong (stays_keeps a b k) (s.is.told s.long))
+fails_result scheme id repository a b c (csr.Signing x) k s = (stays_then a b c k s.stays, fails_before RsaSha256 id a b c (make.Signing x) (stays_keeps a b k) (s.known, s.fails))
+fails_result scheme id repository a b c csr.OutOfMemory k s = (stays_then a b c k s.stays, tt)
 
 pub construct_result : {I E : Type 0} (scheme : Relation) (id : I) (repository : List ℕ) (places : Places) (a b c : SignerState I) (key : KeyFields) (r : Result (List ℕ) (CsrError E)) → AreUris places → AreDistinct b.keyring → IsShortKey id a b key
-    → MatchResult r (IsSignedFor scheme id key places b c) (SigningOnly id b c) → MatchResult r (IsRequestMade scheme id places a c) (λ e. Stays a c × ConstructFails id repository a c e)
+    → MatchResult r (IsSignedFor scheme id key places b c) (SigningOnly scheme id b c) → MatchResult r (IsRequestMade scheme id places a c) (λ e. Stays a c × ConstructFails id repository a c e)
 construct_result scheme id repository places a b c key (Ok octets) u d k s = request_made scheme id places a b c key octets u d k s
-construct_result scheme id repository places a b c key (Err e) u d k s = fails_result id repository a b c e k.is.stays s
+construct_result scheme id repository places a b c key (Err e) u d k s = fails_result scheme id repository a b c e k.is.stays s
 
 fails_as : {I E : Type 0} (id : I) (repository : List ℕ) (a b : SignerState I) (m : MakeError E) (e : CsrError E) → e ≡ csr_error_of m → Stays a b × MakeFails RsaSha256 id a b m → Stays a b × ConstructFails id repository a b e
 fails_as id repository a b make.TooLong e is s = rw is s
@@ -107,10 +108,10 @@ fails_as id repository a b make.OutOfMemory e is s = rw is s
 pub key_fails : {I E : Type 0} (id : I) (repository : List ℕ) (a b : SignerState I) (m : MakeError E) (e : CsrError E) → e ≡ csr_error_of m → RefusesKey id a b m → Stays a b × ConstructFails id repository a b e
 key_fails id repository a b m e is s = fails_as id repository a b m e is (key_refused id a b m s)
 
-pub signing_refused : {I E : Type 0} (id : I) (a b : SignerState I) (m : MakeError E) (e : CsrError E) → e ≡ csr_error_of m → RefusesSignature id a b m → SigningOnly id a b e
-signing_refused id a b make.TooLong e is s = rw is s
-signing_refused id a b (make.Signing x) e is s = rw is s
-signing_refused id a b make.OutOfMemory e is s = rw is s
+pub signing_refused : {I E : Type 0} (scheme : Relation) (id : I) (a b : SignerState I) (m : MakeError E) (e : CsrError E) → e ≡ csr_error_of m → RefusesSignature scheme id a b m → SigningOnly scheme id a b e
+signing_refused scheme id a b make.TooLong e is s = rw is s
+signing_refused scheme id a b (make.Signing x) e is s = rw is s
+signing_refused scheme id a b make.OutOfMemory e is s = rw is s
 
 found : {I : Type 0} (id : I) (a b : SignerState I) (key : KeyFields) → IsShortKey id a b key → IsKeyFound id a
 found id a b key k = record { key = key; holds = k.is.holds; short = k.short }
@@ -125,29 +126,29 @@ uri_refused id repository a b key uri.OutOfMemory e k is f = rw is (k.is.stays, 
 
 -- ---- which refusal was the first
 
-pub first_key : {I E : Type 0} (id : I) (repository : List ℕ) (a b : SignerState I) (m : MakeError E) (e : CsrError E) → e ≡ csr_error_of m → RefusesKey id a b m → IsFirstRefusal id repository a b e
-first_key id repository a b make.TooLong e is s = rw is (inl s)
-first_key id repository a b (make.Signing x) e is s = rw is (inl s)
-first_key id repository a b make.OutOfMemory e is s = rw is tt
+pub first_key : {I E : Type 0} (scheme : Relation) (id : I) (repository : List ℕ) (a b : SignerState I) (m : MakeError E) (e : CsrError E) → e ≡ csr_error_of m → RefusesKey id a b m → IsFirstRefusal scheme id repository a b e
+first_key scheme id repository a b make.TooLong e is s = rw is (inl s)
+first_key scheme id repository a b (make.Signing x) e is s = rw is (inl s)
+first_key scheme id repository a b make.OutOfMemory e is s = rw is tt
 
-pub first_uri : {I E : Type 0} (id : I) (repository : List ℕ) (a b : SignerState I) (key : KeyFields) (x : Error) (e : CsrError E) → IsShortKey id a b key → e ≡ csr_error_of_uri x → IsFirstRefusal id repository a b e
-first_uri id repository a b key uri.TooLong e k is = rw is (found id a b key k)
-first_uri id repository a b key uri.BadCharacter e k is = rw is (found id a b key k)
-first_uri id repository a b key uri.BadScheme e k is = rw is (found id a b key k)
-first_uri id repository a b key uri.BadUri e k is = rw is (found id a b key k)
-first_uri id repository a b key uri.DotSegments e k is = rw is (found id a b key k)
-first_uri id repository a b key uri.OutOfMemory e k is = rw is tt
+pub first_uri : {I E : Type 0} (scheme : Relation) (id : I) (repository : List ℕ) (a b : SignerState I) (key : KeyFields) (x : Error) (e : CsrError E) → IsShortKey id a b key → e ≡ csr_error_of_uri x → IsFirstRefusal scheme id repository a b e
+first_uri scheme id repository a b key uri.TooLong e k is = rw is (found id a b key k)
+first_uri scheme id repository a b key uri.BadCharacter e k is = rw is (found id a b key k)
+first_uri scheme id repository a b key uri.BadScheme e k is = rw is (found id a b key k)
+first_uri scheme id repository a b key uri.BadUri e k is = rw is (found id a b key k)
+first_uri scheme id repository a b key uri.DotSegments e k is = rw is (found id a b key k)
+first_uri scheme id repository a b key uri.OutOfMemory e k is = rw is tt
 
-first_signing : {I E : Type 0} (id : I) (repository : List ℕ) (a b c : SignerState I) (key : KeyFields) (e : CsrError E) → fault_of rsync (slashed repository) ≡ None → IsShortKey id a b key → SigningOnly id b c e → IsFirstRefusal id repository a c e
-first_signing id repository a b c key (csr.Uri x) n k s = absurd s
-first_signing id repository a b c key csr.TooLong n k s = inr (n, record { between = b; key = key; given = k; refuses = s })
-first_signing id repository a b c key (csr.Signing x) n k s = inr (n, record { between = b; key = key; given = k; refuses = s })
-first_signing id repository a b c key csr.OutOfMemory n k s = tt
+first_signing : {I E : Type 0} (scheme : Relation) (id : I) (repository : List ℕ) (a b c : SignerState I) (key : KeyFields) (e : CsrError E) → fault_of rsync (slashed repository) ≡ None → IsShortKey id a b key → SigningOnly scheme id b c e → IsFirstRefusal scheme id repository a c e
+first_signing scheme id repository a b c key (csr.Uri x) n k s = absurd s
+first_signing scheme id repository a b c key csr.TooLong n k s = inr (n, record { between = b; key = key; given = k; refuses = s })
+first_signing scheme id repository a b c key (csr.Signing x) n k s = inr (n, record { between = b; key = key; given = k; refuses = s })
+first_signing scheme id repository a b c key csr.OutOfMemory n k s = tt
 
-pub first_result : {T I E : Type 0} (id : I) (repository : List ℕ) (a b c : SignerState I) (key : KeyFields) (ok : T → Type 0) (r : Result T (CsrError E)) → fault_of rsync (slashed repository) ≡ None → IsShortKey id a b key → MatchResult r ok (SigningOnly id b c)
-    → IfErr r (IsFirstRefusal id repository a c)
-first_result id repository a b c key ok (Ok x) n k m = tt
-first_result id repository a b c key ok (Err e) n k m = first_signing id repository a b c key e n k m
+pub first_result : {T I E : Type 0} (scheme : Relation) (id : I) (repository : List ℕ) (a b c : SignerState I) (key : KeyFields) (ok : T → Type 0) (r : Result T (CsrError E)) → fault_of rsync (slashed repository) ≡ None → IsShortKey id a b key → MatchResult r ok (SigningOnly scheme id b c)
+    → IfErr r (IsFirstRefusal scheme id repository a c)
+first_result scheme id repository a b c key ok (Ok x) n k m = tt
+first_result scheme id repository a b c key ok (Err e) n k m = first_signing scheme id repository a b c key e n k m
 
 -- a lawful URI is no longer than it may be
 short_fault : (long : Bool) (rest : Option Error) → (if long then Some uri.TooLong else rest) ≡ None → long ≡ false

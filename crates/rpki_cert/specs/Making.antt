@@ -159,6 +159,7 @@ pub record IsRequestMade {Id : Type 0} (scheme : Relation) (id : Id) (places : P
       (certification_request ca_attributes (whole_of x509_algorithm) Der) Der (octets ++ rest)
       request
   pub stays : Stays before after
+  pub no_fault : after.faults ≡ before.faults
 
 -- the octets are a request for a key that is given, with the signature that the signer's call gives under the identifier
 pub record IsSignedFor {Id : Type 0} (scheme : Relation) (id : Id) (key : KeyFields)
@@ -169,15 +170,15 @@ pub record IsSignedFor {Id : Type 0} (scheme : Relation) (id : Id) (key : KeyFie
   pub signed : IsShortSignature scheme RsaSha256 id (spelled_info key places) before after value
 
 -- the signature was refused
-abbrev pub SigningOnly : {Id E : Type 0} → Id → SignerState Id → SignerState Id → CsrError E
-    → Type 0
-SigningOnly id before after (csr.Uri error) = ⊥
-SigningOnly {E = E} id before after csr.TooLong =
-    RefusesSignature {E = E} id before after make.TooLong
-SigningOnly id before after (csr.Signing error) =
-    RefusesSignature id before after (make.Signing error)
-SigningOnly {E = E} id before after csr.OutOfMemory =
-    RefusesSignature {E = E} id before after make.OutOfMemory
+abbrev pub SigningOnly : {Id E : Type 0} → Relation → Id → SignerState Id → SignerState Id
+    → CsrError E → Type 0
+SigningOnly scheme id before after (csr.Uri error) = ⊥
+SigningOnly {E = E} scheme id before after csr.TooLong =
+    RefusesSignature {E = E} scheme id before after make.TooLong
+SigningOnly scheme id before after (csr.Signing error) =
+    RefusesSignature scheme id before after (make.Signing error)
+SigningOnly {E = E} scheme id before after csr.OutOfMemory =
+    RefusesSignature {E = E} scheme id before after make.OutOfMemory
 
 -- the signer held a key for the identifier, which was not too long
 pub record IsKeyFound {Id : Type 0} (id : Id) (before : SignerState Id) : Type 0 where
@@ -198,20 +199,20 @@ ConstructFails id repository before after (csr.Signing error) =
 ConstructFails id repository before after csr.OutOfMemory = ⊤
 
 -- Which refusal was the first: the key was refused; or it was given, the URI with its slash is lawful, and the signature was refused.
-abbrev pub RefusesInTurn : {Id E : Type 0} → Id → List ℕ → SignerState Id → SignerState Id
-    → MakeError E → Type 0
-RefusesInTurn id repository before after error =
+abbrev pub RefusesInTurn : {Id E : Type 0} → Relation → Id → List ℕ → SignerState Id
+    → SignerState Id → MakeError E → Type 0
+RefusesInTurn scheme id repository before after error =
     RefusesKey id before after error
-    ⊎ ((fault_of rsync (slashed repository) ≡ None) × StopsBehindKey id before after error)
+    ⊎ ((fault_of rsync (slashed repository) ≡ None) × StopsBehindKey scheme id before after error)
 
-abbrev pub IsFirstRefusal : {Id E : Type 0} → Id → List ℕ → SignerState Id → SignerState Id
-    → CsrError E → Type 0
-IsFirstRefusal id repository before after (csr.Uri error) = IsKeyFound id before
-IsFirstRefusal {E = E} id repository before after csr.TooLong =
-    RefusesInTurn {E = E} id repository before after make.TooLong
-IsFirstRefusal id repository before after (csr.Signing error) =
-    RefusesInTurn id repository before after (make.Signing error)
-IsFirstRefusal id repository before after csr.OutOfMemory = ⊤
+abbrev pub IsFirstRefusal : {Id E : Type 0} → Relation → Id → List ℕ → SignerState Id
+    → SignerState Id → CsrError E → Type 0
+IsFirstRefusal scheme id repository before after (csr.Uri error) = IsKeyFound id before
+IsFirstRefusal {E = E} scheme id repository before after csr.TooLong =
+    RefusesInTurn {E = E} scheme id repository before after make.TooLong
+IsFirstRefusal scheme id repository before after (csr.Signing error) =
+    RefusesInTurn scheme id repository before after (make.Signing error)
+IsFirstRefusal scheme id repository before after csr.OutOfMemory = ⊤
 
 -- ---- errors that become others
 

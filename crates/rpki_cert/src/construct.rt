@@ -297,7 +297,7 @@ fn sign_request<P: Scheme, S: Signer<P>>(
     ensures signed { MatchResult result
         (spec.IsSignedFor P.checks key.now public_key.now places.now
         (S.state signer.old) (S.state signer.new))
-        (spec.SigningOnly key.now (S.state signer.old) (S.state signer.new)) }
+        (spec.SigningOnly P.checks key.now (S.state signer.old) (S.state signer.new)) }
     ensures distinct { IsOk result → AreDistinct (S.state signer.new).keyring }
 {
     let info = request_info(alloc, public_key, places)?;
@@ -336,7 +336,7 @@ pub fn construct_rpki_ca<P: Scheme, S: Signer<P>>(
 
     // The signer gives the key, then the URI is tested, and then the signer signs; the first refusal
     // decides.
-    ensures first_refusal { IfErr result (spec.IsFirstRefusal key.now ca_repository.now
+    ensures first_refusal { IfErr result (spec.IsFirstRefusal P.checks key.now ca_repository.now
         (S.state signer.old) (S.state signer.new)) }
 
     // No request is made of an unlawful URI.
