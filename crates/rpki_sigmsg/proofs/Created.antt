@@ -10,7 +10,7 @@ use Rattle.rpki_signer.specs.declared.errors.MakeError.{MakeError}
 use Rattle.rpki_signer.specs.declared.errors.MakeError.TheVariants as make
 use Rattle.rpki_signer.specs.Limits.{default_algorithm, IsShortKey, IsShortOneOff, Keeps, MakeFails, RefusesKey, RefusesOneOff, RefusesSignature}
 use Rattle.rpki_signer.specs.Serials.{without_first_bit}
-use Rattle.rpki_signer.specs.Signer.{SignerState, Holds, AreDistinct, Stays}
+use Rattle.rpki_signer.specs.Signer.{SignerState, Holds, AreDistinct}
 use Rattle.rpki_signer.proofs.Keyrings.{one_key}
 use Rattle.rpki_signer.proofs.States.{rose_then, stays_keeps, keeps_then, fails_before, key_refused, one_off_refused, signature_refused, spared_same}
 use Rattle.rpki_idcert.specs.IdCert.{CertificateFields}

@@ -1,14 +1,13 @@
 -- The parts of a view stand in the octets of the message, in their order.
 use Rattle.std.proofs.Common.{◌≡◌, ℕ, Option, None, Some, List, [], ◌∷◌, ◌++◌, sym, ap, subst, ◌∙◌, append_assoc}
 use Rattle.std.proofs.lemmas.List.{append-nil}
-use Rattle.rpki_common.specs.Chaining.{◌>>=◌}
 use Rattle.rpki_common.proofs.Bounds.{bound, chosen}
 use Rattle.rpki_common.proofs.Truths.{none_some, same_some}
 use Rattle.rpki_der.specs.declared.mode.Mode.{Mode}
 use Rattle.rpki_der.specs.Identifier.{has_tag}
 use Rattle.rpki_der.specs.Tags.{sequence, set, context}
 use Rattle.rpki_der.specs.Value.{Form, Value, Primitive, Constructed, Values, lengths_of, end_mark, spelling, spellings}
-use Rattle.rpki_der.specs.Grammar.{within, first, wrapped}
+use Rattle.rpki_der.specs.Grammar.{within, wrapped}
 use Rattle.rpki_der.specs.Held.{held, with_octets}
 use Rattle.rpki_der.specs.OctetString.{octet_string}
 use Rattle.rpki_der.proofs.Firsts.{FirstIs, done_is}

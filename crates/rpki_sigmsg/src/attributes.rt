@@ -181,32 +181,22 @@ fn finish_attribute<L: Ledger>(
         cursor.old cursor.new steps.old steps.new result }
 {
     let Found {
+        mut content_type,
+        mut digest,
+        mut times,
+    } = found;
+    if kind == CONTENT_TYPE.as_slice() {
+        content_type = finish_content_type(cursor, content_type, steps)?;
+    } else if kind == MESSAGE_DIGEST.as_slice() {
+        digest = finish_digest(alloc, cursor, digest, steps)?;
+    } else {
+        times = finish_time(cursor, kind, times, steps)?;
+    }
+    Ok(Found {
         content_type,
         digest,
         times,
-    } = found;
-    if kind == CONTENT_TYPE.as_slice() {
-        let content_type = finish_content_type(cursor, content_type, steps)?;
-        Ok(Found {
-            content_type,
-            digest,
-            times,
-        })
-    } else if kind == MESSAGE_DIGEST.as_slice() {
-        let digest = finish_digest(alloc, cursor, digest, steps)?;
-        Ok(Found {
-            content_type,
-            digest,
-            times,
-        })
-    } else {
-        let times = finish_time(cursor, kind, times, steps)?;
-        Ok(Found {
-            content_type,
-            digest,
-            times,
-        })
-    }
+    })
 }
 
 fn take_attribute<L: Ledger>(
