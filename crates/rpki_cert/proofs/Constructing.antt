@@ -93,7 +93,7 @@ pub fails_result : {I E : Type 0} (scheme : Relation) (id : I) (repository : Lis
 fails_result scheme id repository a b c (csr.Uri x) k s = absurd s
 fails_result {E = E} scheme id repository a b c csr.TooLong k s = (stays_then a b c k s.is.stays, fails_before {E = E} RsaSha256 id a b c make.TooLong (stays_keeps a b k) (s.is.told s.long))
 fails_result scheme id repository a b c (csr.Signing x) k s = (stays_then a b c k s.stays, fails_before RsaSha256 id a b c (make.Signing x) (stays_keeps a b k) (s.known, s.fails))
-fails_result scheme id repository a b c csr.OutOfMemory k s = (stays_then a b c k s.stays, tt)
+fails_result scheme id repository a b c csr.OutOfMemory k s = (stays_then a b c k s.0, tt)
 
 pub construct_result : {I E : Type 0} (scheme : Relation) (id : I) (repository : List ℕ) (places : Places) (a b c : SignerState I) (key : KeyFields) (r : Result (List ℕ) (CsrError E)) → AreUris places → AreDistinct b.keyring → IsShortKey id a b key
     → MatchResult r (IsSignedFor scheme id key places b c) (SigningOnly scheme id b c) → MatchResult r (IsRequestMade scheme id places a c) (λ e. Stays a c × ConstructFails id repository a c e)
@@ -111,7 +111,7 @@ key_fails id repository a b m e is s = fails_as id repository a b m e is (key_re
 pub signing_refused : {I E : Type 0} (scheme : Relation) (id : I) (a b : SignerState I) (m : MakeError E) (e : CsrError E) → e ≡ csr_error_of m → RefusesSignature scheme id a b m → SigningOnly scheme id a b e
 signing_refused scheme id a b make.TooLong e is s = rw is s
 signing_refused scheme id a b (make.Signing x) e is s = rw is s
-signing_refused scheme id a b make.OutOfMemory e is s = rw is s
+signing_refused scheme id a b make.OutOfMemory e is s = rw is (s.stays, s.no_fault)
 
 found : {I : Type 0} (id : I) (a b : SignerState I) (key : KeyFields) → IsShortKey id a b key → IsKeyFound id a
 found id a b key k = record { key = key; holds = k.is.holds; short = k.short }
@@ -129,7 +129,7 @@ uri_refused id repository a b key uri.OutOfMemory e k is f = rw is (k.is.stays, 
 pub first_key : {I E : Type 0} (scheme : Relation) (id : I) (repository : List ℕ) (a b : SignerState I) (m : MakeError E) (e : CsrError E) → e ≡ csr_error_of m → RefusesKey id a b m → IsFirstRefusal scheme id repository a b e
 first_key scheme id repository a b make.TooLong e is s = rw is (inl s)
 first_key scheme id repository a b (make.Signing x) e is s = rw is (inl s)
-first_key scheme id repository a b make.OutOfMemory e is s = rw is tt
+first_key scheme id repository a b make.OutOfMemory e is s = rw is s.no_fault
 
 pub first_uri : {I E : Type 0} (scheme : Relation) (id : I) (repository : List ℕ) (a b : SignerState I) (key : KeyFields) (x : Error) (e : CsrError E) → IsShortKey id a b key → e ≡ csr_error_of_uri x → IsFirstRefusal scheme id repository a b e
 first_uri scheme id repository a b key uri.TooLong e k is = rw is (found id a b key k)
@@ -137,13 +137,13 @@ first_uri scheme id repository a b key uri.BadCharacter e k is = rw is (found id
 first_uri scheme id repository a b key uri.BadScheme e k is = rw is (found id a b key k)
 first_uri scheme id repository a b key uri.BadUri e k is = rw is (found id a b key k)
 first_uri scheme id repository a b key uri.DotSegments e k is = rw is (found id a b key k)
-first_uri scheme id repository a b key uri.OutOfMemory e k is = rw is tt
+first_uri scheme id repository a b key uri.OutOfMemory e k is = rw is k.is.no_fault
 
 first_signing : {I E : Type 0} (scheme : Relation) (id : I) (repository : List ℕ) (a b c : SignerState I) (key : KeyFields) (e : CsrError E) → fault_of rsync (slashed repository) ≡ None → IsShortKey id a b key → SigningOnly scheme id b c e → IsFirstRefusal scheme id repository a c e
 first_signing scheme id repository a b c key (csr.Uri x) n k s = absurd s
 first_signing scheme id repository a b c key csr.TooLong n k s = inr (n, record { between = b; key = key; given = k; refuses = s })
 first_signing scheme id repository a b c key (csr.Signing x) n k s = inr (n, record { between = b; key = key; given = k; refuses = s })
-first_signing scheme id repository a b c key csr.OutOfMemory n k s = tt
+first_signing scheme id repository a b c key csr.OutOfMemory n k s = s.1 ∙ k.is.no_fault
 
 pub first_result : {T I E : Type 0} (scheme : Relation) (id : I) (repository : List ℕ) (a b c : SignerState I) (key : KeyFields) (ok : T → Type 0) (r : Result T (CsrError E)) → fault_of rsync (slashed repository) ≡ None → IsShortKey id a b key → MatchResult r ok (SigningOnly scheme id b c)
     → IfErr r (IsFirstRefusal scheme id repository a c)

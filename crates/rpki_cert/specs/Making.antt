@@ -169,7 +169,7 @@ pub record IsSignedFor {Id : Type 0} (scheme : Relation) (id : Id) (key : KeyFie
   pub spelled : CanBeSpelled spelled_x509 (request_signed key places value)
   pub signed : IsShortSignature scheme RsaSha256 id (spelled_info key places) before after value
 
--- the signature was refused
+-- the signature was refused, or memory ran out and the signer didn't fail
 abbrev pub SigningOnly : {Id E : Type 0} → Relation → Id → SignerState Id → SignerState Id
     → CsrError E → Type 0
 SigningOnly scheme id before after (csr.Uri error) = ⊥
@@ -177,8 +177,8 @@ SigningOnly {E = E} scheme id before after csr.TooLong =
     RefusesSignature {E = E} scheme id before after make.TooLong
 SigningOnly scheme id before after (csr.Signing error) =
     RefusesSignature scheme id before after (make.Signing error)
-SigningOnly {E = E} scheme id before after csr.OutOfMemory =
-    RefusesSignature {E = E} scheme id before after make.OutOfMemory
+SigningOnly scheme id before after csr.OutOfMemory =
+    Stays before after × (after.faults ≡ before.faults)
 
 -- the signer held a key for the identifier, which was not too long
 pub record IsKeyFound {Id : Type 0} (id : Id) (before : SignerState Id) : Type 0 where
@@ -205,6 +205,7 @@ RefusesInTurn scheme id repository before after error =
     RefusesKey id before after error
     ⊎ ((fault_of rsync (slashed repository) ≡ None) × StopsBehindKey scheme id before after error)
 
+-- where memory ran out, the signer didn't fail
 abbrev pub IsFirstRefusal : {Id E : Type 0} → Relation → Id → List ℕ → SignerState Id
     → SignerState Id → CsrError E → Type 0
 IsFirstRefusal scheme id repository before after (csr.Uri error) = IsKeyFound id before
@@ -212,7 +213,7 @@ IsFirstRefusal {E = E} scheme id repository before after csr.TooLong =
     RefusesInTurn {E = E} scheme id repository before after make.TooLong
 IsFirstRefusal scheme id repository before after (csr.Signing error) =
     RefusesInTurn scheme id repository before after (make.Signing error)
-IsFirstRefusal scheme id repository before after csr.OutOfMemory = ⊤
+IsFirstRefusal scheme id repository before after csr.OutOfMemory = after.faults ≡ before.faults
 
 -- ---- errors that become others
 
