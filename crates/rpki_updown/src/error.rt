@@ -1,9 +1,8 @@
 //! Why a message was not read, written or believed, and why a limit does not hold.
 
-ghost use Rattle.std.specs.Prelude.{◌≡◌, ◌↔◌, true};
+ghost use Rattle.std.specs.Prelude.{◌≡◌};
 ghost use Rattle.rpki_updown.specs.Answers.{of_cause, of_der, of_reading, of_xml};
 ghost use Rattle.rpki_xml.specs.declared.error.XmlError.TheVariants as xml;
-ghost use Rattle.rpki_updown.specs.declared.error.Error.{Error};
 ghost use Rattle.rpki_updown.specs.declared.error.Error.TheVariants as variant;
 
 use crate::payload_type::PayloadTypeError;
@@ -47,11 +46,6 @@ pub enum Error {
     /// Memory ran out.
     OutOfMemory,
 }
-
-/// `==` holds exactly between errors that are the same.
-pub fn equal_errors_are_the_same()
-    ensures { (a b : Error) → (⟦<Error as PartialEq>⟧.eq a b ≡ true) ↔ (a ≡ b) }
-{}
 
 impl fmt::Display for Error {
     ghost use Rattle.rpki_updown.specs.Shown.{shown_error};

@@ -31,7 +31,7 @@ mod revocation_request;
 mod revocation_response;
 mod signing_cert;
 
-pub use error::{Error, equal_errors_are_the_same};
+pub use error::Error;
 pub use issuance_request::IssuanceRequest;
 pub use issuance_response::IssuanceResponse;
 pub use issued_cert::IssuedCert;
