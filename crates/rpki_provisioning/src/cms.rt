@@ -255,8 +255,10 @@ impl ProvisioningCms {
         ensures first_refusal { IfErr result (IsFirstRefusal P.checks (text_of message) now
             issuing_key_id.now (S.state signer.old) (S.state signer.new)) }
 
-        // The signer holds the same keys, whatever the answer.
+        // The signer holds the same keys, whatever the answer, and where there is a message, it didn't fail.
         ensures keeps { Keeps (S.state signer.old) (S.state signer.new) }
+        ensures kept { OnOk result
+            ((S.state signer.new).faults ≡ (S.state signer.old).faults) }
     {
         let text = message.text_bytes(alloc)?;
         let signed = SignedMessage::create(alloc, text, now, issuing_key_id, signer)?;
