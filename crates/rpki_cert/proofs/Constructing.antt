@@ -6,7 +6,7 @@ use Rattle.rpki_text.specs.declared.uri.Error.{Error}
 use Rattle.rpki_text.specs.declared.uri.Error.TheVariants as uri
 use Rattle.rpki_signer.specs.declared.errors.MakeError.{MakeError}
 use Rattle.rpki_signer.specs.declared.errors.MakeError.TheVariants as make
-use Rattle.std.proofs.Common.{Bool, true, false, ◌≡◌, ◌≢◌, inl, inr, ℕ, ◌<◌, Option, None, Some, Result, Ok, Err, List, [], ◌++◌, length, refl, sym, ap, subst, ◌∙◌, arith, length-append}
+use Rattle.std.proofs.Common.{Bool, true, false, ◌≡◌, inl, inr, ℕ, ◌<◌, Option, None, Some, Result, Ok, Err, List, [], ◌++◌, length, refl, sym, ap, subst, ◌∙◌, arith, length-append}
 use Rattle.std.specs.Prelude.{IfErr, MatchResult, nat_lt, if◌then◌else◌}
 use Rattle.rpki_der.specs.declared.mode.Mode.TheVariants.{Der}
 use Rattle.rpki_der.specs.Tags.{sequence, context}

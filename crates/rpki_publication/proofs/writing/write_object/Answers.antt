@@ -9,4 +9,4 @@ returns g c = λ plain ok.
     let two = c.write_attribute.ensures one.plain (search rules) in
     let three = c.write_hash.ensures two.plain (search rules) in
     put_four _ _ _ _ _ _ _ _ _ _ _ one two three (c.write_str-2.ensures.writes three.plain ok)
-    (object_text c.args.object.now _ _ (c.as_str.ensures.text ∙ c.uri.ensures) c.hash.ensures)
+    (object_text c.args.object.now _ _ (c.as_str.ensures.text ∙ c.uri.ensures.uri) c.hash.ensures)

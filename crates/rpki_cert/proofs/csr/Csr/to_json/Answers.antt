@@ -1,4 +1,4 @@
-use Rattle.std.specs.Prelude.{ℕ, List, Some, string_bytes}
+use Rattle.std.specs.Prelude.{Some, string_bytes}
 use Rattle.std.proofs.Common.{◌≡◌, [], sym, ◌∙◌}
 use Rattle.std.proofs.lemmas.Result.{IfOk-weaker}
 use Rattle.rpki_text.specs.Base64.{octets_of_json}
