@@ -2,10 +2,10 @@
 
 use rpki_base::Time;
 use rpki_ca::Received;
-use rpki_publication::Message;
+use rpki_publication::{ErrorReply, Message};
 use rpki_signer::ToyScheme;
 use std::test::Fail;
-use uses_receive::message_from;
+use uses_receive::{message_from, text_that_is_read};
 
 // The message of examples/query-list.hex, which a model made that was written apart.
 const QUERY: &str =
@@ -47,5 +47,26 @@ fn a_message_is_received(rt: HostRuntime) -> Result<(), Fail> {
         return Err(Fail::new("the message"));
     };
     assert!(rt; message == Message::list_query());
+    Ok(())
+}
+
+// RFC 8181, 2.3: the document around a list query.
+const LIST_QUERY: &[u8] =
+    b"<msg xmlns=\"http://www.hactrn.net/uris/rpki/publication-spec/\" version=\"4\" type=\"query\"><list/></msg>";
+
+#[test]
+fn what_can_be_written_is(rt: HostRuntime) -> Result<(), Fail> {
+    let Some(text) = text_that_is_read(rt.alloc(), &Message::list_query())? else {
+        return Err(Fail::new("it can be written"));
+    };
+    assert_eq!(rt; text.as_slice(), LIST_QUERY);
+    Ok(())
+}
+
+#[test]
+fn an_error_reply_without_errors_is_not_written(rt: HostRuntime) -> Result<(), Fail> {
+    let alloc = rt.alloc();
+    let message = Message::error(ErrorReply::empty(alloc));
+    assert!(rt; text_that_is_read(alloc, &message)?.is_none());
     Ok(())
 }

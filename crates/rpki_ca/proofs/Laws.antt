@@ -656,13 +656,13 @@ written_alike scheme kind octets rest signed keys when a b k =
 
 -- ---- one receipt
 
-accepted_never : (scheme : Relation) (kind : Kind) (octets : List ℕ) (keys : List KeyFields) (when : ℤ) (m : Received) (e : ReceiveError) → Accepted scheme kind octets keys when m → RefusesReceipt scheme kind octets keys when e → ⊥
-accepted_never scheme kind octets keys when m errors.CmsDecode a r = accepted_alone scheme kind octets keys when m errors.CmsDecode a r (λ k. cc)
-accepted_never scheme kind octets keys when m errors.XmlError a r = accepted_alone scheme kind octets keys when m errors.XmlError a r (λ k. cc)
-accepted_never scheme kind octets keys when m errors.CertSyntax a r = accepted_alone scheme kind octets keys when m errors.CertSyntax a r (λ k. cc)
-accepted_never scheme kind octets keys when m errors.InvalidCsrSyntax a r = accepted_alone scheme kind octets keys when m errors.InvalidCsrSyntax a r (λ k. cc)
-accepted_never scheme kind octets keys when m (errors.Validation e) a r = accepted_alone scheme kind octets keys when m (errors.Validation e) a r (λ k. cc)
-accepted_never scheme kind octets keys when m errors.OutOfMemory a r = r
+accepted_never : (scheme : Relation) (kind : Kind) (octets : List ℕ) (keys : List KeyFields) (when : ℤ) (m : Received) (e : ReceiveError) → Accepted scheme kind octets keys when m → RefusesReceipt scheme kind octets keys when e → e ≢ errors.OutOfMemory → ⊥
+accepted_never scheme kind octets keys when m errors.CmsDecode a r other = accepted_alone scheme kind octets keys when m errors.CmsDecode a r (λ k. cc)
+accepted_never scheme kind octets keys when m errors.XmlError a r other = accepted_alone scheme kind octets keys when m errors.XmlError a r (λ k. cc)
+accepted_never scheme kind octets keys when m errors.CertSyntax a r other = accepted_alone scheme kind octets keys when m errors.CertSyntax a r (λ k. cc)
+accepted_never scheme kind octets keys when m errors.InvalidCsrSyntax a r other = accepted_alone scheme kind octets keys when m errors.InvalidCsrSyntax a r (λ k. cc)
+accepted_never scheme kind octets keys when m (errors.Validation e) a r other = accepted_alone scheme kind octets keys when m (errors.Validation e) a r (λ k. cc)
+accepted_never scheme kind octets keys when m errors.OutOfMemory a r other = other refl
 
 same_kind : (a b : ValidationKind) → ((a ≡ b → ⊥) → ⊥) → a ≡ b
 same_kind Inspection Inspection n = refl
@@ -697,13 +697,13 @@ ErrorView scheme kind octets keys when e =
     ⊎ (((r : Refusal) × (e ≡ error_from r) × HoldsContent (λ o. RefusesInput kind o r) octets)
     ⊎ ((v : ValidationError) × (e ≡ errors.Validation v) × FailsCheck scheme kind octets keys when v))
 
-error_view : (scheme : Relation) (kind : Kind) (octets : List ℕ) (keys : List KeyFields) (when : ℤ) (e : ReceiveError) → RefusesReceipt scheme kind octets keys when e → ErrorView scheme kind octets keys when e
-error_view scheme kind octets keys when errors.CmsDecode r = inl (refl, r)
-error_view scheme kind octets keys when errors.XmlError r = inr (inl (refusals.XmlError, refl, r))
-error_view scheme kind octets keys when errors.CertSyntax r = inr (inl (refusals.CertSyntax, refl, r))
-error_view scheme kind octets keys when errors.InvalidCsrSyntax r = inr (inl (refusals.InvalidCsrSyntax, refl, r))
-error_view scheme kind octets keys when (errors.Validation e) r = inr (inr (e, refl, r))
-error_view scheme kind octets keys when errors.OutOfMemory r = absurd r
+error_view : (scheme : Relation) (kind : Kind) (octets : List ℕ) (keys : List KeyFields) (when : ℤ) (e : ReceiveError) → RefusesReceipt scheme kind octets keys when e → e ≢ errors.OutOfMemory → ErrorView scheme kind octets keys when e
+error_view scheme kind octets keys when errors.CmsDecode r other = inl (refl, r)
+error_view scheme kind octets keys when errors.XmlError r other = inr (inl (refusals.XmlError, refl, r))
+error_view scheme kind octets keys when errors.CertSyntax r other = inr (inl (refusals.CertSyntax, refl, r))
+error_view scheme kind octets keys when errors.InvalidCsrSyntax r other = inr (inl (refusals.InvalidCsrSyntax, refl, r))
+error_view scheme kind octets keys when (errors.Validation e) r other = inr (inr (e, refl, r))
+error_view scheme kind octets keys when errors.OutOfMemory r other = absurd (other refl)
 
 fails_once : (scheme : Relation) (kind : Kind) (octets : List ℕ) (keys : List KeyFields) (when : ℤ) (d e : ValidationError) → FailsCheck scheme kind octets keys when d → FailsCheck scheme kind octets keys when e → d ≡ e
 fails_once scheme kind octets keys when d e f g =
@@ -722,14 +722,23 @@ one_error scheme kind octets keys when d e (inr (inr p)) (inl q) = absurd (q.1 p
 one_error scheme kind octets keys when d e (inr (inr p)) (inr (inl q)) = absurd (no_reading kind octets p.2.signed p.2.message q.0 p.2.begins p.2.reads q.2)
 one_error scheme kind octets keys when d e (inr (inr p)) (inr (inr q)) = p.1 ∙ ap (λ (v : ValidationError). errors.Validation v) (fails_once scheme kind octets keys when p.0 q.0 p.2 q.2) ∙ sym q.1
 
-one_refused : (scheme : Relation) (kind : Kind) (octets : List ℕ) (keys : List KeyFields) (when : ℤ) (d e : ReceiveError) → RefusesReceipt scheme kind octets keys when d → RefusesReceipt scheme kind octets keys when e → d ≡ e
-one_refused scheme kind octets keys when d e p q = one_error scheme kind octets keys when d e (error_view scheme kind octets keys when d p) (error_view scheme kind octets keys when e q)
+one_refused : (scheme : Relation) (kind : Kind) (octets : List ℕ) (keys : List KeyFields) (when : ℤ) (d e : ReceiveError) → RefusesReceipt scheme kind octets keys when d → RefusesReceipt scheme kind octets keys when e → d ≢ errors.OutOfMemory → e ≢ errors.OutOfMemory → d ≡ e
+one_refused scheme kind octets keys when d e p q dm em = one_error scheme kind octets keys when d e (error_view scheme kind octets keys when d p dm) (error_view scheme kind octets keys when e q em)
 
-pub one_received : (scheme : Relation) (kind : Kind) (octets : List ℕ) (keys : List KeyFields) (when : ℤ) (a b : Result Received ReceiveError) → IsReceived scheme kind octets keys when a → IsReceived scheme kind octets keys when b → a ≡ b
-one_received scheme kind octets keys when (Ok m) (Ok n) p q = ap (λ (x : Received). Ok x) (one_accepted scheme kind octets keys when m n p q)
-one_received scheme kind octets keys when (Ok m) (Err e) p q = absurd (accepted_never scheme kind octets keys when m e p q)
-one_received scheme kind octets keys when (Err d) (Ok n) p q = absurd (accepted_never scheme kind octets keys when n d q p)
-one_received scheme kind octets keys when (Err d) (Err e) p q = ap (λ (x : ReceiveError). Err x) (one_refused scheme kind octets keys when d e p q)
+abbrev err_in : {T : Type 0} → ReceiveError → Result T ReceiveError
+err_in e = Err e
+
+abbrev memory_only : {T : Type 0} → Result T ReceiveError
+memory_only = Err errors.OutOfMemory
+
+not_memory : {T : Type 0} (e : ReceiveError) → (◌≡◌ {A = Result T ReceiveError} (Err e) memory_only → ⊥) → e ≢ errors.OutOfMemory
+not_memory {T = T} e n k = n (ap (λ (x : ReceiveError). err_in {T = T} x) k)
+
+pub one_received : (scheme : Relation) (kind : Kind) (octets : List ℕ) (keys : List KeyFields) (when : ℤ) (a b : Result Received ReceiveError) → IsReceived scheme kind octets keys when a → IsReceived scheme kind octets keys when b → a ≢ memory_only → b ≢ memory_only → a ≡ b
+one_received scheme kind octets keys when (Ok m) (Ok n) p q am bm = ap (λ (x : Received). Ok x) (one_accepted scheme kind octets keys when m n p q)
+one_received scheme kind octets keys when (Ok m) (Err e) p q am bm = absurd (accepted_never scheme kind octets keys when m e p q (not_memory e bm))
+one_received scheme kind octets keys when (Err d) (Ok n) p q am bm = absurd (accepted_never scheme kind octets keys when n d q p (not_memory d am))
+one_received scheme kind octets keys when (Err d) (Err e) p q am bm = ap (λ (x : ReceiveError). Err x) (one_refused scheme kind octets keys when d e p q (not_memory d am) (not_memory e bm))
 
 accepted_at : (scheme : Relation) (kind : Kind) (octets : List ℕ) (keys : List KeyFields) (when : ℤ) (m : Received) (place : ℕ) → AcceptedAt scheme kind octets keys when m place → Accepted scheme kind octets keys when m
 accepted_at scheme kind octets keys when m place a = record {
@@ -748,10 +757,10 @@ one_at scheme kind octets keys when m n i j p q = (
 abbrev found : Received → ℕ → Result (Received × ℕ) ReceiveError
 found m i = Ok (m, i)
 
-pub one_received_under : (scheme : Relation) (kind : Kind) (octets : List ℕ) (keys : List KeyFields) (when : ℤ) (a b : Result (Received × ℕ) ReceiveError) → IsReceivedUnder scheme kind octets keys when a → IsReceivedUnder scheme kind octets keys when b → a ≡ b
-one_received_under scheme kind octets keys when (Ok (m, i)) (Ok (n, j)) p q =
+pub one_received_under : (scheme : Relation) (kind : Kind) (octets : List ℕ) (keys : List KeyFields) (when : ℤ) (a b : Result (Received × ℕ) ReceiveError) → IsReceivedUnder scheme kind octets keys when a → IsReceivedUnder scheme kind octets keys when b → a ≢ memory_only → b ≢ memory_only → a ≡ b
+one_received_under scheme kind octets keys when (Ok (m, i)) (Ok (n, j)) p q am bm =
     let same = one_at scheme kind octets keys when m n i j p q in
     ap (λ (x : Received). found x i) same.0 ∙ ap (λ (x : ℕ). found n x) same.1
-one_received_under scheme kind octets keys when (Ok (m, i)) (Err e) p q = absurd (accepted_never scheme kind octets keys when m e (accepted_at scheme kind octets keys when m i p) q)
-one_received_under scheme kind octets keys when (Err d) (Ok (n, j)) p q = absurd (accepted_never scheme kind octets keys when n d (accepted_at scheme kind octets keys when n j q) p)
-one_received_under scheme kind octets keys when (Err d) (Err e) p q = ap (λ (x : ReceiveError). Err x) (one_refused scheme kind octets keys when d e p q)
+one_received_under scheme kind octets keys when (Ok (m, i)) (Err e) p q am bm = absurd (accepted_never scheme kind octets keys when m e (accepted_at scheme kind octets keys when m i p) q (not_memory e bm))
+one_received_under scheme kind octets keys when (Err d) (Ok (n, j)) p q am bm = absurd (accepted_never scheme kind octets keys when n d (accepted_at scheme kind octets keys when n j q) p (not_memory d am))
+one_received_under scheme kind octets keys when (Err d) (Err e) p q am bm = ap (λ (x : ReceiveError). Err x) (one_refused scheme kind octets keys when d e p q (not_memory d am) (not_memory e bm))

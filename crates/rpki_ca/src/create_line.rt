@@ -98,8 +98,10 @@ pub(crate) fn signed_octets<P: Scheme, S: Signer<P>>(
         → IsErrOf result create.TooLong ⊎ IsErrOf result create.OutOfMemory }
     ensures unasked { (HasWindow when → ⊥) ⊎ (2 ^ 31 < length (text_of message))
         → signer.new ≡ signer.old }
-    ensures first_refusal { IfErr result (IsFirstRefusal P.checks (text_of message) when key.now
-        (S.state signer.old) (S.state signer.new)) }
+    // Memory may run out behind all of the signer's calls.
+    ensures first_refusal { IfErr result (λ e. e ≢ create.OutOfMemory
+        → IsFirstRefusal P.checks (text_of message) when key.now
+        (S.state signer.old) (S.state signer.new) e) }
     ensures keeps { Keeps (S.state signer.old) (S.state signer.new) }
 {
     let text = text_of(alloc, message)?;

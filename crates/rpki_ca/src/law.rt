@@ -1,6 +1,6 @@
 //! What holds of every answer.
 
-ghost use Rattle.std.specs.Prelude.{◌≡◌, ◌↔◌, ◌++◌, ℕ, ℤ, List, Option, Result, Some};
+ghost use Rattle.std.specs.Prelude.{◌≡◌, ◌≢◌, ◌↔◌, ◌++◌, ℕ, ℤ, List, Option, Result, Some, Err};
 ghost use Rattle.rpki_base.specs.PublicKey.{KeyFields};
 ghost use Rattle.rpki_sigmsg.specs.Checks.{SameAnswersUnder, AreAmong, IsInSpan};
 ghost use Rattle.rpki_sigmsg.specs.Making.{IsCreated};
@@ -11,6 +11,7 @@ ghost use Rattle.rpki_ca.specs.declared.command.Command.{Command};
 ghost use Rattle.rpki_ca.specs.declared.receiving.Kind.{Kind};
 ghost use Rattle.rpki_ca.specs.declared.receiving.Received.{Received};
 ghost use Rattle.rpki_ca.specs.declared.receiving.ReceiveError.{ReceiveError};
+ghost use Rattle.rpki_ca.specs.declared.receiving.ReceiveError.TheVariants as errors;
 ghost use Rattle.rpki_ca.specs.declared.refusals.Refusal.{Refusal};
 ghost use Rattle.rpki_ca.specs.Answer.{AnswersSpelled, IsAnswer};
 ghost use Rattle.rpki_ca.specs.Acceptance.{Accepted, IsReceived, IsReceivedUnder, IsWritable, protocol_of, text_of};
@@ -36,15 +37,18 @@ pub fn one_answer_to_words<P: Scheme>()
 {}
 
 /// Octets have one receipt: at one moment, under one list of keys and one scheme, one message is
-/// accepted, with one place of the first key that believes it, or they are refused for one cause.
+/// accepted, with one place of the first key that believes it, or they are refused for one cause. Want
+/// of memory stands beside each.
 pub fn one_receipt<P: Scheme>()
     ensures with_place { (kind : Kind) (octets : List ℕ) (keys : List KeyFields) (when : ℤ)
         (a b : Result (Received × ℕ) ReceiveError)
         → IsReceivedUnder P.checks kind octets keys when a
-        → IsReceivedUnder P.checks kind octets keys when b → a ≡ b }
+        → IsReceivedUnder P.checks kind octets keys when b
+        → a ≢ Err errors.OutOfMemory → b ≢ Err errors.OutOfMemory → a ≡ b }
     ensures without_place { (kind : Kind) (octets : List ℕ) (keys : List KeyFields) (when : ℤ)
         (a b : Result Received ReceiveError) → IsReceived P.checks kind octets keys when a
-        → IsReceived P.checks kind octets keys when b → a ≡ b }
+        → IsReceived P.checks kind octets keys when b
+        → a ≢ Err errors.OutOfMemory → b ≢ Err errors.OutOfMemory → a ≡ b }
 {}
 
 /// What is received depends on the scheme by its questions alone, of the attributes and under each

@@ -69,4 +69,4 @@ ascend_still scheme server octets when reply is ascend = kept_still scheme serve
 
 pub one_reply : (scheme : Relation) (server : ServerFields) (octets : List ℕ) (when : ℤ) (a b : Reply) → IsReply scheme server octets when a → IsReply scheme server octets when b → a ≡ b
 one_reply scheme server octets when a b p q =
-    p.is ∙ ap (λ (r : Result Received ReceiveError). reply_to server.base server.store r) (one_received scheme kinds.Publication octets (server.publisher ∷ []) when p.result q.result p.received q.received) ∙ sym q.is
+    p.is ∙ ap (λ (r : Result Received ReceiveError). reply_to server.base server.store r) (one_received scheme kinds.Publication octets (server.publisher ∷ []) when p.result q.result p.received q.received p.given q.given) ∙ sym q.is

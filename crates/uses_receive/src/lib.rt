@@ -2,6 +2,8 @@
 //! [`rpki_ca::receive`]. README.md quotes the code from the scheme on.
 #![tactic(auto)]
 
+mod written;
+
 ghost use Rattle.std.specs.Prelude.{MatchResult, ◌∷◌, []};
 ghost use Rattle.rpki_ca.specs.Acceptance.{Accepted, RefusesReceipt};
 ghost use Rattle.uses_receive.specs.LongKeys.{IsSigned};
@@ -10,6 +12,7 @@ use rpki_base::{PublicKey, Scheme, SigningAlgorithm, Time, Verifier};
 use rpki_ca::{Kind, ReceiveError, Received, receive};
 use rpki_signer::ToyVerifier;
 use std::alloc::Global;
+pub use written::text_that_is_read;
 
 /// The signatures that count: those of the toy scheme, under keys of 128 bits or more.
 pub struct LongKeys;

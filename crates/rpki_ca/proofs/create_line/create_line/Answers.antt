@@ -3,6 +3,7 @@ use Rattle.std.proofs.lemmas.Result.{err_from_is_err_and}
 use Rattle.hex.specs.Hex.{encode_lower}
 use Rattle.rpki_ca.specs.Acceptance.{refusal_of}
 use Rattle.rpki_ca.proofs.Unasked.{create_unasked}
+use Rattle.rpki_ca.proofs.Sending.{not_memory}
 use Rattle.rpki_ca.proofs.Creating.{input_refused, refused, line_created, fits_ok}
 use Rattle.rpki_ca.proofs.create_line.create_line.Goals as goal
 
@@ -14,7 +15,7 @@ returns-in_err-message-clause-err g c =
 pub returns-in_err-octets-clause-err : goal.returns-in_err-octets-clause-err
 returns-in_err-octets-clause-err g c =
     let p = err_from_is_err_and c.from_residual-in_err-octets.result c.from_residual-in_err-octets.ensures.1 in
-    rw (p.1, p.2) (λ other. refused g.P.Scheme.checks c.args.kind c.args.input.items c.in_ok-message.message c.args.when _ c.in_err-octets.field-0.0 c.in_ok-message.ensures.ok c.in_err-octets.ensures.too_long c.in_err-octets.ensures.created c.in_err-octets.ensures.first_refusal other)
+    rw (p.1, p.2) (λ other. refused g.P.Scheme.checks c.args.kind c.args.input.items c.in_ok-message.message c.args.when _ c.in_err-octets.field-0.0 c.in_ok-message.ensures.ok c.in_err-octets.ensures.too_long c.in_err-octets.ensures.created (c.in_err-octets.ensures.first_refusal (not_memory c.in_err-octets.field-0.0 other)) other)
 
 pub returns-clause-ok : goal.returns-clause-ok
 returns-clause-ok g c =

@@ -1,6 +1,7 @@
 use Rattle.std.proofs.Common.{[], ◌∷◌, ◌++◌, ap, ◌∙◌}
 use Rattle.std.proofs.lemmas.Result.{err_from_is_err_and}
 use Rattle.rpki_ca.specs.Summary.{made_at, made_message, changes_in, summary}
+use Rattle.rpki_ca.proofs.Sending.{not_memory}
 use Rattle.rpki_ca.proofs.Making.{created_here, octets_refused, key_refused, receipt_refused, accepted_here, summed}
 use Rattle.rpki_ca.proofs.make_line.make_line.Goals as goal
 
@@ -8,7 +9,7 @@ pub returns-in_err-octets-clause-err : goal.returns-in_err-octets-clause-err
 returns-in_err-octets-clause-err g c =
     let p = err_from_is_err_and c.from_residual-in_err-octets.result c.from_residual-in_err-octets.ensures.1 in
     rw (p.1, p.2) (λ other. octets_refused g.P.Scheme.checks c.args.seed c.args.count c.in_ok-message.message c.made_at.result _ c.in_err-octets.field-0.0 c.in_ok-message.ensures.message
-    c.made_at.ensures c.requires c.in_err-octets.ensures.created c.in_err-octets.ensures.first_refusal other)
+    c.made_at.ensures c.requires c.in_err-octets.ensures.created (c.in_err-octets.ensures.first_refusal (not_memory c.in_err-octets.field-0.0 other)) other)
 
 pub returns-in_err-issuing-clause-err : goal.returns-in_err-issuing-clause-err
 returns-in_err-issuing-clause-err g c =
