@@ -1,8 +1,6 @@
 //! The program: its words, standard input and standard output are handed to `rpki_upserver::serve`, with toy signers and a toy issuer.
 #![tactic(auto)]
 
-ghost use Rattle.std.specs.Prelude.{IfOk};
-
 use command_line::{Own, own_text, signer_of, words_of, write_text};
 use rpki_base::{Time, Validity};
 use rpki_ca::{Refusal, Status, Words, refuse};
