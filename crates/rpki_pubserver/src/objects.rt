@@ -7,7 +7,7 @@ ghost use Rattle.std.specs.Map.{lookup};
 ghost use Rattle.std.specs.Str.{bytes_eq};
 ghost use Rattle.rpki_publication.specs.ListReply.{IsWritableListElement};
 ghost use Rattle.rpki_pubserver.specs.Places.{HasPlace, live, with_object, with_octets};
-ghost use Rattle.rpki_pubserver.specs.Store.{listed, octets_at};
+ghost use Rattle.rpki_pubserver.specs.Store.{IsStore, listed, octets_at};
 
 use crate::object::Object;
 use rpki_common::OutOfMemory;
@@ -57,7 +57,8 @@ impl Objects {
 
     /// How many objects there are.
     pub(crate) fn len(&self) -> usize
-        ensures { result ≡ length (live self.now) }
+        ensures number { result ≡ length (live self.now) }
+        ensures ordered { IsStore (live self.now) }
     {
         let mut number = 0;
         for place in self.places.values() {

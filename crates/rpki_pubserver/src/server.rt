@@ -14,7 +14,7 @@ ghost use Rattle.rpki_ca.specs.Sending.{FailsToSign};
 ghost use Rattle.rpki_pubserver.specs.Replies.{reply_to_delta};
 ghost use Rattle.rpki_pubserver.specs.Running.{new_server};
 ghost use Rattle.rpki_pubserver.specs.Server.{FailsReply, IsAnswered, IsSigned, with_store};
-ghost use Rattle.rpki_pubserver.specs.Store.{listed, octets_at};
+ghost use Rattle.rpki_pubserver.specs.Store.{IsStore, listed, octets_at};
 
 use crate::asking::{Asked, asked_by};
 use crate::changes::{change_all, drop_places, prepare, undo};
@@ -97,7 +97,10 @@ impl Server {
 
     /// How many objects there are.
     pub fn len(&self) -> usize
-        ensures { result ≡ length self.now.store }
+        ensures number { result ≡ length self.now.store }
+
+        // Whatever was done before, the objects stand in the order of their URIs, one at each.
+        ensures ordered { IsStore self.now.store }
     {
         self.objects.len()
     }

@@ -4,7 +4,7 @@ use Rattle.rpki_common.specs.Causes.{Rose}
 use Rattle.rpki_signer.specs.ToySigner.{ToyState}
 use Rattle.rpki_upserver.specs.declared.issuer.IssuerError.{IssuerError}
 use Rattle.rpki_upserver.specs.declared.issuer.IssuerError.TheVariants as errors
-use Rattle.rpki_upserver.specs.Issuer.{IssuerFails, IssuerState, Leaves}
+use Rattle.rpki_upserver.specs.Issuer.{IssuerFails, IssuerState}
 use Rattle.rpki_upserver.specs.ToyIssuer.{DidNothing, GivesNoKey, MakesNone, ToyIssuerState, after_fault, issuer_state}
 
 -- a fault behind what its signer did
@@ -13,10 +13,8 @@ fault_so before between after signer b f =
     let is : after ≡ record (after_fault before) { signer = signer } = f ∙ ap after_fault b in
     is ∙ ap (λ (s : ToyState). record (after_fault before) { signer = s }) (sym (ap (λ (i : ToyIssuerState). i.signer) is))
 
-idle_so : (before after : ToyIssuerState) → DidNothing before after → Leaves (issuer_state before) (issuer_state after)
-idle_so before after d =
-    let same = ap (λ (i : ToyIssuerState). i.issuer) d.is in
-    record { made = ap (λ i. i.made) same; gone = ap (λ i. i.gone) same; faults = subst (λ i. before.issuer.faults ≤ i.faults) (sym same) (omega arith) }
+idle_so : (before after : ToyIssuerState) → DidNothing before after → issuer_state after ≡ issuer_state before
+idle_so before after d = ap (λ (i : ToyIssuerState). i.issuer) d.is
 
 faulted_so : (before after : ToyIssuerState) → after ≡ record (after_fault before) { signer = after.signer } → before.issuer.faults ≤ after.issuer.faults → IssuerFails (issuer_state before) (issuer_state after) errors.Failed
 faulted_so before after is later =

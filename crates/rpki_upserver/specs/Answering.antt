@@ -20,7 +20,7 @@ use Rattle.rpki_ca.specs.declared.receiving.ReceiveError.{ReceiveError}
 use Rattle.rpki_ca.specs.declared.receiving.ReceiveError.TheVariants as receipt
 use Rattle.rpki_upserver.specs.declared.parent.AnswerError.{AnswerError}
 use Rattle.rpki_upserver.specs.declared.parent.AnswerError.TheVariants as answers
-use Rattle.rpki_upserver.specs.Issuer.{IssuerState, Leaves}
+use Rattle.rpki_upserver.specs.Issuer.{IssuerState}
 use Rattle.rpki_upserver.specs.Response.{IsResponse}
 use Rattle.rpki_upserver.specs.Table.{ParentState, Table, with_table}
 
@@ -54,10 +54,10 @@ pub record IsDecided (scheme : Relation) (octets : List ℕ) (when : ℤ)
   })
   pub behind : after.parent ≡ with_table next before.parent
 
--- nothing was issued and nothing revoked, and the parent is as before
+-- the parent is as before, and what its issuer did: it wasn't asked, or memory ran out in its call
 pub record IsUndecided (before after : ParentAndIssuer) : Type 0 where
   pub parent : after.parent ≡ before.parent
-  pub issuer : Leaves before.issuer after.issuer
+  pub issuer : after.issuer ≡ before.issuer
 
 -- ---- what is signed
 

@@ -33,8 +33,8 @@ pub record Leaves (before after : IssuerState) : Type 0 where
   pub gone : after.gone ≡ before.gone
   pub faults : before.faults ≤ after.faults
 
--- The certificate was issued in this class on this request, for these resources and until then. It
--- has the request's key.
+-- The certificate was issued in this class on this request, for these resources and until then,
+-- without a fault. It has the request's key.
 pub record IsIssued (class_name : List ℕ) (csr : CaRequest) (set : Resources) (not_after : ℤ)
     (before after : IssuerState) (cert : CertFields) : Type 0 where
   pub made : after.made ≡ before.made ++ (record {
@@ -45,17 +45,17 @@ pub record IsIssued (class_name : List ℕ) (csr : CaRequest) (set : Resources) 
     slice = cert.slice;
   }) ∷ []
   pub gone : after.gone ≡ before.gone
-  pub faults : before.faults ≤ after.faults
+  pub faults : after.faults ≡ before.faults
   pub key : cert.key ≡ csr.tbs.key
 
--- the certificates of the key with this identifier were revoked in this class
+-- the certificates of the key with this identifier were revoked in this class, without a fault
 pub record IsRevoked (class_name key : List ℕ) (before after : IssuerState) : Type 0 where
   pub made : after.made ≡ before.made
   pub gone : after.gone ≡ before.gone ++ record { class_name = class_name; key = key } ∷ []
-  pub faults : before.faults ≤ after.faults
+  pub faults : after.faults ≡ before.faults
 
--- ---- why a call did nothing: the issuer failed, and its count rose; of want of memory nothing is said
+-- ---- why a call did nothing: the issuer failed, and its count rose; or memory ran out, and all is as before
 
 abbrev pub IssuerFails : IssuerState → IssuerState → IssuerError → Type 0
 IssuerFails before after errors.Failed = Leaves before after × Rose before.faults after.faults
-IssuerFails before after errors.OutOfMemory = Leaves before after
+IssuerFails before after errors.OutOfMemory = after ≡ before

@@ -17,7 +17,7 @@ use Rattle.rpki_ca.specs.declared.receiving.Received.TheVariants as received
 use Rattle.rpki_ca.specs.declared.refusals.Refusal.{Refusal}
 use Rattle.rpki_ca.specs.declared.refusals.Refusal.TheVariants as refusals
 use Rattle.rpki_upserver.specs.Answering.{IsDecided, IsUndecided, ParentAndIssuer, reply, with_issuer}
-use Rattle.rpki_upserver.specs.Issuer.{IssuerState, Leaves}
+use Rattle.rpki_upserver.specs.Issuer.{IssuerState}
 use Rattle.rpki_upserver.specs.Table.{ParentState}
 
 -- a parent and the issuer that it asks, and what the signer of its replies holds and has done

@@ -36,7 +36,7 @@ pub trait Issuer {
 
     /// A certificate for the key of the request in this class (RFC 6487, 4). The state notes it with these
     /// resources and until this time; it is up to the issuer that the certificate itself says so. Failed only where its count rose;
-    /// whatever the error, nothing was issued.
+    /// whatever the error, nothing was issued. With any other answer the count is as it was.
     fn issue(
         &mut self,
         alloc: Global,
@@ -50,7 +50,7 @@ pub trait Issuer {
             (IssuerFails (state self.old) (state self.new)) };
 
     /// Revokes the certificates of the key with this identifier in this class. Failed only where its count rose; whatever the error,
-    /// nothing was revoked.
+    /// nothing was revoked. With any other answer the count is as it was.
     fn revoke(
         &mut self,
         class_name: &ResourceClassName,

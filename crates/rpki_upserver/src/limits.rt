@@ -1,6 +1,6 @@
 //! What a limit leaves of the child's resources.
 
-ghost use Rattle.std.specs.Prelude.{◌≡◌, ◌≢◌, IfOk, IfSome, IsNone, OnOk};
+ghost use Rattle.std.specs.Prelude.{◌≡◌, ◌≢◌, IfOk, IfSome, IsNone, OnOk, OnErr};
 ghost use Rattle.rpki_updown.specs.RequestResourceLimit.{IsContained, limited_set};
 ghost use Rattle.rpki_updown.specs.declared.error.Error.TheVariants as errors;
 
@@ -11,7 +11,8 @@ use std::alloc::Global;
 
 // Passes on want of memory.
 fn unless_memory(error: Error) -> Result<(), OutOfMemory>
-    ensures { OnOk result (error ≢ errors.OutOfMemory) }
+    ensures ok { OnOk result (error ≢ errors.OutOfMemory) }
+    ensures err { OnErr result (error ≡ errors.OutOfMemory) }
 {
     match error {
         Error::OutOfMemory => Err(OutOfMemory),

@@ -14,7 +14,6 @@ ghost use Rattle.rpki_ca.specs.declared.receiving.Received.TheVariants as receiv
 ghost use Rattle.rpki_ca.specs.declared.receiving.ReceiveError.TheVariants as receipt;
 ghost use Rattle.rpki_upserver.specs.Answering.{IsAnswered, IsRefused, IsSigned, SendsNothing, refused, reply, with_issuer};
 ghost use Rattle.rpki_upserver.specs.Decision.{CanBeSaid, IsDecidedBy, IsFirstReason, IsPayloadOf};
-ghost use Rattle.rpki_upserver.specs.Issuer.{Leaves};
 ghost use Rattle.rpki_upserver.specs.Response.{IsFromChild, IsPayloadAnswer, IsResponse};
 ghost use Rattle.rpki_upserver.specs.Table.{AreWritable, ClassState, IsParent, entitled, new_parent};
 ghost use Rattle.rpki_upserver.specs.declared.parent.AnswerError.TheVariants as answers;
@@ -233,7 +232,7 @@ impl Parent {
             (with_issuer self.old (N.state issuer.old))
             (with_issuer self.new (N.state issuer.new))) }
         ensures err { OnErr result ((self.new ≡ self.old)
-            × Leaves (N.state issuer.old) (N.state issuer.new)) }
+            × (N.state issuer.new ≡ N.state issuer.old)) }
     {
         let Some(place) = place_named(&self.classes, request.class_name()) else {
             return Ok(Decision::NotPerformed(Reason::NoClass));
@@ -267,7 +266,7 @@ impl Parent {
             (with_issuer self.old (N.state issuer.old))
             (with_issuer self.new (N.state issuer.new))) }
         ensures err { OnErr result ((self.new ≡ self.old)
-            × Leaves (N.state issuer.old) (N.state issuer.new)) }
+            × (N.state issuer.new ≡ N.state issuer.old)) }
     {
         let Some(place) = place_named(&self.classes, request.class_name()) else {
             return Ok(Decision::NotPerformed(Reason::NoClassToRevoke));
@@ -296,7 +295,7 @@ impl Parent {
             (with_issuer self.old (N.state issuer.old))
             (with_issuer self.new (N.state issuer.new))) }
         ensures err { OnErr result ((self.new ≡ self.old)
-            × Leaves (N.state issuer.old) (N.state issuer.new)) }
+            × (N.state issuer.new ≡ N.state issuer.old)) }
     {
         if !self.is_from_child(message) {
             return Ok(Decision::NotPerformed(Reason::ServerError));

@@ -1,5 +1,7 @@
 use Rattle.std.proofs.Common.{◌≤◌, ◌∙◌, length, ap, subst, arith}
 use Rattle.rpki_pubserver.specs.Places.{Places, live}
+use Rattle.rpki_pubserver.proofs.Live.{live_ordered}
+use Rattle.rpki_pubserver.proofs.Placing.{placed_sorted}
 use Rattle.rpki_pubserver.proofs.Counting.{live_within, there_count, there_live}
 use Rattle.rpki_pubserver.proofs.objects.Objects.len.Goals as goal
 
@@ -14,3 +16,6 @@ overflow_add-number c =
     let all = c.loop-place.invariant in
     let fits = c.values-place-items.ensures.fits in
     omega (arith, most, all, fits)
+
+pub returns-clause-ordered : goal.returns-clause-ordered
+returns-clause-ordered c = live_ordered c.args.self.now (placed_sorted c.self.inside.places.entries c.args.self.now c.self.view_is c.self.invariant)
