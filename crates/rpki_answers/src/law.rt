@@ -1,6 +1,6 @@
 //! What holds of all answers, and of all that is made.
 
-ghost use Rattle.std.specs.Prelude.{◌≡◌, ◌↔◌, ◌⊎◌, ℕ, ℤ, Bool, List, Result};
+ghost use Rattle.std.specs.Prelude.{◌≡◌, ◌↔◌, ◌⊎◌, ℕ, ℤ, Bool, List, Result, true};
 ghost use Rattle.rpki_base.specs.PublicKey.{KeyFields};
 ghost use Rattle.rpki_ca.specs.Acceptance.{IsReceivedUnder};
 ghost use Rattle.rpki_ca.specs.Answer.{Delivers, Holds};
@@ -17,10 +17,21 @@ ghost use Rattle.rpki_answers.specs.Question.{QuestionFields};
 ghost use Rattle.rpki_answers.specs.Receiving.{HoldsQuestions};
 ghost use Rattle.rpki_answers.specs.Running.{AreRightIn, EndsAsReceived, EndsTask, Finishes};
 ghost use Rattle.rpki_answers.specs.declared.preparing.Plan.{Plan};
+ghost use Rattle.rpki_answers.specs.declared.preparing.PrepareError.{PrepareError};
 ghost use Rattle.rpki_answers.specs.declared.preparing.Signatures.{Signatures};
+ghost use Rattle.rpki_answers.specs.declared.question.Part.{Part};
 ghost use Rattle.rpki_answers.specs.declared.task.Task.TheVariants as tasks;
 
+use crate::preparing::PrepareError;
+use crate::question::Part;
 use rpki_base::Scheme;
+
+/// `==` holds exactly between the same parts, and between the same errors of what is prepared.
+pub fn equal_values_are_the_same()
+    ensures part { (a b : Part) → (⟦<Part as PartialEq>⟧.eq a b ≡ true) ↔ (a ≡ b) }
+    ensures prepare { (a b : PrepareError)
+        → (⟦<PrepareError as PartialEq>⟧.eq a b ≡ true) ↔ (a ≡ b) }
+{}
 
 /// Receiving by answers gives what receiving under a scheme gives, for every scheme under which the answers are right.
 pub fn right_answers_decide<P: Scheme>()

@@ -28,10 +28,11 @@ mod task_words;
 pub use answers::{AnswerScheme, AnswerVerifier, Answers};
 pub use asked::questions;
 pub use law::{
-    finished_is_accepted, finished_is_believed, made_is_finished, right_answers_decide,
-    right_answers_deliver,
+    equal_values_are_the_same, finished_is_accepted, finished_is_believed, made_is_finished,
+    right_answers_decide, right_answers_deliver,
 };
 pub use preparing::{Plan, PrepareError, Signatures, finish, prepare};
 pub use question::{Part, Question};
 pub use receiving::{AnsweredError, receive_answered};
 pub use running::run_keys;
+pub use task::Task;

@@ -7,7 +7,7 @@ use rpki_common::Sequence;
 
 /// What the words of a command line ask for.
 #[derive(Drop)]
-pub(crate) enum Task {
+pub enum Task {
     /// The questions of a signed message under these keys.
     Questions {
         /// One to eight keys.
