@@ -67,10 +67,10 @@ fn octets_of(alloc: Global, cms: &PublicationCms) -> Result<Bytes, Ended> {
 fn created(
     alloc: Global,
     message: Message,
-    now: Time,
+    when: Time,
     signer: &mut ToySigner,
 ) -> Result<Bytes, Ended> {
-    match PublicationCms::create::<ToyScheme, ToySigner>(alloc, message, now, &KEY, signer) {
+    match PublicationCms::create::<ToyScheme, ToySigner>(alloc, message, when, &KEY, signer) {
         Ok(cms) => octets_of(alloc, &cms),
         Err(error) => Err(after_refusal(alloc, Ended::from(error), signer)),
     }
@@ -87,9 +87,9 @@ fn received(alloc: Global, octets: &[u8]) -> Result<Message, Ended> {
 }
 
 fn sent(alloc: Global, message: &Message) -> Result<Bytes, Ended> {
-    let now = moment()?;
+    let when = moment()?;
     let mut signer = signer_of(alloc)?;
-    created(alloc, message.clone(alloc)?, now, &mut signer)
+    created(alloc, message.clone(alloc)?, when, &mut signer)
 }
 
 fn is_received(alloc: Global, octets: &[u8], message: &Message) -> Result<bool, Ended> {

@@ -1,5 +1,6 @@
 -- What is to be signed of a message, and the message with its signatures (RFC 5652, 5.4; RFC 5280, 4.1 and 5.1; RFC 6492, 3.1).
 use Rattle.std.specs.Prelude.{false, ◌≡◌, ◌≢◌, ◌≤ℤ◌, ◌≤◌, ◌^◌, ◌⊎◌, ℕ, ℤ, List, length, ⊤}
+use Rattle.rpki_common.specs.Limits.{most_content}
 use Rattle.rpki_base.specs.RpkiSignatureAlgorithm.{RpkiAlgorithm}
 use Rattle.rpki_base.specs.Scheme.{Relation}
 use Rattle.rpki_base.specs.Signature.{SignatureParts}
@@ -41,7 +42,7 @@ certificate_to_sign p =
 
 -- the content has at most 2^31 octets, and each key at most 2^16
 pub record AreWithinLimits (content : List ℕ) (p : Plan) : Type 0 where
-  pub text : length content ≤ 2 ^ 31
+  pub text : length content ≤ most_content
   pub issuing_key : IsShort p.issuing_key.bits
   pub key : IsShort p.key.bits
 

@@ -1,6 +1,7 @@
 -- What the words of a command line ask for. A word's index counts from 0.
 use Rattle.std.specs.Prelude.{◌≡◌, ◌≤◌, ◌<◌, ℕ, ℤ, Bool, Some, List, length, map, codes, drop, slice_get, slice_index_or, ⊤}
 use Rattle.std.specs.Result.{result_ok}
+use Rattle.rpki_common.specs.Limits.{most_keys}
 use Rattle.hex.specs.Hex.{decode_of}
 use Rattle.rpki_base.specs.PublicKey.{KeyFields}
 use Rattle.rpki_ca.specs.Command.{AreKeys, kind_at}
@@ -17,7 +18,7 @@ use Rattle.rpki_answers.specs.declared.task.Task.TheVariants.{Questions, Receive
 -- one to eight words, each of which spells the key at its place
 pub record AreFewKeys (words : List (List ℕ)) (keys : List KeyFields) : Type 0 where
   pub some : 1 ≤ length words
-  pub few : length words ≤ 8
+  pub few : length words ≤ most_keys
   pub spell : AreKeys words keys
 
 -- the word at the index spells these octets, two hexadecimal digits of either case an octet
@@ -90,7 +91,7 @@ IsNoTask words = (task : Task) → IsTask words task → ⊥
 
 -- a task has one to eight keys, if it has a list of them
 abbrev pub HasFewKeys : Task → Type 0
-HasFewKeys (Questions keys) = (1 ≤ length keys) × (length keys ≤ 8)
-HasFewKeys (Receive kind when answers keys) = (1 ≤ length keys) × (length keys ≤ 8)
+HasFewKeys (Questions keys) = (1 ≤ length keys) × (length keys ≤ most_keys)
+HasFewKeys (Receive kind when answers keys) = (1 ≤ length keys) × (length keys ≤ most_keys)
 HasFewKeys (Prepare kind plan) = ⊤
 HasFewKeys (Finish kind plan signatures) = ⊤

@@ -1,6 +1,7 @@
 //! What is answered to an input.
 
 ghost use Rattle.std.specs.Prelude.{◌≡◌, ◌≢◌, ◌≤◌, Ok, Err, IfErr, IfOk, length};
+ghost use Rattle.rpki_common.specs.Limits.{most_keys};
 ghost use Rattle.rpki_ca.specs.Acceptance.{ReadsAs, IsWritable, text_of};
 ghost use Rattle.rpki_ca.specs.Creation.{RefusesInput};
 ghost use Rattle.rpki_ca.specs.Hexadecimal.{hexadecimal};
@@ -72,7 +73,7 @@ pub(crate) fn receive(
     keys: &[PublicKey],
 ) -> Result<Vec<u8>, Refusal>
     requires some { 1 ≤ length keys.now }
-    requires few { length keys.now ≤ 8 }
+    requires few { length keys.now ≤ most_keys }
     ensures ok { IfOk result (λ output. spec.OfSpelled
         (λ octets. spec.IsAnsweredReceipt kind octets keys.now when answers.now)
         (hexadecimal input.items) (Ok output.items)) }

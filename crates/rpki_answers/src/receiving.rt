@@ -1,6 +1,7 @@
 //! What is received by answers.
 
 ghost use Rattle.std.specs.Prelude.{◌≡◌, ◌≤◌, length};
+ghost use Rattle.rpki_common.specs.Limits.{most_keys};
 ghost use Rattle.rpki_answers.specs.Answers.{by_answers};
 ghost use Rattle.rpki_answers.specs.Receiving.{IsAnswered};
 ghost use Rattle.rpki_answers.specs.declared.receiving.AnsweredError.TheVariants as variant;
@@ -59,7 +60,7 @@ fn receive_by<A: Answers>(
     answers: &[bool],
 ) -> Result<(Received, usize), ReceiveError>
     requires some { 1 ≤ length keys.now }
-    requires few { length keys.now ≤ 8 }
+    requires few { length keys.now ≤ most_keys }
     requires questions { questions.now ≡ A.questions }
     requires answers { answers.now ≡ A.answers }
     ensures { IsReceivedUnder (by_answers questions.now answers.now) kind octets.now keys.now when
@@ -80,7 +81,7 @@ fn receive_given(
     answers: &[bool],
 ) -> Result<(Received, usize), ReceiveError>
     requires some { 1 ≤ length keys.now }
-    requires few { length keys.now ≤ 8 }
+    requires few { length keys.now ≤ most_keys }
     ensures { IsReceivedUnder (by_answers questions.now answers.now) kind octets.now keys.now when
         result }
 {
@@ -101,7 +102,7 @@ pub fn receive_answered(
     answers: &[bool],
 ) -> Result<(Received, usize), AnsweredError>
     requires some { 1 ≤ length keys.now }
-    requires few { length keys.now ≤ 8 }
+    requires few { length keys.now ≤ most_keys }
     ensures { IsAnswered kind octets.now keys.now when answers.now result }
 {
     let list = match questions(alloc, octets, keys) {

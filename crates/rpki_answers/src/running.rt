@@ -1,6 +1,7 @@
 //! All that the program does.
 
-ghost use Rattle.std.specs.Prelude.{◌^◌, ◌+◌, ◌≡◌, ◌≢◌, ◌⊎◌, Ok, Err, IfErr, IfOk};
+ghost use Rattle.std.specs.Prelude.{◌+◌, ◌≡◌, ◌≢◌, ◌⊎◌, Ok, Err, IfErr, IfOk};
+ghost use Rattle.rpki_common.specs.Limits.{most_input};
 ghost use Rattle.rpki_text.specs.Source.{TakesAtMost};
 ghost use Rattle.rpki_ca.specs.Answer.{Ends};
 ghost use Rattle.rpki_ca.specs.Lines.{EndsRun};
@@ -100,7 +101,7 @@ pub fn run_keys<I: Source, O: Sink>(
     ensures unread { IsNoTask words.now → input.new ≡ input.old }
 
     // At most one octet more than the limit is taken of the source.
-    ensures most { TakesAtMost (I.rest input.old) (I.rest input.new) (2 ^ 26 + 1) }
+    ensures most { TakesAtMost (I.rest input.old) (I.rest input.new) (most_input + 1) }
 
     // Where reading stops early, the cause of that is the answer; where the source is read whole, the call ends with the answer to the
     // words and what was read, or for want of memory.

@@ -2,6 +2,7 @@
 
 ghost use Rattle.std.specs.Prelude.{◌≡◌, ◌^◌, ◌+◌, ◌<◌, ◌≤◌, if◌then◌else◌};
 ghost use Rattle.std.specs.Prelude.{Err, IfOk, IfSome, IsNone, length, string_bytes};
+ghost use Rattle.rpki_common.specs.Limits.{most_input};
 ghost use Rattle.rpki_text.specs.Source.{TakesAtMost};
 ghost use Rattle.rpki_ca.specs.Answer.{Ends};
 ghost use Rattle.rpki_ca.specs.Lines.{Answered, EndsRun, StopsForMemory, lines_of};
@@ -50,7 +51,7 @@ struct Total {
 
 // The total with one line more, and with one accepted more where `accepted` says so.
 fn one_more(total: Total, accepted: bool) -> Total
-    requires lines { total.lines < 2 ^ 26 }
+    requires lines { total.lines < most_input }
     requires few { total.accepted ≤ total.lines }
     ensures lines { result.lines ≡ total.lines + 1 }
     ensures accepted { result.accepted ≡ if accepted then total.accepted + 1 else total.accepted }
@@ -79,7 +80,7 @@ fn judge_all<P: Scheme, O: Sink, V: Verifier<P>>(
     output: &mut O,
     verifier: &V,
 ) -> Result<(), Stop>
-    requires { length input.now ≤ 2 ^ 26 }
+    requires { length input.now ≤ most_input }
     ensures { Answered (AreAllVerdicts P.checks (lines_of input.now))
         (AreFirstVerdicts P.checks (lines_of input.now))
         (StopsForMemory (AreFirstVerdicts P.checks (lines_of input.now))) result
@@ -106,7 +107,7 @@ fn explain_all<P: Scheme, O: Sink, V: Verifier<P>>(
     output: &mut O,
     verifier: &V,
 ) -> Result<(), Stop>
-    requires { length input.now ≤ 2 ^ 26 }
+    requires { length input.now ≤ most_input }
     ensures { Answered (AreAllExplanations P.checks (lines_of input.now))
         (AreFirstExplanations P.checks (lines_of input.now))
         (StopsForMemory (AreFirstExplanations P.checks (lines_of input.now))) result
@@ -127,7 +128,7 @@ fn check_read<P: Scheme, O: Sink, V: Verifier<P>>(
     output: &mut O,
     verifier: &V,
 ) -> Status
-    requires { length input.now ≤ 2 ^ 26 }
+    requires { length input.now ≤ most_input }
     ensures { EndsTask P.checks task (lines_of input.now) result.0
         (seen O.written O.faults output.old output.new) }
 {
@@ -169,7 +170,7 @@ pub fn check<P: Scheme, I: Source, O: Sink, V: Verifier<P>>(
     ensures unread { IsNoTask words.now → input.new ≡ input.old }
 
     // At most one octet more than the limit is taken of the source.
-    ensures most { TakesAtMost (I.rest input.old) (I.rest input.new) (2 ^ 26 + 1) }
+    ensures most { TakesAtMost (I.rest input.old) (I.rest input.new) (most_input + 1) }
 
     // Where the source isn't read whole, that is what is answered; where it is, each line is answered,
     // and no line's form ends the run.

@@ -1,6 +1,7 @@
 //! What holds of every archive.
 
-ghost use Rattle.std.specs.Prelude.{◌≡◌, ◌⊎◌, ◌^◌, ◌≤◌, ℕ, Bool, List, Result, Some, length, map};
+ghost use Rattle.std.specs.Prelude.{◌≡◌, ◌⊎◌, ◌≤◌, ℕ, Bool, List, Result, Some, length, map};
+ghost use Rattle.rpki_common.specs.Limits.{most_input};
 ghost use Rattle.rpki_archive.specs.Checking.{AreAllExplanations, AreAllVerdicts, EndsTask};
 ghost use Rattle.rpki_archive.specs.Explanation.{IsExplanation};
 ghost use Rattle.rpki_ca.specs.Lines.{digit_of};
@@ -36,7 +37,7 @@ pub fn digits_tell_the_answer<P: Scheme>()
 pub fn ends_with_0_or_12<P: Scheme>()
     ensures { (task : TaskOf) (status : ℕ) (source sink : Seen) (input : List ℕ) →
         EndsRun (λ octets. EndsTask P.checks task (lines_of octets) status sink) status source
-        sink → source.before ≡ Some input → length input ≤ 2 ^ 26
+        sink → source.before ≡ Some input → length input ≤ most_input
         → ¬ (HasFailed source) → ¬ (HasFailed sink) →
         (status ≡ 0) ⊎ (status ≡ 12) }
 {}

@@ -20,6 +20,7 @@ use Rattle.std.specs.Prelude.{◌≡◌, ℕ, ℤ, ◌^◌, ◌<◌, ◌≤◌, 
 use Rattle.std.specs.Prelude.{List, [], ◌∷◌, ◌++◌, length}
 use Rattle.std.specs.Io.KnownBytes.{Appends}
 use Rattle.sha2.specs.Sha256.{sha256}
+use Rattle.rpki_common.specs.Limits.{most_input}
 use Rattle.rpki_base.specs.PublicKey.{KeyFields}
 use Rattle.rpki_base.specs.declared.validation.ValidationError.{ValidationError}
 use Rattle.rpki_sigmsg.specs.Message.{MessageFields}
@@ -146,9 +147,9 @@ pub record IsAnswer (scheme : Relation) (words : List (List ℕ)) (input : List 
     (answer : Result (List ℕ) Refusal) : Type 0 where
   pub usage : IsNoCommand words → answer ≡ Err refusals.Usage
   pub long : (command : Command) → IsCommand words command → ReadsInput command
-      → 2 ^ 26 < length input → answer ≡ Err refusals.TooLong
+      → most_input < length input → answer ≡ Err refusals.TooLong
   pub answers : (command : Command) → IsCommand words command
-      → (ReadsInput command → length input ≤ 2 ^ 26)
+      → (ReadsInput command → length input ≤ most_input)
       → AnswersSpelled scheme command (octets_in command input) answer
 
 -- The words are those of a command, the input has at most 2^26 octets, if the command reads it, and
@@ -157,7 +158,7 @@ pub record IsFromSigner {Id : Type 0} (scheme : Relation) (words : List (List �
     (signer : SignerSeen Id) (input : List ℕ) (answer : Result (List ℕ) Refusal) : Type 0 where
   pub command : Command
   pub is : IsCommand words command
-  pub within : ReadsInput command → length input ≤ 2 ^ 26
+  pub within : ReadsInput command → length input ≤ most_input
   pub answers : AnswersSigned scheme command input signer answer
 
 -- an answer that words and input show, or one that comes from the signer
@@ -187,7 +188,7 @@ IsAdmitted scheme words source signer (Err refusal) =
 -- memory ran out
 abbrev pub IsUnread : Seen → Refusal → Type 0
 IsUnread source refusals.TooLong =
-    OfInput source.before (λ input. 2 ^ 26 < length input) × IsSteady source
+    OfInput source.before (λ input. most_input < length input) × IsSteady source
 IsUnread source refusals.ReadFault = HasFailed source
 IsUnread source refusals.OutOfMemory = IsSteady source
 IsUnread source other = ⊥
@@ -241,7 +242,7 @@ pub record Delivers (scheme : Relation) (kind : Kind) (keys : List KeyFields) (w
 -- The input has at most 2^26 octets, and spells octets that begin with an accepted message.
 pub record Holds (scheme : Relation) (kind : Kind) (keys : List KeyFields) (when : ℤ)
     (input : List ℕ) : Type 0 where
-  pub short : length input ≤ 2 ^ 26
+  pub short : length input ≤ most_input
   pub octets : List ℕ
   pub spells : hexadecimal input ≡ Some octets
   pub message : Received

@@ -1,6 +1,7 @@
 -- The commands.
 use Rattle.std.specs.Prelude.{◌≡◌, ◌≤◌, ℕ, ℤ, bytes_eq, if◌then◌else◌, Option, None, Some, List, [], ◌∷◌, length, map, codes, slice_get, ⊤}
 use Rattle.rpki_common.specs.Chaining.{◌>>=◌}
+use Rattle.rpki_common.specs.Limits.{most_elements, most_keys}
 use Rattle.rpki_base.specs.PublicKey.{KeyFields}
 use Rattle.rpki_ca.specs.declared.receiving.Kind.{Kind}
 use Rattle.rpki_ca.specs.declared.receiving.Kind.TheVariants.{Publication, Provisioning}
@@ -57,7 +58,7 @@ pub record IsReceive (words : List (List ℕ)) (kind : Kind) (when : ℤ) (keys 
   pub key_words : List (List ℕ)
   pub are : words ≡ codes "receive" ∷ kind_word kind ∷ moment_word ∷ key_words
   pub some : 1 ≤ length key_words
-  pub few : length key_words ≤ 8
+  pub few : length key_words ≤ most_keys
   pub moment : IsMoment moment_word when
   pub spell : AreKeys key_words keys
 
@@ -80,7 +81,7 @@ pub record IsMake (words : List (List ℕ)) (count seed : ℕ) : Type 0 where
   pub count_word : List ℕ
   pub seed_word : List ℕ
   pub are : words ≡ codes "make" ∷ count_word ∷ seed_word ∷ []
-  pub counts : IsNumber count_word 10000 count
+  pub counts : IsNumber count_word most_elements count
   pub seeds : IsNumber seed_word 4294967295 seed
 
 -- ---- all of them
@@ -156,10 +157,10 @@ IsNoCommand words = (c : Command) → IsCommand words c → ⊥
 -- a command has one to eight keys, if it has any, and makes at most 10000 elements
 abbrev pub IsLimited : Command → Type 0
 IsLimited Content = ⊤
-IsLimited (Receive kind when keys) = (1 ≤ length keys) × (length keys ≤ 8)
+IsLimited (Receive kind when keys) = (1 ≤ length keys) × (length keys ≤ most_keys)
 IsLimited (Create kind when) = ⊤
 IsLimited (Setup kind when) = ⊤
-IsLimited (Make count seed) = count ≤ 10000
+IsLimited (Make count seed) = count ≤ most_elements
 
 -- the words don't ask to create
 abbrev pub AreNoCreate : List (List ℕ) → Type 0

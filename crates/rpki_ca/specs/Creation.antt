@@ -3,6 +3,7 @@ use Rattle.std.specs.Prelude.{⊤, IfErr, ◌≡◌, ◌≢◌, ◌≤ℤ◌, �
 use Rattle.std.specs.Io.KnownBytes.{Appends}
 use Rattle.hex.specs.Hex.{encode_lower}
 use Rattle.rpki_common.specs.Causes.{Rose}
+use Rattle.rpki_common.specs.Limits.{most_content, most_input}
 use Rattle.rpki_base.specs.declared.algorithm.SigningAlgorithm.TheVariants.{RsaSha256}
 use Rattle.rpki_base.specs.Algorithm.{format_of}
 use Rattle.rpki_base.specs.PublicKey.{KeyFields}
@@ -48,7 +49,7 @@ pub record HasLongText (kind : Kind) (input : List ℕ) (when : ℤ) : Type 0 wh
   pub message : Received
   pub reads : ReadsAs kind input message
   pub window_is : HasWindow when
-  pub long : 2 ^ 31 < length (text_of message)
+  pub long : most_content < length (text_of message)
 
 -- why nothing is created, whoever signs
 abbrev pub IsCreateRefusal : Kind → List ℕ → ℤ → Result (List ℕ) Refusal → Type 0
@@ -129,7 +130,7 @@ pub record IsSignersAnswer {Id : Type 0} (scheme : Relation) (kind : Kind) (inpu
   pub message : Received
   pub reads : ReadsAs kind input message
   pub window_is : HasWindow when
-  pub fits : length (text_of message) ≤ 2 ^ 31
+  pub fits : length (text_of message) ≤ most_content
   pub signed : IsSigned scheme kind message when signer answer
   pub first : IfErr answer (IsFirstToRefuse scheme (text_of message) when signer)
 
@@ -187,9 +188,9 @@ pub record CanSign {Id : Type 0} (signer : SignerSeen Id) : Type 0 where
 -- has a window, and the signer can sign.
 pub record CanCreate {Id : Type 0} (kind : Kind) (when : ℤ) (input : List ℕ)
     (signer : SignerSeen Id) : Type 0 where
-  pub short : length input ≤ 2 ^ 26
+  pub short : length input ≤ most_input
   pub message : Received
   pub reads : ReadsAs kind input message
   pub window_is : HasWindow when
-  pub fits : length (text_of message) ≤ 2 ^ 31
+  pub fits : length (text_of message) ≤ most_content
   pub signs : CanSign signer

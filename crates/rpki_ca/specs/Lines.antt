@@ -4,6 +4,7 @@ use Rattle.std.specs.Prelude.{◌≡◌, ◌≢◌, ◌==◌, ◌<◌, ◌≤◌
 use Rattle.std.specs.List.{AllByRecursion, slice_split, flat_map}
 use Rattle.std.specs.Io.{StartsWith}
 use Rattle.std.specs.Io.KnownBytes.{Appends, IsAtEnd}
+use Rattle.rpki_common.specs.Limits.{most_input}
 use Rattle.rpki_text.specs.Sink.{AppendsPart}
 use Rattle.rpki_ca.specs.declared.refusals.Refusal.{Refusal}
 use Rattle.rpki_ca.specs.declared.refusals.Refusal.TheVariants.{OutOfMemory}
@@ -128,7 +129,7 @@ pub record EndsUnread (status : ℕ) (source sink : Seen) : Type 0 where
 pub record EndsRead (ends_on : List ℕ → Type 0) (source : Seen) : Type 0 where
   pub steady : IsSteady source
   pub whole : IsAtEnd source.after
-  pub ends : OfInput source.before (λ input. (length input ≤ 2 ^ 26) × ends_on input)
+  pub ends : OfInput source.before (λ input. (length input ≤ most_input) × ends_on input)
 
 -- how a program ends that reads its input whole
 abbrev pub EndsRun : (List ℕ → Type 0) → ℕ → Seen → Seen → Type 0

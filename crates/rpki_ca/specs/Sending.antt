@@ -1,6 +1,7 @@
 -- Messages that a program signs as its answers, and why one isn't signed.
 use Rattle.std.specs.Prelude.{◌≡◌, ◌<◌, ◌≤◌, ◌^◌, ◌⊎◌, ℤ, length}
 use Rattle.rpki_common.specs.Causes.{Rose}
+use Rattle.rpki_common.specs.Limits.{most_content}
 use Rattle.rpki_base.specs.declared.algorithm.SigningAlgorithm.TheVariants.{RsaSha256}
 use Rattle.rpki_base.specs.Scheme.{Relation}
 use Rattle.rpki_signer.specs.Signer.{Lacks, IsUnfit}
@@ -24,7 +25,7 @@ use Rattle.rpki_ca.specs.Seen.{SignerSeen}
 -- issuing key, at each second from 300 before the moment to 300 after it.
 pub record IsSignedAs {Id : Type 0} (scheme : Relation) (when : ℤ) (signer : SignerSeen Id)
     (message : Received) (signed : MessageFields) : Type 0 where
-  pub fits : length (text_of message) ≤ 2 ^ 31
+  pub fits : length (text_of message) ≤ most_content
   pub created : IsCreated scheme (text_of message) when signer.id signer.before signer.after signed
   pub receivable : CanBeSpelled signed
       → IsReceivable scheme (protocol_of message) (rewritten signed) message when signer
@@ -35,7 +36,7 @@ pub record FailsToSign {Id E : Type 0} (scheme : Relation) (when : ℤ) (signer 
     (message : Received) (error : CreateError E) : Type 0 where
   pub cause : CreateFails (text_of message) when signer.id signer.before signer.after error
   pub moment : (HasWindow when → ⊥) → error ≡ create.Moment
-  pub too_long : HasWindow when → 2 ^ 31 < length (text_of message) → error ≡ create.TooLong
+  pub too_long : HasWindow when → most_content < length (text_of message) → error ≡ create.TooLong
   pub first_refusal : IsFirstRefusal scheme (text_of message) when signer.id signer.before
       signer.after error
 
@@ -43,7 +44,7 @@ pub record FailsToSign {Id E : Type 0} (scheme : Relation) (when : ℤ) (signer 
 abbrev pub IsSigningCause : {Id : Type 0} → ℤ → SignerSeen Id → Received → Refusal → Type 0
 IsSigningCause when signer message refusals.Moment = HasWindow when → ⊥
 IsSigningCause when signer message refusals.TooLong =
-    Rose signer.before.overlong signer.after.overlong ⊎ (2 ^ 31 < length (text_of message))
+    Rose signer.before.overlong signer.after.overlong ⊎ (most_content < length (text_of message))
 IsSigningCause when signer message refusals.KeyReused =
     IsReused signer.id signer.before signer.after
 IsSigningCause when signer message refusals.KeyNotFound = Lacks signer.before.keyring signer.id

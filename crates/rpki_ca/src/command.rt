@@ -1,6 +1,7 @@
 //! What the words of a command line ask for.
 
-ghost use Rattle.std.specs.Prelude.{◌≡◌, ◌≤◌, Decides, IfOk, IfSome, IsNone, List, Some, drop, length};
+ghost use Rattle.std.specs.Prelude.{◌≡◌, ◌≤◌, ◌+◌, Decides, IfOk, IfSome, IsNone, List, Some, drop, length};
+ghost use Rattle.rpki_common.specs.Limits.{most_keys};
 ghost use Rattle.rpki_base.specs.PublicKey.{KeyFields};
 ghost use Rattle.rpki_ca.specs.declared.command.Verb.TheVariants as verbs;
 ghost use Rattle.rpki_ca.specs.Command.{IsCommand, IsNoCommand, AreKeys, Ask, AskInVain};
@@ -14,7 +15,10 @@ use rpki_base::{PublicKey, Time};
 use rpki_common::{OutOfMemory, Sequence};
 use std::alloc::Global;
 
-/// The most elements that `make` makes.
+// The most keys under which a message is received.
+const MOST_KEYS: usize = 8;
+
+// The most elements that `make` makes.
 const MOST_ELEMENTS: u32 = 10_000;
 
 /// What the words of a command line ask for.
@@ -162,9 +166,9 @@ impl Words {
 
     // Whether one to eight words stand behind the first three.
     fn has_few_keys(&self) -> bool
-        ensures { Decides result ((4 ≤ length self.now) × (length self.now ≤ 11)) }
+        ensures { Decides result ((4 ≤ length self.now) × (length self.now ≤ 3 + most_keys)) }
     {
-        self.len() >= 4 && self.len() <= 11
+        self.len() >= 4 && self.len() <= 3 + MOST_KEYS
     }
 
     /// The public keys that the words from `index` on spell, each as [`Words::key`] has it. None exactly

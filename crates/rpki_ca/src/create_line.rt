@@ -1,7 +1,8 @@
 //! The command `create`.
 
-ghost use Rattle.std.specs.Prelude.{◌≡◌, ◌≢◌, ◌⊎◌, ◌<◌, ◌^◌, ℕ, List, length, Result, Err};
+ghost use Rattle.std.specs.Prelude.{◌≡◌, ◌≢◌, ◌⊎◌, ◌<◌, ℕ, List, length, Result, Err};
 ghost use Rattle.std.specs.Prelude.{IfOk, IfErr, IsErrOf, MatchResult};
+ghost use Rattle.rpki_common.specs.Limits.{most_content};
 ghost use Rattle.rpki_signer.specs.Limits.{Keeps};
 ghost use Rattle.rpki_sigmsg.specs.FirstRefusals.{IsFirstRefusal};
 ghost use Rattle.rpki_sigmsg.specs.Making.{HasWindow, CreateFails};
@@ -94,9 +95,9 @@ pub(crate) fn signed_octets<P: Scheme, S: Signer<P>>(
         (seen_signer key.now (S.state signer.old) (S.state signer.new)))
         (CreateFails (text_of message) when key.now
         (S.state signer.old) (S.state signer.new)) }
-    ensures too_long { HasWindow when → 2 ^ 31 < length (text_of message)
+    ensures too_long { HasWindow when → most_content < length (text_of message)
         → IsErrOf result create.TooLong ⊎ IsErrOf result create.OutOfMemory }
-    ensures unasked { (HasWindow when → ⊥) ⊎ (2 ^ 31 < length (text_of message))
+    ensures unasked { (HasWindow when → ⊥) ⊎ (most_content < length (text_of message))
         → signer.new ≡ signer.old }
     // Memory may run out behind all of the signer's calls.
     ensures first_refusal { IfErr result (λ e. e ≢ create.OutOfMemory

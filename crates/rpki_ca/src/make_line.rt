@@ -3,6 +3,7 @@
 ghost use Rattle.std.specs.Prelude.{count_by, ◌≡◌, ◌≢◌, ◌≤◌, ◌++◌, ◌∷◌, [], None, Ok, Err, OnOk, IfOk, IfErr};
 ghost use Rattle.std.specs.Fmt.{decimal};
 ghost use Rattle.sha2.specs.Sha256.{sha256};
+ghost use Rattle.rpki_common.specs.Limits.{most_elements};
 ghost use Rattle.rpki_signer.specs.Limits.{Keeps};
 ghost use Rattle.rpki_text.specs.Uri.{rsync, fault_of};
 ghost use Rattle.rpki_ca.specs.Acceptance.{IsWritable};
@@ -231,7 +232,7 @@ pub(crate) fn make_line<P: Scheme, V: Verifier<P>, S: Signer<P>>(
     key: &S::KeyId,
     signer: &mut S,
 ) -> Result<Vec<u8>, Refusal>
-    requires { count ≤ 10000 }
+    requires { count ≤ most_elements }
     ensures ok { IfOk result (λ line. IsLineOf (IsMakeAnswer P.checks count seed
         (seen_signer key.now (S.state signer.old) (S.state signer.new))) line.items) }
     ensures err { IfErr result (λ e. e ≢ Refusal.OutOfMemory

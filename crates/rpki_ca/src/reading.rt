@@ -2,6 +2,7 @@
 
 ghost use Rattle.std.specs.Prelude.{◌≡◌, ◌+◌, ◌^◌, ◌≤◌, IfErr, IfOk, IfSome, OnOk, length};
 ghost use Rattle.std.specs.Io.KnownBytes.{IsAtEnd};
+ghost use Rattle.rpki_common.specs.Limits.{most_input};
 ghost use Rattle.rpki_ca.specs.Answer.{IsUnread};
 ghost use Rattle.rpki_ca.specs.Seen.{IsSteady, seen};
 ghost use Rattle.rpki_text.specs.Source.{TakesAtMost};
@@ -17,12 +18,12 @@ const LIMIT: u64 = 1 << 26;
 /// where the source fails, with `ReadFault`.
 pub fn read_input<I: Source>(alloc: Global, input: &mut I) -> Result<Vec<u8>, Refusal>
     ensures ok { IfOk result (λ octets. IfSome (I.rest input.old) (λ rest.
-        (octets.items ≡ rest) × (length rest ≤ 2 ^ 26))) }
-    ensures short { IfOk result (λ octets. length octets.items ≤ 2 ^ 26) }
+        (octets.items ≡ rest) × (length rest ≤ most_input))) }
+    ensures short { IfOk result (λ octets. length octets.items ≤ most_input) }
     ensures steady { OnOk result (IsSteady (seen I.rest I.faults input.old input.new)) }
     ensures end { OnOk result (IsAtEnd (I.rest input.new)) }
     ensures err { IfErr result (λ e. IsUnread (seen I.rest I.faults input.old input.new) e) }
-    ensures most { TakesAtMost (I.rest input.old) (I.rest input.new) (2 ^ 26 + 1) }
+    ensures most { TakesAtMost (I.rest input.old) (I.rest input.new) (most_input + 1) }
 {
     match read_all(alloc, input, LIMIT) {
         Ok(octets) => Ok(octets),

@@ -3,6 +3,7 @@
 ghost use Rattle.std.specs.Prelude.{◌≡◌, ◌≢◌, ◌+◌, ◌++◌, ◌∷◌, [], ◌⊎◌, ◌^◌, ◌≤◌, ℕ, ℤ, List, Result, Ok, Err};
 ghost use Rattle.std.specs.Prelude.{IfOk, IfErr, IfSome, OnOk, IsErrOf, MatchResult, length};
 ghost use Rattle.std.specs.Io.KnownBytes.{Appends, IsAtEnd};
+ghost use Rattle.rpki_common.specs.Limits.{most_input};
 ghost use Rattle.rpki_base.specs.PublicKey.{KeyFields};
 ghost use Rattle.rpki_text.specs.Sink.{AppendsPart};
 ghost use Rattle.rpki_text.specs.Source.{OfInput, TakesAtMost};
@@ -78,15 +79,15 @@ fn perform<P: Scheme, V: Verifier<P>, S: Signer<P>>(
 // The whole input, if the command reads it.
 fn input_for<I: Source>(alloc: Global, command: &Command, input: &mut I) -> Result<Vec<u8>, Refusal>
     ensures ok { IfOk result (λ octets. IfSome (I.rest input.old) (λ rest.
-        ReadsInput command.now → (octets.items ≡ rest) × (length rest ≤ 2 ^ 26))) }
+        ReadsInput command.now → (octets.items ≡ rest) × (length rest ≤ most_input))) }
     ensures short { IfOk result (λ octets. ReadsInput command.now
-        → length octets.items ≤ 2 ^ 26) }
+        → length octets.items ≤ most_input) }
     ensures steady { OnOk result (IsSteady (seen I.rest I.faults input.old input.new)) }
     ensures end { ReadsInput command.now → OnOk result (IsAtEnd (I.rest input.new)) }
     ensures err { IfErr result (λ e. IsUnread (seen I.rest I.faults input.old input.new) e) }
     ensures reads { IfErr result (λ e. ReadsInput command.now) }
     ensures unread { ReadsInput command.now ⊎ (input.new ≡ input.old) }
-    ensures most { TakesAtMost (I.rest input.old) (I.rest input.new) (2 ^ 26 + 1) }
+    ensures most { TakesAtMost (I.rest input.old) (I.rest input.new) (most_input + 1) }
 {
     match command {
         Command::Make { .. } => Ok(Vec::new(alloc)),
@@ -120,7 +121,7 @@ fn answer<P: Scheme, I: Source, V: Verifier<P>, S: Signer<P>>(
     ensures whole { AreNoMake words.now → MatchResult result (λ _. IsAtEnd (I.rest input.new))
         (λ e. ReadsAll (status_of e) → IsAtEnd (I.rest input.new)) }
     ensures long { AreNoMake words.now → IsErrOf result Refusal.TooLong → IfSome (I.rest input.old)
-        (λ rest. length rest ≤ 2 ^ 26 → IsAtEnd (I.rest input.new)) }
+        (λ rest. length rest ≤ most_input → IsAtEnd (I.rest input.new)) }
     ensures made { (count seed : ℕ) → IsMake words.now count seed → MatchResult result
         (λ line. IsLineOf (IsMakeAnswer P.checks count seed
         (seen_signer key.now (S.state signer.old) (S.state signer.new))) line.items)
@@ -128,7 +129,7 @@ fn answer<P: Scheme, I: Source, V: Verifier<P>, S: Signer<P>>(
         (seen_signer key.now (S.state signer.old) (S.state signer.new)) (Err e)) }
     ensures unread_by_make { (count seed : ℕ) → IsMake words.now count seed
         → input.new ≡ input.old }
-    ensures most { TakesAtMost (I.rest input.old) (I.rest input.new) (2 ^ 26 + 1) }
+    ensures most { TakesAtMost (I.rest input.old) (I.rest input.new) (most_input + 1) }
 {
     let Some(command) = words.command(alloc)? else {
         return Err(Refusal::Usage);
@@ -307,8 +308,8 @@ pub fn run<P: Scheme, I: Source, O: Sink, V: Verifier<P>, S: Signer<P>>(
     // read than the limit and one.
     ensures whole { AreNoMake words.now → ReadsAll result.0 → IsAtEnd (I.rest input.new) }
     ensures long { AreNoMake words.now → result.0 ≡ 9 → IfSome (I.rest input.old)
-        (λ rest. length rest ≤ 2 ^ 26 → IsAtEnd (I.rest input.new)) }
-    ensures most { TakesAtMost (I.rest input.old) (I.rest input.new) (2 ^ 26 + 1) }
+        (λ rest. length rest ≤ most_input → IsAtEnd (I.rest input.new)) }
+    ensures most { TakesAtMost (I.rest input.old) (I.rest input.new) (most_input + 1) }
 {
     let answer = answer(alloc, words, input, verifier, signer, key);
     finish(output, answer)

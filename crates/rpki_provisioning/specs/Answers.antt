@@ -1,6 +1,7 @@
 -- What calls answer that read messages and write them.
 use Rattle.std.specs.Prelude.{◌≡◌, ℕ, ◌<◌, ◌^◌, List, [], ◌∷◌, ◌++◌, length, map, Any, Option, None, Some, Result, ⊤}
 use Rattle.std.specs.List.{flat_map}
+use Rattle.rpki_common.specs.Limits.{most_content}
 use Rattle.rpki_base.specs.declared.validation.ValidationError.{ValidationError}
 use Rattle.rpki_sigmsg.specs.Checks.{passed_on}
 use Rattle.rpki_xml.specs.declared.error.XmlError.TheVariants as xml
@@ -57,7 +58,7 @@ RefusesMessage octets _ = ⊥
 
 -- The answer is TooLong only where the text has more than 2^31 octets. OutOfMemory says nothing, and no other one comes.
 abbrev pub RefusesText : List ℕ → Error → Type 0
-RefusesText text errors.TooLong = 2 ^ 31 < length text
+RefusesText text errors.TooLong = most_content < length text
 RefusesText text errors.OutOfMemory = ⊤
 RefusesText text _ = ⊥
 

@@ -1,6 +1,7 @@
 //! Messages.
 
 ghost use Rattle.std.specs.Prelude.{◌≡◌, ◌↔◌, ◌≤◌, ◌+◌, ◌*◌, ◌<◌, ◌^◌, length, IfOk, IfErr, OnOk, IsTrue, MatchResult, string_bytes};
+ghost use Rattle.rpki_common.specs.Limits.{most_content};
 ghost use Rattle.rpki_message.specs.Answers.{Parses, WritesText};
 ghost use Rattle.rpki_provisioning.specs.Answers.{RefusesMessage, RefusesText};
 ghost use Rattle.rpki_provisioning.specs.Message.{Reads, text_of};
@@ -338,7 +339,7 @@ impl Message {
     /// octets.
     pub fn to_xml_string(&self, alloc: Global) -> Result<String, Error>
         ensures text { IfOk result (λ text. string_bytes text ≡ text_of self.now) }
-        ensures short { OnOk result (length (text_of self.now) ≤ 2 ^ 31) }
+        ensures short { OnOk result (length (text_of self.now) ≤ most_content) }
         ensures refused { IfErr result (RefusesText (text_of self.now)) }
     {
         let octets = self.to_xml_bytes(alloc)?;
@@ -351,7 +352,7 @@ impl Message {
     /// The octets of the message. TooLong exactly where there are more than 2^31.
     pub fn to_xml_bytes(&self, alloc: Global) -> Result<Bytes, Error>
         ensures octets { IfOk result (λ octets. octets ≡ text_of self.now) }
-        ensures short { OnOk result (length (text_of self.now) ≤ 2 ^ 31) }
+        ensures short { OnOk result (length (text_of self.now) ≤ most_content) }
         ensures refused { IfErr result (RefusesText (text_of self.now)) }
     {
         let octets = self.text_bytes(alloc)?;

@@ -1,5 +1,6 @@
 -- What calls answer, and how errors of lower layers are passed on.
 use Rattle.std.specs.Prelude.{◌≡◌, ◌<◌, ◌^◌, ℕ, List, length, Option, None, Some, Result, Ok, Err, ⊤}
+use Rattle.rpki_common.specs.Limits.{most_content}
 use Rattle.rpki_base.specs.declared.validation.ValidationError.{ValidationError}
 use Rattle.rpki_der.specs.declared.error.DecodeError.{DecodeError}
 use Rattle.rpki_der.specs.declared.error.DecodeError.TheVariants as der
@@ -59,7 +60,7 @@ RefusesMessage octets e = answers.RefusesMessage cause_of message_of octets e
 
 -- The answer is TooLong only where the text has more than 2^31 octets. OutOfMemory says nothing, and no other one comes.
 abbrev pub RefusesText : List ℕ → Error → Type 0
-RefusesText text errors.TooLong = 2 ^ 31 < length text
+RefusesText text errors.TooLong = most_content < length text
 RefusesText text errors.OutOfMemory = ⊤
 RefusesText text _ = ⊥
 

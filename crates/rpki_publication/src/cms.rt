@@ -2,6 +2,7 @@
 
 ghost use Rattle.std.specs.Prelude.{◌≡◌, ◌↔◌, ◌<◌, ◌≤◌, ◌≤ℤ◌, ◌+◌, ◌++◌, ◌*◌, ◌^◌, ◌⊎◌, ℕ, ℤ, List, length};
 ghost use Rattle.std.specs.Prelude.{Result, Ok, Err, IfOk, IfErr, OnOk, IsErrOf, MatchResult};
+ghost use Rattle.rpki_common.specs.Limits.{most_content};
 ghost use Rattle.rpki_base.specs.Checks.{first_failure, failing};
 ghost use Rattle.rpki_base.specs.PublicKey.{KeyFields};
 ghost use Rattle.rpki_signer.specs.Limits.{Keeps};
@@ -217,42 +218,42 @@ impl PublicationCms {
     pub fn create<P: Scheme, S: Signer<P>>(
         alloc: Global,
         message: Message,
-        now: Time,
+        when: Time,
         issuing_key_id: &S::KeyId,
         signer: &mut S,
     ) -> Result<PublicationCms, CreateError<S::Error>>
         // What is created of the message's text, and why nothing is.
         ensures created { MatchResult result
-            (λ c. making.IsCreated P.checks (text_of message) now issuing_key_id.now
+            (λ c. making.IsCreated P.checks (text_of message) when issuing_key_id.now
             (S.state signer.old) (S.state signer.new) c.signed)
-            (making.CreateFails (text_of message) now issuing_key_id.now
+            (making.CreateFails (text_of message) when issuing_key_id.now
             (S.state signer.old) (S.state signer.new)) }
         ensures message { IfOk result (λ c. c.message ≡ message) }
 
         // The message is believed under the issuing key at each second of the window.
         ensures believed { IfOk result (λ c. (key : KeyFields)
             → Holds (S.state signer.old).keyring issuing_key_id.now key
-            → (when : ℤ) → (making.window now).not_before ≤ℤ when
-            → when ≤ℤ (making.window now).not_after
-            → checks.IsBelieved P.checks c.signed key when) }
+            → (at : ℤ) → (making.window when).not_before ≤ℤ at
+            → at ≤ℤ (making.window when).not_after
+            → checks.IsBelieved P.checks c.signed key at) }
 
         // What is written of the message is read again, in both modes, whatever stands behind it.
         ensures again { IfOk result (λ c. (mode : Mode) (rest : List ℕ) → CanBeSpelled c.signed
             → BeginsAs (signed_message mode) mode (rewritten c.signed ++ rest) c.signed) }
 
         // Moment and a text that is too long are told, but for want of memory.
-        ensures moment { (making.HasWindow now → ⊥)
+        ensures moment { (making.HasWindow when → ⊥)
             → IsErrOf result create.Moment ⊎ IsErrOf result create.OutOfMemory }
-        ensures too_long { making.HasWindow now → 2 ^ 31 < length (text_of message)
+        ensures too_long { making.HasWindow when → most_content < length (text_of message)
             → IsErrOf result create.TooLong ⊎ IsErrOf result create.OutOfMemory }
 
         // Then the signer isn't asked.
-        ensures unasked { (making.HasWindow now → ⊥) ⊎ (2 ^ 31 < length (text_of message))
+        ensures unasked { (making.HasWindow when → ⊥) ⊎ (most_content < length (text_of message))
             → signer.new ≡ signer.old }
 
         // The signer is asked in turn, and its first refusal decides: all that it gave before has at most
         // 2^16 octets.
-        ensures first_refusal { IfErr result (IsFirstRefusal P.checks (text_of message) now
+        ensures first_refusal { IfErr result (IsFirstRefusal P.checks (text_of message) when
             issuing_key_id.now (S.state signer.old) (S.state signer.new)) }
 
         // The signer holds the same keys, whatever the answer, and where there is a message, it didn't fail.
@@ -261,7 +262,7 @@ impl PublicationCms {
             ((S.state signer.new).faults ≡ (S.state signer.old).faults) }
     {
         let text = message.text_bytes(alloc)?;
-        let signed = SignedMessage::create(alloc, text, now, issuing_key_id, signer)?;
+        let signed = SignedMessage::create(alloc, text, when, issuing_key_id, signer)?;
         Ok(PublicationCms { signed, message })
     }
 

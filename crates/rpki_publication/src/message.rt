@@ -1,6 +1,7 @@
 //! Messages.
 
 ghost use Rattle.std.specs.Prelude.{◌≡◌, ◌↔◌, ◌≤◌, ◌^◌, length, Some, IfOk, IfErr, IsTrue, OnOk, MatchResult, string_bytes};
+ghost use Rattle.rpki_common.specs.Limits.{most_content};
 ghost use Rattle.rpki_message.specs.Answers.{Parses, WritesText};
 ghost use Rattle.rpki_publication.specs.Answers.{cause_of, RefusesMessage, RefusesText, IsQueryResult, IsReplyResult};
 ghost use Rattle.rpki_publication.specs.Message.{Reads, text_of, IsWritable};
@@ -152,7 +153,7 @@ impl Message {
     /// octets.
     pub fn to_xml_string(&self, alloc: Global) -> Result<String, Error>
         ensures text { IfOk result (λ text. string_bytes text ≡ text_of self.now) }
-        ensures short { OnOk result (length (text_of self.now) ≤ 2 ^ 31) }
+        ensures short { OnOk result (length (text_of self.now) ≤ most_content) }
         ensures refused { IfErr result (RefusesText (text_of self.now)) }
     {
         let text = self.text(alloc)?;
@@ -165,7 +166,7 @@ impl Message {
     /// The octets of the message. TooLong exactly where there are more than 2^31.
     pub fn to_xml_bytes(&self, alloc: Global) -> Result<Bytes, Error>
         ensures octets { IfOk result (λ octets. octets ≡ text_of self.now) }
-        ensures short { OnOk result (length (text_of self.now) ≤ 2 ^ 31) }
+        ensures short { OnOk result (length (text_of self.now) ≤ most_content) }
         ensures refused { IfErr result (RefusesText (text_of self.now)) }
     {
         let text = self.to_xml_string(alloc)?;

@@ -1,5 +1,6 @@
 -- A publication server for one publisher (RFC 8181, 1 and 2).
 use Rattle.std.specs.Prelude.{◌≡◌, ◌≢◌, ◌<◌, ◌^◌, ℕ, ℤ, Result, Err, List, [], ◌∷◌, length}
+use Rattle.rpki_common.specs.Limits.{most_content}
 use Rattle.rpki_base.specs.PublicKey.{KeyFields}
 use Rattle.rpki_base.specs.Scheme.{Relation}
 use Rattle.rpki_publication.specs.Cms.{CmsFields}
@@ -69,4 +70,4 @@ pub record HasLongReply (scheme : Relation) (server : ServerFields) (octets : Li
     : Type 0 where
   pub reply : Reply
   pub is : IsReply scheme server octets when reply
-  pub long : 2 ^ 31 < length (text_of reply.message)
+  pub long : most_content < length (text_of reply.message)

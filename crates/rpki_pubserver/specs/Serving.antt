@@ -1,5 +1,6 @@
 -- What the publication server's program answers to its lines.
 use Rattle.std.specs.Prelude.{◌≡◌, ◌≢◌, ◌≤◌, ◌<◌, ◌^◌, ℕ, ℤ, Some, List, [], length, slice_get}
+use Rattle.rpki_common.specs.Limits.{most_content}
 use Rattle.rpki_base.specs.Scheme.{Relation}
 use Rattle.rpki_publication.specs.Message.{text_of}
 use Rattle.rpki_signer.specs.Limits.{Keeps}
@@ -33,7 +34,7 @@ pub record IsReplied {Id : Type 0} (scheme : Relation) (when : ℤ) (id : Id)
     (before : ServerAndSigner Id) (octets text : List ℕ) (next : ServerAndSigner Id) : Type 0 where
   pub reply : Reply
   pub is : IsReply scheme before.server octets when reply
-  pub fits : length (text_of reply.message) ≤ 2 ^ 31
+  pub fits : length (text_of reply.message) ≤ most_content
   pub created : IsTextCreated scheme kinds.Publication (received.Publication reply.message) when
       (seen_signer id before.signer next.signer) text
   pub keeps : Keeps before.signer next.signer
@@ -63,9 +64,9 @@ pub record FailsLine {Id : Type 0} (scheme : Relation) (when : ℤ) (signer : Si
   pub reply : Reply
   pub is : IsReply scheme server octets when reply
   pub cause : IsSigningCause when signer (received.Publication reply.message) refusal
-  pub too_long : HasWindow when → 2 ^ 31 < length (text_of reply.message)
+  pub too_long : HasWindow when → most_content < length (text_of reply.message)
       → refusal ≡ refusals.TooLong
-  pub first : length (text_of reply.message) ≤ 2 ^ 31
+  pub first : length (text_of reply.message) ≤ most_content
       → IsFirstToRefuse scheme (text_of reply.message) when signer refusal
 
 -- the line at this place isn't answered, for this cause

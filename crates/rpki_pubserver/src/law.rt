@@ -1,6 +1,7 @@
 //! What holds of every server.
 
-ghost use Rattle.std.specs.Prelude.{◌≡◌, ◌∷◌, ◌^◌, ◌≤◌, [], ℕ, ℤ, List, Ok, Some, length, map};
+ghost use Rattle.std.specs.Prelude.{◌≡◌, ◌∷◌, ◌≤◌, [], ℕ, ℤ, List, Ok, Some, length, map};
+ghost use Rattle.rpki_common.specs.Limits.{most_input};
 ghost use Rattle.rpki_publication.specs.ListReply.{withdrawal_of};
 ghost use Rattle.rpki_publication.specs.declared.publish_delta_element.PublishDeltaElement.TheVariants as change;
 ghost use Rattle.rpki_ca.specs.Acceptance.{Accepted};
@@ -66,7 +67,7 @@ pub fn runs_end_for_cause<P: Scheme, S: Signer<P>>()
     ensures { (when : ℤ) (signer : SignerSeen S.KeyId) (server : ServerFields) (status : ℕ)
         (source sink : Seen) (input : List ℕ) →
         EndsServing P.checks when signer server status source sink →
-        source.before ≡ Some input → length input ≤ 2 ^ 26 → ¬ (HasFailed source) →
+        source.before ≡ Some input → length input ≤ most_input → ¬ (HasFailed source) →
         ¬ (HasFailed sink) → CanServe P.checks when signer server input →
         EndsForCause when input status }
 {}

@@ -1,6 +1,7 @@
 //! All that the program does.
 
 ghost use Rattle.std.specs.Prelude.{◌^◌, ◌+◌, ◌≡◌, ◌≢◌, ◌⊎◌, ◌++◌, ◌∷◌, [], Err, IfErr, IfOk, List, MatchResult, OnErr, OnOk, map, ℕ, ℤ};
+ghost use Rattle.rpki_common.specs.Limits.{most_input};
 ghost use Rattle.rpki_base.specs.PublicKey.{KeyFields};
 ghost use Rattle.rpki_signer.specs.Limits.{Keeps};
 ghost use Rattle.rpki_text.specs.Source.{TakesAtMost};
@@ -136,7 +137,7 @@ pub fn serve<P: Scheme, I: Source, O: Sink, V: Verifier<P>, S: Signer<P>>(
     ensures unasked { AreNoWords words.now → signer.new ≡ signer.old }
 
     // At most one octet more than the limit is taken of the source.
-    ensures most { TakesAtMost (I.rest input.old) (I.rest input.new) (2 ^ 26 + 1) }
+    ensures most { TakesAtMost (I.rest input.old) (I.rest input.new) (most_input + 1) }
 
     // Where the source isn't read whole, that is what is answered, and the signer did nothing; and
     // where it is, the queries are answered.

@@ -1,6 +1,7 @@
 //! What holds of every guard.
 
-ghost use Rattle.std.specs.Prelude.{◌≡◌, ◌^◌, ◌≤◌, ◌++◌, ◌∷◌, ℕ, ℤ, List, Ok, Some, length};
+ghost use Rattle.std.specs.Prelude.{◌≡◌, ◌≤◌, ◌++◌, ◌∷◌, ℕ, ℤ, List, Ok, Some, length};
+ghost use Rattle.rpki_common.specs.Limits.{most_input};
 ghost use Rattle.rpki_base.specs.PublicKey.{KeyFields};
 ghost use Rattle.rpki_ca.specs.Lines.{EndsRun};
 ghost use Rattle.rpki_ca.specs.Seen.{HasFailed, Seen};
@@ -54,6 +55,6 @@ pub fn zero_answers_all<P: Scheme>()
 pub fn runs_end_for_cause<P: Scheme>()
     ensures { (when : ℤ) (status : ℕ) (source sink : Seen) (input : List ℕ) →
         EndsRun (λ octets. EndsInput P.checks when octets status sink) status source sink →
-        source.before ≡ Some input → length input ≤ 2 ^ 26
+        source.before ≡ Some input → length input ≤ most_input
         → ¬ (HasFailed source) → ¬ (HasFailed sink) → EndsForCause input status }
 {}

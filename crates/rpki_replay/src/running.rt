@@ -1,6 +1,7 @@
 //! All that the program does.
 
 ghost use Rattle.std.specs.Prelude.{◌^◌, ◌+◌, ◌≡◌, Err, IfOk, IfSome, IsNone, string_bytes, ℤ};
+ghost use Rattle.rpki_common.specs.Limits.{most_input};
 ghost use Rattle.rpki_text.specs.Source.{TakesAtMost};
 ghost use Rattle.rpki_ca.specs.Answer.{Ends};
 ghost use Rattle.rpki_ca.specs.Lines.{Answered, EndsRun, EndsWith, StopsForMemory};
@@ -140,7 +141,7 @@ pub fn run_guard<P: Scheme, I: Source, O: Sink, V: Verifier<P>>(
     ensures unread { AreNoWords words.now → input.new ≡ input.old }
 
     // At most one octet more than the limit is taken of the source.
-    ensures most { TakesAtMost (I.rest input.old) (I.rest input.new) (2 ^ 26 + 1) }
+    ensures most { TakesAtMost (I.rest input.old) (I.rest input.new) (most_input + 1) }
 
     // Where the source isn't read whole, that is what is answered; and where it is, the messages are.
     ensures ends { (when : ℤ) → AreWords words.now when

@@ -3,6 +3,7 @@ use Rattle.std.specs.Prelude.{false, ◌≡◌, ◌≢◌, ◌≤ℤ◌, ◌≤�
 use Rattle.sha1.specs.Sha1.{sha1}
 use Rattle.sha2.specs.Sha256.{sha256}
 use Rattle.rpki_common.specs.Causes.{Rose}
+use Rattle.rpki_common.specs.Limits.{most_content, window_seconds}
 use Rattle.rpki_der.specs.Tags.{sequence, set, oid_tag, octet_string_tag}
 use Rattle.rpki_der.specs.Writing.{der_primitive, der_constructed}
 use Rattle.rpki_base.specs.declared.algorithm.SigningAlgorithm.TheVariants.{RsaSha256}
@@ -36,12 +37,15 @@ use Rattle.rpki_sigmsg.specs.TbsCrl.{TbsCrlFields}
 
 -- the window of a moment: from 300 seconds before it to 300 seconds after it
 abbrev pub window : ℤ → ValidityFields
-window now = record { not_before = now -ℤ pos 300; not_after = now +ℤ pos 300 }
+window when = record {
+  not_before = when -ℤ pos window_seconds;
+  not_after = when +ℤ pos window_seconds;
+}
 
 -- the window of the moment begins in 1970 or later, and ends in the year 9999 or before
-pub record HasWindow (now : ℤ) : Type 0 where
-  pub first : pos 0 ≤ℤ (now -ℤ pos 300)
-  pub last : (now +ℤ pos 300) ≤ℤ pos 253402300799
+pub record HasWindow (when : ℤ) : Type 0 where
+  pub first : pos 0 ≤ℤ (when -ℤ pos window_seconds)
+  pub last : (when +ℤ pos window_seconds) ≤ℤ pos 253402300799
 
 -- ---- what is signed
 
@@ -51,51 +55,51 @@ spelled_attribute identifier value =
 
 -- contentType, signingTime, messageDigest (11.1 to 11.3)
 abbrev pub made_attributes : List ℕ → ℤ → List ℕ
-made_attributes digest now =
+made_attributes digest when =
     spelled_attribute content_type (der_primitive oid_tag xml_content)
-    ++ (spelled_attribute signing_time (der_time now)
+    ++ (spelled_attribute signing_time (der_time when)
     ++ spelled_attribute message_digest (der_primitive octet_string_tag digest))
 
 -- of a content and a moment
 unfoldable pub made_covered : List ℕ → ℤ → List ℕ
-made_covered content now = covered (made_attributes (sha256 content) now)
+made_covered content when = covered (made_attributes (sha256 content) when)
 
 -- a CRL of the issuing key without entries, whose number is the moment in thousandths of a second
 abbrev pub made_crl : KeyFields → ℤ → TbsCrlFields
-made_crl issuing now = record {
+made_crl issuing when = record {
   algorithm = default_algorithm;
   issuer = name_of_key issuing;
-  this_update = (window now).not_before;
-  next_update = (window now).not_after;
+  this_update = (window when).not_before;
+  next_update = (window when).not_after;
   revoked = none_revoked;
   authority_key_id = Some (sha1 issuing.bits);
-  crl_number = Some (serial_of (unsigned_abs now * 1000));
+  crl_number = Some (serial_of (unsigned_abs when * 1000));
 }
 
 -- the fields in DER, with a signature under the issuing key
-pub record IsCrlMade (scheme : Relation) (issuing : KeyFields) (now : ℤ) (c : CrlFields) : Type 0
+pub record IsCrlMade (scheme : Relation) (issuing : KeyFields) (when : ℤ) (c : CrlFields) : Type 0
   where
-    pub fields : c.tbs ≡ made_crl issuing now
+    pub fields : c.tbs ≡ made_crl issuing when
     pub slice : c.signed.slice ≡ spelled_tbs_crl c.tbs
     pub algorithm : c.signed.signature.algorithm ≡ default_algorithm
     pub signed : IsSigned scheme c issuing
 
 -- The CRL's fields in DER, with the signature that the signer's call gives under the identifier.
-pub record IsCrlSigned {Id : Type 0} (scheme : Relation) (issuing : KeyFields) (now : ℤ) (id : Id)
+pub record IsCrlSigned {Id : Type 0} (scheme : Relation) (issuing : KeyFields) (when : ℤ) (id : Id)
     (before after : SignerState Id) (c : CrlFields) : Type 0 where
-  pub fields : c.tbs ≡ made_crl issuing now
+  pub fields : c.tbs ≡ made_crl issuing when
   pub slice : c.signed.slice ≡ spelled_tbs_crl c.tbs
   pub algorithm : c.signed.signature.algorithm ≡ default_algorithm
   pub signed : IsShortSignature scheme RsaSha256 id (spelled_tbs_crl c.tbs) before after
       c.signed.signature.value
 
 -- the CRL of the issuing key, and the certificate that it issues for this key with the serial number that was drawn
-pub record IsCertified {Id : Type 0} (scheme : Relation) (issuing key : KeyFields) (now : ℤ)
+pub record IsCertified {Id : Type 0} (scheme : Relation) (issuing key : KeyFields) (when : ℤ)
     (before after : SignerState Id) (crl : CrlFields) (certificate : CertificateFields) : Type 0
   where
-    pub crl_made : IsCrlMade scheme issuing now crl
+    pub crl_made : IsCrlMade scheme issuing when crl
     pub twenty : length after.random ≡ 20
-    pub fields : IsMadeFor issuing key (without_first_bit after.random) (window now) certificate.tbs
+    pub fields : IsMadeFor issuing key (without_first_bit after.random) (window when) certificate.tbs
     pub issued : IsIssued scheme issuing certificate
     pub keeps : Keeps before after
     pub no_fault : after.faults ≡ before.faults
@@ -129,11 +133,11 @@ pub record UnsignedFields : Type 0 where
   pub crl : TbsCrlFields
   pub certificate : TbsFields
 
-pub record IsUnsignedFor (content : List ℕ) (now : ℤ) (serial : List ℕ) (key issuing : KeyFields)
+pub record IsUnsignedFor (content : List ℕ) (when : ℤ) (serial : List ℕ) (key issuing : KeyFields)
     (u : UnsignedFields) : Type 0 where
-  pub content_is : u.content ≡ record { content = content; moment = now }
-  pub crl : u.crl ≡ made_crl issuing now
-  pub certificate : IsMadeFor issuing key serial (window now) u.certificate
+  pub content_is : u.content ≡ record { content = content; moment = when }
+  pub crl : u.crl ≡ made_crl issuing when
+  pub certificate : IsMadeFor issuing key serial (window when) u.certificate
 
 -- the message of what is to be signed, with the three signatures
 abbrev pub signed_message_of : UnsignedFields → SignatureParts RpkiAlgorithm
@@ -147,24 +151,24 @@ signed_message_of u attributes crl certificate = assembled u.content attributes
 
 -- The message has this content, says this moment as the time of signing, and is signed under this key; the issuing key issued a
 -- certificate for that key, and a CRL.
-pub record IsMessageMade (scheme : Relation) (content : List ℕ) (now : ℤ)
+pub record IsMessageMade (scheme : Relation) (content : List ℕ) (when : ℤ)
     (issuing key : KeyFields) (serial : List ℕ) (m : MessageFields) : Type 0 where
   pub signature : SignatureParts RpkiAlgorithm
   pub certificate : CertificateFields
   pub crl : CrlFields
-  pub is : m ≡ assembled (record { content = content; moment = now }) signature certificate crl
+  pub is : m ≡ assembled (record { content = content; moment = when }) signature certificate crl
   pub algorithm : signature.algorithm ≡ default_algorithm
-  pub signed : scheme RsaSha256 key (made_covered content now) signature.value
-  pub fields : certificate.tbs ≡ made_fields false issuing key serial (window now)
+  pub signed : scheme RsaSha256 key (made_covered content when) signature.value
+  pub fields : certificate.tbs ≡ made_fields false issuing key serial (window when)
   pub issued : IsIssued scheme issuing certificate
-  pub crl_made : IsCrlMade scheme issuing now crl
+  pub crl_made : IsCrlMade scheme issuing when crl
 
 -- The signer holds the issuing key alone under this identifier. The key for this one use is the one that it drew, and not the issuing
 -- key; the serial number is what it drew last. The keys and the signatures have at most 2^16 octets each; that of the certificate's
 -- signature is in `IsIssued`.
-pub record IsCreated {Id : Type 0} (scheme : Relation) (content : List ℕ) (now : ℤ) (id : Id)
+pub record IsCreated {Id : Type 0} (scheme : Relation) (content : List ℕ) (when : ℤ) (id : Id)
     (before after : SignerState Id) (m : MessageFields) : Type 0 where
-  pub window_is : HasWindow now
+  pub window_is : HasWindow when
   pub issuing : KeyFields
   pub holds : Holds before.keyring id issuing
   pub only : (other : KeyFields) → Holds before.keyring id other → other ≡ issuing
@@ -172,7 +176,7 @@ pub record IsCreated {Id : Type 0} (scheme : Relation) (content : List ℕ) (now
   pub drawn : after.drawn ≡ Some key
   pub other : key ≢ issuing
   pub twenty : length after.random ≡ 20
-  pub made : IsMessageMade scheme content now issuing key (without_first_bit after.random) m
+  pub made : IsMessageMade scheme content when issuing key (without_first_bit after.random) m
   pub short_key : IsShort key.bits
   pub short_issuing : IsShort issuing.bits
   pub short_signature : IsShort made.signature.value
@@ -191,16 +195,16 @@ pub record IsReused {Id : Type 0} (id : Id) (before after : SignerState Id) : Ty
 -- the content is too long, or a key or a signature was, and the signer told so by its count
 abbrev pub IsTooLong : {Id : Type 0} → List ℕ → SignerState Id → SignerState Id → Type 0
 IsTooLong content before after =
-    (2 ^ 31 < length content)
-    ⊎ ((length content ≤ 2 ^ 31) × Rose before.overlong after.overlong)
+    (most_content < length content)
+    ⊎ ((length content ≤ most_content) × Rose before.overlong after.overlong)
 
 -- of want of memory nothing is said, and no refusal of the signer stands for it
 abbrev pub CreateFails : {Id E : Type 0} → List ℕ → ℤ → Id → SignerState Id → SignerState Id
     → CreateError E → Type 0
-CreateFails content now id before after create.Moment = HasWindow now → ⊥
-CreateFails content now id before after create.TooLong =
-    HasWindow now × IsTooLong content before after
-CreateFails content now id before after create.KeyReused = HasWindow now × IsReused id before after
-CreateFails content now id before after (create.Signing error) =
-    HasWindow now × (error ≢ signing.OutOfMemory) × SigningFails RsaSha256 id before after error
-CreateFails content now id before after create.OutOfMemory = ⊤
+CreateFails content when id before after create.Moment = HasWindow when → ⊥
+CreateFails content when id before after create.TooLong =
+    HasWindow when × IsTooLong content before after
+CreateFails content when id before after create.KeyReused = HasWindow when × IsReused id before after
+CreateFails content when id before after (create.Signing error) =
+    HasWindow when × (error ≢ signing.OutOfMemory) × SigningFails RsaSha256 id before after error
+CreateFails content when id before after create.OutOfMemory = ⊤

@@ -1,6 +1,7 @@
 //! Creating signed messages.
 
 ghost use Rattle.std.specs.Prelude.{◌≡◌, ◌++◌, ◌≤ℤ◌, ◌<◌, ◌≤◌, ◌^◌, ◌⊎◌, ℕ, ℤ, List, length, Decides, IsOk, IfOk, OnOk, IfErr, IsErrOf, MatchResult};
+ghost use Rattle.rpki_common.specs.Limits.{most_content};
 ghost use Rattle.rpki_der.specs.declared.mode.Mode.{Mode};
 ghost use Rattle.rpki_der.specs.Takes.{BeginsAs};
 ghost use Rattle.rpki_base.specs.PublicKey.{KeyFields};
@@ -29,7 +30,7 @@ const CONTENT_LIMIT: usize = 1 << 31;
 
 /// Whether a content is not too long for a signed message that is made: at most 2^31 octets.
 pub fn content_is_within_limit(content: &[u8]) -> bool
-    ensures within { Decides result (length content.now ≤ 2 ^ 31) }
+    ensures within { Decides result (length content.now ≤ most_content) }
 {
     content.len() <= CONTENT_LIMIT
 }
@@ -114,7 +115,7 @@ fn create_within<P: Scheme, S: Signer<P>>(
     signer: &mut S,
 ) -> Result<SignedMessage, CreateError<S::Error>>
     requires has_window { spec.HasWindow window }
-    requires short { length content ≤ 2 ^ 31 }
+    requires short { length content ≤ most_content }
     ensures created { MatchResult result
         (spec.IsCreated P.checks content window issuing_key_id.now
         (S.state signer.old) (S.state signer.new))
@@ -152,38 +153,38 @@ impl SignedMessage {
     pub fn create<P: Scheme, S: Signer<P>>(
         alloc: Global,
         content: Bytes,
-        now: Time,
+        when: Time,
         issuing_key_id: &S::KeyId,
         signer: &mut S,
     ) -> Result<SignedMessage, CreateError<S::Error>>
         // What is created, and why nothing is.
         ensures created { MatchResult result
-            (spec.IsCreated P.checks content now issuing_key_id.now
+            (spec.IsCreated P.checks content when issuing_key_id.now
             (S.state signer.old) (S.state signer.new))
-            (spec.CreateFails content now issuing_key_id.now
+            (spec.CreateFails content when issuing_key_id.now
             (S.state signer.old) (S.state signer.new)) }
 
         // The message is believed under the issuing key at each second of the window.
         ensures believed { IfOk result (λ m. (key : KeyFields)
             → Holds (S.state signer.old).keyring issuing_key_id.now key
-            → (when : ℤ) → (spec.window now).not_before ≤ℤ when
-            → when ≤ℤ (spec.window now).not_after → IsBelieved P.checks m key when) }
+            → (at : ℤ) → (spec.window when).not_before ≤ℤ at
+            → at ≤ℤ (spec.window when).not_after → IsBelieved P.checks m key at) }
 
         // What is written of the message is read again, in both modes, whatever stands behind it.
         ensures again { IfOk result (λ m. (mode : Mode) (rest : List ℕ) → CanBeSpelled m
             → BeginsAs (signed_message mode) mode (rewritten m ++ rest) m) }
 
         // Moment and a content that is too long are told in any case, before the signer is asked.
-        ensures moment { (spec.HasWindow now → ⊥) → IsErrOf result create.Moment }
-        ensures too_long { spec.HasWindow now → 2 ^ 31 < length content
+        ensures moment { (spec.HasWindow when → ⊥) → IsErrOf result create.Moment }
+        ensures too_long { spec.HasWindow when → most_content < length content
             → IsErrOf result create.TooLong }
 
-        ensures unasked { (spec.HasWindow now → ⊥) ⊎ (2 ^ 31 < length content)
+        ensures unasked { (spec.HasWindow when → ⊥) ⊎ (most_content < length content)
             → signer.new ≡ signer.old }
 
         // The signer is asked in turn, and its first refusal decides: all that it gave before has at most
         // 2^16 octets.
-        ensures first_refusal { IfErr result (IsFirstRefusal P.checks content now issuing_key_id.now
+        ensures first_refusal { IfErr result (IsFirstRefusal P.checks content when issuing_key_id.now
             (S.state signer.old) (S.state signer.new)) }
 
         // The signer holds the same keys, whatever the answer, and where there is a message, it didn't fail.
@@ -191,7 +192,7 @@ impl SignedMessage {
         ensures kept { OnOk result
             ((S.state signer.new).faults ≡ (S.state signer.old).faults) }
     {
-        let Some(window) = Window::new(now) else {
+        let Some(window) = Window::new(when) else {
             return Err(CreateError::Moment);
         };
         if !content_is_within_limit(content.as_slice()) {

@@ -47,12 +47,12 @@ fn write_content_type(out: &mut Writer) -> Result<(), OutOfMemory>
 }
 
 // Appends signingTime.
-fn write_signing_time(now: Time, out: &mut Writer) -> Result<(), OutOfMemory>
+fn write_signing_time(when: Time, out: &mut Writer) -> Result<(), OutOfMemory>
     ensures ok { OnOk result
-        (out.new ≡ out.old ++ spec.spelled_attribute signing_time (der_time now)) }
+        (out.new ≡ out.old ++ spec.spelled_attribute signing_time (der_time when)) }
 {
     let mut value = out.inner();
-    now.to_der_varied(&mut value)?;
+    when.to_der_varied(&mut value)?;
     write_attribute(&SIGNING_TIME, &value, out)
 }
 
@@ -101,19 +101,19 @@ impl Model for UnsignedContent {
 impl UnsignedContent {
     /// The content with contentType, signingTime at this moment and messageDigest (RFC 5652, 11.1 to 11.3).
     #[tactic(auto, unfolding(crate::specs::Making::made_covered))]
-    pub fn new(alloc: Global, content: Bytes, now: Time) -> Result<UnsignedContent, OutOfMemory>
-        ensures { IfOk result (λ u. u ≡ record { content = content; moment = now }) }
+    pub fn new(alloc: Global, content: Bytes, when: Time) -> Result<UnsignedContent, OutOfMemory>
+        ensures { IfOk result (λ u. u ≡ record { content = content; moment = when }) }
     {
         let digest = Sha256::digest(content.as_slice());
         let mut attributes = Writer::new(alloc);
         write_content_type(&mut attributes)?;
-        write_signing_time(now, &mut attributes)?;
+        write_signing_time(when, &mut attributes)?;
         write_digest(&digest, &mut attributes)?;
         let covered = covered_octets(alloc, attributes.as_slice())?;
         let digest = Bytes::copy_from_slice(alloc, &digest)?;
         Ok(UnsignedContent {
             content,
-            moment: now,
+            moment: when,
             digest,
             covered,
         })

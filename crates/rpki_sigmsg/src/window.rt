@@ -27,22 +27,22 @@ impl Model for Window {
 
     ghost invariant = { λ w. HasWindow w.moment × (w.validity ≡ window w.moment) };
 
-    ghost inverse = { λ now. record { moment = now; validity = window now } };
+    ghost inverse = { λ when. record { moment = when; validity = window when } };
 }
 
 impl Window {
     /// The time around this moment; None exactly where it begins before 1970 or ends after the year 9999.
-    pub fn new(now: Time) -> Option<Window>
-        ensures some { IsSome result ↔ spec.HasWindow now }
-        ensures value { IfSome result (λ w. w ≡ now) }
+    pub fn new(when: Time) -> Option<Window>
+        ensures some { IsSome result ↔ spec.HasWindow when }
+        ensures value { IfSome result (λ w. w ≡ when) }
     {
-        let seconds = now.seconds();
+        let seconds = when.seconds();
         if seconds < 300 || seconds > 253_402_300_499 {
             return None;
         }
         match (Time::new(seconds - 300), Time::new(seconds + 300)) {
             (Some(first), Some(last)) => Some(Window {
-                moment: now,
+                moment: when,
                 validity: Validity::new(first, last),
             }),
             _ => None,

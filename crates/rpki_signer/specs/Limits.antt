@@ -1,6 +1,7 @@
 -- Keys and signatures of a signer that are not too long, and what calls answer that make something with them.
 use Rattle.std.specs.Prelude.{true, ◌≡◌, ◌≢◌, ◌≤◌, ◌<◌, ◌^◌, ◌⊎◌, ℕ, List, length, ⊤}
 use Rattle.rpki_common.specs.Causes.{Rose}
+use Rattle.rpki_common.specs.Limits.{most_key}
 use Rattle.rpki_base.specs.declared.algorithm.SigningAlgorithm.{SigningAlgorithm}
 use Rattle.rpki_base.specs.declared.algorithm.SigningAlgorithm.TheVariants.{RsaSha256}
 use Rattle.rpki_base.specs.PublicKey.{KeyFields}
@@ -15,7 +16,7 @@ use Rattle.rpki_signer.specs.Signer.{SignerState, IsLater, Stays, IsKeyOf, IsSig
 
 -- at most 2^16 octets
 abbrev pub IsShort : List ℕ → Type 0
-IsShort octets = length octets ≤ 2 ^ 16
+IsShort octets = length octets ≤ most_key
 
 pub record IsShortKey {Id : Type 0} (id : Id) (before after : SignerState Id) (key : KeyFields)
     : Type 0 where
@@ -69,7 +70,7 @@ pub record IsSpared {Id : Type 0} (before after : SignerState Id) : Type 0 where
 pub record GivesLongKey {Id : Type 0} (id : Id) (before after : SignerState Id) : Type 0 where
   pub key : KeyFields
   pub is : IsKeyOf id before after key
-  pub long : 2 ^ 16 < length key.bits
+  pub long : most_key < length key.bits
 
 -- the key wasn't given, or is too long; nothing was signed
 abbrev pub RefusesKey : {Id E : Type 0} → Id → SignerState Id → SignerState Id → MakeError E
@@ -85,7 +86,7 @@ pub record GivesLongSignature {Id : Type 0} (scheme : Relation) (id : Id)
   pub message : List ℕ
   pub octets : List ℕ
   pub is : IsSignature scheme RsaSha256 id message before after octets
-  pub long : 2 ^ 16 < length octets
+  pub long : most_key < length octets
 
 -- the signature wasn't given, or is too long
 abbrev pub RefusesSignature : {Id E : Type 0} → Relation → Id → SignerState Id → SignerState Id
@@ -116,7 +117,7 @@ pub record GivesLongOneOff {Id : Type 0} (scheme : Relation) (message : List ℕ
   pub octets : List ℕ
   pub key : KeyFields
   pub is : IsOneOff scheme RsaSha256 message before after octets key
-  pub long : (2 ^ 16 < length octets) ⊎ (2 ^ 16 < length key.bits)
+  pub long : (most_key < length octets) ⊎ (most_key < length key.bits)
 
 -- the signer failed, and gave no key
 pub record IsFaulted {Id : Type 0} (before after : SignerState Id) : Type 0 where

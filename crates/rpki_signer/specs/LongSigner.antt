@@ -1,5 +1,6 @@
 -- A signer whose signatures have one length, which may be too long: its keys and what it draws are those of a toy signer.
 use Rattle.std.specs.Prelude.{◌≡◌, ◌^◌, ℕ, true, false, nat_lt, replicate, if◌then◌else◌, Result, Ok, Err, List, []}
+use Rattle.rpki_common.specs.Limits.{most_key}
 use Rattle.rpki_base.specs.declared.algorithm.SigningAlgorithm.{SigningAlgorithm}
 use Rattle.rpki_base.specs.declared.errors.ToyFault.{ToyFault}
 use Rattle.rpki_base.specs.Algorithm.{format_of}
@@ -38,7 +39,7 @@ long_signature octets = replicate octets 0
 
 -- the count after a signature of so many octets
 abbrev pub overlong_after : ℕ → ℕ → ℕ
-overlong_after octets count = if nat_lt (2 ^ 16) octets then count_after count else count
+overlong_after octets count = if nat_lt (most_key) octets then count_after count else count
 
 -- the toy signer is this one, and a signature was given
 abbrev pub after_giving : ToyState → LongState → LongState

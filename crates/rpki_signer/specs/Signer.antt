@@ -1,6 +1,7 @@
 -- What a signer holds and has done, and what each of its calls does to that.
 use Rattle.std.specs.Prelude.{◌≡◌, ◌≢◌, ◌≤◌, ◌<◌, ◌^◌, ℕ, Option, Some, List, [], ◌∷◌, ◌++◌, length, Contains, ⊤}
 use Rattle.rpki_common.specs.Causes.{Rose}
+use Rattle.rpki_common.specs.Limits.{most_key}
 use Rattle.rpki_base.specs.declared.algorithm.PublicKeyFormat.{PublicKeyFormat}
 use Rattle.rpki_base.specs.declared.algorithm.SigningAlgorithm.{SigningAlgorithm}
 use Rattle.rpki_base.specs.Algorithm.{format_of}
@@ -59,7 +60,7 @@ pub record Stays {Id : Type 0} (before after : SignerState Id) : Type 0 where
 
 -- more than 2^16 octets of a key or a signature are told by their count
 abbrev pub TellsLength : {Id : Type 0} → SignerState Id → SignerState Id → List ℕ → Type 0
-TellsLength before after octets = 2 ^ 16 < length octets → Rose before.overlong after.overlong
+TellsLength before after octets = most_key < length octets → Rose before.overlong after.overlong
 
 -- ---- what the answers mean; of want of memory nothing is said
 

@@ -1,5 +1,6 @@
 -- What the ends of a run of the parent come to.
 use Rattle.std.specs.Prelude.{◌≡◌, ◌<◌, ◌^◌, ◌⊎◌, ℕ, Some, List, length, slice_get}
+use Rattle.rpki_common.specs.Limits.{most_content}
 use Rattle.rpki_base.specs.Scheme.{Relation}
 use Rattle.rpki_sigmsg.specs.Making.{HasWindow}
 use Rattle.rpki_ca.specs.Creation.{CanSign}
@@ -38,7 +39,7 @@ pub record HasLongLine {Id : Type 0} (scheme : Relation) (run : Run Id) (start :
   pub payload : Payload
   pub decided : IsDecided scheme octets run.when steps.last.parties
       (with_issuer parent run.issuer_after) payload
-  pub long : 2 ^ 31 < length (text_of (reply steps.last.parties.parent payload))
+  pub long : most_content < length (text_of (reply steps.last.parties.parent payload))
 
 -- The signer holds a fitting key, and it neither failed nor gave too many octets, nor that key for
 -- one use; and no reply that was decided has a text of more than 2^31 octets.

@@ -1,5 +1,6 @@
 -- What the parent's program answers to its lines.
 use Rattle.std.specs.Prelude.{◌≡◌, ◌≢◌, ◌<◌, ◌≤◌, ◌^◌, ◌⊎◌, ◌∷◌, [], ℕ, ℤ, List, Err, Some, length, slice_get}
+use Rattle.rpki_common.specs.Limits.{most_content}
 use Rattle.rpki_base.specs.Scheme.{Relation}
 use Rattle.rpki_signer.specs.Limits.{Keeps}
 use Rattle.rpki_signer.specs.Signer.{SignerState}
@@ -39,7 +40,7 @@ pub record IsReplied {Id : Type 0} (scheme : Relation) (when : ℤ) (id : Id) (b
     (octets text : List ℕ) (after : Service Id) : Type 0 where
   pub payload : Payload
   pub decided : IsDecided scheme octets when before.parties after.parties payload
-  pub fits : length (text_of (reply before.parties.parent payload)) ≤ 2 ^ 31
+  pub fits : length (text_of (reply before.parties.parent payload)) ≤ most_content
   pub created : IsTextCreated scheme kinds.Provisioning
       (received.Provisioning (reply before.parties.parent payload)) when
       (seen_signer id before.signer after.signer) text
@@ -100,9 +101,9 @@ pub record FailsLine {Id : Type 0} (scheme : Relation) (when : ℤ) (signer : Si
   pub decided : IsDecided scheme octets when before after payload
   pub cause : IsSigningCause when signer (received.Provisioning (reply before.parent payload))
       refusal
-  pub too_long : HasWindow when → 2 ^ 31 < length (text_of (reply before.parent payload))
+  pub too_long : HasWindow when → most_content < length (text_of (reply before.parent payload))
       → refusal ≡ refusals.TooLong
-  pub first : length (text_of (reply before.parent payload)) ≤ 2 ^ 31
+  pub first : length (text_of (reply before.parent payload)) ≤ most_content
       → IsFirstToRefuse scheme (text_of (reply before.parent payload)) when signer refusal
 
 -- what the issuer is then, where the line at this place isn't answered

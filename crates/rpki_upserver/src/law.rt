@@ -1,7 +1,8 @@
 //! What holds of every parent.
 
-ghost use Rattle.std.specs.Prelude.{◌≡◌, ◌≢◌, ◌^◌, ◌≤◌, ◌⊎◌, ◌++◌, ◌∷◌, ℕ, List, None, Some, length};
+ghost use Rattle.std.specs.Prelude.{◌≡◌, ◌≢◌, ◌≤◌, ◌⊎◌, ◌++◌, ◌∷◌, ℕ, List, None, Some, length};
 ghost use Rattle.rpki_common.specs.Causes.{Rose};
+ghost use Rattle.rpki_common.specs.Limits.{most_input};
 ghost use Rattle.rpki_updown.specs.KeyElement.{KeyElementFields};
 ghost use Rattle.rpki_provisioning.specs.Shape.{MessageFields};
 ghost use Rattle.rpki_provisioning.specs.declared.payload.Payload.TheVariants as payloads;
@@ -65,6 +66,6 @@ pub fn zero_answers_all<P: Scheme, S: Signer<P>>()
 pub fn runs_end_for_cause<P: Scheme, S: Signer<P>>()
     ensures { (run : Run S.KeyId) (status : ℕ) (source sink : Seen) (input : List ℕ) →
         EndsServing P.checks run status source sink →
-        source.before ≡ Some input → length input ≤ 2 ^ 26 → ¬ (HasFailed source) →
+        source.before ≡ Some input → length input ≤ most_input → ¬ (HasFailed source) →
         ¬ (HasFailed sink) → CanServe P.checks run input → EndsForCause run input status }
 {}

@@ -2,6 +2,7 @@
 
 ghost use Rattle.std.specs.Prelude.{◌^◌, ◌+◌, ◌≡◌, ◌≢◌, ◌⊎◌, ◌++◌, ◌∷◌, [], Err, IfErr, IfOk, List, OnErr, OnOk, map, ℕ, ℤ};
 ghost use Rattle.hex.specs.Hex.{encode_lower};
+ghost use Rattle.rpki_common.specs.Limits.{most_input};
 ghost use Rattle.rpki_base.specs.PublicKey.{KeyFields};
 ghost use Rattle.rpki_signer.specs.Limits.{Keeps};
 ghost use Rattle.rpki_sigmsg.specs.Spelling.{CanBeSpelled, rewritten};
@@ -200,7 +201,7 @@ pub fn serve<P: Scheme, I: Source, O: Sink, V: Verifier<P>, N: Issuer, S: Signer
         × (signer.new ≡ signer.old) }
 
     // At most one octet more than the limit is taken of the source.
-    ensures most { TakesAtMost (I.rest input.old) (I.rest input.new) (2 ^ 26 + 1) }
+    ensures most { TakesAtMost (I.rest input.old) (I.rest input.new) (most_input + 1) }
 
     // Where the source isn't read whole, that is what is answered, and issuer and signer did
     // nothing; and where it is, the messages are answered.
