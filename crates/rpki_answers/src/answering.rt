@@ -83,8 +83,7 @@ pub(crate) fn receive(
 {
     let octets = input_octets(alloc, input)?;
     let (message, _) = receive_answered(alloc, kind, &octets, keys, when, answers)?;
-    let text = message.to_xml_bytes(alloc)?;
-    Ok(line_of(alloc, text.as_slice())?)
+    Ok(line_of(message.to_xml_vec(alloc)?)?)
 }
 
 // The text of the message of this kind that the input reads as.

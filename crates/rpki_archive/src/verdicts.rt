@@ -2,6 +2,7 @@
 
 ghost use Rattle.std.specs.Prelude.{◌≡◌, ◌≢◌, ◌≤◌, ◌∷◌, ◌++◌, [], Err, IfErr, IfOk, List, Ok, Result, is_ok};
 ghost use Rattle.std.specs.Prelude.{length, string_bytes, ℕ};
+ghost use Rattle.rpki_common.specs.Limits.{most_keys};
 ghost use Rattle.rpki_ca.specs.Answer.{IsReceiveAnswer};
 ghost use Rattle.rpki_ca.specs.declared.refusals.Refusal.{Refusal as RefusalOf};
 ghost use Rattle.rpki_archive.specs.Lines.{IsLine};
@@ -25,7 +26,7 @@ fn text_of<P: Scheme, V: Verifier<P>>(
     verifier: &V,
 ) -> Result<Bytes, Refusal>
     requires some { 1 ≤ length keys.now }
-    requires few { length keys.now ≤ 8 }
+    requires few { length keys.now ≤ most_keys }
     ensures ok { IfOk result (λ text.
         IsReceiveAnswer P.checks kind octets.now keys.now when (Ok text)) }
     ensures err { IfErr result (λ e. e ≢ Refusal.OutOfMemory

@@ -23,7 +23,10 @@ fn content_line_of(
     if !message.digest_holds() {
         return Err(Refusal::Validation(2));
     }
-    Ok(line_of(alloc, message.content().as_slice())?)
+    let content = message.content().as_slice();
+    let mut text = Vec::with_capacity(alloc, content.len().saturating_add(1))?;
+    text.extend_from_slice(content)?;
+    Ok(line_of(text)?)
 }
 
 /// The content of the signed message at the beginning of the octets, and a line feed.

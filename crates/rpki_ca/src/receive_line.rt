@@ -1,6 +1,7 @@
 //! The command `receive`.
 
 ghost use Rattle.std.specs.Prelude.{◌≡◌, ◌≢◌, ◌++◌, ◌∷◌, ◌≤◌, [], List, ℕ, Ok, Err, IfOk, IfErr, length};
+ghost use Rattle.rpki_common.specs.Limits.{most_keys};
 ghost use Rattle.rpki_ca.specs.Answer.{IsReceiveAnswer, IsTextAccepted, IsLineOf};
 ghost use Rattle.rpki_ca.specs.Acceptance.{RefusesReceipt, text_of, refusal_of};
 
@@ -16,6 +17,16 @@ use std::alloc::Global;
 
 impl Received {
     /// The octets of the message, a document of XML.
+    pub fn to_xml_vec(&self, alloc: Global) -> Result<Vec<u8>, OutOfMemory>
+        ensures { IfOk result (λ octets. octets.items ≡ text_of self.now) }
+    {
+        match self {
+            Received::Publication(message) => message.text_vec(alloc),
+            Received::Provisioning(message) => message.text_vec(alloc),
+        }
+    }
+
+    /// The octets of the message, a document of XML, to be shared.
     pub fn to_xml_bytes(&self, alloc: Global) -> Result<Bytes, OutOfMemory>
         ensures { IfOk result (λ octets. octets ≡ text_of self.now) }
     {
@@ -33,17 +44,17 @@ fn publication_text<P: Scheme, V: Verifier<P>>(
     keys: &[PublicKey],
     when: Time,
     verifier: &V,
-) -> Result<Bytes, ReceiveError>
+) -> Result<Vec<u8>, ReceiveError>
     requires some { 1 ≤ length keys.now }
-    requires few { length keys.now ≤ 8 }
-    ensures ok { IfOk result
-        (IsTextAccepted P.checks Kind.Publication octets.now keys.now when) }
+    requires few { length keys.now ≤ most_keys }
+    ensures ok { IfOk result (λ text.
+        IsTextAccepted P.checks Kind.Publication octets.now keys.now when text.items) }
     ensures err { IfErr result
         (RefusesReceipt P.checks Kind.Publication octets.now keys.now when) }
 {
     let cms = PublicationCms::decode(alloc, octets)?;
     cms.signed_message().validate_any_at(verifier, keys, when)?;
-    Ok(cms.message().text_bytes(alloc)?)
+    Ok(cms.message().text_vec(alloc)?)
 }
 
 // The text of the message of the provisioning protocol that is received of the octets.
@@ -53,17 +64,17 @@ fn provisioning_text<P: Scheme, V: Verifier<P>>(
     keys: &[PublicKey],
     when: Time,
     verifier: &V,
-) -> Result<Bytes, ReceiveError>
+) -> Result<Vec<u8>, ReceiveError>
     requires some { 1 ≤ length keys.now }
-    requires few { length keys.now ≤ 8 }
-    ensures ok { IfOk result
-        (IsTextAccepted P.checks Kind.Provisioning octets.now keys.now when) }
+    requires few { length keys.now ≤ most_keys }
+    ensures ok { IfOk result (λ text.
+        IsTextAccepted P.checks Kind.Provisioning octets.now keys.now when text.items) }
     ensures err { IfErr result
         (RefusesReceipt P.checks Kind.Provisioning octets.now keys.now when) }
 {
     let cms = ProvisioningCms::decode(alloc, octets)?;
     cms.signed_message().validate_any_at(verifier, keys, when)?;
-    Ok(cms.message().text_bytes(alloc)?)
+    Ok(cms.message().text_vec(alloc)?)
 }
 
 // The text of the message of the kind that is received of the octets.
@@ -74,10 +85,11 @@ fn received_text<P: Scheme, V: Verifier<P>>(
     keys: &[PublicKey],
     when: Time,
     verifier: &V,
-) -> Result<Bytes, ReceiveError>
+) -> Result<Vec<u8>, ReceiveError>
     requires some { 1 ≤ length keys.now }
-    requires few { length keys.now ≤ 8 }
-    ensures ok { IfOk result (IsTextAccepted P.checks kind octets.now keys.now when) }
+    requires few { length keys.now ≤ most_keys }
+    ensures ok { IfOk result (λ text.
+        IsTextAccepted P.checks kind octets.now keys.now when text.items) }
     ensures err { IfErr result (RefusesReceipt P.checks kind octets.now keys.now when) }
 {
     match kind {
@@ -111,12 +123,12 @@ pub(crate) fn receive_line<P: Scheme, V: Verifier<P>>(
     verifier: &V,
 ) -> Result<Vec<u8>, Refusal>
     requires some { 1 ≤ length keys.now }
-    requires few { length keys.now ≤ 8 }
+    requires few { length keys.now ≤ most_keys }
     ensures ok { IfOk result (λ line.
         IsLineOf (IsReceiveAnswer P.checks kind octets.now keys.now when) line.items) }
     ensures err { IfErr result (λ e. e ≢ Refusal.OutOfMemory
         → IsReceiveAnswer P.checks kind octets.now keys.now when (Err e)) }
 {
     let text = received_text(alloc, kind, octets, keys, when, verifier)?;
-    Ok(line_of(alloc, text.as_slice())?)
+    Ok(line_of(text)?)
 }

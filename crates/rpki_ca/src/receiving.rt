@@ -1,6 +1,7 @@
 //! What a receiver accepts.
 
 ghost use Rattle.std.specs.Prelude.{◌≡◌, ◌+◌, ◌*◌, ◌≤◌, ◌<◌, ◌∷◌, [], ℕ, List, length};
+ghost use Rattle.rpki_common.specs.Limits.{most_keys};
 ghost use Rattle.rpki_der.specs.declared.mode.Mode.TheVariants.{Ber};
 ghost use Rattle.rpki_der.specs.Ticks.{nodes};
 ghost use Rattle.rpki_der.specs.Value.{Value, Begins};
@@ -148,7 +149,7 @@ pub fn receive_any<P: Scheme, V: Verifier<P>>(
     verifier: &V,
 ) -> Result<(Received, usize), ReceiveError>
     requires some { 1 ≤ length keys.now }
-    requires few { length keys.now ≤ 8 }
+    requires few { length keys.now ≤ most_keys }
     ensures { IsReceivedUnder P.checks kind octets.now keys.now when result }
 {
     receive_any_within::<P, V, Brand>(alloc, kind, octets, keys, when, verifier, Blank::new(1))
@@ -167,7 +168,7 @@ fn receive_any_within<P: Scheme, V: Verifier<P>, L: Ledger>(
     requires parts { blank.parts ≡ L.parts }
     requires here { 0 < blank.parts }
     requires some { 1 ≤ length keys.now }
-    requires few { length keys.now ≤ 8 }
+    requires few { length keys.now ≤ most_keys }
     ensures { IsReceivedUnder P.checks kind octets.now keys.now when result }
 {
     let mut steps = Steps::<L>::new(blank);
@@ -187,7 +188,7 @@ pub fn receive_any_counted<P: Scheme, V: Verifier<P>, L: Ledger>(
     steps: &mut Steps<L>,
 ) -> Result<(Received, usize), ReceiveError>
     requires some { 1 ≤ length keys.now }
-    requires few { length keys.now ≤ 8 }
+    requires few { length keys.now ≤ most_keys }
     ensures answer { IsReceivedUnder P.checks kind octets.now keys.now when result }
     ensures most { steps.new ≤ steps.old + 5 * length octets.now + 8 }
 
@@ -214,7 +215,7 @@ fn receive_publication<P: Scheme, V: Verifier<P>, L: Ledger>(
     steps: &mut Steps<L>,
 ) -> Result<(Received, usize), ReceiveError>
     requires some { 1 ≤ length keys.now }
-    requires few { length keys.now ≤ 8 }
+    requires few { length keys.now ≤ most_keys }
     ensures answer { IsReceivedUnder P.checks Kind.Publication octets.now keys.now when result }
     ensures most { steps.new ≤ steps.old + 3 * length octets.now + 8 }
     ensures least { FindsSigned result → (v : Value) (rest : List ℕ)
@@ -234,7 +235,7 @@ fn receive_provisioning<P: Scheme, V: Verifier<P>, L: Ledger>(
     steps: &mut Steps<L>,
 ) -> Result<(Received, usize), ReceiveError>
     requires some { 1 ≤ length keys.now }
-    requires few { length keys.now ≤ 8 }
+    requires few { length keys.now ≤ most_keys }
     ensures answer { IsReceivedUnder P.checks Kind.Provisioning octets.now keys.now when result }
     ensures most { steps.new ≤ steps.old + 5 * length octets.now + 8 }
     ensures least { FindsSigned result → (v : Value) (rest : List ℕ)

@@ -43,7 +43,7 @@ fn setup_line_of<P: Scheme, V: Verifier<P>>(
 {
     check_anchor(alloc, message, when, verifier)?;
     let text = message.to_xml_vec(alloc)?;
-    Ok(line_of(alloc, &text)?)
+    Ok(line_of(text)?)
 }
 
 /// The text of the setup message of this kind that the input is, if its certificate is believed as a

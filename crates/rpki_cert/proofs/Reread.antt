@@ -38,6 +38,7 @@ use Rattle.rpki_base.specs.SignedData.{SignedParts, Signed, algorithm_in, signat
 use Rattle.rpki_cert.specs.Cert.{CertFields, certificate}
 use Rattle.rpki_cert.specs.Csr.{RequestFields, request_info, certification_request}
 use Rattle.rpki_cert.specs.CsrAttributes.{ca_attributes}
+use Rattle.rpki_text.proofs.Bytes.{both_bytes, byte_first, no_bytes}
 use Rattle.rpki_idcert.proofs.Rewriting.{written_again}
 use Rattle.rpki_cert.proofs.Captured.{decodes_counted, decodes_uncounted}
 use Rattle.rpki_cert.proofs.Shorter.{back_bytes, request_spelled}
@@ -46,17 +47,6 @@ use Rattle.rpki_cert.specs.Making.{CaRequest}
 use Rattle.rpki_cert.specs.ReadInDer.{IsCertificate, IsReadInDer, IsRequest}
 
 -- ---- octets
-
-pub byte_first : (x : ℕ) (m : List ℕ) → x < 256 → IsBytes m → IsBytes (x ∷ m)
-byte_first x m lt h zero = lt
-byte_first x m lt h (suc i) = h i
-
-pub no_bytes : IsBytes []
-no_bytes i = omega arith
-
-pub both_bytes : (a b : List ℕ) → IsBytes a → IsBytes b → IsBytes (a ++ b)
-both_bytes [] b h k = k
-both_bytes (x ∷ a) b h k = byte_first x (a ++ b) (h 0) (both_bytes a b (λ i. h (suc i)) k)
 
 all_bytes : (l : List ℕ) → list_all (λ c. nat_lt c 256) l ≡ true → IsBytes l
 all_bytes [] h = no_bytes

@@ -141,47 +141,29 @@ impl FindsExtensions for Requested {
         steps: &mut Steps<L>,
     ) -> Result<Requested, DecodeError> {
         let Requested {
+            mut basic_ca,
+            mut key_usage,
+            mut extended_key_usage,
+            mut access,
+        } = self;
+        let value = extension.held();
+        if extension.identifier == BASIC_CONSTRAINTS.as_slice() {
+            basic_ca = add_authority(alloc, value, basic_ca, steps)?;
+        } else if extension.identifier == KEY_USAGE.as_slice() {
+            key_usage = add_usage(alloc, value, key_usage, steps)?;
+        } else if extension.identifier == EXTENDED_KEY_USAGE.as_slice() {
+            extended_key_usage = add_purposes(alloc, value, extended_key_usage, steps)?;
+        } else if extension.identifier == SUBJECT_INFO_ACCESS.as_slice() {
+            access = add_access(alloc, value, access, steps)?;
+        } else {
+            return Err(DecodeError::Malformed);
+        }
+        Ok(Requested {
             basic_ca,
             key_usage,
             extended_key_usage,
             access,
-        } = self;
-        let value = extension.held();
-        if extension.identifier == BASIC_CONSTRAINTS.as_slice() {
-            let basic_ca = add_authority(alloc, value, basic_ca, steps)?;
-            Ok(Requested {
-                basic_ca,
-                key_usage,
-                extended_key_usage,
-                access,
-            })
-        } else if extension.identifier == KEY_USAGE.as_slice() {
-            let key_usage = add_usage(alloc, value, key_usage, steps)?;
-            Ok(Requested {
-                basic_ca,
-                key_usage,
-                extended_key_usage,
-                access,
-            })
-        } else if extension.identifier == EXTENDED_KEY_USAGE.as_slice() {
-            let extended_key_usage = add_purposes(alloc, value, extended_key_usage, steps)?;
-            Ok(Requested {
-                basic_ca,
-                key_usage,
-                extended_key_usage,
-                access,
-            })
-        } else if extension.identifier == SUBJECT_INFO_ACCESS.as_slice() {
-            let access = add_access(alloc, value, access, steps)?;
-            Ok(Requested {
-                basic_ca,
-                key_usage,
-                extended_key_usage,
-                access,
-            })
-        } else {
-            Err(DecodeError::Malformed)
-        }
+        })
     }
 }
 

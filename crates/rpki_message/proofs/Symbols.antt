@@ -8,6 +8,7 @@ use Rattle.std.proofs.lemmas.Bool.Decides.{nat_tests}
 use Rattle.base64.specs.GeneralPurpose.{IsBytes}
 use Rattle.base64.specs.Rfc4648.{encode_symbols}
 use Rattle.rpki_common.proofs.Truths.{both}
+use Rattle.rpki_text.proofs.Bytes.{both_bytes, byte_first, no_bytes}
 use Rattle.rpki_xml.specs.Lettered.{AreOctets}
 use Rattle.rpki_xml.specs.Lexing.{is_octet}
 
@@ -15,17 +16,6 @@ differs : (x : Bool) → x ≡ true → x ≡ false → ⊥
 differs x e f = cc
 
 -- ---- octets
-
-pub byte_first : (x : ℕ) (m : List ℕ) → x < 256 → IsBytes m → IsBytes (x ∷ m)
-byte_first x m lt h zero = lt
-byte_first x m lt h (suc i) = h i
-
-pub no_bytes : IsBytes []
-no_bytes i = omega arith
-
-pub both_bytes : (a b : List ℕ) → IsBytes a → IsBytes b → IsBytes (a ++ b)
-both_bytes [] b h k = k
-both_bytes (x ∷ a) b h k = byte_first x (a ++ b) (h 0) (both_bytes a b (λ i. h (suc i)) k)
 
 -- octets of a text
 pub octet_byte : (text : List ℕ) → AreOctets text → IsBytes text

@@ -2,7 +2,7 @@
 
 ghost use Rattle.std.specs.Prelude.{◌≡◌, ◌↔◌, ◌<◌, ◌≤◌, ◌≤ℤ◌, ◌+◌, ◌++◌, ◌*◌, ◌^◌, ◌⊎◌, ℕ, ℤ, List, length};
 ghost use Rattle.std.specs.Prelude.{Result, Ok, Err, IfOk, IfErr, OnOk, IsErrOf, MatchResult};
-ghost use Rattle.rpki_common.specs.Limits.{most_content};
+ghost use Rattle.rpki_common.specs.Limits.{most_content, most_keys};
 ghost use Rattle.rpki_base.specs.Checks.{first_failure, failing};
 ghost use Rattle.rpki_base.specs.PublicKey.{KeyFields};
 ghost use Rattle.rpki_signer.specs.Limits.{Keeps};
@@ -191,7 +191,7 @@ impl ProvisioningCms {
         when: Time,
     ) -> Result<usize, Error>
         requires some { 1 ≤ length keys.now }
-        requires few { length keys.now ≤ 8 }
+        requires few { length keys.now ≤ most_keys }
 
         // Ok exactly where the signatures and all the other checks hold under the key at this place, and under none before it.
         ensures believed { (place : ℕ) → (result ≡ Ok place) ↔

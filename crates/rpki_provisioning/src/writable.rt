@@ -14,8 +14,9 @@ use rpki_updown::{
 };
 use rpki_xml::is_trimmed;
 
-// ---- what holds of parts by their types
+// ---- what holds of parts by their types: these run nothing that counts, and hand out what the types promise, for the proofs
 
+// For the proof: the three sets of resources are lists of runs in order.
 fn is_set(set: &ResourceSet)
     ensures { IsWritableSet set.now }
 {
@@ -24,12 +25,14 @@ fn is_set(set: &ResourceSet)
     let _ipv6 = set.ipv6().runs();
 }
 
+// For the proof: each stated set of a limit is one.
 fn is_limit(limit: &RequestResourceLimit)
     ensures { IsWritableLimit limit.now }
 {
     limit.stated_sets_are_sets();
 }
 
+// For the proof: location, limit and certificate of an issued certificate are lawful.
 fn is_issued(issued: &IssuedCert)
     ensures { IsWritableIssued issued.now }
 {
@@ -38,6 +41,7 @@ fn is_issued(issued: &IssuedCert)
     let _cert = issued.cert().as_slice();
 }
 
+// For the proof: all of these issued certificates are lawful.
 fn are_issued(certs: &[IssuedCert])
     ensures { AllByRecursion IsWritableIssued certs.now }
 {
@@ -46,6 +50,7 @@ fn are_issued(certs: &[IssuedCert])
     }
 }
 
+// For the proof: location and certificate of a signing certificate are lawful.
 fn is_signing(signing: &SigningCert)
     ensures { IsWritableSigning signing.now }
 {
@@ -53,6 +58,7 @@ fn is_signing(signing: &SigningCert)
     let _cert = signing.cert().as_slice();
 }
 
+// For the proof: octets are below 256.
 fn are_bytes(octets: &[u8])
     ensures { IsBytes octets.now }
 {}

@@ -106,7 +106,7 @@ impl ListReply {
     }
 }
 
-// Each object can be written so that it is read again.
+// For the proof: each object can be written so that it is read again, by what the types of its URI and its digest promise.
 fn are_writable(elements: &[ListElement])
     ensures { AllByRecursion IsWritableListElement elements.now }
 {

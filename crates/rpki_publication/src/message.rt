@@ -173,12 +173,18 @@ impl Message {
         Ok(Bytes::from_vec(text.into_bytes())?)
     }
 
-    /// The octets of the message's text, however long it is (RFC 8181, 2.1).
+    /// The octets of the message's text, however long it is (RFC 8181, 2.1), to be shared.
     pub fn text_bytes(&self, alloc: Global) -> Result<Bytes, OutOfMemory>
         ensures { IfOk result (λ octets. octets ≡ text_of self.now) }
     {
-        let text = self.text(alloc)?;
-        Ok(Bytes::from_vec(text.into_bytes())?)
+        Ok(Bytes::from_vec(self.text_vec(alloc)?)?)
+    }
+
+    /// The octets of the message's text, however long it is (RFC 8181, 2.1).
+    pub fn text_vec(&self, alloc: Global) -> Result<Vec<u8>, OutOfMemory>
+        ensures { IfOk result (λ octets. octets.items ≡ text_of self.now) }
+    {
+        Ok(self.text(alloc)?.into_bytes())
     }
 
     // The text, however long it is.

@@ -1,6 +1,7 @@
 //! Whether a signed message may be believed.
 
 ghost use Rattle.std.specs.Prelude.{◌≡◌, ◌↔◌, ◌⊎◌, ◌<◌, ◌≤◌, ◌∷◌, [], ℕ, Bool, ℤ, Decides, true, All, List, Result, Ok, Err, OnOk, bytes_eq, length};
+ghost use Rattle.rpki_common.specs.Limits.{most_keys};
 ghost use Rattle.rpki_base.specs.PublicKey.{KeyFields};
 ghost use Rattle.rpki_base.specs.declared.validation.ValidationError.{ValidationError as FailedCheck};
 ghost use Rattle.rpki_base.specs.Checks.{first_failure, failing, FirstFalse, IsSigned};
@@ -227,7 +228,7 @@ impl SignedMessage {
         when: Time,
     ) -> Result<usize, ValidationError>
         requires some { 1 ≤ length keys.now }
-        requires few { length keys.now ≤ 8 }
+        requires few { length keys.now ≤ most_keys }
 
         // Ok exactly where the signatures and all the other checks hold under the key at this place, and under none before it.
         ensures believed { (place : ℕ) → (result ≡ Ok place) ↔

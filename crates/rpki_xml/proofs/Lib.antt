@@ -4,6 +4,7 @@ pub mod Contents
 pub mod Documents
 pub mod Drafts
 pub mod Each
+pub mod Escapes
 pub mod Flats
 pub mod Found
 pub mod Held

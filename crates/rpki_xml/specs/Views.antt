@@ -1,6 +1,5 @@
 -- What the code holds, as values: the nodes of the document in memory, and the names of a writer's open elements.
-use Rattle.std.specs.Prelude.{ℕ, List, [], map, reverse, Option, Some, None}
-use Rattle.std.specs.Global.{Vec}
+use Rattle.std.specs.Prelude.{ℕ, List, [], map, reverse, Option, Some, None, String, string_bytes}
 use Rattle.std.specs.Option.{option_map}
 use Rattle.rpki_xml.specs.declared.element.Node as declared_node
 use Rattle.rpki_xml.specs.declared.element.Attribute.{Attribute as Lent}
@@ -71,5 +70,5 @@ abbrev pub slots : List ℕ → List declared_node.Node → List Slot
 slots source nodes = map (λ n. record { head = head_of source n; below = n.below }) nodes
 
 -- the names that a writer holds, the innermost last
-abbrev pub names_of : List (Vec ℕ) → List (List ℕ)
-names_of names = reverse (map (λ n. n.items) names)
+abbrev pub names_of : {Z : Type 0} → List (String Z) → List (List ℕ)
+names_of names = reverse (map string_bytes names)

@@ -2,6 +2,7 @@
 
 ghost use Rattle.std.specs.Prelude.{◌≡◌, ◌++◌, ◌∷◌, [], OnOk, OnErr, IfOk};
 ghost use Rattle.std.specs.Option.{option_copied};
+ghost use Rattle.std.specs.String.{string_bytes};
 ghost use Rattle.rpki_xml.specs.Spelling.{spelled_text, spelled_value, spelled_attribute, text_character, value_character};
 ghost use Rattle.rpki_xml.specs.Draft.{empty_draft, opened, with_attribute, with_text, closed, ending, settled, with_attributes, optional_attribute};
 ghost use Rattle.rpki_xml.specs.Views.{names_of};
@@ -18,8 +19,8 @@ use std::marker::Model;
 /// start of the innermost one still takes attributes.
 pub struct ElementWriter {
     alloc: Global,
-    octets: Vec<u8>,
-    names: Vec<Vec<u8>>,
+    octets: String,
+    names: Vec<String>,
     in_start: bool,
 }
 
@@ -35,13 +36,14 @@ impl Drop for ElementWriter {
 }
 
 impl Model for ElementWriter {
+    ghost use Rattle.std.specs.String.{string_bytes};
     ghost use Rattle.rpki_xml.specs.Draft.{Draft};
     ghost use Rattle.rpki_xml.specs.Views.{names_of};
 
     ghost Value = { Draft };
 
     ghost view = { λ w. record {
-      octets = w.octets.items;
+      octets = string_bytes w.octets;
       open_names = names_of w.names.items;
       in_start = w.in_start;
     } };
@@ -54,7 +56,7 @@ impl ElementWriter {
     {
         ElementWriter {
             alloc,
-            octets: Vec::new(alloc),
+            octets: String::new(alloc),
             names: Vec::new(alloc),
             in_start: false,
         }
@@ -67,11 +69,10 @@ impl ElementWriter {
         ensures ok { OnOk result (self.new ≡ opened name.now self.old) }
         ensures err { OnErr result (self.new ≡ self.old) }
     {
-        let name = name.as_bytes();
-        let copy = Vec::from_slice(self.alloc, name)?;
+        let copy = String::from_str(self.alloc, name)?;
         let start = start_text(self.alloc, self.in_start, name)?;
         self.names.push(copy)?;
-        match self.octets.extend_from_slice(&start) {
+        match self.octets.push_str(start.as_str()) {
             Ok(()) => {
                 self.in_start = true;
                 Ok(())
@@ -90,8 +91,8 @@ impl ElementWriter {
         ensures ok { OnOk result (self.new ≡ with_attribute name.now value.now self.old) }
         ensures err { OnErr result (self.new ≡ self.old) }
     {
-        let text = attribute_text(self.alloc, name.as_bytes(), value.as_bytes())?;
-        self.octets.extend_from_slice(&text)?;
+        let text = attribute_text(self.alloc, name, value)?;
+        self.octets.push_str(text.as_str())?;
         Ok(())
     }
 
@@ -116,8 +117,8 @@ impl ElementWriter {
         if text.is_empty() {
             return Ok(());
         }
-        let inside = inside_text(self.alloc, self.in_start, text.as_bytes())?;
-        self.octets.extend_from_slice(&inside)?;
+        let inside = inside_text(self.alloc, self.in_start, text)?;
+        self.octets.push_str(inside.as_str())?;
         self.in_start = false;
         Ok(())
     }
@@ -130,15 +131,15 @@ impl ElementWriter {
         ensures err { OnErr result (self.new ≡ self.old) }
     {
         let end = end_text(self.alloc, self.in_start, &self.names)?;
-        self.octets.extend_from_slice(&end)?;
+        self.octets.push_str(end.as_str())?;
         let _name = self.names.pop();
         self.in_start = false;
         Ok(())
     }
 
-    /// The octets that were written. Elements that are still open aren't ended.
-    pub fn done(self) -> Result<Bytes, OutOfMemory>
-        ensures { IfOk result (λ octets. octets ≡ self.octets) }
+    /// The text that was written. Elements that are still open aren't ended.
+    pub fn into_string(self) -> String
+        ensures { string_bytes result ≡ self.octets }
     {
         let ElementWriter {
             alloc: _,
@@ -146,46 +147,53 @@ impl ElementWriter {
             names: _,
             in_start: _,
         } = self;
-        Ok(Bytes::from_vec(octets)?)
+        octets
+    }
+
+    /// The octets that were written, to be shared. Elements that are still open aren't ended.
+    pub fn done(self) -> Result<Bytes, OutOfMemory>
+        ensures { IfOk result (λ octets. octets ≡ self.octets) }
+    {
+        Ok(Bytes::from_vec(self.into_string().into_bytes())?)
     }
 }
 
 // `>` where the start before it is still open, `<` and the name.
-fn start_text(alloc: Global, in_start: bool, name: &[u8]) -> Result<Vec<u8>, OutOfMemory>
-    ensures { IfOk result (λ v. v.items ≡ settled in_start [] ++ 60 ∷ name.now) }
+fn start_text(alloc: Global, in_start: bool, name: &str) -> Result<String, OutOfMemory>
+    ensures { IfOk result (λ t. string_bytes t ≡ settled in_start [] ++ 60 ∷ name.now) }
 {
-    let mut out = Vec::new(alloc);
+    let mut out = String::new(alloc);
     if in_start {
-        out.push(b'>')?;
+        out.push_str(">")?;
     }
-    out.push(b'<')?;
-    out.extend_from_slice(name)?;
+    out.push_str("<")?;
+    out.push_str(name)?;
     Ok(out)
 }
 
 // `>` where the start before it is still open, and the text.
-fn inside_text(alloc: Global, in_start: bool, text: &[u8]) -> Result<Vec<u8>, OutOfMemory>
-    ensures { IfOk result (λ v. v.items ≡ settled in_start [] ++ spelled_text text.now) }
+fn inside_text(alloc: Global, in_start: bool, text: &str) -> Result<String, OutOfMemory>
+    ensures { IfOk result (λ t. string_bytes t ≡ settled in_start [] ++ spelled_text text.now) }
 {
-    let mut out = Vec::new(alloc);
+    let mut out = String::new(alloc);
     if in_start {
-        out.push(b'>')?;
+        out.push_str(">")?;
     }
-    put_text(&mut out, text)?;
+    out.push_str(escaped_text(alloc, text)?.as_str())?;
     Ok(out)
 }
 
 // `/>` where the start is still open, else `</`, the name and `>`.
-fn end_text(alloc: Global, in_start: bool, names: &[Vec<u8>]) -> Result<Vec<u8>, OutOfMemory>
-    ensures { IfOk result (λ v. v.items ≡ ending in_start (names_of names.now)) }
+fn end_text(alloc: Global, in_start: bool, names: &[String]) -> Result<String, OutOfMemory>
+    ensures { IfOk result (λ t. string_bytes t ≡ ending in_start (names_of names.now)) }
 {
-    let mut out = Vec::new(alloc);
+    let mut out = String::new(alloc);
     if in_start {
-        out.extend_from_slice(b"/>")?;
+        out.push_str("/>")?;
     } else if let Some(name) = names.last() {
-        out.extend_from_slice(b"</")?;
-        out.extend_from_slice(name)?;
-        out.push(b'>')?;
+        out.push_str("</")?;
+        out.push_str(name.as_str())?;
+        out.push_str(">")?;
     }
     Ok(out)
 }
@@ -235,15 +243,39 @@ fn put_value(out: &mut Vec<u8>, value: &[u8]) -> Result<(), OutOfMemory>
     Ok(())
 }
 
-// ` name="value"`
-fn attribute_text(alloc: Global, name: &[u8], value: &[u8]) -> Result<Vec<u8>, OutOfMemory>
-    ensures { IfOk result (λ v. v.items ≡ spelled_attribute name.now value.now) }
+// A text with `&`, `<` and `>` as entities. Each entity is text, so what is made of a text is one.
+fn escaped_text(alloc: Global, text: &str) -> Result<String, OutOfMemory>
+    ensures { IfOk result (λ t. string_bytes t ≡ spelled_text text.now) }
 {
     let mut out = Vec::new(alloc);
-    out.push(b' ')?;
-    out.extend_from_slice(name)?;
-    out.extend_from_slice(b"=\"")?;
-    put_value(&mut out, value)?;
-    out.push(b'"')?;
+    put_text(&mut out, text.as_bytes())?;
+    match String::from_utf8(out) {
+        Ok(text) => Ok(text),
+        Err(_) => unreachable!(),
+    }
+}
+
+// A value with `&`, `<`, `>` and quotes as entities. Each entity is text, so what is made of a text is one.
+fn escaped_value(alloc: Global, value: &str) -> Result<String, OutOfMemory>
+    ensures { IfOk result (λ t. string_bytes t ≡ spelled_value value.now) }
+{
+    let mut out = Vec::new(alloc);
+    put_value(&mut out, value.as_bytes())?;
+    match String::from_utf8(out) {
+        Ok(text) => Ok(text),
+        Err(_) => unreachable!(),
+    }
+}
+
+// ` name="value"`
+fn attribute_text(alloc: Global, name: &str, value: &str) -> Result<String, OutOfMemory>
+    ensures { IfOk result (λ t. string_bytes t ≡ spelled_attribute name.now value.now) }
+{
+    let mut out = String::new(alloc);
+    out.push_str(" ")?;
+    out.push_str(name)?;
+    out.push_str("=\"")?;
+    out.push_str(escaped_value(alloc, value)?.as_str())?;
+    out.push_str("\"")?;
     Ok(out)
 }
