@@ -6,6 +6,7 @@ pub mod Drafts
 pub mod Each
 pub mod Flats
 pub mod Found
+pub mod Fronts
 pub mod Held
 pub mod Letters
 pub mod Listed
@@ -13,6 +14,7 @@ pub mod NameSets
 pub mod Octets
 pub mod Places
 pub mod Plains
+pub mod ReadAttributes
 pub mod Repetitions
 pub mod Roots
 pub mod Spelled

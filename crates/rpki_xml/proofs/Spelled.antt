@@ -202,7 +202,7 @@ stops_there : (list : List Attribute) (tail : List ℕ) → Stops is_name_octet 
 stops_there [] tail s = s
 stops_there (a ∷ list) tail s = (refl, refl)
 
-markup : (n rest : List ℕ) → is_name n ≡ true → piece_at (60 ∷ (n ++ rest)) ≡ tag_at (n ++ rest)
+pub markup : (n rest : List ℕ) → is_name n ≡ true → piece_at (60 ∷ (n ++ rest)) ≡ tag_at (n ++ rest)
 unfolding piece_at markup_at
 markup n rest h =
     let f = first_of_name n h in

@@ -6,6 +6,7 @@ ghost use Rattle.rpki_xml.specs.Draft.{Draft, empty_draft, with_attributes, with
 ghost use Rattle.rpki_xml.specs.Element.{Attribute, Element, Elements, alone, joined};
 ghost use Rattle.rpki_xml.specs.Lettered.{AreLettered};
 ghost use Rattle.rpki_xml.specs.Lexing.{IsDocument, attribute_at, character_at, ends_at, no_attribute, until};
+ghost use Rattle.rpki_xml.specs.PieceSpelling.{BeginsWithAttribute};
 ghost use Rattle.rpki_xml.specs.PlainElement.{ArePlain};
 ghost use Rattle.rpki_xml.specs.Runs.{RunsTo};
 ghost use Rattle.rpki_xml.specs.Spelling.{spelled};
@@ -70,12 +71,15 @@ pub fn runs_are_repetitions()
 {}
 
 /// Every lawful spelling of an attribute is read as that attribute, whatever follows it: in either quote, with white space round
-/// the `=`, and each character as itself or as an entity.
+/// the `=`, and each character as itself or as an entity. And where an attribute stands, what is read as one was so spelled.
 pub fn spelled_attributes_are_read()
     ensures stands { (s : List ℕ) (a : Attribute) (rest : List ℕ)
         → IsAttributeSpelling s a → no_attribute (s ++ rest) ≡ false }
     ensures read { (s : List ℕ) (a : Attribute) (rest : List ℕ)
         → IsAttributeSpelling s a → attribute_at (s ++ rest) ≡ Some (a, rest) }
+    ensures both_ways { (b : List ℕ) (a : Attribute) (rest : List ℕ)
+        → ((no_attribute b ≡ false) × (attribute_at b ≡ Some (a, rest)))
+        ↔ BeginsWithAttribute b a rest }
 {}
 
 /// `==` holds exactly between errors that are the same.
