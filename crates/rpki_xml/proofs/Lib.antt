@@ -10,8 +10,10 @@ pub mod Fronts
 pub mod Held
 pub mod Letters
 pub mod Listed
+pub mod Markup
 pub mod NameSets
 pub mod Octets
+pub mod PieceSpellings
 pub mod Places
 pub mod Plains
 pub mod ReadAttributes
