@@ -28,9 +28,6 @@ pub front_either : {X P : Type 0} (o : Option (List ℕ)) (at : List ℕ → Opt
 front_either (Some rest) at other y f g e = f rest refl e
 front_either None at other y f g e = g e
 
-pub true_false : true ≡ false → ⊥
-true_false e = cc
-
 -- ---- fronts
 
 pub front_is : (front b rest : List ℕ) → behind front b ≡ Some rest → b ≡ front ++ rest

@@ -11,13 +11,13 @@ use Rattle.rpki_xml.specs.Content.{Tag, Piece, run, passed_over, leaf, start, en
 use Rattle.rpki_xml.specs.Element.{Attribute, is_nil}
 use Rattle.rpki_xml.specs.Lexing.{or_else, character_at, ends_at, until, front_of, past_white, name_at, attribute_at, begins_white, begins_close, no_attribute, closed_at, tag_at, end_at, past_next, passed_at, run_at, markup_at, piece_at}
 use Rattle.rpki_xml.specs.Name.{is_name, is_name_octet}
-use Rattle.rpki_xml.specs.PieceSpelling.{AreAttributeSpellings, IsTagSpelling, IsEndSpelling, IsBetween, IsRunSpelling, BeginsWithPiece, ends_run}
+use Rattle.rpki_xml.specs.PieceSpelling.{AreAttributeSpellings, IsTagSpelling, IsEndSpelling, IsBetween, IsComment, IsInstruction, IsRunSpelling, BeginsWithPiece, is_markup_or_end}
 use Rattle.rpki_xml.specs.Runs.{RunsTo}
 use Rattle.rpki_xml.proofs.AttributeSpellings.{characters_run, spelled_character_read, white_passed, white_no_name, name_read, attribute_stands}
-use Rattle.rpki_xml.proofs.Fronts.{came, or_either, true_false, front_is, front_there, front_passes, white_front, name_is}
+use Rattle.rpki_xml.proofs.Fronts.{came, or_either, front_is, front_there, front_passes, white_front, name_is}
 use Rattle.rpki_xml.proofs.ReadAttributes.{stands_white, characters_are, attributes_are, attributes_run}
 use Rattle.rpki_xml.proofs.Repetitions.{characters_both, attributes_both}
-use Rattle.rpki_xml.proofs.Spelled.{Stops, markup}
+use Rattle.rpki_xml.proofs.Spelled.{Stops, true_false, markup}
 
 -- ---- what no name goes on into
 
@@ -217,19 +217,16 @@ next_was close (d ∷ b) rest e = go (behind close (d ∷ b)) refl (past_next cl
         let found = later rest f in
         (d ∷ found.0, ap (λ (l : List ℕ). d ∷ l) found.1, earlier close found.0 rest b d is found.1 found.2)
 
-between_regroup : (inside close rest : List ℕ) → (inside ++ close) ++ rest ≡ inside ++ (close ++ rest)
-between_regroup inside close rest = append_assoc inside close rest
-
-pub comment_read : (octets rest : List ℕ) → IsBetween (codes "<!--") (codes "-->") octets → piece_at (octets ++ rest) ≡ Some (passed_over, rest)
+pub comment_read : (octets rest : List ℕ) → IsComment octets → piece_at (octets ++ rest) ≡ Some (passed_over, rest)
 unfolding piece_at markup_at passed_at ◌>>=◌
 comment_read octets rest h =
-    ap piece_at (ap (λ (l : List ℕ). l ++ rest) h.is ∙ ap (λ (l : List ℕ). codes "<!--" ++ l) (between_regroup h.inside (codes "-->") rest))
+    ap piece_at (ap (λ (l : List ℕ). l ++ rest) h.is ∙ ap (λ (l : List ℕ). codes "<!--" ++ l) (append_assoc h.inside (codes "-->") rest))
     ∙ rw (next_is 45 (45 ∷ 62 ∷ []) h.inside rest h.last) refl
 
-pub instruction_read : (octets rest : List ℕ) → IsBetween (codes "<?") (codes "?>") octets → piece_at (octets ++ rest) ≡ Some (passed_over, rest)
+pub instruction_read : (octets rest : List ℕ) → IsInstruction octets → piece_at (octets ++ rest) ≡ Some (passed_over, rest)
 unfolding piece_at markup_at passed_at ◌>>=◌
 instruction_read octets rest h =
-    ap piece_at (ap (λ (l : List ℕ). l ++ rest) h.is ∙ ap (λ (l : List ℕ). codes "<?" ++ l) (between_regroup h.inside (codes "?>") rest))
+    ap piece_at (ap (λ (l : List ℕ). l ++ rest) h.is ∙ ap (λ (l : List ℕ). codes "<?" ++ l) (append_assoc h.inside (codes "?>") rest))
     ∙ rw (next_is 63 (62 ∷ []) h.inside rest h.last) refl
 
 -- octets behind an opening that are passed over were between it and the first close
@@ -251,7 +248,7 @@ unfolding piece_at
 run_begins [] h = absurd (true_false h)
 run_begins (c ∷ b) h = rw h refl
 
-ends_same : (b : List ℕ) → ends_at true 60 b ≡ ends_run b
+ends_same : (b : List ℕ) → ends_at true 60 b ≡ is_markup_or_end b
 ends_same [] = refl
 ends_same (c ∷ b) = refl
 
@@ -260,16 +257,16 @@ first_character characters [] rest some h = absurd (true_false some)
 first_character [] (c ∷ text) rest some h = absurd h
 first_character (s ∷ more) (c ∷ text) rest some h = ap (ends_at true 60) (append_assoc s (concatenated more) rest) ∙ (spelled_character_read true 60 c s (concatenated more ++ rest) refl h.0).0
 
-pub run_read : (octets text rest : List ℕ) → IsRunSpelling octets text → ends_run rest ≡ true → piece_at (octets ++ rest) ≡ Some (run text, rest)
+pub run_read : (octets text rest : List ℕ) → IsRunSpelling octets text → is_markup_or_end rest ≡ true → piece_at (octets ++ rest) ≡ Some (run text, rest)
 unfolding run_at ◌>>=◌
 run_read octets text rest h follows =
     let b = concatenated h.characters ++ rest in
     let read = (characters_both true 60 b text rest).1 (characters_run true 60 h.characters text rest refl (ends_same rest ∙ follows) h.spelled) in
     ap piece_at (ap (λ (l : List ℕ). l ++ rest) h.is) ∙ run_begins b (first_character h.characters text rest h.some h.spelled) ∙ rw read refl
 
-ended : {X : Type 0} (stops : List ℕ → Bool) (at : List ℕ → Option (X × List ℕ)) (b : List ℕ) (list : List X) (rest : List ℕ) → RunsTo stops at b list rest → stops rest ≡ true
-ended stops at b [] rest h = subst (λ (l : List ℕ). stops l ≡ true) h.0 h.1
-ended stops at b (x ∷ list) rest h = ended stops at h.1.0 list rest h.1.2
+stopped : {X : Type 0} (stops : List ℕ → Bool) (at : List ℕ → Option (X × List ℕ)) (b : List ℕ) (list : List X) (rest : List ℕ) → RunsTo stops at b list rest → stops rest ≡ true
+stopped stops at b [] rest h = subst (λ (l : List ℕ). stops l ≡ true) h.0 h.1
+stopped stops at b (x ∷ list) rest h = stopped stops at h.1.0 list rest h.1.2
 
 some_text : (b text rest : List ℕ) → ends_at true 60 b ≡ false → RunsTo (ends_at true 60) character_at b text rest → is_nil text ≡ false
 some_text b [] rest off h = absurd (true_false (sym h.1 ∙ off))
@@ -282,7 +279,7 @@ run_built b text rest off runs =
       octets = concatenated p.0;
       is = p.1;
       spelled = record { characters = p.0; is = refl; spelled = p.2; some = some_text b text rest off runs };
-      follows = sym (ends_same rest) ∙ ended (ends_at true 60) character_at b text rest runs;
+      follows = sym (ends_same rest) ∙ stopped (ends_at true 60) character_at b text rest runs;
     }
 
 pub run_is : (b : List ℕ) (p : Piece) (rest : List ℕ) → ends_at true 60 b ≡ false → run_at b ≡ Some (p, rest) → BeginsWithPiece b p rest

@@ -8,13 +8,13 @@ use Rattle.rpki_xml.specs.AttributeSpelling.{concatenated}
 use Rattle.rpki_xml.specs.Content.{Piece, run, passed_over, leaf, start, end, behind}
 use Rattle.rpki_xml.specs.Element.{Element}
 use Rattle.rpki_xml.specs.Lexing.{behind_front, tag_at, end_at, passed_at, run_at, markup_at, piece_at, Repeats, IsDocument}
-use Rattle.rpki_xml.specs.PieceSpelling.{IsBetween, IsPassedOver, IsPieceSpelling, MayFollow, BeginsWithPiece, ArePieceSpellings, IsDocumentSpelling}
+use Rattle.rpki_xml.specs.PieceSpelling.{IsComment, IsInstruction, IsPieceSpelling, MayFollow, BeginsWithPiece, ArePieceSpellings, IsDocumentSpelling}
 use Rattle.rpki_xml.proofs.Fronts.{front_either, front_is}
 use Rattle.rpki_xml.proofs.Markup.{leaf_read, start_read, tag_is, end_read, end_is, comment_read, instruction_read, passed_is, run_read, run_is}
 
 -- ---- what is spelled is read
 
-passed_read : (octets rest : List ℕ) → IsPassedOver octets → piece_at (octets ++ rest) ≡ Some (passed_over, rest)
+passed_read : (octets rest : List ℕ) → (IsComment octets ⊎ IsInstruction octets) → piece_at (octets ++ rest) ≡ Some (passed_over, rest)
 passed_read octets rest (inl h) = comment_read octets rest h
 passed_read octets rest (inr h) = instruction_read octets rest h
 
@@ -27,7 +27,7 @@ piece_read octets (end name) rest h follows = end_read octets name rest h
 
 -- ---- what is read was spelled
 
-passed_piece : (b : List ℕ) (p : Piece) (rest : List ℕ) (octets : List ℕ) → passed_over ≡ p → b ≡ octets ++ rest → IsPassedOver octets → BeginsWithPiece b p rest
+passed_piece : (b : List ℕ) (p : Piece) (rest : List ℕ) (octets : List ℕ) → passed_over ≡ p → b ≡ octets ++ rest → (IsComment octets ⊎ IsInstruction octets) → BeginsWithPiece b p rest
 passed_piece b p rest octets same is h =
     let made : BeginsWithPiece b passed_over rest = record { octets = octets; is = is; spelled = h; follows = tt } in
     subst (λ (x : Piece). BeginsWithPiece b x rest) same made
@@ -69,22 +69,22 @@ pieces_are b [] h = ([], h, tt)
 pieces_are b (p ∷ list) h =
     let x = piece_is b p h.0 h.1 in
     let more = pieces_are h.0 list h.2 in
-    (x.octets ∷ more.0, x.is ∙ ap (λ (l : List ℕ). x.octets ++ l) more.1, (x.spelled, subst (MayFollow p) more.1 x.follows, more.2))
+    (x.octets ∷ more.0, x.is ∙ ap (λ (l : List ℕ). x.octets ++ l) more.1, (x.spelled, (subst (MayFollow p) more.1 x.follows, more.2)))
 
 pieces_read : (spellings : List (List ℕ)) (list : List Piece) → ArePieceSpellings spellings list → Repeats piece_at (concatenated spellings) list []
 pieces_read [] [] h = refl
 pieces_read [] (p ∷ list) h = absurd h
 pieces_read (s ∷ spellings) [] h = absurd h
-pieces_read (s ∷ spellings) (p ∷ list) h = (concatenated spellings, piece_read s p (concatenated spellings) h.0 h.1, pieces_read spellings list h.2)
+pieces_read (s ∷ spellings) (p ∷ list) h = (concatenated spellings, piece_read s p (concatenated spellings) h.0 h.1.0, pieces_read spellings list h.1.1)
 
 document_is : (b : List ℕ) (x : Element) → IsDocument b x → IsDocumentSpelling b x
 document_is b x h =
     let p = pieces_are b h.list h.pieces in
-    record { allowed = h.octets; spellings = p.0; list = h.list; is = p.1; spelled = p.2; element = h.element }
+    record { octets = h.octets; spellings = p.0; list = h.list; is = p.1; spelled = p.2; element = h.element }
 
 document_read : (b : List ℕ) (x : Element) → IsDocumentSpelling b x → IsDocument b x
 document_read b x h = record {
-  octets = h.allowed;
+  octets = h.octets;
   list = h.list;
   pieces = subst (λ (l : List ℕ). Repeats piece_at l h.list []) (sym h.is) (pieces_read h.spellings h.list h.spelled);
   element = h.element;

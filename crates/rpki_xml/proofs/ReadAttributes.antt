@@ -14,8 +14,9 @@ use Rattle.rpki_xml.specs.Lexing.{or_else, entity_at, any_entity_at, character_a
 use Rattle.rpki_xml.specs.PieceSpelling.{BeginsWithAttribute, AreAttributeSpellings}
 use Rattle.rpki_xml.specs.Runs.{RunsTo}
 use Rattle.rpki_xml.proofs.AttributeSpellings.{regrouped, attribute_read, attribute_stands}
-use Rattle.rpki_xml.proofs.Fronts.{came, tested, or_either, true_false, front_is, front_passes, white_front, name_is}
+use Rattle.rpki_xml.proofs.Fronts.{came, tested, or_either, front_is, front_passes, white_front, name_is}
 use Rattle.rpki_xml.proofs.Repetitions.{characters_both}
+use Rattle.rpki_xml.proofs.Spelled.{true_false}
 
 -- ---- characters
 
@@ -124,6 +125,9 @@ attribute_built b n behind_name after value rest on e f g =
       };
     }
 
+same_front : (b : List ℕ) (made a : Attribute) (left rest : List ℕ) → ◌≡◌ {A = Attribute × List ℕ} (made, left) (a, rest) → BeginsWithAttribute b made left → BeginsWithAttribute b a rest
+same_front b made a left rest same h = subst (λ (x : Attribute × List ℕ). BeginsWithAttribute b x.0 x.1) same h
+
 attribute_is : (b : List ℕ) (a : Attribute) (rest : List ℕ) → begins_white b ≡ true → attribute_at b ≡ Some (a, rest) → BeginsWithAttribute b a rest
 unfolding attribute_at
 attribute_is b a rest on e =
@@ -131,9 +135,7 @@ attribute_is b a rest on e =
     let q = came (behind (codes "=") (past_white p.0.1)) (λ r. quoted_at (past_white r) >>= λ v. Some (record { name = p.0.0; value = v.0 }, v.1)) (a, rest) p.2 in
     let r = came (quoted_at (past_white q.0)) (λ v. Some (record { name = p.0.0; value = v.0 }, v.1)) (a, rest) q.2 in
     let made : Attribute = record { name = p.0.0; value = r.0.0 } in
-    let same : (made, r.0.1) ≡ (a, rest) = same_some (made, r.0.1) (a, rest) r.2 in
-    let built : BeginsWithAttribute b made r.0.1 = attribute_built b p.0.0 p.0.1 q.0 r.0.0 r.0.1 on p.1 q.1 r.1 in
-    subst (λ (x : Attribute × List ℕ). BeginsWithAttribute b x.0 x.1) same built
+    same_front b made a r.0.1 rest (same_some (made, r.0.1) (a, rest) r.2) (attribute_built b p.0.0 p.0.1 q.0 r.0.0 r.0.1 on p.1 q.1 r.1)
 
 pub stands_white : (b : List ℕ) → no_attribute b ≡ false → begins_white b ≡ true
 stands_white b off = go (begins_white b) off

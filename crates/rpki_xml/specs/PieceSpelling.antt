@@ -1,4 +1,7 @@
--- The lawful spellings of the pieces of a document, and of a document, in the words of XML 1.0. None of it names a parser.
+-- The lawful spellings of the pieces of a document, and of a document, in the words of XML 1.0. No
+-- reader's steps stand here: laws say that what is read is exactly what is so spelled. There is no
+-- other markup, so no CDATA section (section 2.7), no document type declaration (section 2.8) and
+-- no reference (section 4.1) but the five entities.
 use Rattle.std.specs.Prelude.{◌≡◌, ◌⊎◌, ℕ, List, [], ◌∷◌, ◌++◌, Bool, true, false, nat_eq, codes}
 use Rattle.std.specs.List.{list_all}
 use Rattle.rpki_xml.specs.AttributeSpelling.{IsValueSpelling, IsAttributeSpelling, concatenated}
@@ -7,13 +10,15 @@ use Rattle.rpki_xml.specs.Element.{Attribute, Element, is_nil}
 use Rattle.rpki_xml.specs.Lexing.{is_octet}
 use Rattle.rpki_xml.specs.Name.{is_name, is_name_octet}
 
--- b begins with a spelling of the attribute, and rest is what follows that
+-- ---- the parts of tags
+
+-- b begins with a spelling of the attribute, and rest is what follows it
 pub record BeginsWithAttribute (b : List ℕ) (a : Attribute) (rest : List ℕ) : Type 0 where
   pub octets : List ℕ
   pub is : b ≡ octets ++ rest
   pub spelled : IsAttributeSpelling octets a
 
--- spellings of these attributes, one for each (section 3.1: each begins with white space)
+-- spellings of attributes, one for each, in their order: each begins with white space
 abbrev pub AreAttributeSpellings : List (List ℕ) → List Attribute → Type 0
 AreAttributeSpellings [] [] = Unit {0}
 AreAttributeSpellings [] (a ∷ more) = ⊥
@@ -21,8 +26,10 @@ AreAttributeSpellings (s ∷ spellings) [] = ⊥
 AreAttributeSpellings (s ∷ spellings) (a ∷ more) =
     IsAttributeSpelling s a × AreAttributeSpellings spellings more
 
--- a start tag or an empty-element tag (section 3.1): `<`, the name, the attributes, white space or none, and `close`, which is
--- `>` for a start and `/>` for an empty element
+-- ---- pieces
+
+-- a tag that begins with a name (section 3.1): `<`, the name, its attributes, white space or none,
+-- and `close`, which is `>` for a start tag and `/>` for an empty-element tag
 pub record IsTagSpelling (close octets : List ℕ) (tag : Tag) : Type 0 where
   pub attributes : List (List ℕ)
   pub white : List ℕ
@@ -41,20 +48,26 @@ pub record IsEndSpelling (octets name : List ℕ) : Type 0 where
   pub name_octets : list_all is_name_octet name ≡ true
   pub all_white : list_all is_white white ≡ true
 
--- `opening`, any octets, and `closing`; behind `opening`, where `closing` stands it stands last, so that it stands nowhere
--- earlier
+-- an opening mark, any octets, and a closing mark. Wherever the closing mark stands behind the
+-- opening one, it stands last: so it stands nowhere earlier
 pub record IsBetween (opening closing octets : List ℕ) : Type 0 where
   pub inside : List ℕ
   pub is : octets ≡ opening ++ (inside ++ closing)
   pub last : (front back : List ℕ) → inside ++ closing ≡ front ++ (closing ++ back) → back ≡ []
 
--- a comment (section 2.5), in which `--` may stand too, or a processing instruction (section 2.6), whose target may be any
-abbrev pub IsPassedOver : List ℕ → Type 0
-IsPassedOver octets =
-    IsBetween (codes "<!--") (codes "-->") octets ⊎ IsBetween (codes "<?") (codes "?>") octets
+-- a comment (section 2.5): neither `<!-->` nor `<!--->` is one, since the two marks share no octet.
+-- Other than in XML, `--` may stand inside
+abbrev pub IsComment : List ℕ → Type 0
+IsComment octets = IsBetween (codes "<!--") (codes "-->") octets
 
--- a text run (section 2.4): one character or more, each as itself or as an entity. None is `<` or `&` as itself: the characters
--- are spelled as those of a value between two `<`
+-- a processing instruction (section 2.6), and the XML declaration (section 2.8), which is spelled
+-- as one. Other than in XML, anything may stand inside, with a target or none
+abbrev pub IsInstruction : List ℕ → Type 0
+IsInstruction octets = IsBetween (codes "<?") (codes "?>") octets
+
+-- a text run (section 2.4): one character or more, each as itself or as an entity, and as itself
+-- neither `&` nor `<` (60): they are spelled as the characters of a value whose quote is `<`. Other
+-- than in XML, `]]>` may stand in it
 pub record IsRunSpelling (octets text : List ℕ) : Type 0 where
   pub characters : List (List ℕ)
   pub is : octets ≡ concatenated characters
@@ -64,44 +77,50 @@ pub record IsRunSpelling (octets text : List ℕ) : Type 0 where
 -- the octets spell the piece
 abbrev pub IsPieceSpelling : List ℕ → Piece → Type 0
 IsPieceSpelling octets (run text) = IsRunSpelling octets text
-IsPieceSpelling octets passed_over = IsPassedOver octets
+IsPieceSpelling octets passed_over = IsComment octets ⊎ IsInstruction octets
 IsPieceSpelling octets (leaf tag) = IsTagSpelling (codes "/>") octets tag
 IsPieceSpelling octets (start tag) = IsTagSpelling (codes ">") octets tag
 IsPieceSpelling octets (end name) = IsEndSpelling octets name
 
--- nothing is left, or a `<` comes
-abbrev pub ends_run : List ℕ → Bool
-ends_run [] = true
-ends_run (c ∷ rest) = nat_eq c 60
+-- ---- pieces one after the other
 
--- what may follow a piece: a run goes on to the next `<` or to the end, and behind another piece anything may follow
+-- nothing follows, or a `<` (60)
+abbrev pub is_markup_or_end : List ℕ → Bool
+is_markup_or_end [] = true
+is_markup_or_end (c ∷ rest) = nat_eq c 60
+
+-- what may follow a piece: a run goes on up to the next `<` or to the end, and behind any other
+-- piece anything may follow
 abbrev pub MayFollow : Piece → List ℕ → Type 0
-MayFollow (run text) rest = ends_run rest ≡ true
+MayFollow (run text) rest = is_markup_or_end rest ≡ true
 MayFollow passed_over rest = Unit {0}
 MayFollow (leaf tag) rest = Unit {0}
 MayFollow (start tag) rest = Unit {0}
 MayFollow (end name) rest = Unit {0}
 
--- b begins with a spelling of the piece, and rest is what follows that, and may follow it
+-- b begins with a spelling of the piece, and rest is what follows it, and may follow it
 pub record BeginsWithPiece (b : List ℕ) (p : Piece) (rest : List ℕ) : Type 0 where
   pub octets : List ℕ
   pub is : b ≡ octets ++ rest
   pub spelled : IsPieceSpelling octets p
   pub follows : MayFollow p rest
 
--- spellings of these pieces, one for each, where what comes after each may follow it: so no run follows a run
+-- spellings of pieces, one for each, in their order, where what comes behind each may follow it: so
+-- no run stands behind a run
 abbrev pub ArePieceSpellings : List (List ℕ) → List Piece → Type 0
 ArePieceSpellings [] [] = Unit {0}
 ArePieceSpellings [] (p ∷ more) = ⊥
 ArePieceSpellings (s ∷ spellings) [] = ⊥
 ArePieceSpellings (s ∷ spellings) (p ∷ more) =
-    IsPieceSpelling s p × MayFollow p (concatenated spellings) × ArePieceSpellings spellings more
+    IsPieceSpelling s p
+    × (MayFollow p (concatenated spellings) × ArePieceSpellings spellings more)
 
--- the octets are ones that a document may have, and are spellings of pieces one after the other, which make the element
-pub record IsDocumentSpelling (octets : List ℕ) (x : Element) : Type 0 where
-  pub allowed : list_all is_octet octets ≡ true
+-- b consists of octets that a document may have, and is spellings of pieces one after the other,
+-- and the pieces make the element x
+pub record IsDocumentSpelling (b : List ℕ) (x : Element) : Type 0 where
+  pub octets : list_all is_octet b ≡ true
   pub spellings : List (List ℕ)
   pub list : List Piece
-  pub is : octets ≡ concatenated spellings
+  pub is : b ≡ concatenated spellings
   pub spelled : ArePieceSpellings spellings list
   pub element : IsElement list x
