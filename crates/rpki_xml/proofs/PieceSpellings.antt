@@ -1,13 +1,12 @@
 -- What is read as a piece, and as a document, is what is spelled there.
-use Rattle.std.proofs.Common.{◌≡◌, ℕ, Bool, true, false, cond, eqb, List, [], ◌∷◌, ◌++◌, Option, Some, None, refl, sym, ap, subst, ◌∙◌, append_assoc, inl, inr}
+use Rattle.std.proofs.Common.{◌≡◌, ℕ, Bool, true, false, cond, eqb, List, [], ◌∷◌, ◌++◌, Some, refl, sym, ap, subst, ◌∙◌, inl, inr}
 use Rattle.std.proofs.lemmas.Bool.{eqb-true}
-use Rattle.std.proofs.lemmas.List.{append-nil}
 use Rattle.std.specs.Prelude.{codes, ◌⊎◌}
 use Rattle.rpki_common.proofs.Truths.{none_some}
 use Rattle.rpki_xml.specs.AttributeSpelling.{concatenated}
 use Rattle.rpki_xml.specs.Content.{Piece, run, passed_over, leaf, start, end, behind}
 use Rattle.rpki_xml.specs.Element.{Element}
-use Rattle.rpki_xml.specs.Lexing.{behind_front, tag_at, end_at, passed_at, run_at, markup_at, piece_at, Repeats, IsDocument}
+use Rattle.rpki_xml.specs.Lexing.{end_at, passed_at, run_at, markup_at, piece_at, Repeats, IsDocument}
 use Rattle.rpki_xml.specs.PieceSpelling.{IsComment, IsInstruction, IsPieceSpelling, MayFollow, BeginsWithPiece, ArePieceSpellings, IsDocumentSpelling}
 use Rattle.rpki_xml.proofs.Fronts.{front_either, front_is}
 use Rattle.rpki_xml.proofs.Markup.{leaf_read, start_read, tag_is, end_read, end_is, comment_read, instruction_read, passed_is, run_read, run_is}

@@ -1,16 +1,15 @@
 -- What is read as an attribute was spelled as it.
-use Rattle.std.proofs.Common.{◌≡◌, ℕ, Bool, ◌&&◌, ◌||◌, not, true, false, cond, eqb, List, [], ◌∷◌, ◌++◌, Option, Some, None, refl, sym, ap, subst, ◌∙◌, append_assoc}
+use Rattle.std.proofs.Common.{◌≡◌, ℕ, Bool, ◌||◌, not, true, false, cond, eqb, List, [], ◌∷◌, ◌++◌, Option, Some, None, refl, sym, ap, subst, ◌∙◌, append_assoc}
 use Rattle.std.proofs.lemmas.Bool.{eqb-true}
 use Rattle.std.proofs.lemmas.List.Folds.{list_all-append}
 use Rattle.std.specs.List.{list_all}
 use Rattle.std.specs.Prelude.{codes}
-use Rattle.std.specs.Str.{bytes_eq}
 use Rattle.rpki_common.specs.Chaining.{◌>>=◌}
 use Rattle.rpki_common.proofs.Truths.{none_some, same_some, equal_octets}
-use Rattle.rpki_xml.specs.AttributeSpelling.{is_entity, is_itself, IsValueSpelling, concatenated, IsAttributeSpelling}
+use Rattle.rpki_xml.specs.AttributeSpelling.{is_entity, is_itself, IsValueSpelling, concatenated}
 use Rattle.rpki_xml.specs.Content.{behind, is_white}
 use Rattle.rpki_xml.specs.Element.{Attribute, is_nil}
-use Rattle.rpki_xml.specs.Lexing.{or_else, entity_at, any_entity_at, character_at, ends_at, until, value_in, quoted_at, front_of, past_white, name_at, attribute_at, begins_white, begins_close, no_attribute}
+use Rattle.rpki_xml.specs.Lexing.{entity_at, any_entity_at, character_at, ends_at, until, value_in, quoted_at, front_of, past_white, name_at, attribute_at, begins_white, begins_close, no_attribute}
 use Rattle.rpki_xml.specs.PieceSpelling.{BeginsWithAttribute, AreAttributeSpellings}
 use Rattle.rpki_xml.specs.Runs.{RunsTo}
 use Rattle.rpki_xml.proofs.AttributeSpellings.{regrouped, attribute_read, attribute_stands}

@@ -1,5 +1,6 @@
 -- Said in contracts, and to be believed:
--- documents and elements: Name, Lexing, Runs, Content, Element, Lettered, Texts, Trimmed, AttributeSpelling, PieceSpelling;
+-- documents and elements: Name, AttributeSpelling, PieceSpelling, Content, Element, Lettered, Texts, Trimmed;
+-- the same octets in a reader's steps, as laws say: Lexing, Runs;
 -- what is asked of an element, and answered: Tables, Answers, Errors;
 -- what is written: Spelling, Draft, PlainElement.
 -- Means for loops, proofs and the element in memory: PlainCharacter, Kept, Pieces, Stack, Nodes, DocumentNodes, Views.

@@ -1,7 +1,8 @@
 -- The lawful spellings of the pieces of a document, and of a document, in the words of XML 1.0. No
 -- reader's steps stand here: laws say that what is read is exactly what is so spelled. There is no
 -- other markup, so no CDATA section (section 2.7), no document type declaration (section 2.8) and
--- no reference (section 4.1) but the five entities.
+-- no reference (section 4.1) but the five entities. Name says which names there are, and Content
+-- what white space is.
 use Rattle.std.specs.Prelude.{◌≡◌, ◌⊎◌, ℕ, List, [], ◌∷◌, ◌++◌, Bool, true, false, nat_eq, codes}
 use Rattle.std.specs.List.{list_all}
 use Rattle.rpki_xml.specs.AttributeSpelling.{IsValueSpelling, IsAttributeSpelling, concatenated}
