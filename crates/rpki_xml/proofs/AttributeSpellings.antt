@@ -24,29 +24,28 @@ either false b f g e = g e
 -- ---- characters
 
 -- reading goes on at the spelling of a character, and gives it
-abbrev IsRead : ℕ → ℕ → List ℕ → List ℕ → Type 0
-IsRead quote c s tail = (ends_at false quote (s ++ tail) ≡ false) × (character_at (s ++ tail) ≡ Some (c, tail))
+abbrev IsRead : Bool → ℕ → ℕ → List ℕ → List ℕ → Type 0
+IsRead at_end quote c s tail = (ends_at at_end quote (s ++ tail) ≡ false) × (character_at (s ++ tail) ≡ Some (c, tail))
 
 by_quote : (P : ℕ → Type 0) (quote : ℕ) → P 34 → P 39 → (eqb quote 34 || eqb quote 39) ≡ true → P quote
 by_quote P quote p q e = either (eqb quote 34) (eqb quote 39) (λ f. subst P (sym (eqb-true quote 34 f)) p) (λ f. subst P (sym (eqb-true quote 39 f)) q) e
 
-one_entity : (quote k c : ℕ) (t s tail : List ℕ) → IsRead quote k t tail → (eqb c k && bytes_eq s t) ≡ true → IsRead quote c s tail
-one_entity quote k c t s tail h e =
+one_entity : (at_end : Bool) (quote k c : ℕ) (t s tail : List ℕ) → IsRead at_end quote k t tail → (eqb c k && bytes_eq s t) ≡ true → IsRead at_end quote c s tail
+one_entity at_end quote k c t s tail h e =
     let p = both (eqb c k) (bytes_eq s t) e in
-    subst (λ (d : ℕ). IsRead quote d s tail) (sym (eqb-true c k p.0)) (subst (λ (u : List ℕ). IsRead quote k u tail) (sym (same_octets s t p.1)) h)
+    subst (λ (d : ℕ). IsRead at_end quote d s tail) (sym (eqb-true c k p.0)) (subst (λ (u : List ℕ). IsRead at_end quote k u tail) (sym (same_octets s t p.1)) h)
 
-entity_read : (quote c : ℕ) (s tail : List ℕ) → (eqb quote 34 || eqb quote 39) ≡ true → is_entity c s ≡ true → IsRead quote c s tail
+entity_read : (at_end : Bool) (quote c : ℕ) (s tail : List ℕ) → eqb 38 quote ≡ false → is_entity c s ≡ true → IsRead at_end quote c s tail
 unfolding character_at any_entity_at ◌>>=◌
-entity_read quote c s tail q e =
+entity_read at_end quote c s tail q e =
     either (first_four) (eqb c 39 && bytes_eq s (codes "&apos;"))
     (either (first_three) (eqb c 34 && bytes_eq s (codes "&quot;"))
     (either (first_two) (eqb c 62 && bytes_eq s (codes "&gt;"))
     (either (eqb c 38 && bytes_eq s (codes "&amp;")) (eqb c 60 && bytes_eq s (codes "&lt;"))
-    (one_entity quote 38 c (codes "&amp;") s tail (by_quote (λ k. IsRead k 38 (codes "&amp;") tail) quote (refl, refl) (refl, refl) q))
-    (one_entity quote 60 c (codes "&lt;") s tail (by_quote (λ k. IsRead k 60 (codes "&lt;") tail) quote (refl, refl) (refl, refl) q)))
-    (one_entity quote 62 c (codes "&gt;") s tail (by_quote (λ k. IsRead k 62 (codes "&gt;") tail) quote (refl, refl) (refl, refl) q)))
-    (one_entity quote 34 c (codes "&quot;") s tail (by_quote (λ k. IsRead k 34 (codes "&quot;") tail) quote (refl, refl) (refl, refl) q)))
-    (one_entity quote 39 c (codes "&apos;") s tail (by_quote (λ k. IsRead k 39 (codes "&apos;") tail) quote (refl, refl) (refl, refl) q))
+    (one_entity at_end quote 38 c (codes "&amp;") s tail (q, refl)) (one_entity at_end quote 60 c (codes "&lt;") s tail (q, refl)))
+    (one_entity at_end quote 62 c (codes "&gt;") s tail (q, refl)))
+    (one_entity at_end quote 34 c (codes "&quot;") s tail (q, refl)))
+    (one_entity at_end quote 39 c (codes "&apos;") s tail (q, refl))
     e
   where
     first_two : Bool
@@ -64,50 +63,57 @@ no_one true b c e = absurd cc
 no_one false true c e = absurd cc
 no_one false false true e = absurd cc
 
-itself_read : (quote c : ℕ) (s tail : List ℕ) → is_itself quote c s ≡ true → IsRead quote c s tail
+itself_read : (at_end : Bool) (quote c : ℕ) (s tail : List ℕ) → is_itself quote c s ≡ true → IsRead at_end quote c s tail
 unfolding character_at
-itself_read quote c s tail e =
+itself_read at_end quote c s tail e =
     let p = both (bytes_eq s (c ∷ [])) (not (eqb c 38 || eqb c 60 || eqb c quote)) e in
     let n = no_one (eqb c 38) (eqb c 60) (eqb c quote) p.1 in
-    subst (λ (u : List ℕ). IsRead quote c u tail) (sym (same_octets s (c ∷ []) p.0)) (n.2, rw (n.0, n.1) refl)
+    subst (λ (u : List ℕ). IsRead at_end quote c u tail) (sym (same_octets s (c ∷ []) p.0)) (n.2, rw (n.0, n.1) refl)
+
+pub spelled_character_read : (at_end : Bool) (quote c : ℕ) (s tail : List ℕ) → eqb 38 quote ≡ false → (is_itself quote c s || is_entity c s) ≡ true → (ends_at at_end quote (s ++ tail) ≡ false) × (character_at (s ++ tail) ≡ Some (c, tail))
+spelled_character_read at_end quote c s tail q e = either (is_itself quote c s) (is_entity c s) (itself_read at_end quote c s tail) (entity_read at_end quote c s tail q) e
 
 quote_same : (quote : ℕ) → (eqb quote 34 || eqb quote 39) ≡ true → eqb quote quote ≡ true
 quote_same quote q = by_quote (λ k. eqb k k ≡ true) quote refl refl q
 
+quote_no_entity : (quote : ℕ) → (eqb quote 34 || eqb quote 39) ≡ true → eqb 38 quote ≡ false
+quote_no_entity quote q = by_quote (λ k. eqb 38 k ≡ false) quote refl refl q
+
 -- ---- values
 
-value_runs : (quote : ℕ) (characters : List (List ℕ)) (value rest : List ℕ) → (eqb quote 34 || eqb quote 39) ≡ true → IsValueSpelling quote characters value
-    → RunsTo (ends_at false quote) character_at (concatenated characters ++ quote ∷ rest) value (quote ∷ rest)
-value_runs quote [] [] rest q h = (refl, quote_same quote q)
-value_runs quote [] (c ∷ value) rest q h = absurd h
-value_runs quote (s ∷ more) [] rest q h = absurd h
-value_runs quote (s ∷ more) (c ∷ value) rest q h =
-    let tail = concatenated more ++ quote ∷ rest in
-    let read = either (is_itself quote c s) (is_entity c s) (itself_read quote c s tail) (entity_read quote c s tail q) h.0 in
-    let regroup : (s ++ concatenated more) ++ quote ∷ rest ≡ s ++ tail = append_assoc s (concatenated more) (quote ∷ rest) in
-    (ap (ends_at false quote) regroup ∙ read.0, (tail, ap character_at regroup ∙ read.1, value_runs quote more value rest q h.1))
+-- spelled characters are read up to where reading stops
+pub characters_run : (at_end : Bool) (quote : ℕ) (characters : List (List ℕ)) (value rest : List ℕ) → eqb 38 quote ≡ false → ends_at at_end quote rest ≡ true → IsValueSpelling quote characters value
+    → RunsTo (ends_at at_end quote) character_at (concatenated characters ++ rest) value rest
+characters_run at_end quote [] [] rest q stop h = (refl, stop)
+characters_run at_end quote [] (c ∷ value) rest q stop h = absurd h
+characters_run at_end quote (s ∷ more) [] rest q stop h = absurd h
+characters_run at_end quote (s ∷ more) (c ∷ value) rest q stop h =
+    let tail = concatenated more ++ rest in
+    let read = spelled_character_read at_end quote c s tail q h.0 in
+    let regroup : (s ++ concatenated more) ++ rest ≡ s ++ tail = append_assoc s (concatenated more) rest in
+    (ap (ends_at at_end quote) regroup ∙ read.0, (tail, ap character_at regroup ∙ read.1, characters_run at_end quote more value rest q stop h.1))
 
 value_read : (quote : ℕ) (characters : List (List ℕ)) (value rest : List ℕ) → (eqb quote 34 || eqb quote 39) ≡ true → IsValueSpelling quote characters value → value_in quote (concatenated characters ++ quote ∷ rest) ≡ Some (value, rest)
 unfolding value_in ◌>>=◌
 value_read quote characters value rest q h =
     let b = concatenated characters ++ quote ∷ rest in
-    let run = (characters_both false quote b value (quote ∷ rest)).1 (value_runs quote characters value rest q h) in
+    let run = (characters_both false quote b value (quote ∷ rest)).1 (characters_run false quote characters value (quote ∷ rest) (quote_no_entity quote q) (quote_same quote q) h) in
     rw (run, quote_same quote q) refl
 
 -- ---- white space and names
 
-white_passed : (w b : List ℕ) → list_all is_white w ≡ true → past_white (w ++ b) ≡ past_white b
+pub white_passed : (w b : List ℕ) → list_all is_white w ≡ true → past_white (w ++ b) ≡ past_white b
 white_passed [] b h = refl
 white_passed (c ∷ w) b h = let p = both (is_white c) (list_all is_white w) h in rw p.0 (white_passed w b p.1)
 
-white_no_name : (c : ℕ) → is_white c ≡ true → is_name_octet c ≡ false
+pub white_no_name : (c : ℕ) → is_white c ≡ true → is_name_octet c ≡ false
 white_no_name c h = grind (arith, nat_tests)
 
 name_stops : (w : List ℕ) (c : ℕ) (b : List ℕ) → list_all is_white w ≡ true → is_name_octet c ≡ false → Stops is_name_octet (w ++ c ∷ b)
 name_stops [] c b h e = (rw e refl, rw e refl)
 name_stops (d ∷ w) c b h e = let no = white_no_name d (both (is_white d) (list_all is_white w) h).0 in (rw no refl, rw no refl)
 
-name_read : (n rest : List ℕ) → is_name n ≡ true → list_all is_name_octet n ≡ true → Stops is_name_octet rest → name_at (n ++ rest) ≡ Some (n, rest)
+pub name_read : (n rest : List ℕ) → is_name n ≡ true → list_all is_name_octet n ≡ true → Stops is_name_octet rest → name_at (n ++ rest) ≡ Some (n, rest)
 unfolding name_at
 name_read n rest lawful octets s =
     let q = front_again is_name_octet n rest octets s in
@@ -121,7 +127,7 @@ three a b c h =
     let q = both (list_all is_white b) (list_all is_white c) (sym (list_all-append is_white b c) ∙ p.1) in
     (p.0, q.0, q.1)
 
-regrouped : (w n v u x rest : List ℕ) (q : ℕ) → (w ++ (n ++ (v ++ 61 ∷ (u ++ q ∷ (x ++ q ∷ []))))) ++ rest ≡ w ++ (n ++ (v ++ 61 ∷ (u ++ q ∷ (x ++ q ∷ rest))))
+pub regrouped : (w n v u x rest : List ℕ) (q : ℕ) → (w ++ (n ++ (v ++ 61 ∷ (u ++ q ∷ (x ++ q ∷ []))))) ++ rest ≡ w ++ (n ++ (v ++ 61 ∷ (u ++ q ∷ (x ++ q ∷ rest))))
 regrouped w n v u x rest q = simp append_assoc
 
 quoted_read : (quote : ℕ) (u b value rest : List ℕ) → (eqb quote 34 || eqb quote 39) ≡ true → list_all is_white u ≡ true → value_in quote b ≡ Some (value, rest) → quoted_at (past_white (u ++ quote ∷ b)) ≡ Some (value, rest)

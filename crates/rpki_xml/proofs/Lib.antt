@@ -7,13 +7,17 @@ pub mod Each
 pub mod Escapes
 pub mod Flats
 pub mod Found
+pub mod Fronts
 pub mod Held
 pub mod Letters
 pub mod Listed
+pub mod Markup
 pub mod NameSets
 pub mod Octets
+pub mod PieceSpellings
 pub mod Places
 pub mod Plains
+pub mod ReadAttributes
 pub mod Repetitions
 pub mod Roots
 pub mod Spelled

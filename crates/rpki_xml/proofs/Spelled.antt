@@ -130,7 +130,7 @@ first_of_name : (n : List ℕ) → is_name n ≡ true → (c : ℕ) × (more : L
 first_of_name [] h = absurd cc
 first_of_name (c ∷ n) h = (c, n, refl, (both (is_first c) (ends_name false n) h).0)
 
-true_false : true ≡ false → ⊥
+pub true_false : true ≡ false → ⊥
 true_false e = cc
 
 unlike : (k c : ℕ) → is_first k ≡ false → is_first c ≡ true → eqb c k ≡ false
@@ -202,7 +202,7 @@ stops_there : (list : List Attribute) (tail : List ℕ) → Stops is_name_octet 
 stops_there [] tail s = s
 stops_there (a ∷ list) tail s = (refl, refl)
 
-markup : (n rest : List ℕ) → is_name n ≡ true → piece_at (60 ∷ (n ++ rest)) ≡ tag_at (n ++ rest)
+pub markup : (n rest : List ℕ) → is_name n ≡ true → piece_at (60 ∷ (n ++ rest)) ≡ tag_at (n ++ rest)
 unfolding piece_at markup_at
 markup n rest h =
     let f = first_of_name n h in

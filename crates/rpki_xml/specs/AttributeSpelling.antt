@@ -27,6 +27,7 @@ IsValueSpelling quote (s ∷ more) [] = ⊥
 IsValueSpelling quote (s ∷ more) (c ∷ value) =
     ((is_itself quote c s || is_entity c s) ≡ true) × IsValueSpelling quote more value
 
+-- spellings one after the other
 abbrev pub concatenated : List (List ℕ) → List ℕ
 concatenated [] = []
 concatenated (s ∷ more) = s ++ concatenated more

@@ -1,4 +1,5 @@
 -- Which octets each piece of a document is: the piece at the front of octets, and what follows it.
+-- PieceSpelling says it without a reader's steps, and `law` that it is the same.
 use Rattle.std.specs.Prelude.{◌≡◌, ℕ, zero, suc, List, [], ◌∷◌, Bool, true, false, ◌&&◌, ◌||◌, not, Option, Some, None, nat_eq, nat_le, if◌then◌else◌, codes, length}
 use Rattle.std.specs.List.{list_all}
 use Rattle.rpki_xml.specs.Element.{Attribute, Element}

@@ -1,5 +1,6 @@
 -- Said in contracts, and to be believed:
--- documents and elements: Name, Lexing, Runs, Content, Element, Lettered, Texts, Trimmed, AttributeSpelling;
+-- documents and elements: Name, AttributeSpelling, PieceSpelling, Content, Element, Lettered, Texts, Trimmed;
+-- the same octets in a reader's steps, as laws say: Lexing, Runs;
 -- what is asked of an element, and answered: Tables, Answers, Errors;
 -- what is written: Spelling, Draft, PlainElement.
 -- Means for loops, proofs and the element in memory: PlainCharacter, Kept, Pieces, Stack, Nodes, DocumentNodes, Views.
@@ -15,6 +16,7 @@ pub mod Lettered
 pub mod Lexing
 pub mod Name
 pub mod Nodes
+pub mod PieceSpelling
 pub mod Pieces
 pub mod PlainCharacter
 pub mod PlainElement

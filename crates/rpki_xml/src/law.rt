@@ -2,10 +2,12 @@
 
 ghost use Rattle.std.specs.Prelude.{◌≡◌, ◌↔◌, ◌++◌, ℕ, List, Bool, true, false, Some};
 ghost use Rattle.rpki_xml.specs.AttributeSpelling.{IsAttributeSpelling};
+ghost use Rattle.rpki_xml.specs.Content.{Piece};
 ghost use Rattle.rpki_xml.specs.Draft.{Draft, empty_draft, with_attributes, with_element, with_elements, written};
 ghost use Rattle.rpki_xml.specs.Element.{Attribute, Element, Elements, alone, joined};
 ghost use Rattle.rpki_xml.specs.Lettered.{AreLettered};
-ghost use Rattle.rpki_xml.specs.Lexing.{IsDocument, attribute_at, character_at, ends_at, no_attribute, until};
+ghost use Rattle.rpki_xml.specs.Lexing.{IsDocument, attribute_at, character_at, ends_at, no_attribute, piece_at, until};
+ghost use Rattle.rpki_xml.specs.PieceSpelling.{BeginsWithAttribute, BeginsWithPiece, IsDocumentSpelling};
 ghost use Rattle.rpki_xml.specs.PlainElement.{ArePlain};
 ghost use Rattle.rpki_xml.specs.Runs.{RunsTo};
 ghost use Rattle.rpki_xml.specs.Spelling.{spelled};
@@ -70,12 +72,27 @@ pub fn runs_are_repetitions()
 {}
 
 /// Every lawful spelling of an attribute is read as that attribute, whatever follows it: in either quote, with white space round
-/// the `=`, and each character as itself or as an entity.
+/// the `=`, and each character as itself or as an entity. And where an attribute stands, what is read as one was so spelled.
 pub fn spelled_attributes_are_read()
     ensures stands { (s : List ℕ) (a : Attribute) (rest : List ℕ)
         → IsAttributeSpelling s a → no_attribute (s ++ rest) ≡ false }
     ensures read { (s : List ℕ) (a : Attribute) (rest : List ℕ)
         → IsAttributeSpelling s a → attribute_at (s ++ rest) ≡ Some (a, rest) }
+    ensures both_ways { (b : List ℕ) (a : Attribute) (rest : List ℕ)
+        → ((no_attribute b ≡ false) × (attribute_at b ≡ Some (a, rest)))
+        ↔ BeginsWithAttribute b a rest }
+{}
+
+/// What is read as a piece at the front of octets is what is spelled there: start tags, end tags and empty-element tags, comments,
+/// processing instructions and text runs, each with every spelling that it may have, and with none besides.
+pub fn pieces_are_read_as_spelled()
+    ensures { (b : List ℕ) (p : Piece) (rest : List ℕ)
+        → (piece_at b ≡ Some (p, rest)) ↔ BeginsWithPiece b p rest }
+{}
+
+/// A document is what is spelled as one: octets that a document may have, which are spellings of pieces one after the other.
+pub fn documents_are_read_as_spelled()
+    ensures { (b : List ℕ) (x : Element) → IsDocument b x ↔ IsDocumentSpelling b x }
 {}
 
 /// `==` holds exactly between errors that are the same.

@@ -77,13 +77,13 @@ fn past_white(b: &[u8]) -> &[u8]
 pub(crate) fn is_letter(c: u8) -> bool
     ensures { result ≡ is_letter c }
 {
-    (65 <= c && c <= 90) || (97 <= c && c <= 122)
+    (b'A' <= c && c <= b'Z') || (b'a' <= c && c <= b'z')
 }
 
 fn is_name_octet(c: u8) -> bool
     ensures { result ≡ is_name_octet c }
 {
-    is_letter(c) || (48 <= c && c <= 58) || c == 45 || c == 95 || c == 46
+    is_letter(c) || (b'0' <= c && c <= b':') || c == b'-' || c == b'_' || c == b'.'
 }
 
 // Whether what stands behind the first octet of a name may stand there.
@@ -109,7 +109,7 @@ fn is_name(name: &[u8]) -> bool
 {
     match name {
         [] => false,
-        [c, rest @ ..] => (is_letter(*c) || *c == 95) && ends_name(rest),
+        [c, rest @ ..] => (is_letter(*c) || *c == b'_') && ends_name(rest),
     }
 }
 
@@ -333,7 +333,7 @@ fn begins_close(b: &[u8]) -> bool
 {
     match b {
         [] => false,
-        [c, ..] => *c == 47 || *c == 62,
+        [c, ..] => *c == b'/' || *c == b'>',
     }
 }
 
@@ -466,5 +466,5 @@ pub fn are_octets(b: &[u8]) -> bool
 fn is_octet(c: u8) -> bool
     ensures { result ≡ is_octet c }
 {
-    c == 9 || c == 10 || c == 13 || (32 <= c && c <= 126)
+    c == b'\t' || c == b'\n' || c == b'\r' || (b' ' <= c && c <= b'~')
 }

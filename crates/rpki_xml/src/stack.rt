@@ -186,7 +186,7 @@ pub(crate) fn is_all_white(text: &[u8]) -> bool
 pub(crate) fn is_white(c: u8) -> bool
     ensures { result ≡ is_white c }
 {
-    c == 9 || c == 10 || c == 13 || c == 32
+    c == b'\t' || c == b'\n' || c == b'\r' || c == b' '
 }
 
 // A text from its first octet on that is no white space.
