@@ -7,8 +7,7 @@ use Rattle.rpki_der.specs.Takes.{RefusesOctets}
 use Rattle.rpki_sigmsg.specs.Message.{MessageFields, signed_message}
 use Rattle.rpki_updown.specs.declared.error.Error.{Error}
 use Rattle.rpki_updown.specs.declared.error.Error.TheVariants as errors
-use Rattle.rpki_updown.specs.Answers.{of_der}
-use Rattle.rpki_provisioning.specs.Answers.{RefusesMessage}
+use Rattle.rpki_provisioning.specs.Answers.{RefusesMessage, of_der}
 use Rattle.rpki_sigmsg.specs.Beginning.{BeginsSigned}
 use Rattle.rpki_provisioning.specs.Cms.{RefusesCms}
 use Rattle.rpki_common.proofs.Truths.{none_some}

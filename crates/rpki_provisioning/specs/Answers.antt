@@ -3,6 +3,8 @@ use Rattle.std.specs.Prelude.{◌≡◌, ℕ, ◌<◌, ◌^◌, List, [], ◌∷
 use Rattle.std.specs.List.{flat_map}
 use Rattle.rpki_common.specs.Limits.{most_content}
 use Rattle.rpki_base.specs.declared.validation.ValidationError.{ValidationError}
+use Rattle.rpki_der.specs.declared.error.DecodeError.{DecodeError}
+use Rattle.rpki_der.specs.declared.error.DecodeError.TheVariants as der
 use Rattle.rpki_sigmsg.specs.Checks.{passed_on}
 use Rattle.rpki_xml.specs.declared.error.XmlError.TheVariants as xml
 use Rattle.rpki_updown.specs.declared.error.Error.{Error}
@@ -12,6 +14,11 @@ use Rattle.rpki_provisioning.specs.declared.shape.PayloadShape.{PayloadShape}
 use Rattle.rpki_provisioning.specs.declared.shape.PayloadShape.TheVariants as shape
 use Rattle.rpki_provisioning.specs.Message.{HasShape, HasNoShape}
 use Rattle.rpki_provisioning.specs.Shape.{MessageShape, certificate_of, request_of}
+
+-- where the octets begin with no signed message: CmsDecode, or want of memory
+abbrev pub of_der : DecodeError → Error
+of_der der.Malformed = errors.CmsDecode
+of_der der.OutOfMemory = errors.OutOfMemory
 
 -- ---- octets that are no certificate, or no request
 

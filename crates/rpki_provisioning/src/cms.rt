@@ -19,7 +19,7 @@ ghost use Rattle.rpki_der.specs.Takes.{BeginsAs};
 ghost use Rattle.rpki_der.specs.Ticks.{nodes};
 ghost use Rattle.rpki_der.specs.Value.{Value, Begins};
 ghost use Rattle.rpki_updown.specs.declared.error.Error.{Error as CmsError};
-ghost use Rattle.rpki_provisioning.specs.Answers.{validated};
+ghost use Rattle.rpki_provisioning.specs.Answers.{of_der, validated};
 ghost use Rattle.rpki_provisioning.specs.Cms.{BeginsCms, RefusesCms, FindsSigned, Says};
 ghost use Rattle.rpki_provisioning.specs.Message.{text_of};
 
@@ -27,7 +27,7 @@ use crate::message::Message;
 use bytes::Bytes;
 use rpki_base::{PublicKey, Scheme, Time, Verifier};
 use rpki_common::OutOfMemory;
-use rpki_der::Steps;
+use rpki_der::{DecodeError, Steps};
 use rpki_idcert::ValidationError;
 use rpki_sigmsg::{CreateError, SignedMessage};
 use rpki_signer::Signer;
@@ -67,6 +67,16 @@ fn passed_on<T>(answer: Result<T, ValidationError>) -> Result<T, Error>
     match answer {
         Ok(value) => Ok(value),
         Err(error) => Err(Error::Validation(error)),
+    }
+}
+
+// What is answered where the octets begin with no signed message.
+fn no_signed_message(error: DecodeError) -> Error
+    ensures { result ≡ of_der error }
+{
+    match error {
+        DecodeError::Malformed => Error::CmsDecode,
+        DecodeError::OutOfMemory => Error::OutOfMemory,
     }
 }
 
@@ -111,7 +121,10 @@ impl ProvisioningCms {
             → Begins Ber octets.now v rest →
             steps.old + nodes v ≤ steps.new }
     {
-        let signed = SignedMessage::decode_counted(alloc, octets, false, steps)?;
+        let signed = match SignedMessage::decode_counted(alloc, octets, false, steps) {
+            Ok(signed) => signed,
+            Err(error) => return Err(no_signed_message(error)),
+        };
         let message = Message::decode_slice_counted(alloc, signed.content().as_slice(), steps)?;
         Ok(ProvisioningCms { signed, message })
     }

@@ -1,6 +1,6 @@
 //! Messages.
 
-ghost use Rattle.std.specs.Prelude.{◌≡◌, ◌↔◌, ◌≤◌, ◌+◌, ◌*◌, ◌<◌, ◌^◌, length, IfOk, IfErr, OnOk, IsTrue, MatchResult, string_bytes};
+ghost use Rattle.std.specs.Prelude.{◌≡◌, ◌↔◌, ◌≤◌, ◌+◌, ◌*◌, ◌<◌, length, IfOk, IfErr, OnOk, IsTrue, MatchResult, string_bytes};
 ghost use Rattle.rpki_common.specs.Limits.{most_content};
 ghost use Rattle.rpki_message.specs.Answers.{Parses, WritesText};
 ghost use Rattle.rpki_provisioning.specs.Answers.{RefusesMessage, RefusesText};
@@ -14,7 +14,7 @@ ghost use Rattle.rpki_updown.specs.declared.payload_type.PayloadType.TheVariants
 use crate::filling::message_of_shape;
 use crate::payload::Payload;
 use crate::reading::shape_in;
-use crate::writing::text_octets;
+use crate::writing::message_text;
 use bytes::Bytes;
 use rpki_common::OutOfMemory;
 use rpki_der::Steps;
@@ -27,7 +27,6 @@ use rpki_updown::{
 use rpki_xml::read_document;
 use std::alloc::Global;
 use std::marker::{Brand, Model};
-use std::str;
 use std::sync::ledger::{Blank, Ledger};
 
 /// The media type of messages that are sent over HTTP (RFC 6492, 3).
@@ -331,8 +330,8 @@ impl Message {
         ensures { WritesText cause_of (text_of self.now) (O.written sink.old)
             (O.written sink.new) (O.faults sink.old) (O.faults sink.new) result }
     {
-        let text = self.text_bytes(alloc)?;
-        Ok(write_octets(sink, text.as_slice())?)
+        let text = message_text(alloc, self)?;
+        Ok(write_octets(sink, text.as_bytes())?)
     }
 
     /// The text of the message, a document of XML without added white space (RFC 6492, 3.2). TooLong exactly where it has more than 2^31
@@ -342,11 +341,11 @@ impl Message {
         ensures short { OnOk result (length (text_of self.now) ≤ most_content) }
         ensures refused { IfErr result (RefusesText (text_of self.now)) }
     {
-        let octets = self.to_xml_bytes(alloc)?;
-        match str::from_utf8(octets.as_slice()) {
-            Ok(text) => Ok(String::from_str(alloc, text)?),
-            Err(_) => Err(Error::OutOfMemory),
+        let text = message_text(alloc, self)?;
+        if text.len() as u64 > MOST_OCTETS {
+            return Err(Error::TooLong);
         }
+        Ok(text)
     }
 
     /// The octets of the message. TooLong exactly where there are more than 2^31.
@@ -355,17 +354,21 @@ impl Message {
         ensures short { OnOk result (length (text_of self.now) ≤ most_content) }
         ensures refused { IfErr result (RefusesText (text_of self.now)) }
     {
-        let octets = self.text_bytes(alloc)?;
-        if octets.as_slice().len() as u64 > MOST_OCTETS {
-            return Err(Error::TooLong);
-        }
-        Ok(octets)
+        let text = self.to_xml_string(alloc)?;
+        Ok(Bytes::from_vec(text.into_bytes())?)
     }
 
-    /// The octets of the message's text, however long it is (RFC 6492, 3.2).
+    /// The octets of the message's text, however long it is (RFC 6492, 3.2), to be shared.
     pub fn text_bytes(&self, alloc: Global) -> Result<Bytes, OutOfMemory>
         ensures { IfOk result (λ octets. octets ≡ text_of self.now) }
     {
-        text_octets(alloc, self)
+        Ok(Bytes::from_vec(self.text_vec(alloc)?)?)
+    }
+
+    /// The octets of the message's text, however long it is (RFC 6492, 3.2).
+    pub fn text_vec(&self, alloc: Global) -> Result<Vec<u8>, OutOfMemory>
+        ensures { IfOk result (λ octets. octets.items ≡ text_of self.now) }
+    {
+        Ok(message_text(alloc, self)?.into_bytes())
     }
 }

@@ -17,7 +17,6 @@ ghost use Rattle.rpki_xml.specs.Element.{elements_of};
 
 use crate::message::Message;
 use crate::payload::Payload;
-use bytes::Bytes;
 use rpki_base::{KeyIdentifier, Time};
 use rpki_cert::Cert;
 use rpki_common::OutOfMemory;
@@ -316,11 +315,11 @@ fn write_message(
     writer.close()
 }
 
-/// The octets of a message's text.
-pub(crate) fn text_octets(alloc: Global, message: &Message) -> Result<Bytes, OutOfMemory>
-    ensures { IfOk result (λ octets. octets ≡ text_of message.now) }
+/// A message's text.
+pub(crate) fn message_text(alloc: Global, message: &Message) -> Result<String, OutOfMemory>
+    ensures { IfOk result (λ text. string_bytes text ≡ text_of message.now) }
 {
     let mut writer = ElementWriter::new(alloc);
     write_message(alloc, &mut writer, message)?;
-    writer.done()
+    Ok(writer.into_string())
 }

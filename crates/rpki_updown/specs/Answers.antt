@@ -1,7 +1,5 @@
 -- What calls answer, and how errors of lower layers are passed on.
 use Rattle.std.specs.Prelude.{◌≡◌, ℕ, List, Option, None, Some, ⊤}
-use Rattle.rpki_der.specs.declared.error.DecodeError.{DecodeError}
-use Rattle.rpki_der.specs.declared.error.DecodeError.TheVariants as der
 use Rattle.rpki_message.specs.declared.cause.Cause.{Cause}
 use Rattle.rpki_message.specs.declared.cause.Cause.TheVariants as causes
 use Rattle.rpki_sets.specs.Resources.{Resources}
@@ -19,10 +17,6 @@ use Rattle.rpki_updown.specs.RequestResourceLimit.{LimitFields, IsContained}
 abbrev pub of_xml : XmlError → Error
 of_xml xml.Malformed = errors.XmlError xml.Malformed
 of_xml xml.OutOfMemory = errors.OutOfMemory
-
-abbrev pub of_der : DecodeError → Error
-of_der der.Malformed = errors.CmsDecode
-of_der der.OutOfMemory = errors.OutOfMemory
 
 abbrev pub of_reading : ReadAllError → Error
 of_reading read.Read = errors.Read

@@ -1,7 +1,7 @@
 //! Why a message was not read, written or believed, and why a limit does not hold.
 
 ghost use Rattle.std.specs.Prelude.{◌≡◌};
-ghost use Rattle.rpki_updown.specs.Answers.{of_cause, of_der, of_reading, of_xml};
+ghost use Rattle.rpki_updown.specs.Answers.{of_cause, of_reading, of_xml};
 ghost use Rattle.rpki_xml.specs.declared.error.XmlError.TheVariants as xml;
 ghost use Rattle.rpki_updown.specs.declared.error.Error.TheVariants as variant;
 
@@ -9,7 +9,6 @@ use crate::payload_type::PayloadTypeError;
 use crate::request_resource_limit::RequestResourceLimit;
 use rpki_base::ValidationError;
 use rpki_common::OutOfMemory;
-use rpki_der::DecodeError;
 use rpki_message::Cause;
 use rpki_sets::ResourceSet;
 use rpki_text::ReadAllError;
@@ -105,17 +104,6 @@ impl From<PayloadTypeError> for Error {
 
     fn from(error: PayloadTypeError) -> Error {
         Error::InvalidPayloadType(error)
-    }
-}
-
-impl From<DecodeError> for Error {
-    ghost from_gives = { λ error e. e ≡ of_der error };
-
-    fn from(error: DecodeError) -> Error {
-        match error {
-            DecodeError::Malformed => Error::CmsDecode,
-            DecodeError::OutOfMemory => Error::OutOfMemory,
-        }
     }
 }
 
