@@ -10,6 +10,7 @@ use Rattle.layers.specs.declared.layer.Layer.TheVariants as layers
 use Rattle.layers.specs.declared.layer.Outcome.{Outcome}
 use Rattle.layers.specs.declared.layer.Outcome.TheVariants as outcome
 
+-- the layer that has this name
 abbrev pub layer_named : List ℕ → Option Layer
 layer_named name =
     if bytes_eq name (codes "document") then Some layers.Document
@@ -43,6 +44,7 @@ SaysOfWalk outcome.OutOfMemory octets = ⊤
 SaysOfWalk outcome.Read octets = ⊥
 SaysOfWalk (outcome.Octets count) octets = ⊥
 
+-- what an outcome says of octets, by the layer
 abbrev pub Says : Layer → Outcome → List ℕ → Type 0
 Says layers.Document o octets = SaysOfDocument o octets
 Says layers.Tree o octets = SaysOfTree o octets

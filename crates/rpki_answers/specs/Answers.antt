@@ -9,7 +9,8 @@ use Rattle.rpki_answers.specs.Question.{QuestionFields, Holds}
 
 -- ---- what answers are right
 
--- there are as many answers as questions, and each says whether what its question asks is so under the scheme
+-- there are as many answers as questions, and each says whether what its question asks is so under
+-- the scheme
 abbrev pub AreRight : Relation → List QuestionFields → List Bool → Type 0
 AreRight scheme [] [] = ⊤
 AreRight scheme [] (a ∷ answers) = ⊥

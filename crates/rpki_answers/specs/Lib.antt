@@ -1,4 +1,5 @@
--- Said in contracts, and to be believed: Question, Answers, Receiving, Making, Words, Output, Running.
+-- Said in contracts, and to be believed: Question, Answers, Receiving, Making, Words, Output,
+-- Running.
 pub mod Question
 pub mod Answers
 pub mod Receiving

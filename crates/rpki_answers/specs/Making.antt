@@ -1,4 +1,5 @@
--- What is to be signed of a message, and the message with its signatures (RFC 5652, 5.4; RFC 5280, 4.1 and 5.1; RFC 6492, 3.1).
+-- What is to be signed of a message, and the message with its signatures (RFC 5652, 5.4; RFC 5280,
+-- 4.1 and 5.1; RFC 6492, 3.1).
 use Rattle.std.specs.Prelude.{false, ◌≡◌, ◌≢◌, ◌≤ℤ◌, ◌≤◌, ◌^◌, ◌⊎◌, ℕ, ℤ, List, length, ⊤}
 use Rattle.rpki_common.specs.Limits.{most_content}
 use Rattle.rpki_base.specs.RpkiSignatureAlgorithm.{RpkiAlgorithm}
@@ -19,7 +20,8 @@ use Rattle.rpki_answers.specs.declared.preparing.PrepareError.TheVariants as err
 
 -- ---- what is to be signed
 
--- of a content by a plan: the content with the moment, an empty CRL of the issuing key, and that key's certificate for the other
+-- of a content by a plan: the content with the moment, an empty CRL of the issuing key, and that
+-- key's certificate for the other
 abbrev pub unsigned : List ℕ → Plan → UnsignedFields
 unsigned content p = record {
   content = record { content = content; moment = p.when };
@@ -27,13 +29,15 @@ unsigned content p = record {
   certificate = made_fields false p.issuing_key p.key p.serial (window p.when);
 }
 
--- the octets of the attributes in a SET, of the CRL's fields and of the certificate's
+-- the octets of the attributes in a SET
 abbrev pub attributes_to_sign : List ℕ → Plan → List ℕ
 attributes_to_sign content p = made_covered content p.when
 
+-- the octets of the CRL's fields
 abbrev pub crl_to_sign : Plan → List ℕ
 crl_to_sign p = spelled_tbs_crl (made_crl p.issuing_key p.when)
 
+-- the octets of the certificate's fields
 abbrev pub certificate_to_sign : Plan → List ℕ
 certificate_to_sign p =
     spelled_tbs (made_fields false p.issuing_key p.key p.serial (window p.when))
@@ -51,7 +55,8 @@ pub record AreRsa (p : Plan) : Type 0 where
   pub issuing_key : p.issuing_key.format ≡ Rsa
   pub key : p.key.format ≡ Rsa
 
--- the moment has a window, the serial number is one, nothing is too long, and the keys are two RSA keys
+-- the moment has a window, the serial number is one, nothing is too long, and the keys are two RSA
+-- keys
 pub record CanPrepare (content : List ℕ) (p : Plan) : Type 0 where
   pub window_is : HasWindow p.when
   pub twenty : length p.serial ≡ 20
@@ -75,6 +80,7 @@ PrepareFails content p errors.OutOfMemory = ⊤
 abbrev pub signature_of : List ℕ → SignatureParts RpkiAlgorithm
 signature_of octets = record { algorithm = default_algorithm; value = octets }
 
+-- the message of this content by the plan, with these three signatures
 abbrev pub finished : List ℕ → Plan → Signatures → MessageFields
 finished content p s = signed_message_of (unsigned content p)
     (signature_of s.attributes) (signature_of s.crl) (signature_of s.certificate)

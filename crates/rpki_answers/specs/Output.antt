@@ -27,6 +27,7 @@ question_line q =
     ++ (codes " " ++ (encode_lower q.octets
     ++ (codes " " ++ encode_lower q.signature)))))
 
+-- questions, a line each
 abbrev pub question_lines : List QuestionFields → List ℕ
 question_lines list = answer_lines (map question_line list)
 
@@ -39,7 +40,8 @@ abbrev pub lines_to_sign : List ℕ → Plan → List ℕ
 lines_to_sign content p = octet_lines
     (attributes_to_sign content p ∷ crl_to_sign p ∷ certificate_to_sign p ∷ [])
 
--- the octets of what is to be signed of a message, each on a line: of the attributes, of the CRL and of the certificate
+-- the octets of what is to be signed of a message, each on a line: of the attributes, of the CRL
+-- and of the certificate
 abbrev pub lines_of : UnsignedFields → List ℕ
 lines_of u = octet_lines (made_covered u.content.content u.content.moment
     ∷ spelled_tbs_crl u.crl ∷ spelled_tbs u.certificate ∷ [])

@@ -1,5 +1,5 @@
--- What the checks of a signed message ask of a scheme, as data: of the attributes (RFC 5652, 5.4 and 5.6), of the certificate
--- (RFC 5280, 4.1.1.3) and of each CRL (RFC 5280, 5.1.1.3).
+-- What the checks of a signed message ask of a scheme, as data: of the attributes (RFC 5652, 5.4
+-- and 5.6), of the certificate (RFC 5280, 4.1.1.3) and of each CRL (RFC 5280, 5.1.1.3).
 use Rattle.std.specs.Prelude.{ℕ, ◌+◌, List, [], ◌∷◌, ◌++◌}
 use Rattle.rpki_base.specs.PublicKey.{KeyFields}
 use Rattle.rpki_base.specs.Scheme.{Relation}
@@ -64,6 +64,7 @@ keys_questions m place [] = []
 keys_questions m place (key ∷ keys) =
     key_questions m place key ++ keys_questions m (place + 1) keys
 
--- all that the checks under a list of keys ask, in their order: 3 once, and 8 and 10 under one key after the other
+-- all that the checks under a list of keys ask, in their order: 3 once, and 8 and 10 under one key
+-- after the other
 abbrev pub questions : MessageFields → List KeyFields → List QuestionFields
 questions m keys = attributes_question m ∷ keys_questions m 0 keys

@@ -23,7 +23,8 @@ pub record HoldsQuestions (octets : List ℕ) (keys : List KeyFields) (list : Li
   pub begins : BeginsSigned octets signed
   pub are : list ≡ questions signed keys
 
--- the answers are right under the scheme, of the message with which the octets begin, if they begin with one
+-- the answers are right under the scheme, of the message with which the octets begin, if they begin
+-- with one
 abbrev pub AreRightOf : Relation → List ℕ → List KeyFields → List Bool → Type 0
 AreRightOf scheme octets keys answers =
     (list : List QuestionFields) → HoldsQuestions octets keys list → AreRight scheme list answers
@@ -43,7 +44,8 @@ pub record IsReceivedBy (kind : Kind) (octets : List ℕ) (keys : List KeyFields
   pub number : length answers ≡ length list
   pub is : IsReceivedUnder (by_answers list answers) kind octets keys when result
 
--- what is received of octets by answers, with the place of the key; each error by its cause: of want of memory nothing is said
+-- what is received of octets by answers, with the place of the key; each error by its cause: of
+-- want of memory nothing is said
 abbrev pub IsAnswered : Kind → List ℕ → List KeyFields → ℤ → List Bool
     → Result (Received × ℕ) AnsweredError → Type 0
 IsAnswered kind octets keys when answers (Ok received) =

@@ -45,7 +45,8 @@ abbrev pub IsOnLine : (Result (List ℕ) Refusal → Type 0) → Result (List �
 IsOnLine is_answer (Ok output) = IsLineOf is_answer output
 IsOnLine is_answer (Err refusal) = is_answer (Err refusal)
 
--- there are as many answers as questions, and it is what `receive` answers under the scheme that they are
+-- there are as many answers as questions, and it is what `receive` answers under the scheme that
+-- they are
 pub record IsByAnswers (kind : Kind) (octets : List ℕ) (keys : List KeyFields) (when : ℤ)
     (answers : List Bool) (answer : Result (List ℕ) Refusal) : Type 0 where
   pub list : List QuestionFields
@@ -53,8 +54,8 @@ pub record IsByAnswers (kind : Kind) (octets : List ℕ) (keys : List KeyFields)
   pub number : length answers ≡ length list
   pub is : IsOnLine (IsReceiveAnswer (by_answers list answers) kind octets keys when) answer
 
--- `receive`: CmsDecode where there is no signed message, Usage where there are more or fewer answers than questions, and else what
--- the answers say
+-- `receive`: CmsDecode where there is no signed message, Usage where there are more or fewer
+-- answers than questions, and else what the answers say
 abbrev pub IsAnsweredReceipt : Kind → List ℕ → List KeyFields → ℤ → List Bool
     → Result (List ℕ) Refusal → Type 0
 IsAnsweredReceipt kind octets keys when answers answer =
@@ -125,17 +126,19 @@ IsTaskAnswer (Finish kind plan signatures) input answer =
 
 -- ---- at the end of a call
 
--- the output is written whole with status 0, or the refusal's line with its status; or a part of it with 11
+-- the output is written whole with status 0, or the refusal's line with its status; or a part of it
+-- with 11
 abbrev pub EndsOn : Result (List ℕ) Refusal → ℕ → Seen → Type 0
 EndsOn (Ok output) status sink = EndsWith 0 output status sink
 EndsOn (Err refusal) status sink = Ends (Err refusal) status sink
 
--- the call ends with the answer to the input, or for want of memory
+-- the call ends with the answer to the input
 pub record EndsAnswered (task : Task) (input : List ℕ) (status : ℕ) (sink : Seen) : Type 0 where
   pub answer : Result (List ℕ) Refusal
   pub is : IsTaskAnswer task input answer
   pub ends : EndsOn answer status sink
 
+-- the call ends with the answer to the input, or for want of memory
 abbrev pub EndsTask : Task → List ℕ → ℕ → Seen → Type 0
 EndsTask task input status sink =
     EndsAnswered task input status sink ⊎ Ends (Err refusals.OutOfMemory) status sink
@@ -145,7 +148,8 @@ abbrev pub AreRightIn : Relation → List ℕ → List KeyFields → List Bool �
 AreRightIn scheme input keys answers = (octets : List ℕ) → hexadecimal input ≡ Some octets
     → AreRightOf scheme octets keys answers
 
--- the call ends with the answer that `receive` has under the scheme, to the octets that the input spells
+-- the call ends with the answer that `receive` has under the scheme, to the octets that the input
+-- spells
 pub record EndsReceipt (scheme : Relation) (kind : Kind) (when : ℤ) (keys : List KeyFields)
     (input : List ℕ) (status : ℕ) (sink : Seen) : Type 0 where
   pub answer : Result (List ℕ) Refusal
@@ -158,8 +162,9 @@ EndsAsReceived scheme kind when keys input status sink =
     EndsReceipt scheme kind when keys input status sink
     ⊎ Ends (Err refusals.OutOfMemory) status sink
 
--- the input reads as a message, and the output is the hexadecimal of octets that are accepted as its normal form, where the signatures
--- hold, under each list of keys that holds the issuing key, at each second of the window
+-- the input reads as a message, and the output is the hexadecimal of octets that are accepted as
+-- its normal form, where the signatures hold, under each list of keys that holds the issuing key,
+-- at each second of the window
 pub record IsFinished (scheme : Relation) (kind : Kind) (p : Plan) (s : Signatures)
     (input output : List ℕ) : Type 0 where
   pub message : Received

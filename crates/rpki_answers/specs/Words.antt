@@ -79,6 +79,7 @@ pub record IsFinish (words : List (List ℕ)) (kind : Kind) (p : Plan) (s : Sign
 
 -- ---- all of them
 
+-- the words ask for the task
 abbrev pub IsTask : List (List ℕ) → Task → Type 0
 IsTask words (Questions keys) = IsQuestions words keys
 IsTask words (Receive kind when answers keys) = IsReceive words kind when answers keys

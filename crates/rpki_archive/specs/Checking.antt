@@ -9,14 +9,16 @@ use Rattle.rpki_archive.specs.declared.checking.Task.TheVariants.{Batch, Explain
 use Rattle.rpki_archive.specs.Explanation.{AreExplanations}
 use Rattle.rpki_archive.specs.Verdict.{AreLineAnswers, total_text, verdict_text}
 
--- the only word says what is to be written
+-- the word for a task, which says what is to be written
 abbrev pub task_word : Task → List ℕ
 task_word Batch = codes "batch"
 task_word Explain = codes "explain"
 
+-- the only word is the one for this task
 abbrev pub IsTask : List (List ℕ) → Task → Type 0
 IsTask words task = words ≡ task_word task ∷ []
 
+-- the words ask for no task
 abbrev pub IsNoTask : List (List ℕ) → Type 0
 IsNoTask words = (task : Task) → IsTask words task → ⊥
 
@@ -51,6 +53,8 @@ AreFirstExplanations scheme lines texts =
 
 -- ---- how it ends
 
+-- how it ends, by the task, with verdicts or with explanations: of all lines, or of the first ones,
+-- where memory ran out or the sink failed
 abbrev pub EndsTask : Relation → Task → List (List ℕ) → ℕ → Seen → Type 0
 EndsTask scheme Batch lines status sink =
     EndsLines (AreAllVerdicts scheme lines) (AreFirstVerdicts scheme lines)

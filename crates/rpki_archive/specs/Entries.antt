@@ -17,7 +17,8 @@ pub record AsksReceipt (line : List ℕ) (kind : Kind) (when : ℤ) (keys : List
     pub receive : IsReceive (command_words entry) kind when keys
     pub one : length keys ≡ 1
 
--- the line asks for this command of these octets: its words are those of `receive`, and the fourth spells the octets
+-- the line asks for this command of these octets: its words are those of `receive`, and the fourth
+-- spells the octets
 pub record Asks (line : List ℕ) (command : Command) (octets : List ℕ) : Type 0 where
   pub kind : Kind
   pub when : ℤ

@@ -1,4 +1,5 @@
--- Said in contracts, and to be believed: Verdict, Explanation, Checking, Ties, Lines. Means: Entries.
+-- Said in contracts, and to be believed: Verdict, Explanation, Checking, Ties, Lines. Means:
+-- Entries.
 pub mod Verdict
 pub mod Explanation
 pub mod Entries

@@ -34,6 +34,7 @@ abbrev pub answer_name : Result (List ℕ) Refusal → List ℕ
 answer_name (Ok text) = encode_lower (sha256 text)
 answer_name (Err refusal) = name_of refusal
 
+-- a verdict: the exit status in decimal, a space, and the name of the answer
 abbrev pub verdict_text : Result (List ℕ) Refusal → List ℕ
 verdict_text answer = decimal (exit_status answer) ++ (codes " " ++ answer_name answer)
 
@@ -56,5 +57,6 @@ abbrev pub total_of : ℕ → ℕ → List ℕ
 total_of lines accepted =
     codes "total " ++ (decimal lines ++ (codes " accepted " ++ (decimal accepted ++ 10 ∷ [])))
 
+-- what is written behind the verdicts on lines with these answers
 abbrev pub total_text : List (Result (List ℕ) Refusal) → List ℕ
 total_text answers = total_of (length answers) (accepted_of answers)

@@ -1,4 +1,5 @@
--- Kinds of signature, and the formats of the keys that they need (RFC 7935, 2 and 3; RFC 8208, 2 and 3).
+-- Kinds of signature, and the formats of the keys that they need (RFC 7935, 2 and 3; RFC 8208, 2
+-- and 3).
 use Rattle.rpki_base.specs.declared.algorithm.PublicKeyFormat.{PublicKeyFormat}
 use Rattle.rpki_base.specs.declared.algorithm.PublicKeyFormat.TheVariants.{Rsa, EcdsaP256}
 use Rattle.rpki_base.specs.declared.algorithm.SigningAlgorithm.{SigningAlgorithm}

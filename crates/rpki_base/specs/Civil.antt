@@ -25,16 +25,19 @@ moment c = if is_date c && is_clock c then Some (seconds_of c) else None
 abbrev pub IsMoment : ℤ → Type 0
 IsMoment seconds = IsBetween (neg_ℤ (pos 62167219200)) (pos 253402300799) seconds
 
--- ---- back to the date, by taking whole years and then whole months off; known by its law, `civil_at_is`
+-- ---- back to the date, by taking whole years and then whole months off; known by its law,
+-- `civil_at_is`
 
--- the year that a day lies in, by the days from 1 January of a year up to it, and the days from 1 January of that one
+-- the year that a day lies in, by the days from 1 January of a year up to it, and the days from 1
+-- January of that one
 unfoldable pub year_and_days : ℕ → ℕ → ℕ → ℕ × ℕ
 year_and_days zero year days = (year, days)
 year_and_days (suc k) year days =
     if nat_lt days (days_in_year (pos year)) then (year, days)
     else year_and_days k (suc year) (days - days_in_year (pos year))
 
--- the month of a year that a day lies in, by the days from the first of a month up to it, and the days from the first of that one
+-- the month of a year that a day lies in, by the days from the first of a month up to it, and the
+-- days from the first of that one
 unfoldable pub month_and_days : ℕ → ℕ → ℕ → ℕ → ℕ × ℕ
 month_and_days zero year month days = (month, days)
 month_and_days (suc k) year month days =
@@ -53,6 +56,8 @@ civil_on year month day second =
       second = second % 60;
     }
 
+-- the date and the time of day, by the year with the days of it that are past, and the second of
+-- the day
 abbrev pub civil_in : ℕ × ℕ → ℕ → Civil
 civil_in y second = let m = month_and_days 12 y.0 1 y.1 in civil_on y.0 m.0 (m.1 + 1) second
 

@@ -1,7 +1,7 @@
--- Said in contracts, and to be believed: ObjectIdentifiers, Digits, Civil, Time, TimeText, Rfc3339, Validity, Serial,
--- KeyIdentifier, Name, Extension, Bits, Algorithm, AlgorithmIdentifier, RpkiSignatureAlgorithm, BgpsecSignatureAlgorithm,
--- PublicKey, Signature, SignedData, Scheme, Checks. Means for readers without memory, and proofs of laws: Leaves, WritingLaws,
--- AlgorithmLaws.
+-- Said in contracts, and to be believed: ObjectIdentifiers, Digits, Civil, Time, TimeText, Rfc3339,
+-- Validity, Serial, KeyIdentifier, Name, Extension, Bits, Algorithm, AlgorithmIdentifier,
+-- RpkiSignatureAlgorithm, BgpsecSignatureAlgorithm, PublicKey, Signature, SignedData, Scheme,
+-- Checks. Means for readers without memory, and proofs of laws: Leaves, WritingLaws, AlgorithmLaws.
 pub mod Name
 pub mod Digits
 pub mod Civil

@@ -9,10 +9,11 @@ use Rattle.rpki_der.specs.Oid.{oid}
 use Rattle.rpki_der.specs.Writing.{der_primitive, der_constructed}
 use Rattle.rpki_base.specs.ObjectIdentifiers.{common_name}
 
--- the values are all of this kind
+-- what was read is dropped
 abbrev pub unread : {X : Type 0} → List X → Option (Unit {0})
 unread xs = Some tt
 
+-- the values are all of this kind
 unfoldable pub each : {X : Type 0} → (Value → Option X) → Values → Option (Unit {0})
 each field vs = every field vs >>= unread
 

@@ -1,4 +1,5 @@
--- The object identifiers of keys, signatures and extensions, by their contents octets (RFC 8017, C; RFC 5480, 2.1.1; RFC 5758, 3.2).
+-- The object identifiers of keys, signatures and extensions, by their contents octets (RFC 8017, C;
+-- RFC 5480, 2.1.1; RFC 5758, 3.2).
 use Rattle.std.specs.Prelude.{ℕ, List, [], ◌∷◌}
 
 -- rsaEncryption, 1.2.840.113549.1.1.1

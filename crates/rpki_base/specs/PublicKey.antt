@@ -1,4 +1,5 @@
--- Public keys: SubjectPublicKeyInfo (RFC 5280, 4.1.2.7; RFC 3279, 2.3.1; RFC 7935, 3; RFC 8208, 3.1).
+-- Public keys: SubjectPublicKeyInfo (RFC 5280, 4.1.2.7; RFC 3279, 2.3.1; RFC 7935, 3; RFC 8208,
+-- 3.1).
 use Rattle.std.specs.Prelude.{ℕ, ◌^◌, ◌<◌, Bool, true, bytes_eq, if◌then◌else◌, Option, None, Some, List, [], ◌++◌, length}
 use Rattle.sha1.specs.Sha1.{sha1}
 use Rattle.rpki_common.specs.Chaining.{◌>>=◌}
@@ -35,6 +36,7 @@ parameters EcdsaP256 vs = do
   curve ← first (oid_is prime256v1) vs
   done EcdsaP256 curve.1
 
+-- the format that a value names, which is an OBJECT IDENTIFIER
 unfoldable pub named_format : Value → Option PublicKeyFormat
 named_format = so oid format_named
 
@@ -55,7 +57,8 @@ public_key = within sequence (λ vs. do
   bits ← first bit_string format.1
   done (record { format = format.0; bits = bits.0.octets }) bits.1)
 
--- an authority key identifier, if it is there, is the SHA-1 of the bits of the issuer's key (4.2.1.1 and 4.2.1.2)
+-- an authority key identifier, if it is there, is the SHA-1 of the bits of the issuer's key
+-- (4.2.1.1 and 4.2.1.2)
 abbrev pub names_issuer : Option (List ℕ) → KeyFields → Bool
 names_issuer None issuer = true
 names_issuer (Some id) issuer = bytes_eq id (sha1 issuer.bits)
@@ -69,9 +72,11 @@ spelled_algorithm Rsa = der_constructed sequence
 spelled_algorithm EcdsaP256 = der_constructed sequence
     (der_primitive oid_tag ec_public_key ++ der_primitive oid_tag prime256v1)
 
+-- the fields of SubjectPublicKeyInfo: the algorithm identifier, and the key as a BIT STRING
 abbrev pub spelled_parts : KeyFields → List ℕ
 spelled_parts key = spelled_algorithm key.format ++ spelled_bits key.bits
 
+-- SubjectPublicKeyInfo: a SEQUENCE of the fields (RFC 5280, 4.1)
 abbrev pub spelled_key : KeyFields → List ℕ
 spelled_key key = der_constructed sequence (spelled_parts key)
 

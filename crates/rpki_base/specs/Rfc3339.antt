@@ -1,4 +1,5 @@
--- Times in the form of RFC 3339 (5.6), with `T` and `Z` in upper case, and a fraction of a second that is cut off.
+-- Times in the form of RFC 3339 (5.6), with `T` and `Z` in upper case, and a fraction of a second
+-- that is cut off.
 use Rattle.std.specs.Prelude.{ℕ, ◌+◌, ◌*◌, ◌&&◌, ◌==◌, nat_le, int_le, if◌then◌else◌, Option, None, Some, List, [], ◌∷◌, ℤ, pos, neg_ℤ, ◌-ℤ◌}
 use Rattle.std.specs.Char.{is_ascii_digit}
 use Rattle.std.specs.Option.{option_map}
@@ -30,6 +31,7 @@ offset_seconds text = do
   nothing ← ended minute.1
   if nat_le hour.0 23 && nat_le minute.0 59 then Some (hour.0 * 3600 + minute.0 * 60) else None
 
+-- the number with a minus sign
 abbrev pub minus : ℕ → ℤ
 minus n = neg_ℤ (pos n)
 

@@ -45,9 +45,10 @@ unsigned_content (a ∷ more) = if nat_lt a 128 then a ∷ more else 0 ∷ a ∷
 abbrev pub serial_content : List ℕ → List ℕ
 serial_content octets = unsigned_content (significant octets)
 
--- the INTEGER, and its spelling
+-- the INTEGER as a value
 abbrev pub serial_value : List ℕ → Value
 serial_value octets = primitive_value integer_tag (serial_content octets)
 
+-- the octets of the INTEGER in DER
 abbrev pub der_serial : List ℕ → List ℕ
 der_serial octets = der_primitive integer_tag (serial_content octets)

@@ -1,4 +1,5 @@
--- Signed data: what was signed, as its exact octets, and the signature of it (RFC 5280, 4.1.1 and 5.1.1; RFC 2986, 4.2).
+-- Signed data: what was signed, as its exact octets, and the signature of it (RFC 5280, 4.1.1 and
+-- 5.1.1; RFC 2986, 4.2).
 use Rattle.std.specs.Prelude.{ℕ, ◌^◌, ◌<◌, Option, Some, List, ◌++◌, length}
 use Rattle.rpki_common.specs.Chaining.{◌>>=◌}
 use Rattle.rpki_der.specs.declared.mode.Mode.{Mode}
@@ -20,7 +21,8 @@ pub record SignedParts (A : Type 0) : Type 0 where
 abbrev pub algorithm_in : {A : Type 0} → (Mode → List ℕ → Option A) → Mode → Value → Option A
 algorithm_in reads mode = so any (reads mode)
 
--- the algorithm and the octets of the signature, and nothing behind them; how many bits of the last octet are unused is dropped
+-- the algorithm and the octets of the signature, and nothing behind them; how many bits of the last
+-- octet are unused is dropped
 unfoldable pub signature_in : {A : Type 0} → (Mode → List ℕ → Option A) → Mode → Values
     → Option (SignatureParts A)
 signature_in reads mode vs = do
@@ -28,7 +30,8 @@ signature_in reads mode vs = do
   bits ← first bit_string algorithm.1
   done (record { algorithm = algorithm.0; value = bits.0.octets }) bits.1
 
--- The form that Certificate (4.1), CertificateList (5.1) and CertificationRequest (RFC 2986, 4.2) have in common:
+-- The form that Certificate (4.1), CertificateList (5.1) and CertificationRequest (RFC 2986, 4.2)
+-- have in common:
 --
 --     SEQUENCE {
 --       tbs ANY,
@@ -43,6 +46,7 @@ signed_as grammar made reads mode = within sequence (λ vs. do
   signature ← signature_in reads mode value.1
   Some (made value.0 signature))
 
+-- the octets that were signed, and their signature
 abbrev pub signed_octets : {A : Type 0} → List ℕ → SignatureParts A → SignedParts A
 signed_octets slice signature = record { slice = slice; signature = signature }
 
@@ -56,6 +60,7 @@ pub record Signed (A T : Type 0) : Type 0 where
   pub signed : SignedParts A
   pub tbs : T
 
+-- the octets that are signed and what they say, with their signature
 abbrev pub signed_fields : {A T : Type 0} → List ℕ × T → SignatureParts A → Signed A T
 signed_fields held signature = record { signed = signed_octets held.0 signature; tbs = held.1 }
 
@@ -66,10 +71,13 @@ signed_value tbs reads mode = signed_as (with_octets (tbs mode)) signed_fields r
 
 -- ---- as signed data are written, where spelled says how algorithms are
 
+-- the fields in turn: what was signed as it is held, the algorithm identifier, and the signature as
+-- a BIT STRING
 abbrev pub spelled_parts : {A : Type 0} → (A → List ℕ) → SignedParts A → List ℕ
 spelled_parts spelled d = d.slice ++ (spelled d.signature.algorithm
     ++ spelled_bits d.signature.value)
 
+-- a SEQUENCE of the fields in DER
 abbrev pub spelled_data : {A : Type 0} → (A → List ℕ) → SignedParts A → List ℕ
 spelled_data spelled d = der_constructed sequence (spelled_parts spelled d)
 

@@ -40,12 +40,12 @@ abbrev pub text_of : Received → List ℕ
 text_of (received.Publication m) = publication.text_of m
 text_of (received.Provisioning m) = provisioning.text_of m
 
--- A message whose text is read as its normal form, and that form. A message of the provisioning
--- protocol is in it.
+-- a message whose text is read as its normal form
 abbrev pub IsWritable : Received → Type 0
 IsWritable (received.Publication m) = publication.IsWritable m
 IsWritable (received.Provisioning m) = writable.IsWritable m
 
+-- the normal form of a message: a message of the provisioning protocol is its own
 abbrev pub normal_form : Received → Received
 normal_form (received.Publication m) = received.Publication (publication.normal_form m)
 normal_form (received.Provisioning m) = received.Provisioning m
@@ -57,8 +57,8 @@ abbrev pub HasNoForm : Kind → List ℕ → Type 0
 HasNoForm kinds.Publication octets = publication.IsNoMessage octets
 HasNoForm kinds.Provisioning octets = provisioning.HasNoShape octets
 
--- the octets have the form of a message of the kind, and the octets of a certificate in it begin with
--- none
+-- the octets have the form of a message of the kind, and the octets of a certificate in it begin
+-- with none
 abbrev pub HoldsNoCertificate : Kind → List ℕ → Type 0
 HoldsNoCertificate kinds.Publication octets = ⊥
 HoldsNoCertificate kinds.Provisioning octets = faults.HoldsNoCertificate octets
@@ -81,8 +81,8 @@ pub record Accepted (scheme : Relation) (kind : Kind) (octets : List ℕ) (keys 
   pub believed : IsBelievedUnder scheme signed keys when
   pub reads : ReadsAs kind signed.content m
 
--- The octets begin with a signed message, which is believed under the key at this place, from 0, and under none before it. Its
--- content reads as the message.
+-- The octets begin with a signed message, which is believed under the key at this place, from 0,
+-- and under none before it. Its content reads as the message.
 pub record AcceptedAt (scheme : Relation) (kind : Kind) (octets : List ℕ) (keys : List KeyFields)
     (when : ℤ) (m : Received) (place : ℕ) : Type 0 where
   pub signed : MessageFields
@@ -127,7 +127,8 @@ IsReceived scheme kind octets keys when result =
     MatchResult result (Accepted scheme kind octets keys when)
     (RefusesReceipt scheme kind octets keys when)
 
--- what is received of octets, with the place of the first key under which the message is accepted, or why there is none
+-- what is received of octets, with the place of the first key under which the message is accepted,
+-- or why there is none
 abbrev pub IsReceivedUnder : Relation → Kind → List ℕ → List KeyFields → ℤ
     → Result (Received × ℕ) ReceiveError → Type 0
 IsReceivedUnder scheme kind octets keys when result =

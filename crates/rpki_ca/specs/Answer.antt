@@ -195,11 +195,12 @@ IsUnread source other = ⊥
 
 -- ---- the line
 
--- the exit status of an answer, and its line
+-- the exit status of an answer
 abbrev pub exit_status : Result (List ℕ) Refusal → ℕ
 exit_status (Ok text) = 0
 exit_status (Err refusal) = status_of refusal
 
+-- the line of an answer: its text, or the name of its refusal, and a line feed
 abbrev pub line_of : Result (List ℕ) Refusal → List ℕ
 line_of (Ok text) = text ++ 10 ∷ []
 line_of (Err refusal) = name_of refusal ++ 10 ∷ []

@@ -13,11 +13,12 @@ use Rattle.rpki_ca.specs.declared.setup_message.SetupKind.{SetupKind}
 use Rattle.rpki_ca.specs.declared.setup_message.SetupKind.TheVariants as setup
 use Rattle.rpki_ca.specs.Words.{IsMoment, IsNumber, key_of}
 
--- the word for a kind, and the kind that a word is for
+-- the word for a kind
 abbrev pub kind_word : Kind → List ℕ
 kind_word Publication = codes "publication"
 kind_word Provisioning = codes "provisioning"
 
+-- the kind that a word is for, if it is for one
 abbrev pub kind_of : List ℕ → Option Kind
 kind_of word =
     if bytes_eq word (kind_word Publication) then Some Publication
@@ -35,6 +36,7 @@ setup_kind_word setup.ParentResponse = codes "parent_response"
 setup_kind_word setup.PublisherRequest = codes "publisher_request"
 setup_kind_word setup.RepositoryResponse = codes "repository_response"
 
+-- the kind of setup message that a word is for, if it is for one
 abbrev pub setup_kind_of : List ℕ → Option SetupKind
 setup_kind_of word =
     if bytes_eq word (setup_kind_word setup.ChildRequest) then Some setup.ChildRequest
@@ -44,6 +46,7 @@ setup_kind_of word =
     then Some setup.RepositoryResponse
     else None
 
+-- the kind of setup message for which the word at the index is
 abbrev pub setup_kind_at : List (List ℕ) → ℕ → Option SetupKind
 setup_kind_at words index = slice_get words index >>= setup_kind_of
 
@@ -94,6 +97,7 @@ verb_word verbs.Create = codes "create"
 verb_word verbs.Setup = codes "setup"
 verb_word verbs.Make = codes "make"
 
+-- the verb that a word says, if it says one
 abbrev pub verb_of : List ℕ → Option Verb
 verb_of word =
     if bytes_eq word (verb_word verbs.Content) then Some verbs.Content

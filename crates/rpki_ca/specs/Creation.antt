@@ -1,4 +1,5 @@
--- What is answered where a message is to be created, before the signer is asked and after (RFC 6492, 3.1.1; RFC 8181, 2).
+-- What is answered where a message is to be created, before the signer is asked and after
+-- (RFC 6492, 3.1.1; RFC 8181, 2).
 use Rattle.std.specs.Prelude.{⊤, IfErr, ◌≡◌, ◌≢◌, ◌≤ℤ◌, ◌<◌, ◌≤◌, ◌^◌, ◌⊎◌, ℕ, ℤ, List, [], ◌∷◌, ◌++◌, length, Some, Result, Ok, Err}
 use Rattle.std.specs.Io.KnownBytes.{Appends}
 use Rattle.hex.specs.Hex.{encode_lower}
@@ -103,9 +104,9 @@ IsSigned scheme kind message when signer (Err refusals.Signer) =
     Rose signer.before.faults signer.after.faults
 IsSigned scheme kind message when signer other = ⊥
 
--- The signer is asked in turn for the signature of the attributes, for the issuing key, for the CRL's
--- signature and for the certificate, and this is its first refusal: all that it gave before has at most
--- 2^16 octets. Which error of its own it had is left out.
+-- The signer is asked in turn for the signature of the attributes, for the issuing key, for the
+-- CRL's signature and for the certificate, and this is its first refusal: all that it gave before
+-- has at most 2^16 octets. Which error of its own it had is left out.
 abbrev pub IsFirstToRefuse : {Id : Type 0} → Relation → List ℕ → ℤ → SignerSeen Id → Refusal
     → Type 0
 IsFirstToRefuse scheme text when signer refusals.TooLong =

@@ -4,6 +4,7 @@ use Rattle.std.specs.Fmt.{decimal}
 use Rattle.rpki_ca.specs.declared.receiving.ReceiveError.{ReceiveError}
 use Rattle.rpki_ca.specs.declared.receiving.ReceiveError.TheVariants as errors
 
+-- the text that each error of a receipt prints
 abbrev pub receive_text : ReceiveError → Option (List ℕ)
 receive_text errors.CmsDecode = Some (codes "Could not decode CMS")
 receive_text errors.XmlError = Some (codes "malformed XML")

@@ -1,5 +1,5 @@
--- Said in contracts, and to be believed: Refusal, Hexadecimal, Words, Keys, Command, Acceptance, Seen, Creation, Setup, Summary, Answer,
--- Lines, Steps, Sending, Sent, Errors.
+-- Said in contracts, and to be believed: Refusal, Hexadecimal, Words, Keys, Command, Acceptance,
+-- Seen, Creation, Setup, Summary, Answer, Lines, Steps, Sending, Sent, Errors.
 pub mod Refusal
 pub mod Hexadecimal
 pub mod Words

@@ -43,8 +43,8 @@ words_of line = pieces_of 32 line
 abbrev pub answer_lines : List (List ℕ) → List ℕ
 answer_lines answers = flat_map (λ answer. answer ++ 10 ∷ []) answers
 
--- The input is these lines, of which none holds a line feed, each with one behind it; behind the last
--- one it may be missing.
+-- The input is these lines, of which none holds a line feed, each with one behind it; behind the
+-- last one it may be missing.
 pub record AreLines (input : List ℕ) (lines : List (List ℕ)) : Type 0 where
   pub are : (answer_lines lines ≡ input) ⊎ (answer_lines lines ≡ input ++ 10 ∷ [])
   pub whole : AllByRecursion (λ line. AllByRecursion (λ octet. octet ≢ 10) line) lines
@@ -76,10 +76,10 @@ EndsBehind wanted texts rest status sink =
     × IsSteady sink)
     ⊎ ((status ≡ 11) × AppendsBehind sink.before sink.after texts rest × HasFailed sink)
 
--- What is written behind answers to lines. Of texts `all` says that they are the answers to all lines,
--- with this closing text; `first` that they are the answers to the first lines, and that nothing was
--- done for a line behind them; and `stops` that they are so, and that for this refusal no more lines
--- are answered.
+-- What is written behind answers to lines. Of texts `all` says that they are the answers to all
+-- lines, with this closing text; `first` that they are the answers to the first lines, and that
+-- nothing was done for a line behind them; and `stops` that they are so, and that for this refusal
+-- no more lines are answered.
 --
 -- With 0 the answers to all lines were written, and the closing text.
 pub record EndsDone (all : List (List ℕ) → List ℕ → Type 0) (status : ℕ) (sink : Seen) : Type 0

@@ -7,6 +7,7 @@ use Rattle.rpki_ca.specs.declared.refusals.Refusal.TheVariants.{InvalidTaCertEnc
 use Rattle.rpki_ca.specs.declared.refusals.Refusal.TheVariants.{KeyReused, Signer, Moment}
 use Rattle.rpki_ca.specs.declared.refusals.Refusal.TheVariants.{ReadFault, OutOfMemory}
 
+-- the exit status of each refusal
 abbrev pub status_of : Refusal → ℕ
 status_of Usage = 2
 status_of Hex = 3
@@ -46,6 +47,8 @@ word_of TooLong = codes "TooLong"
 word_of ReadFault = codes "ReadFault"
 word_of OutOfMemory = codes "OutOfMemory"
 
+-- the name of a refusal: its word, and behind that of Validation a space and the number of the
+-- check in decimal
 abbrev pub name_of : Refusal → List ℕ
 name_of (Validation n) = codes "Validation" ++ codes " " ++ decimal n
 name_of refusal = word_of refusal

@@ -11,6 +11,8 @@ pub record Seen : Type 0 where
   pub faults_before : ℕ
   pub faults_after : ℕ
 
+-- what a call was seen to do to a source or a sink, which it found as the old one and left as the
+-- new one
 abbrev pub seen : {X : Type 0} → (X → Option (List ℕ)) → (X → ℕ) → X → X → Seen
 seen octets faults old new = record {
   before = octets old;
@@ -36,5 +38,6 @@ pub record SignerSeen (Id : Type 0) : Type 0 where
   pub before : SignerState Id
   pub after : SignerState Id
 
+-- what a call was seen to do to a signer, with the identifier of the issuing key
 abbrev pub seen_signer : {Id : Type 0} → Id → SignerState Id → SignerState Id → SignerSeen Id
 seen_signer id before after = record { id = id; before = before; after = after }

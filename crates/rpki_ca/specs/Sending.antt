@@ -20,9 +20,9 @@ use Rattle.rpki_ca.specs.Seen.{SignerSeen}
 
 -- ---- one message
 
--- Its text has at most 2^31 octets, and the signed message was created with it at the moment. What is
--- written of it is accepted as the message's normal form, under every list of keys that holds the
--- issuing key, at each second from 300 before the moment to 300 after it.
+-- Its text has at most 2^31 octets, and the signed message was created with it at the moment. What
+-- is written of it is accepted as the message's normal form, under every list of keys that holds
+-- the issuing key, at each second from 300 before the moment to 300 after it.
 pub record IsSignedAs {Id : Type 0} (scheme : Relation) (when : ℤ) (signer : SignerSeen Id)
     (message : Received) (signed : MessageFields) : Type 0 where
   pub fits : length (text_of message) ≤ most_content
@@ -30,8 +30,8 @@ pub record IsSignedAs {Id : Type 0} (scheme : Relation) (when : ℤ) (signer : S
   pub receivable : CanBeSpelled signed
       → IsReceivable scheme (protocol_of message) (rewritten signed) message when signer
 
--- It isn't signed for this cause: that the moment has no window, and else that the message's text has
--- more than 2^31 octets, are always told; and of the signer's refusals it is the first.
+-- It isn't signed for this cause: that the moment has no window, and else that the message's text
+-- has more than 2^31 octets, are always told; and of the signer's refusals it is the first.
 pub record FailsToSign {Id E : Type 0} (scheme : Relation) (when : ℤ) (signer : SignerSeen Id)
     (message : Received) (error : CreateError E) : Type 0 where
   pub cause : CreateFails (text_of message) when signer.id signer.before signer.after error

@@ -7,8 +7,8 @@ use Rattle.rpki_ca.specs.Answer.{Ends}
 use Rattle.rpki_ca.specs.Seen.{Seen}
 use Rattle.rpki_ca.specs.declared.refusals.Refusal.TheVariants.{Moment}
 
--- the octets that a line spells, two digits of either case an octet; none where it is no even number
--- of digits
+-- the octets that a line spells, two digits of either case an octet; none where it is no even
+-- number of digits
 abbrev pub sent_in : List ℕ → Option (List ℕ)
 sent_in line = result_ok (decode_of line)
 

@@ -52,7 +52,8 @@ refusal_of_setup other = refusals.XmlError
 
 -- ---- the certificate
 
--- the octets begin with a certificate that is accepted as a trust anchor's certificate at the moment
+-- the octets begin with a certificate that is accepted as a trust anchor's certificate at the
+-- moment
 pub record IsAnchored (scheme : Relation) (octets : List ℕ) (when : ℤ) : Type 0 where
   pub certificate : CertificateFields
   pub believed : IsBelievedIn scheme octets when certificate

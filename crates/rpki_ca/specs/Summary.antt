@@ -135,8 +135,8 @@ pub record IsSummed {Id : Type 0} (scheme : Relation) (count seed : ℕ) (signer
       signer
   pub written : text ≡ summary (changes seed count) octets
 
--- behind the signed message that was created with this text, the signer failed to give the issuing key
--- once more, under which the message is to be received
+-- behind the signed message that was created with this text, the signer failed to give the issuing
+-- key once more, under which the message is to be received
 pub record FailsToGiveKey {Id : Type 0} (scheme : Relation) (text : List ℕ) (when : ℤ)
     (signer : SignerSeen Id) (refusal : Refusal) : Type 0 where
   pub between : SignerState Id

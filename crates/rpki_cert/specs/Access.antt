@@ -8,13 +8,14 @@ use Rattle.rpki_der.specs.Oid.{oid}
 use Rattle.rpki_text.specs.Uri.{Kind, rsync, https, fault_of}
 use Rattle.rpki_cert.specs.ObjectIdentifiers as names
 
--- what is accessed, by the contents of the object identifier, and where: the octets of a uniform resource identifier, or nothing
--- where the location is a name of another form
+-- what is accessed, by the contents of the object identifier, and where: the octets of a uniform
+-- resource identifier, or nothing where the location is a name of another form
 pub record Description : Type 0 where
   pub method : List ℕ
   pub location : Option (List ℕ)
 
--- GeneralName (4.2.1.6): uniformResourceIdentifier [6] IA5String; a name of another form is passed over
+-- GeneralName (4.2.1.6): uniformResourceIdentifier [6] IA5String; a name of another form is passed
+-- over
 abbrev pub uri_location : Value → Option (Option (List ℕ))
 uri_location v = Some (primitive (context 6) v)
 
@@ -40,18 +41,21 @@ unfoldable pub either : {X : Type 0} → Option X → Option X → Option X
 either None other = other
 either (Some x) other = Some x
 
+-- the URI of this kind in the first of the descriptions that gives one for this method
 unfoldable pub first_located : List ℕ → Kind → List Description → Option (List ℕ)
 first_located method kind [] = None
 first_located method kind (d ∷ more) = either (located method kind d)
     (first_located method kind more)
 
--- where the objects of an authority are published, where its manifest is, and where changes are notified, each if it is said
+-- where the objects of an authority are published, where its manifest is, and where changes are
+-- notified, each if it is said
 pub record AccessFields : Type 0 where
   pub ca_repository : Option (List ℕ)
   pub rpki_manifest : Option (List ℕ)
   pub rpki_notify : Option (List ℕ)
 
--- of each the first location counts that is a lawful URI of its kind; all other descriptions are passed over
+-- of each the first location counts that is a lawful URI of its kind; all other descriptions are
+-- passed over
 abbrev pub accessed : List Description → AccessFields
 accessed all = record {
   ca_repository = first_located names.ca_repository rsync all;

@@ -20,8 +20,8 @@ use Rattle.rpki_idcert.specs.TbsIdCert.{version}
 unfoldable pub unread_extensions : Mode → Value → Option (Unit {0})
 unread_extensions mode = within sequence (λ vs. every (extension mode) vs >>= λ all. Some tt)
 
--- TBSCertificate (4.1): the version is 3, there are no unique identifiers, and extensions have to be there. The key of the subject is
--- what counts.
+-- TBSCertificate (4.1): the version is 3, there are no unique identifiers, and extensions have to
+-- be there. The key of the subject is what counts.
 unfoldable pub tbs_certificate : Mode → Value → Option KeyFields
 tbs_certificate mode = within sequence (λ vs. do
   version ← first version vs
@@ -34,6 +34,7 @@ tbs_certificate mode = within sequence (λ vs. do
   extensions ← first (wrapped (context 3) (unread_extensions mode)) key.1
   done key.0 extensions.1)
 
+-- the key of the subject; the signature isn't kept
 abbrev pub what_is_signed : KeyFields → SignatureParts RpkiAlgorithm → KeyFields
 what_is_signed key signature = key
 

@@ -1,4 +1,5 @@
--- The attributes of a request, which are one: the extensions that it asks for (RFC 2986, 4.1; RFC 2985, 5.4.2; RFC 6487, 6.1.1).
+-- The attributes of a request, which are one: the extensions that it asks for (RFC 2986, 4.1;
+-- RFC 2985, 5.4.2; RFC 6487, 6.1.1).
 use Rattle.std.specs.Prelude.{ℕ, Bool, if◌then◌else◌, Option, None, Some, List}
 use Rattle.rpki_common.specs.Chaining.{◌>>=◌}
 use Rattle.rpki_der.specs.declared.mode.Mode.{Mode}
@@ -27,6 +28,8 @@ attributes mode = wrapped (context 0) (extension_request mode)
 
 -- ---- those of an authority (RFC 6487, 6.3)
 
+-- what an authority asks for: whether it may be a CA, its key usage, its purposes if they are
+-- there, and where it publishes
 pub record CaAttributes : Type 0 where
   pub basic_ca : Bool
   pub key_usage : KeyUsage
@@ -46,6 +49,7 @@ of_authority r = do
     access = access;
   })
 
+-- the attributes of an authority's request
 unfoldable pub ca_attributes : Mode → Value → Option CaAttributes
 ca_attributes mode = so (attributes mode) of_authority
 
@@ -60,5 +64,6 @@ routed (Some purposes) = if has_router purposes then Some (Some purposes) else N
 unfoldable pub of_router : RequestedExtensions → Option (Option (List (List ℕ)))
 of_router r = routed r.extended_key_usage
 
+-- the attributes of a BGPsec router's request
 unfoldable pub router_attributes : Mode → Value → Option (Option (List (List ℕ)))
 router_attributes mode = so (attributes mode) of_router

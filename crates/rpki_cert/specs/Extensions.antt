@@ -17,27 +17,31 @@ use Rattle.rpki_cert.specs.KeyUsage.{key_usage}
 use Rattle.rpki_cert.specs.ExtendedKeyUsage.{extended_key_usage}
 use Rattle.rpki_cert.specs.Access.{AccessFields, subject_info_access}
 
--- basicConstraints (RFC 5280, 4.2.1.9) without the length of a path: whether the subject is to be an authority, which is false where
--- nothing says so
+-- basicConstraints (RFC 5280, 4.2.1.9) without the length of a path: whether the subject is to be
+-- an authority, which is false where nothing says so
 unfoldable pub authority : Mode → Value → Option Bool
 authority mode = within sequence (λ vs. do
   ca ← optional boolean_tag (boolean mode) vs
   done (unwrap_or ca.0 false) ca.1)
 
--- What an extension holds is in DER whatever the mode round it (RFC 5280, 4.2): a value stands at its beginning, and the rest is
--- unread.
+-- What an extension holds is in DER whatever the mode round it (RFC 5280, 4.2): a value stands at
+-- its beginning, and the rest is unread.
 unfoldable pub authority_in : ExtensionFields → Option Bool
 authority_in e = in_der (authority Der) e.value
 
+-- what keyUsage says (RFC 6487, 4.8.4)
 unfoldable pub usage_in : ExtensionFields → Option KeyUsage
 usage_in e = in_der key_usage e.value
 
+-- the purposes that extKeyUsage names (RFC 5280, 4.2.1.12)
 unfoldable pub purposes_in : ExtensionFields → Option (List (List ℕ))
 purposes_in e = in_der extended_key_usage e.value
 
+-- where the subject publishes, by subjectInfoAccess (RFC 5280, 4.2.2.2)
 unfoldable pub access_in : ExtensionFields → Option AccessFields
 access_in e = in_der subject_info_access e.value
 
+-- whether the extension is basicConstraints, keyUsage, extKeyUsage or subjectInfoAccess
 abbrev pub is_known : ExtensionFields → Bool
 is_known e = is basic_constraints_name e || (is names.key_usage e
     || (is names.extended_key_usage e || is names.subject_info_access e))

@@ -1,5 +1,5 @@
--- What was found so far, while extensions and access descriptions are read: a means for the readers, tied to `requested` and
--- `subject_info_access` by proofs/Gathering.antt.
+-- What was found so far, while extensions and access descriptions are read: a means for the
+-- readers, tied to `requested` and `subject_info_access` by proofs/Gathering.antt.
 use Rattle.std.specs.Prelude.{ℕ, Bool, Option, Some, List}
 use Rattle.rpki_common.specs.Collecting.{allowed, slot, both}
 use Rattle.rpki_base.specs.Extension.{ExtensionFields, is}
@@ -12,6 +12,7 @@ use Rattle.rpki_cert.specs.Extensions.{is_known, authority_in, usage_in, purpose
 
 -- ---- access descriptions
 
+-- each of the three places that was not found yet is noted, if the description gives its URI
 unfoldable pub with_description : AccessFields → Description → Option AccessFields
 with_description found d = Some (record {
   ca_repository = either found.ca_repository (located names.ca_repository rsync d);
@@ -21,10 +22,14 @@ with_description found d = Some (record {
 
 -- ---- extensions
 
+-- what each of the four extensions says, if it was found, behind a place for the check that no
+-- other one is there
 abbrev pub FoundSoFar : Type 0
 FoundSoFar = Unit {0} × (Option Bool × (Option KeyUsage
     × (Option (List (List ℕ)) × Option AccessFields)))
 
+-- one of the four extensions is noted; any other, a second one of its kind, and one whose value
+-- isn't read are refused
 unfoldable pub add : FoundSoFar → ExtensionFields → Option FoundSoFar
 add = both (allowed is_known)
     (both (slot (is basic_constraints_name) authority_in)
@@ -32,6 +37,7 @@ add = both (allowed is_known)
     (both (slot (is names.extended_key_usage) purposes_in)
     (slot (is names.subject_info_access) access_in))))
 
+-- what was found of the four extensions, as a record
 abbrev pub complete : FoundSoFar → RequestedExtensions
 complete found = record {
   basic_ca = found.1.0;

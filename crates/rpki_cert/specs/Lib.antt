@@ -1,5 +1,5 @@
--- Said in contracts, and to be believed: ObjectIdentifiers, KeyUsage, ExtendedKeyUsage, Access, Extensions, CsrAttributes, Csr, Cert,
--- Making, ReadInDer. Means for readers: Gathered.
+-- Said in contracts, and to be believed: ObjectIdentifiers, KeyUsage, ExtendedKeyUsage, Access,
+-- Extensions, CsrAttributes, Csr, Cert, Making, ReadInDer. Means for readers: Gathered.
 pub mod ObjectIdentifiers
 pub mod KeyUsage
 pub mod ExtendedKeyUsage

@@ -71,6 +71,7 @@ asked_of key places = record {
 
 -- ---- its spelling
 
+-- the contents octet of a BOOLEAN in DER: FF for true, 00 for false (X.690, 8.2 and 11.1)
 abbrev pub flag : Bool → List ℕ
 flag true = 255 ∷ []
 flag false = 0 ∷ []
@@ -89,38 +90,50 @@ spelled_authority = der_constructed sequence (der_primitive boolean_tag (flag tr
 abbrev pub spelled_usage : List ℕ
 spelled_usage = der_primitive bit_string_tag (1 ∷ 6 ∷ [])
 
+-- AccessDescription: a SEQUENCE of the method, and of the URI under [6] (RFC 5280, 4.2.2.2 and
+-- 4.2.1.6)
 unfoldable pub spelled_description : List ℕ → List ℕ → List ℕ
 spelled_description method uri =
     der_constructed sequence (der_primitive oid_tag method ++ der_primitive (context 6) uri)
 
+-- the description with the method rpkiNotify, if there is a URI for it (RFC 8182, 3.2)
 abbrev pub spelled_notify : Option (List ℕ) → List ℕ
 spelled_notify None = []
 spelled_notify (Some uri) = spelled_description names.rpki_notify uri
 
+-- SubjectInfoAccessSyntax: a SEQUENCE of caRepository, rpkiManifest, and rpkiNotify if it is there
+-- (RFC 6487, 4.8.8.1)
 abbrev pub spelled_access : Places → List ℕ
 spelled_access places = der_constructed sequence
     (spelled_description names.ca_repository places.ca_repository
     ++ (spelled_description names.rpki_manifest places.rpki_manifest
     ++ spelled_notify places.rpki_notify))
 
+-- basicConstraints, critical, as the request has it
 unfoldable pub authority_extension : List ℕ
 authority_extension = requested_extension basic_constraints_name true spelled_authority
 
+-- keyUsage, critical, as the request has it
 unfoldable pub usage_extension : List ℕ
 usage_extension = requested_extension names.key_usage true spelled_usage
 
+-- the extensions in turn: basicConstraints, keyUsage, and subjectInfoAccess, which is not critical
 abbrev pub spelled_extensions : Places → List ℕ
 spelled_extensions places =
     authority_extension ++ (usage_extension
     ++ requested_extension names.subject_info_access false (spelled_access places))
 
+-- the type of the attribute: extensionRequest (RFC 2985, 5.4.2)
 unfoldable pub attribute_name : List ℕ
 attribute_name = der_primitive oid_tag names.extension_request
 
+-- the attribute: a SEQUENCE of its type and of a SET that holds the SEQUENCE of the extensions
+-- (RFC 2986, 4.1)
 abbrev pub spelled_attribute : Places → List ℕ
 spelled_attribute places = der_constructed sequence (attribute_name
     ++ der_constructed set (der_constructed sequence (spelled_extensions places)))
 
+-- version 1, which is the INTEGER 0 (RFC 2986, 4.1)
 abbrev pub spelled_version : List ℕ
 spelled_version = der_primitive integer_tag (0 ∷ [])
 
@@ -139,10 +152,12 @@ request_signed key places value = record {
   signature = record { algorithm = default_algorithm; value = value };
 }
 
+-- the request of an authority: what it says, the octets that are signed, and their signature
 abbrev pub CaRequest : Type 0
 CaRequest = Signed RpkiAlgorithm (RequestFields CaAttributes)
 
--- The octets are a request for the identifier's key, signed under it. Whatever stands behind them, they are read as that request.
+-- The octets are a request for the identifier's key, signed under it. Whatever stands behind them,
+-- they are read as that request.
 pub record IsRequestMade {Id : Type 0} (scheme : Relation) (id : Id) (places : Places)
     (before after : SignerState Id) (octets : List ℕ) : Type 0 where
   pub key : KeyFields
@@ -161,7 +176,8 @@ pub record IsRequestMade {Id : Type 0} (scheme : Relation) (id : Id) (places : P
   pub stays : Stays before after
   pub no_fault : after.faults ≡ before.faults
 
--- the octets are a request for a key that is given, with the signature that the signer's call gives under the identifier
+-- the octets are a request for a key that is given, with the signature that the signer's call gives
+-- under the identifier
 pub record IsSignedFor {Id : Type 0} (scheme : Relation) (id : Id) (key : KeyFields)
     (places : Places) (before after : SignerState Id) (octets : List ℕ) : Type 0 where
   pub value : List ℕ
@@ -186,8 +202,9 @@ pub record IsKeyFound {Id : Type 0} (id : Id) (before : SignerState Id) : Type 0
   pub holds : Holds before.keyring id key
   pub short : IsShort key.bits
 
--- Why no request was made: first the signer was asked for the key, then the URI of the repository was tested, and then the signer was
--- asked to sign. Of want of memory nothing is said, and no other error stands for it.
+-- Why no request was made: first the signer was asked for the key, then the URI of the repository
+-- was tested, and then the signer was asked to sign. Of want of memory nothing is said, and no
+-- other error stands for it.
 abbrev pub ConstructFails : {Id E : Type 0} → Id → List ℕ → SignerState Id → SignerState Id
     → CsrError E → Type 0
 ConstructFails id repository before after (csr.Uri error) =
@@ -198,7 +215,8 @@ ConstructFails id repository before after (csr.Signing error) =
     (error ≢ signing.OutOfMemory) × SigningFails RsaSha256 id before after error
 ConstructFails id repository before after csr.OutOfMemory = ⊤
 
--- Which refusal was the first: the key was refused; or it was given, the URI with its slash is lawful, and the signature was refused.
+-- Which refusal was the first: the key was refused; or it was given, the URI with its slash is
+-- lawful, and the signature was refused.
 abbrev pub RefusesInTurn : {Id E : Type 0} → Relation → Id → List ℕ → SignerState Id
     → SignerState Id → MakeError E → Type 0
 RefusesInTurn scheme id repository before after error =
@@ -217,6 +235,7 @@ IsFirstRefusal scheme id repository before after csr.OutOfMemory = after.faults 
 
 -- ---- errors that become others
 
+-- the CsrError that a MakeError becomes: each variant keeps its name
 abbrev pub csr_error_of : {E : Type 0} → MakeError E → CsrError E
 csr_error_of make.TooLong = csr.TooLong
 csr_error_of (make.Signing error) = csr.Signing error

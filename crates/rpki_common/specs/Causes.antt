@@ -1,4 +1,5 @@
--- When a call may answer that a source, a sink, a signer or another thing outside failed: by a count of its faults.
+-- When a call may answer that a source, a sink, a signer or another thing outside failed: by a
+-- count of its faults.
 use Rattle.std.specs.Prelude.{ℕ, ◌+◌, ◌-◌, ◌^◌, ◌≤◌, min, Result, OnErr}
 
 -- The count has risen from `before` to `after`, or it stands at the last value that it can have.

@@ -1,4 +1,5 @@
--- Items that pass by one at a time: a means for loops, tied to the words of Items by proofs/Collected.antt.
+-- Items that pass by one at a time: a means for loops, tied to the words of Items by
+-- proofs/Collected.antt.
 use Rattle.std.specs.Prelude.{Bool, if◌then◌else◌, Option, None, Some, List, [], ◌∷◌}
 use Rattle.rpki_common.specs.Chaining.{◌>>=◌}
 

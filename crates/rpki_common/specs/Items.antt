@@ -1,4 +1,5 @@
--- Lists of items of which each says what it is: how often one kind may be there, and which one counts.
+-- Lists of items of which each says what it is: how often one kind may be there, and which one
+-- counts.
 -- The list is that of the items of one kind, as `filter` gives it.
 use Rattle.std.specs.Prelude.{Bool, if◌then◌else◌, Option, None, Some, List, [], ◌∷◌}
 use Rattle.rpki_common.specs.Chaining.{◌>>=◌}

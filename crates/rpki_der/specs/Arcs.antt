@@ -3,6 +3,7 @@ use Rattle.std.specs.Prelude.{ℕ, ◌+◌, ◌-◌, ◌*◌, ◌%◌, nat_lt, i
 use Rattle.std.specs.List.{flat_map}
 use Rattle.std.specs.Fmt.{decimal}
 
+-- the octet goes to the front of the first part; where there is no part, there still is none
 abbrev pub in_front : ℕ → List (List ℕ) → List (List ℕ)
 in_front a [] = []
 in_front a (part ∷ parts) = (a ∷ part) ∷ parts
@@ -29,15 +30,19 @@ two_arcs n =
     else if nat_lt n 80 then codes "1." ++ decimal (n - 40)
     else codes "2." ++ decimal (n - 80)
 
+-- the two arcs of the first subidentifier, joined by a dot; ? where it has more than nine octets
 abbrev pub first_text : List ℕ → List ℕ
 first_text octets = if nat_lt 9 (length octets) then codes "?" else two_arcs (base_128 octets)
 
+-- the arcs of the later subidentifiers, each behind a dot
 abbrev pub later_text : List (List ℕ) → List ℕ
 later_text parts = flat_map (λ part. codes "." ++ arc_text part) parts
 
+-- the text of the subidentifiers, each given as its octets; of none it is empty
 abbrev pub parts_text : List (List ℕ) → List ℕ
 parts_text [] = []
 parts_text (part ∷ parts) = first_text part ++ later_text parts
 
+-- the text of an object identifier, given as its contents octets
 unfoldable pub oid_text : List ℕ → List ℕ
 oid_text octets = parts_text (subidentifier_parts octets)

@@ -15,5 +15,6 @@ bits [] = None
 bits (a ∷ []) = if a == 0 then Some (record { unused = 0; octets = [] }) else None
 bits (a ∷ b ∷ more) = if nat_lt a 8 then Some (record { unused = a; octets = b ∷ more }) else None
 
+-- a primitive BIT STRING: how many bits of its last octet are unused, and its octets
 unfoldable pub bit_string : Value → Option BitFields
 bit_string = so (primitive bit_string_tag) bits

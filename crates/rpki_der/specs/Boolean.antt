@@ -13,5 +13,6 @@ truth Ber (a ∷ []) = if a == 0 then Some false else Some true
 truth Der (a ∷ []) = if a == 0 then Some false else if a == 255 then Some true else None
 truth mode (a ∷ b ∷ more) = None
 
+-- a BOOLEAN: a primitive value whose one contents octet says its truth
 unfoldable pub boolean : Mode → Value → Option Bool
 boolean mode = so (primitive boolean_tag) (truth mode)

@@ -1,5 +1,5 @@
--- A value as a list of entries, one for each value in it, in the order of their first octets; and what a reader of them has still to
--- read. A means for the reader of trees alone.
+-- A value as a list of entries, one for each value in it, in the order of their first octets; and
+-- what a reader of them has still to read. A means for the reader of trees alone.
 use Rattle.std.specs.Prelude.{◌≡◌, ℕ, ◌+◌, List, [], ◌∷◌, ◌++◌, length}
 use Rattle.rpki_der.specs.declared.mode.Mode.TheVariants.{Ber}
 use Rattle.rpki_der.specs.declared.tree.Entry.{Entry}
@@ -8,15 +8,18 @@ use Rattle.rpki_der.specs.Item.{item}
 use Rattle.rpki_der.specs.Ticks.{all_nodes}
 use Rattle.rpki_der.specs.Tree.{inside}
 
--- how many octets stand in front of the contents, and how many behind them
+-- how many octets stand in front of the contents
 abbrev pub header_size : Value → ℕ
 header_size (Primitive identifier lengths contents) = length identifier + length lengths
 header_size (Constructed identifier form inner) = length identifier + length (lengths_of form)
 
+-- how many octets of an end mark stand behind the contents
 abbrev pub mark_size : Value → ℕ
 mark_size (Primitive identifier lengths contents) = 0
 mark_size (Constructed identifier form inner) = length (end_mark form)
 
+-- the entry of a value: tag, form, the sizes of its header, its end mark and the whole, and how
+-- many values are inside it
 abbrev pub entry_of : Value → Entry
 entry_of v = record {
   tag = (item v).tag;
@@ -27,6 +30,7 @@ entry_of v = record {
   count = all_nodes (inside v);
 }
 
+-- the entry of a value and behind it those of the values inside it; and those of values in turn
 abbrev mutual
   pub entries_of : Value → List Entry
   entries_of (Primitive identifier lengths contents) =
@@ -38,7 +42,8 @@ abbrev mutual
   all_entries_of End = []
   all_entries_of (v ▸ vs) = entries_of v ++ all_entries_of vs
 
--- the octets spell this value and no more, and these are its entry and the entries of the values inside it
+-- the octets spell this value and no more, and these are its entry and the entries of the values
+-- inside it
 pub record IsNode (v : Value) (octets : List ℕ) (entry : Entry) (inner : List Entry) : Type 0 where
   pub begins : Begins Ber octets v []
   pub entry' : entry ≡ entry_of v

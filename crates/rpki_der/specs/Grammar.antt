@@ -1,4 +1,5 @@
--- Grammars over values: partial functions, from one value to what it means, or from the values of a level to what they mean.
+-- Grammars over values: partial functions, from one value to what it means, or from the values of a
+-- level to what they mean.
 -- A grammar of several fields reads them in their order, each with the values behind it, by `do`.
 use Rattle.std.specs.Prelude.{ℕ, if◌then◌else◌, bytes_eq, Option, None, Some, List, [], ◌∷◌}
 use Rattle.rpki_common.specs.Chaining.{◌>>=◌}

@@ -43,11 +43,14 @@ pub record Stepped (mode : Mode) (here : List ℕ) (levels : List Inside) (entri
       → CompletesTree mode here' levels' entries' final total
       → OneFirstTree mode here levels entries final total
 
--- reading a value here is reading on at here', of the levels as the code keeps them, the outermost first
+-- reading a value here is reading on at here', of the levels as the code keeps them, the outermost
+-- first
 abbrev pub DescendsTree : Mode → List ℕ → List Inside → List Entry → List ℕ → List Inside
     → List Entry → Type 0
 DescendsTree mode here levels entries here' levels' entries' =
     Stepped mode here (inner_first levels) entries here' (inner_first levels') entries'
 
+-- what is left in levels that are kept the outermost first: one for each, and the octets known to
+-- stand behind it
 abbrev pub left_at : List Inside → ℕ
 left_at levels = left_in (map (λ l. level_of l.extent) (inner_first levels))

@@ -17,9 +17,12 @@ pub record IdentifierFirst (octets identifier rest : List ℕ) : Type 0 where
   pub is_identifier : IsIdentifier identifier
   pub parts : octets ≡ identifier ++ rest
 
+-- no identifier stands at the beginning of the octets
 abbrev pub NoIdentifier : List ℕ → Type 0
 NoIdentifier octets = (identifier rest : List ℕ) → IdentifierFirst octets identifier rest → ⊥
 
+-- an identifier and length octets that say this length stand at the beginning of the octets, and
+-- rest behind them
 pub record HeaderFirst (mode : Mode) (octets identifier : List ℕ) (length : Length)
     (rest : List ℕ) : Type 0 where
   pub lengths : List ℕ
@@ -27,6 +30,7 @@ pub record HeaderFirst (mode : Mode) (octets identifier : List ℕ) (length : Le
   pub says : Says mode lengths length
   pub parts : octets ≡ identifier ++ (lengths ++ rest)
 
+-- no identifier with lawful length octets behind it stands at the beginning of the octets
 abbrev pub NoHeader : Mode → List ℕ → Type 0
 NoHeader mode octets = (identifier : List ℕ) (length : Length) (rest : List ℕ)
     → HeaderFirst mode octets identifier length rest → ⊥

@@ -1,5 +1,5 @@
--- The identifier and the length at the beginning of octets, as functions: means for `value_at`, tied to Identifier and Lengths by
--- proofs/Heads.antt.
+-- The identifier and the length at the beginning of octets, as functions: means for `value_at`,
+-- tied to Identifier and Lengths by proofs/Heads.antt.
 use Rattle.std.specs.Prelude.{ℕ, zero, suc, ◌+◌, ◌-◌, ◌%◌, Bool, true, false, ◌==◌, ◌||◌, nat_lt, if◌then◌else◌, Option, None, Some, List, [], ◌∷◌, length, take}
 use Rattle.std.specs.Option.{option_map}
 use Rattle.rpki_der.specs.declared.header.Length.{Length}
@@ -31,12 +31,15 @@ is_overlong Ber octets = false
 is_overlong Der [] = true
 is_overlong Der (a ∷ more) = a == 0 || nat_lt (number (a ∷ more)) 128
 
+-- the long form of a length, whose count octets are the first of these: they are all there, and in
+-- DER no shorter form says that length (X.690, 8.1.3.5 and 10.1)
 abbrev pub long_length : Mode → ℕ → List ℕ → Option (Length × ℕ)
 long_length mode count more =
     if nat_lt (length more) count then None
     else if is_overlong mode (take count more) then None
     else Some (length_is.Definite (number (take count more)), count + 1)
 
+-- the indefinite form of a length, which is one octet, and in BER alone (X.690, 8.1.3.6 and 10.1)
 abbrev pub indefinite_length : Mode → Option (Length × ℕ)
 indefinite_length Ber = Some (length_is.Indefinite, 1)
 indefinite_length Der = None

@@ -7,7 +7,8 @@ IsFurther [] = ⊥
 IsFurther (a ∷ []) = a < 128
 IsFurther (a ∷ b ∷ more) = (128 ≤ a) × IsFurther (b ∷ more)
 
--- One octet; or, where its five low bits are all ones, up to three octets follow. 00 and 20 are no identifier.
+-- One octet; or, where its five low bits are all ones, up to three octets follow. 00 and 20 are no
+-- identifier.
 abbrev pub IsIdentifier : List ℕ → Type 0
 IsIdentifier [] = ⊥
 IsIdentifier (a ∷ []) = (a % 32 ≢ 31) × (a ≢ 0) × (a ≢ 32)
@@ -18,6 +19,7 @@ abbrev pub is_constructed : List ℕ → Bool
 is_constructed [] = false
 is_constructed (a ∷ more) = a / 32 % 2 == 1
 
+-- an octet with bit 6 cleared
 abbrev pub without_bit_6 : ℕ → ℕ
 without_bit_6 a = a - 32 * (a / 32 % 2)
 
@@ -26,6 +28,7 @@ abbrev pub tag_of : List ℕ → List ℕ
 tag_of [] = []
 tag_of (a ∷ more) = without_bit_6 a ∷ more
 
+-- whether the identifier has this tag
 abbrev pub has_tag : List ℕ → List ℕ → Bool
 has_tag tag identifier = bytes_eq (tag_of identifier) tag
 

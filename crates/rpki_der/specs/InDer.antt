@@ -6,7 +6,8 @@ use Rattle.rpki_der.specs.Reader.{decoded}
 use Rattle.rpki_der.specs.Takes.{Lacks}
 use Rattle.rpki_der.specs.Value.{Value}
 
--- what the grammar reads of the value that begins the octets, in DER; what stands behind it is unread
+-- what the grammar reads of the value that begins the octets, in DER; what stands behind it is
+-- unread
 abbrev pub in_der : {X : Type 0} → (Value → Option X) → List ℕ → Option X
 in_der grammar octets = decoded grammar Der octets
 

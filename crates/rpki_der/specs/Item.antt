@@ -18,7 +18,8 @@ pub record ItemFields : Type 0 where
   pub content : List ℕ
   pub slice : List ℕ
 
--- What a value shows. The contents of a constructed value are the spellings of the values inside it; an end mark isn't among them.
+-- What a value shows. The contents of a constructed value are the spellings of the values inside
+-- it; an end mark isn't among them.
 abbrev pub item : Value → ItemFields
 item (Primitive identifier lengths contents) = record {
   tag = tag_of identifier;
@@ -43,17 +44,21 @@ item_with tag v = if has_tag tag (identifier_of v) then Some (item v) else None
 
 -- ---- the next value, if there is one
 
--- Where no value is taken, it isn't the end of the level; and the answer is Malformed only where no value stands next.
+-- Where no value is taken, it isn't the end of the level; and the answer is Malformed only where no
+-- value stands next.
 unfoldable pub RefusesNext : Position → DecodeError → Type 0
 RefusesNext old Malformed = (AtEnd old → ⊥) × NoValue old.mode old.here
 RefusesNext old OutOfMemory = AtEnd old → ⊥
 
--- The answer is the value that stands next; or None, at the end of the level; or Malformed, exactly where neither is so.
+-- The answer is the value that stands next; or None, at the end of the level; or Malformed, exactly
+-- where neither is so.
 abbrev pub TakesNext : Position → Position → Result (Option ItemFields) DecodeError → Type 0
 TakesNext old new result =
     MatchResult result (λ found. MatchOption found (AtEnd old × (new ≡ old))
     (λ i. TakesOne any_item old new i)) (RefusesNext old)
 
+-- neither a next value is taken nor the level's end found, for this error; the count didn't fall,
+-- and there were at most c ticks for each octet that was left, and 8
 pub record CountedRefusesNext (c : ℕ) (old : Position) (before after : ℕ)
     (error : DecodeError) : Type 0 where
   pub refuses : RefusesNext old error
@@ -78,13 +83,15 @@ OtherFirst tag octets = (identifier : List ℕ) × (rest : List ℕ)
 abbrev pub Absent : List ℕ → Position → Type 0
 Absent tag old = AtEnd old ⊎ OtherFirst tag old.here
 
--- Where no value is taken, neither the level ends nor another tag stands next; the answer is Malformed only where no value stands next.
+-- Where no value is taken, neither the level ends nor another tag stands next; the answer is
+-- Malformed only where no value stands next.
 unfoldable pub RefusesOptional : List ℕ → Position → DecodeError → Type 0
 RefusesOptional tag old Malformed = (Absent tag old → ⊥) × NoValue old.mode old.here
 RefusesOptional tag old OutOfMemory = Absent tag old → ⊥
 
--- The answer is the value that stands next, which has this tag; or None, at the end of the level and where an identifier of
--- another tag stands next; or Malformed, exactly where none of these is so.
+-- The answer is the value that stands next, which has this tag; or None, at the end of the level
+-- and where an identifier of another tag stands next; or Malformed, exactly where none of these is
+-- so.
 abbrev pub TakesOptional : List ℕ → Position → Position → Result (Option ItemFields) DecodeError
     → Type 0
 TakesOptional tag old new result =
@@ -96,6 +103,8 @@ abbrev pub CountedAbsent : List ℕ → Position → ℕ → ℕ → Type 0
 CountedAbsent tag old before after =
     (AtEnd old × (after ≡ before)) ⊎ (OtherFirst tag old.here × (after ≡ before + 1))
 
+-- neither a value with this tag is taken nor its absence found, for this error; the count didn't
+-- fall, and there were at most c ticks for each octet that was left, and 8
 pub record CountedRefusesOptional (c : ℕ) (tag : List ℕ) (old : Position) (before after : ℕ)
     (error : DecodeError) : Type 0 where
   pub refuses : RefusesOptional tag old error
@@ -113,15 +122,16 @@ TakesOptionalCounted c tag old new before after result =
 
 -- ---- a value that may be absent, by what a grammar reads of it
 
--- Where no value is taken, neither the level ends nor another tag stands next; the answer is Malformed only where the grammar reads no
--- value that stands next.
+-- Where no value is taken, neither the level ends nor another tag stands next; the answer is
+-- Malformed only where the grammar reads no value that stands next.
 unfoldable pub RefusesOptionalAs : {X : Type 0} → List ℕ → (Value → Option X) → Position
     → DecodeError → Type 0
 RefusesOptionalAs tag grammar old Malformed = (Absent tag old → ⊥) × NoneStands grammar old
 RefusesOptionalAs tag grammar old OutOfMemory = Absent tag old → ⊥
 
--- The answer is what the grammar reads of the value that stands next, whatever follows it; or nothing, at the end of the level
--- and where an identifier of another tag stands next; or Malformed, exactly where none of these is so.
+-- The answer is what the grammar reads of the value that stands next, whatever follows it; or
+-- nothing, at the end of the level and where an identifier of another tag stands next; or
+-- Malformed, exactly where none of these is so.
 abbrev pub TakesOptionalAs : {X Y : Type 0} → List ℕ → (Value → Option X) → (Y → Option X)
     → Position → Position → Result Y DecodeError → Type 0
 TakesOptionalAs tag grammar view old new result =

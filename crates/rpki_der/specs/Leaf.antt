@@ -6,6 +6,7 @@ use Rattle.rpki_der.specs.Grammar.{within, first, done}
 use Rattle.rpki_der.specs.Tags.{sequence}
 use Rattle.rpki_der.specs.Value.{Value, Primitive, Constructed, Values, End, ◌▸◌}
 
+-- the tag and the contents octets of a primitive value
 pub record LeafFields : Type 0 where
   pub tag : List ℕ
   pub content : List ℕ

@@ -16,11 +16,12 @@ abbrev pub IsSized : Level → Type 0
 IsSized (Sized after) = ⊤
 IsSized Marked = ⊥
 
--- what ends the level, and how many octets are known to stand behind it
+-- the octets that end the level: none where its length is known, else 00 00
 abbrev pub mark_of : Level → List ℕ
 mark_of (Sized after) = []
 mark_of Marked = 0 ∷ 0 ∷ []
 
+-- how many octets are known to stand behind the level; behind one that 00 00 ends, none are known
 abbrev pub behind_level : Level → ℕ
 behind_level (Sized after) = length after
 behind_level Marked = 0
@@ -35,7 +36,8 @@ abbrev pub Ends : Level → List ℕ → List ℕ → Type 0
 Ends (Sized after) here rest = (here ≡ []) × (after ≡ rest)
 Ends Marked here rest = here ≡ 0 ∷ 0 ∷ rest
 
--- a constructed value with this identifier stands at the beginning of the octets, by its header; inner are the octets from its contents on
+-- a constructed value with this identifier stands at the beginning of the octets, by its header;
+-- inner are the octets from its contents on
 abbrev pub Opens : Mode → List ℕ → List ℕ → Level → List ℕ → Type 0
 Opens mode octets identifier (Sized after) inner =
     IsIdentifier identifier × (is_constructed identifier ≡ true) × (lengths : List ℕ)

@@ -1,11 +1,14 @@
 -- Said in contracts, and to be believed:
--- what values are: Identifier, Tags, Lengths, Value, Tree, Arcs; of Header and Part what stands first (`IdentifierFirst`, `NoValue`);
--- grammars: Grammar, OctetString, Oid, Null, Integer, Number, Boolean, Bits, Entry, Held, InDer, Leaf, Whole;
+-- what values are: Identifier, Tags, Lengths, Value, Tree, Arcs; of Header and Part what stands
+-- first (`IdentifierFirst`, `NoValue`);
+-- grammars: Grammar, OctetString, Oid, Null, Integer, Number, Boolean, Bits, Entry, Held, InDer,
+-- Leaf, Whole;
 -- what calls take and count: Level, Position, Takes, Item, Ticks, Stopping;
 -- what is written: Writing.
--- Reader says `value_at` and `decoded`: the first is known by its law `value_at_is`, and its steps are means.
--- Means for loops, proofs and stored values: HeaderAt, BehindHeader, Padding, Walk, CountedWalk, ExactWalk, Segments, OptionalBoolean,
--- ValueCode, Entries, Growth, Flat, Levels.
+-- Reader says `value_at` and `decoded`: the first is known by its law `value_at_is`, and its steps
+-- are means.
+-- Means for loops, proofs and stored values: HeaderAt, BehindHeader, Padding, Walk, CountedWalk,
+-- ExactWalk, Segments, OptionalBoolean, ValueCode, Entries, Growth, Flat, Levels.
 pub mod Identifier
 pub mod Padding
 pub mod Tags

@@ -5,7 +5,8 @@ use Rattle.rpki_der.specs.Lengths.{number}
 use Rattle.rpki_der.specs.Value.{Value}
 use Rattle.rpki_der.specs.Grammar.{primitive, so}
 
--- a two's complement number in the fewest octets: its first nine bits are neither all clear nor all set
+-- a two's complement number in the fewest octets: its first nine bits are neither all clear nor all
+-- set
 abbrev pub minimal : List ℕ → Option (List ℕ)
 minimal [] = None
 minimal (a ∷ []) = Some (a ∷ [])
@@ -21,6 +22,7 @@ abbrev pub is_not_negative : List ℕ → Bool
 is_not_negative [] = true
 is_not_negative (a ∷ more) = nat_lt a 128
 
+-- the number, if it is below 2^64
 abbrev pub below_2_64 : ℕ → Option ℕ
 below_2_64 n = if nat_lt n (2 ^ 64) then Some n else None
 
@@ -28,5 +30,6 @@ below_2_64 n = if nat_lt n (2 ^ 64) then Some n else None
 abbrev pub small_number : List ℕ → Option ℕ
 small_number octets = if is_not_negative octets then below_2_64 (number octets) else None
 
+-- an INTEGER that isn't negative and is below 2^64
 unfoldable pub u64 : Value → Option ℕ
 u64 = so integer small_number

@@ -1,4 +1,5 @@
--- Octet strings (X.690, 8.7): one primitive value, or octet strings inside a constructed one, at any depth.
+-- Octet strings (X.690, 8.7): one primitive value, or octet strings inside a constructed one, at
+-- any depth.
 use Rattle.std.specs.Prelude.{ℕ, Option, None, Some, if◌then◌else◌, List, [], ◌++◌}
 use Rattle.rpki_der.specs.declared.mode.Mode.{Mode}
 use Rattle.rpki_der.specs.declared.mode.Mode.TheVariants.{Ber, Der}
@@ -8,7 +9,8 @@ use Rattle.rpki_der.specs.Value.{Value, Primitive, Constructed, Values, End, ◌
 use Rattle.rpki_common.specs.Chaining.{◌>>=◌}
 use Rattle.rpki_der.specs.Grammar.{primitive}
 
--- the octets of a value with this tag: its contents, or those of the octet strings inside it, joined in their order
+-- the octets of a value with this tag: its contents, or those of the octet strings inside it,
+-- joined in their order
 unfoldable mutual
   pub joined : List ℕ → Value → Option (List ℕ)
   joined tag (Primitive identifier lengths contents) =
@@ -25,5 +27,7 @@ unfoldable pub octets_under : List ℕ → Mode → Value → Option (List ℕ)
 octets_under tag Ber = joined tag
 octets_under tag Der = primitive tag
 
+-- an OCTET STRING under its universal tag, of either form in BER and primitive in DER (X.690, 8.7
+-- and 10.2)
 abbrev pub octet_string : Mode → Value → Option (List ℕ)
 octet_string = octets_under octet_string_tag

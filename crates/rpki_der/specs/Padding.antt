@@ -4,6 +4,8 @@ use Rattle.std.proofs.Common.{arith}
 use Rattle.std.proofs.lemmas.List.{take-append-drop, length-take-le}
 use Rattle.rpki_der.specs.declared.tag.Tag.TheInside.{Inside}
 
+-- four octets that are zero behind the first len ones come back where those len octets are padded
+-- to four
 pub padded_again : (octets : List ℕ) (len : ℕ) → len ≤ 4 → length octets ≡ 4
     → drop len octets ≡ replicate (4 - len) 0
     → ◌≡◌ {A = Inside} (record {

@@ -1,4 +1,5 @@
--- The value that begins octets, if any does, as a function. Its steps are a means alone: it is known by its law, `value_at-is`.
+-- The value that begins octets, if any does, as a function. Its steps are a means alone: it is
+-- known by its law, `value_at-is`.
 use Rattle.std.specs.Prelude.{ℕ, zero, suc, ◌+◌, Bool, true, false, nat_lt, if◌then◌else◌, Option, None, Some, List, [], ◌∷◌, length, take, drop}
 use Rattle.rpki_der.specs.declared.header.Length.{Length}
 use Rattle.rpki_der.specs.declared.header.Length.TheVariants as length_is
@@ -16,6 +17,7 @@ pub record Headed : Type 0 where
   pub length' : Length
   pub rest : List ℕ
 
+-- the header that begins the octets, and the octets behind it, if a header begins them
 unfoldable pub head_at : Mode → List ℕ → Option Headed
 head_at mode octets =
     identifier_size octets >>= λ k. length_at mode (drop k octets) >>= λ l.
@@ -26,6 +28,7 @@ head_at mode octets =
       rest = drop l.1 (drop k octets);
     })
 
+-- the primitive value whose contents are the n octets behind the header, and the octets behind it
 abbrev pub primitive_of : Headed → ℕ → Option (Value × List ℕ)
 primitive_of h n = Some (Primitive h.identifier h.lengths (take n h.rest), drop n h.rest)
 
@@ -39,6 +42,8 @@ abbrev pub marked_of : Headed → Values × List ℕ → Option (Value × List �
 marked_of h (vs, zero ∷ zero ∷ more) = Some (Constructed h.identifier Indefinite vs, more)
 marked_of h (vs, rest) = None
 
+-- a value, the contents behind a header, and values up to the end or an octet 0, with the octets
+-- behind each; the number bounds the depth of the recursion
 unfoldable mutual
   pub read_value : ℕ → Mode → List ℕ → Option (Value × List ℕ)
   read_value zero mode octets = None

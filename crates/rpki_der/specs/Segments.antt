@@ -1,11 +1,13 @@
--- Reading the segments of an octet string one after the other: a means for the loop, tied to `joined` by proofs/Joining.antt.
+-- Reading the segments of an octet string one after the other: a means for the loop, tied to
+-- `joined` by proofs/Joining.antt.
 use Rattle.std.specs.Prelude.{◌≡◌, ℕ, zero, suc, ◌+◌, Some, List, [], ◌++◌, length, drop}
 use Rattle.rpki_der.specs.Value.{Value, Values, Begins}
 use Rattle.rpki_der.specs.Level.{Holds}
 use Rattle.rpki_der.specs.Position.{Position, top}
 use Rattle.rpki_der.specs.OctetString.{joined, joined_all}
 
--- octet strings stand at n levels from p on; behind them is q, and all is front with what they join to
+-- octet strings stand at n levels from p on; behind them is q, and all is front with what they join
+-- to
 abbrev pub JoinsUp : ℕ → Position → List ℕ → Position → List ℕ → Type 0
 JoinsUp zero p front q all = (p ≡ q) × (front ≡ all)
 JoinsUp (suc n) p front q all =
@@ -29,6 +31,7 @@ pub record Segments (tag : List ℕ) (k : ℕ) (p : Position) (front : List ℕ)
   pub back : (n : ℕ) (q : Position) (all : List ℕ) → JoinsUp (n + k) p' front' q all
       → OneJoin tag n p front q all
 
+-- reading an octet string at p is reading on at p', some number of levels deeper
 abbrev pub Segment : List ℕ → Position → List ℕ → Position → List ℕ → Type 0
 Segment tag p front p' front' = (k : ℕ) × Segments tag k p front p' front'
 

@@ -1,11 +1,13 @@
--- How far a reader of whole values comes before it stops: by headers and end marks, one behind the other.
+-- How far a reader of whole values comes before it stops: by headers and end marks, one behind the
+-- other.
 use Rattle.std.specs.Prelude.{ℕ, ◌+◌, ◌≤◌, List, [], ◌∷◌}
 use Rattle.rpki_der.specs.declared.mode.Mode.{Mode}
 use Rattle.rpki_der.specs.Value.{Primitive, Begins}
 use Rattle.rpki_der.specs.Level.{Level, Ends, Opens}
 use Rattle.rpki_der.specs.Ticks.{marks}
 
--- From start on, inside the levels outer, n headers and end marks stand one behind the other; behind them is here, inside levels.
+-- From start on, inside the levels outer, n headers and end marks stand one behind the other;
+-- behind them is here, inside levels.
 pub data Headers (mode : Mode) (start : List ℕ) (outer : List Level) : ℕ → List ℕ → List Level
     → Type 0 where
   Nothing : Headers mode start outer 0 start outer
@@ -24,8 +26,8 @@ pub data Headers (mode : Mode) (start : List ℕ) (outer : List Level) : ℕ →
       → Headers mode start outer n here (level ∷ levels) → Ends level here rest
       → Headers mode start outer (n + marks level) rest levels
 
--- From start on, inside the levels outer, there were at most as many ticks as headers and end marks stand there one behind the other,
--- and k more.
+-- From start on, inside the levels outer, there were at most as many ticks as headers and end marks
+-- stand there one behind the other, and k more.
 pub record StopsIn (k : ℕ) (mode : Mode) (start : List ℕ) (outer : List Level)
     (before after : ℕ) : Type 0 where
   pub count : ℕ
@@ -34,6 +36,7 @@ pub record StopsIn (k : ℕ) (mode : Mode) (start : List ℕ) (outer : List Leve
   pub headers : Headers mode start outer count here levels
   pub most : after ≤ before + count + k
 
--- A reader of a whole value stopped: it ticked at most once for the header at which it stopped, besides the headers and end marks before.
+-- A reader of a whole value stopped: it ticked at most once for the header at which it stopped,
+-- besides the headers and end marks before.
 abbrev pub StopsAt : Mode → List ℕ → ℕ → ℕ → Type 0
 StopsAt mode start before after = StopsIn 1 mode start [] before after

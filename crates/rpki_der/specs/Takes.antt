@@ -1,5 +1,5 @@
--- What a call of a cursor says of the values that stand there: that it takes what a grammar reads, or refuses exactly where the
--- grammar reads nothing.
+-- What a call of a cursor says of the values that stand there: that it takes what a grammar reads,
+-- or refuses exactly where the grammar reads nothing.
 use Rattle.std.specs.Prelude.{◌≡◌, ℕ, true, false, Option, None, Some, Result, List, ◌∷◌, drop, MatchResult, ⊤}
 use Rattle.rpki_der.specs.declared.error.DecodeError.{DecodeError}
 use Rattle.rpki_der.specs.declared.error.DecodeError.TheVariants.{Malformed, OutOfMemory}
@@ -25,11 +25,14 @@ abbrev pub NoneStands : {X : Type 0} → (Value → Option X) → Position → T
 NoneStands grammar old = (v : Value) (rest : List ℕ) → Begins old.mode old.here v rest
     → grammar v ≡ None
 
+-- what an error of a call that takes a value says: Malformed, that none stands here that the
+-- grammar reads; OutOfMemory, nothing
 unfoldable pub Refuses : {X : Type 0} → (Value → Option X) → Position → DecodeError → Type 0
 Refuses grammar old Malformed = NoneStands grammar old
 Refuses grammar old OutOfMemory = ⊤
 
--- The answer is the value that stands here, or Malformed exactly where the grammar reads none that does.
+-- The answer is the value that stands here, or Malformed exactly where the grammar reads none that
+-- does.
 abbrev pub Takes : {X Y : Type 0} → (Value → Option X) → (Y → X) → Position → Position
     → Result Y DecodeError → Type 0
 Takes grammar view old new result =
@@ -59,15 +62,20 @@ pub record OpensSized (tag : List ℕ) (old : Position) : Type 0 where
   pub opens : Opens old.mode old.here identifier (Sized after) inner
   pub tagged : has_tag tag identifier ≡ true
 
+-- what an error of going in says: Malformed, that no constructed value with this tag begins here;
+-- OutOfMemory, that one of definite length does
 abbrev pub RefusesToEnter : List ℕ → Position → DecodeError → Type 0
 RefusesToEnter tag old Malformed = NoneOpens tag old
 RefusesToEnter tag old OutOfMemory = OpensSized tag old
 
--- The cursor goes in, or the answer is Malformed exactly where no constructed value with this tag begins. Want of memory is answered
--- only where one of definite length does: to go into a value of indefinite length takes none.
+-- The cursor goes in, or the answer is Malformed exactly where no constructed value with this tag
+-- begins. Want of memory is answered only where one of definite length does: to go into a value of
+-- indefinite length takes none.
 abbrev pub Enters : List ℕ → Position → Position → Result (Unit {0}) DecodeError → Type 0
 Enters tag old new result = MatchResult result (λ _. Goes tag old new) (RefusesToEnter tag old)
 
+-- what an error of going out says: Malformed, that the level isn't at its end; OutOfMemory doesn't
+-- come
 abbrev pub RefusesToLeave : Position → DecodeError → Type 0
 RefusesToLeave old Malformed = AtEnd old → ⊥
 RefusesToLeave old OutOfMemory = ⊥
@@ -98,6 +106,8 @@ RefusesFields fields old Malformed =
     → fields all ≡ None
 RefusesFields fields old OutOfMemory = ⊤
 
+-- the answer is what fields reads next at this level, or Malformed exactly where nothing stands
+-- that it reads
 abbrev pub TakesPart : {X Y : Type 0} → (Values → Option (X × Values)) → (Y → X) → Position
     → Position → Result Y DecodeError → Type 0
 TakesPart fields view old new result =
@@ -113,13 +123,16 @@ pub record BeginsAs {X : Type 0} (grammar : Value → Option X) (mode : Mode) (o
   pub begins : Begins mode octets value rest
   pub reads : grammar value ≡ Some x
 
+-- what an error of a call on octets says: Malformed, that no value begins them that the grammar
+-- reads; OutOfMemory, nothing
 unfoldable pub RefusesOctets : {X : Type 0} → (Value → Option X) → Mode → List ℕ → DecodeError
     → Type 0
 RefusesOctets grammar mode octets Malformed =
     (v : Value) (rest : List ℕ) → Begins mode octets v rest → grammar v ≡ None
 RefusesOctets grammar mode octets OutOfMemory = ⊤
 
--- The answer is the value that begins the octets, or Malformed exactly where the grammar reads none that does.
+-- The answer is the value that begins the octets, or Malformed exactly where the grammar reads none
+-- that does.
 abbrev pub Decodes : {X Y : Type 0} → (Value → Option X) → (Y → X) → Mode → List ℕ
     → Result Y DecodeError → Type 0
 Decodes grammar view mode octets result =
@@ -141,12 +154,14 @@ pub record ReadsNone {Y : Type 0} (fields : Values → Option Y) (p : Position) 
   pub none : (vs : Values) (rest : List ℕ) → Holds p.mode (top p.levels) p.here vs rest
       → fields vs ≡ None
 
+-- what an error of a call on the rest of a level says: Malformed, that nothing that fields reads is
+-- left; OutOfMemory, nothing
 unfoldable pub Stops : {Y : Type 0} → (Values → Option Y) → Position → DecodeError → Type 0
 Stops fields p Malformed = ReadsNone fields p
 Stops fields p OutOfMemory = ⊤
 
--- What is left of the level is read as y, and the cursor stands behind the level afterwards; or the answer is Malformed exactly where
--- nothing that fields reads is left.
+-- What is left of the level is read as y, and the cursor stands behind the level afterwards; or the
+-- answer is Malformed exactly where nothing that fields reads is left.
 abbrev pub TakesRest : {X Y : Type 0} → (Values → Option X) → (Y → X) → Position → Position
     → Result Y DecodeError → Type 0
 TakesRest fields view old new result =
@@ -154,6 +169,7 @@ TakesRest fields view old new result =
 
 -- ---- what is calculated of octets
 
+-- what an error of a calculation says: Malformed, that there is nothing; OutOfMemory, nothing
 unfoldable pub Lacks : {X : Type 0} → Option X → DecodeError → Type 0
 Lacks o Malformed = o ≡ None
 Lacks o OutOfMemory = ⊤

@@ -17,11 +17,13 @@ abbrev mutual
   all_nodes End = 0
   all_nodes (v ▸ vs) = nodes v + all_nodes vs
 
--- how many headers and end marks a value has, with those inside it
+-- how many end marks a form has
 abbrev pub form_marks : Form → ℕ
 form_marks (Definite octets) = 0
 form_marks Indefinite = 1
 
+-- how many headers and end marks a value has, with those inside it; and how many values in turn
+-- have
 abbrev mutual
   pub counts : Value → ℕ
   counts (Primitive identifier lengths contents) = 1
@@ -31,6 +33,7 @@ abbrev mutual
   all_counts End = 0
   all_counts (v ▸ vs) = counts v + all_counts vs
 
+-- how many octets are known to stand behind the levels, in all
 abbrev pub behind : List Level → ℕ
 behind [] = 0
 behind (level ∷ levels) = behind_level level + behind levels
@@ -52,8 +55,8 @@ pub record CountedOne {X : Type 0} (c : ℕ) (grammar : Value → Option X) (old
   pub least : before + nodes takes.value ≤ after
   pub most : after + c * left new ≤ before + c * left old
 
--- The grammar reads no value that stands here, or memory ran out. The count didn't fall, and there were at most c ticks for each octet
--- that was left, and 8.
+-- The grammar reads no value that stands here, or memory ran out. The count didn't fall, and there
+-- were at most c ticks for each octet that was left, and 8.
 pub record CountedRefuses {X : Type 0} (c : ℕ) (grammar : Value → Option X) (old : Position)
     (before after : ℕ) (error : DecodeError) : Type 0 where
   pub refuses : Refuses grammar old error
@@ -78,26 +81,31 @@ pub record CountedFields {X : Type 0} (c k : ℕ) (fields : Values → Option (X
   pub on : left new ≤ left old
   pub most : after + c * left new ≤ before + c * left old + k
 
+-- no fields stand at this level that fields reads, or memory ran out; the count didn't fall, and
+-- there were at most c ticks for each octet that was left, and k and 8
 pub record CountedRefusesFields {X : Type 0} (c k : ℕ) (fields : Values → Option (X × Values))
     (old : Position) (before after : ℕ) (error : DecodeError) : Type 0 where
   pub refuses : RefusesFields fields old error
   pub least : before ≤ after
   pub most : after ≤ before + c * left old + k + 8
 
+-- TakesPart, and c ticks an octet at most, and k more
 abbrev pub TakesPartCounted : {X Y : Type 0} → ℕ → ℕ → (Values → Option (X × Values)) → (Y → X)
     → Position → Position → ℕ → ℕ → Result Y DecodeError → Type 0
 TakesPartCounted c k fields view old new before after result =
     MatchResult result (λ y. CountedFields c k fields old new before after (view y))
     (λ e. CountedRefusesFields c k fields old before after e)
 
--- A value that the grammar reads as x begins the octets. Each value in it ticked, and there were at most c ticks for each octet
--- that was passed.
+-- A value that the grammar reads as x begins the octets. Each value in it ticked, and there were at
+-- most c ticks for each octet that was passed.
 pub record CountedBegins {X : Type 0} (c : ℕ) (grammar : Value → Option X) (mode : Mode)
     (octets : List ℕ) (before after : ℕ) (x : X) : Type 0 where
   pub begins : BeginsAs grammar mode octets x
   pub least : before + nodes begins.value ≤ after
   pub most : after + c * length begins.rest ≤ before + c * length octets
 
+-- the grammar reads no value that begins the octets, or memory ran out; the count didn't fall, and
+-- there were at most c ticks for each octet, and 8
 pub record CountedRefusesOctets {X : Type 0} (c : ℕ) (grammar : Value → Option X) (mode : Mode)
     (octets : List ℕ) (before after : ℕ) (error : DecodeError) : Type 0 where
   pub refuses : RefusesOctets grammar mode octets error
@@ -113,13 +121,16 @@ DecodesCounted c grammar view mode octets before after result =
 
 -- ---- what is left of a level, up to its end
 
--- What is left of the level at p, fields reads as y, and q is behind the level; k ticks are paid by the header in front.
+-- What is left of the level at p, fields reads as y, and q is behind the level; k ticks are paid by
+-- the header in front.
 pub record CountedReads {Y : Type 0} (c k : ℕ) (fields : Values → Option Y) (p q : Position)
     (before after : ℕ) (y : Y) : Type 0 where
   pub reads : Reads fields p q y
   pub least : before + all_nodes reads.values ≤ after
   pub most : after + c * left q ≤ before + c * left p + k
 
+-- nothing that fields reads is left of the level, or memory ran out; the count didn't fall, and
+-- there were at most c ticks for each octet that was left, and k and 8
 pub record CountedStops {Y : Type 0} (c k : ℕ) (fields : Values → Option Y) (p : Position)
     (before after : ℕ) (error : DecodeError) : Type 0 where
   pub stops : Stops fields p error

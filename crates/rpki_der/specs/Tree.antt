@@ -14,6 +14,7 @@ abbrev pub inside : Value → Values
 inside (Primitive identifier lengths contents) = End
 inside (Constructed identifier form inner) = inner
 
+-- the values as a list, in their order
 abbrev pub each : Values → List Value
 each End = []
 each (v ▸ vs) = v ∷ each vs

@@ -10,6 +10,8 @@ pub data Form : Type 0 where
   Definite : (octets : List ℕ) → Form
   Indefinite : Form
 
+-- a value is primitive, with its contents octets, or constructed, with the values inside it; and
+-- values in turn
 mutual
   pub data Value : Type 0 where
     Primitive : (identifier lengths contents : List ℕ) → Value
@@ -20,14 +22,17 @@ mutual
     ◌▸◌ : Value → Values → Values
 
 infixr 20 ◌▸◌
+-- the length octets of a constructed value; those of the indefinite form are 80 (8.1.3.6)
 abbrev pub lengths_of : Form → List ℕ
 lengths_of (Definite octets) = octets
 lengths_of Indefinite = 128 ∷ []
 
+-- the end-of-contents octets: 00 00 in the indefinite form, and none in the definite one (8.1.5)
 abbrev pub end_mark : Form → List ℕ
 end_mark (Definite octets) = []
 end_mark Indefinite = 0 ∷ 0 ∷ []
 
+-- the octets that spell a value, and those that spell values in turn
 abbrev mutual
   pub spelling : Value → List ℕ
   spelling (Primitive identifier lengths contents) = identifier ++ (lengths ++ contents)
@@ -38,11 +43,15 @@ abbrev mutual
   spellings End = []
   spellings (v ▸ vs) = spelling v ++ spellings vs
 
+-- the form is lawful in the mode, where the contents have n octets; the indefinite form is in BER
+-- alone
 abbrev pub IsForm : Mode → Form → ℕ → Type 0
 IsForm mode (Definite octets) n = IsLength mode octets n
 IsForm Ber Indefinite n = ⊤
 IsForm Der Indefinite n = ⊥
 
+-- a value is lawful in the mode: its identifier says its form, its length fits its contents, and
+-- the values inside it are lawful; and values in turn are
 abbrev mutual
   pub IsValue : Mode → Value → Type 0
   IsValue mode (Primitive identifier lengths contents) =

@@ -14,13 +14,16 @@ pub record IsWhole {X : Type 0} (grammar : Value → Option X) (mode : Mode) (oc
   pub begins : Begins mode octets value []
   pub reads : grammar value ≡ Some x
 
+-- what an error of a call on one whole value says: Malformed, that the octets are none that the
+-- grammar reads; OutOfMemory, nothing
 unfoldable pub RefusesWhole : {X : Type 0} → (Value → Option X) → Mode → List ℕ → DecodeError
     → Type 0
 RefusesWhole grammar mode octets Malformed =
     (v : Value) → Begins mode octets v [] → grammar v ≡ None
 RefusesWhole grammar mode octets OutOfMemory = ⊤
 
--- The answer is the one value that the octets are, or Malformed exactly where they are none that the grammar reads.
+-- The answer is the one value that the octets are, or Malformed exactly where they are none that
+-- the grammar reads.
 abbrev pub HoldsOne : {X Y : Type 0} → (Value → Option X) → (Y → X) → Mode → List ℕ
     → Result Y DecodeError → Type 0
 HoldsOne grammar view mode octets result =
@@ -29,6 +32,7 @@ HoldsOne grammar view mode octets result =
 
 -- ---- the one value that octets are as a function, for the calls that take no memory
 
+-- the value, where no octets stand behind it
 abbrev pub only : Value × List ℕ → Option Value
 only (v, []) = Some v
 only (v, a ∷ more) = None

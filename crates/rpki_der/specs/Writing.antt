@@ -8,7 +8,8 @@ abbrev pub octets_of : ℕ → ℕ → List ℕ
 octets_of zero n = []
 octets_of (suc k) n = octets_of k (n / 256) ++ (n % 256) ∷ []
 
--- the length octets of n, for an n below 2^32: n itself below 80, and otherwise 81 to 84 and n in the fewest octets
+-- the length octets of n, for an n below 2^32: n itself below 80, and otherwise 81 to 84 and n in
+-- the fewest octets
 abbrev pub der_length : ℕ → List ℕ
 der_length n =
     if nat_lt n 128 then n ∷ []
@@ -26,6 +27,7 @@ with_bit_6 (a ∷ more) = (a + 32) ∷ more
 abbrev pub primitive_value : List ℕ → List ℕ → Value
 primitive_value tag content = Primitive tag (der_length (length content)) content
 
+-- the octets of a primitive value with this tag and these contents octets
 abbrev pub der_primitive : List ℕ → List ℕ → List ℕ
 der_primitive tag content = tag ++ (der_length (length content) ++ content)
 
@@ -34,6 +36,7 @@ abbrev pub constructed_value : List ℕ → Values → Value
 constructed_value tag inner = Constructed (with_bit_6 tag)
     (Definite (der_length (length (spellings inner)))) inner
 
+-- the octets of a constructed value with this tag and these contents octets
 abbrev pub der_constructed : List ℕ → List ℕ → List ℕ
 der_constructed tag content = with_bit_6 tag ++ (der_length (length content) ++ content)
 

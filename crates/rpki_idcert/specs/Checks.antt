@@ -1,4 +1,5 @@
--- The checks of identity certificates in their order (RFC 5280, 6.1.3; RFC 6492, 3.1.2; RFC 8183, 5).
+-- The checks of identity certificates in their order (RFC 5280, 6.1.3; RFC 6492, 3.1.2; RFC 8183,
+-- 5).
 use Rattle.std.specs.Prelude.{◌≡◌, ℕ, ℤ, int_le, Bool, true, false, ◌&&◌, ◌||◌, ◌==◌, nat_le, if◌then◌else◌, not, is_some, bytes_eq, Decides, Option, None, Some, Ok, List, [], ◌∷◌}
 use Rattle.sha1.specs.Sha1.{sha1}
 use Rattle.rpki_base.specs.PublicKey.{KeyFields, names_issuer}
@@ -20,6 +21,7 @@ has_own_identifier c = bytes_eq c.subject_key_id (sha1 c.key.bits)
 abbrev pub is_within : ValidityFields → ℤ → Bool
 is_within v when = int_le v.not_before when && int_le when v.not_after
 
+-- whether the flag is there and true
 abbrev pub is_true : Option Bool → Bool
 is_true None = false
 is_true (Some b) = b
@@ -29,14 +31,16 @@ abbrev pub is_itself : Option (List ℕ) → List ℕ → Bool
 is_itself None subject = false
 is_itself (Some id) subject = bytes_eq id subject
 
+-- an authority key identifier is there, and is that of the certificate's own subject
 abbrev pub names_itself : TbsFields → Bool
 names_itself c = is_itself c.authority_key_id c.subject_key_id
 
 -- ---- an end entity's certificate, under the issuer's key; q: it is signed under that
 
 -- By number, and behind it in brackets the number among the fourteen checks of a signed message:
--- 1 (4) subjectKeyIdentifier is the SHA-1 of the key (4.2.1.2); 2 (5) notBefore and notAfter (4.1.2.5); 3 (6) authorityKeyIdentifier,
--- if it is there, is the SHA-1 of the issuer's key (4.2.1.1); 4 (7) cA isn't true (4.2.1.9); 5 (8) q (6.1.3)
+-- 1 (4) subjectKeyIdentifier is the SHA-1 of the key (4.2.1.2); 2 (5) notBefore and notAfter
+-- (4.1.2.5); 3 (6) authorityKeyIdentifier, if it is there, is the SHA-1 of the issuer's key
+-- (4.2.1.1); 4 (7) cA isn't true (4.2.1.9); 5 (8) q (6.1.3)
 abbrev pub ee_checks : CertificateFields → KeyFields → ℤ → Bool → List Bool
 ee_checks c issuer when q =
     has_own_identifier c.tbs
@@ -63,8 +67,11 @@ pub record IsEeBelieved (scheme : Relation) (c : CertificateFields) (issuer : Ke
 abbrev pub ee_kind : ℕ → ValidationKind
 ee_kind n = if n == 1 then Inspection else Verification
 
--- ---- a trust anchor's certificate; q: it is signed under its own key, which is asked where it names itself as its issuer
+-- ---- a trust anchor's certificate; q: it is signed under its own key, which is asked where it
+-- names itself as its issuer
 
+-- in order: the key identifier is the key's, basicConstraints is there, cA is true, the moment is
+-- in the validity, and q where the certificate names itself
 abbrev pub ta_checks : CertificateFields → ℤ → Bool → List Bool
 ta_checks c when q =
     has_own_identifier c.tbs
@@ -74,7 +81,8 @@ ta_checks c when q =
     ∷ (not (names_itself c.tbs) || q)
     ∷ []
 
--- where the certificate names itself as its issuer, it is signed under its own key, and with that all five checks hold
+-- where the certificate names itself as its issuer, it is signed under its own key, and with that
+-- all five checks hold
 pub record IsTaBelieved (scheme : Relation) (c : CertificateFields) (when : ℤ) : Type 0 where
   pub signed : names_itself c.tbs ≡ true → IsSigned scheme c c.tbs.key
   pub passes : first_failure 1 (ta_checks c when true) ≡ Ok tt

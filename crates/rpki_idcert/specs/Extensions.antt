@@ -26,7 +26,8 @@ path_length vs = do
 --       cA BOOLEAN DEFAULT FALSE,
 --       pathLenConstraint INTEGER (0..MAX) OPTIONAL }
 --
--- basicConstraints (4.2.1.9): whether the subject is an authority, which is false where nothing says so
+-- basicConstraints (4.2.1.9): whether the subject is an authority, which is false where nothing
+-- says so
 unfoldable pub basic_constraints : Mode → Value → Option Bool
 basic_constraints mode = within sequence (λ vs. do
   ca ← optional boolean_tag (boolean mode) vs
@@ -38,14 +39,16 @@ basic_constraints mode = within sequence (λ vs. do
 --       authorityCertIssuer [1] IMPLICIT GeneralNames OPTIONAL,
 --       authorityCertSerialNumber [2] IMPLICIT CertificateSerialNumber OPTIONAL }
 --
--- authorityKeyIdentifier (4.2.1.1), in DER: the key identifier, if it is there; what stands behind it is unread
+-- authorityKeyIdentifier (4.2.1.1), in DER: the key identifier, if it is there; what stands behind
+-- it is unread
 unfoldable pub authority_key : Value → Option (Option (List ℕ))
 authority_key = within sequence (λ vs. do
   key ← optional (context 0) (key_identifier_under (context 0) Der) vs
   rest ← anything key.1
   Some key.0)
 
--- What an extension holds is in DER whatever the mode round it (4.2): a value stands at its beginning, and the rest is unread.
+-- What an extension holds is in DER whatever the mode round it (4.2): a value stands at its
+-- beginning, and the rest is unread.
 unfoldable pub ca_in : ExtensionFields → Option Bool
 ca_in e = in_der (basic_constraints Der) e.value
 
@@ -53,19 +56,22 @@ ca_in e = in_der (basic_constraints Der) e.value
 unfoldable pub subject_in : ExtensionFields → Option (List ℕ)
 subject_in e = in_der (key_identifier Der) e.value
 
+-- AuthorityKeyIdentifier, of which the key identifier counts, if it is there (4.2.1.1)
 unfoldable pub authority_in : ExtensionFields → Option (Option (List ℕ))
 authority_in e = in_der authority_key e.value
 
 -- ---- all together
 
--- the subject's key identifier; whether the subject is an authority, if that is said; the issuer's key identifier, if it is there
+-- the subject's key identifier; whether the subject is an authority, if that is said; the issuer's
+-- key identifier, if it is there
 pub record KnownExtensions : Type 0 where
   pub subject : List ℕ
   pub basic_ca : Option Bool
   pub authority : Option (List ℕ)
 
--- subjectKeyIdentifier is there exactly once, basicConstraints at most once. Of several authorityKeyIdentifiers the last one
--- counts, also where it has no key identifier. Others may be there.
+-- subjectKeyIdentifier is there exactly once, basicConstraints at most once. Of several
+-- authorityKeyIdentifiers the last one counts, also where it has no key identifier. Others may be
+-- there.
 unfoldable pub known_extensions : List ExtensionFields → Option KnownExtensions
 known_extensions all = do
   subject ← the_one subject_in (filter (is names.subject_key_identifier) all)

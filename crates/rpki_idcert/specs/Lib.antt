@@ -1,4 +1,5 @@
--- Said in contracts, and to be believed: TbsIdCert, IdCert, Extensions, Spelling, Making, Checks, Json.
+-- Said in contracts, and to be believed: TbsIdCert, IdCert, Extensions, Spelling, Making, Checks,
+-- Json.
 -- Means for readers: Shown, Gathered.
 pub mod Extensions
 pub mod Gathered

@@ -1,8 +1,8 @@
 -- How identity certificates are made (RFC 5280, 4.1.2 and 4.2.1).
 --
--- `IsMadeFor` is of the fields alone; `IsIssued` of these in DER, with a signature under a key; `IsSignedAs` of that signature as a
--- call of the signer gives it; `IsAnchorMade`, `IsIssuedTo` and `IsEndEntityMade` of a whole certificate, with the signer's state before
--- and behind.
+-- `IsMadeFor` is of the fields alone; `IsIssued` of these in DER, with a signature under a key;
+-- `IsSignedAs` of that signature as a call of the signer gives it; `IsAnchorMade`, `IsIssuedTo` and
+-- `IsEndEntityMade` of a whole certificate, with the signer's state before and behind.
 use Rattle.std.specs.Prelude.{◌≡◌, ◌⊎◌, Decides, ℕ, Bool, true, false, Option, None, Some, List, ◌++◌, length}
 use Rattle.hex.specs.Hex.{encode_upper}
 use Rattle.sha1.specs.Sha1.{sha1}
@@ -30,15 +30,18 @@ use Rattle.rpki_idcert.specs.Spelling.{spelled_tbs}
 
 -- ---- the fields
 
--- the name of a key: its one attribute is commonName, with the key identifier in upper case hexadecimal digits
+-- the name of a key: its one attribute is commonName, with the key identifier in upper case
+-- hexadecimal digits
 abbrev pub name_of_key : KeyFields → List ℕ
 name_of_key key = name_of_text (encode_upper (sha1 key.bits))
 
--- the issuing key's own certificate is an authority's (4.2.1.9), and every other names the issuing key (4.2.1.1)
+-- the issuing key's own certificate is an authority's (4.2.1.9)
 abbrev pub authority_of_own : Bool → Option Bool
 authority_of_own true = Some true
 authority_of_own false = None
 
+-- the key identifier of the issuing key, in every certificate but that of the issuing key itself
+-- (4.2.1.1)
 abbrev pub issuer_of_other : Bool → KeyFields → Option (List ℕ)
 issuer_of_other true issuing = None
 issuer_of_other false issuing = Some (sha1 issuing.bits)

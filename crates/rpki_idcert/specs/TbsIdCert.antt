@@ -13,8 +13,8 @@ use Rattle.rpki_base.specs.Validity.{ValidityFields, validity}
 use Rattle.rpki_base.specs.PublicKey.{KeyFields, public_key}
 use Rattle.rpki_idcert.specs.Extensions.{extension_list}
 
--- The serial number is twenty octets, the names are their octets. cA is what basicConstraints say, if they are there; the last two
--- are the key identifiers of the subject and of the issuer.
+-- The serial number is twenty octets, the names are their octets. cA is what basicConstraints say,
+-- if they are there; the last two are the key identifiers of the subject and of the issuer.
 pub record TbsFields : Type 0 where
   pub serial : List ℕ
   pub issuer : List ℕ
@@ -41,8 +41,8 @@ version = wrapped (context 0) (integer_is 2)
 --       subjectUniqueID [2] IMPLICIT UniqueIdentifier OPTIONAL,
 --       extensions [3] EXPLICIT Extensions OPTIONAL }
 --
--- The version is v3, which is spelled 2, and the two unique identifiers can't be there. The algorithm is read, and is no field: it is
--- always that one.
+-- The version is v3, which is spelled 2, and the two unique identifiers can't be there. The
+-- algorithm is read, and is no field: it is always that one.
 -- Extensions have to be there, since the subject's key identifier stands in them.
 abbrev pub tbs_fields : Mode → Values → Option TbsFields
 tbs_fields mode vs = do

@@ -22,6 +22,7 @@ of_der der.OutOfMemory = errors.OutOfMemory
 
 -- ---- octets that are no certificate, or no request
 
+-- the octets in a class that are to be certificates: the issued ones, and the issuing key's last
 abbrev pub class_certificates : ClassOf (List ℕ) → List (List ℕ)
 class_certificates c = map (λ i. i.cert) c.issued_certs ++ c.signing_cert.cert ∷ []
 
@@ -52,8 +53,9 @@ pub record HoldsNoRequest (octets : List ℕ) : Type 0 where
 
 -- ---- messages from octets
 
--- The answer is XmlError, of malformed XML, exactly where the octets have no shape; CertSyntax and InvalidCsrSyntax exactly where they have
--- one, and a certificate or the request in it is none. OutOfMemory says nothing, and no other one comes.
+-- The answer is XmlError, of malformed XML, exactly where the octets have no shape; CertSyntax and
+-- InvalidCsrSyntax exactly where they have one, and a certificate or the request in it is none.
+-- OutOfMemory says nothing, and no other one comes.
 abbrev pub RefusesMessage : List ℕ → Error → Type 0
 RefusesMessage octets (errors.XmlError e) = (e ≡ xml.Malformed) × HasNoShape octets
 RefusesMessage octets errors.CertSyntax = HoldsNoCertificate octets
@@ -63,7 +65,8 @@ RefusesMessage octets _ = ⊥
 
 -- ---- texts
 
--- The answer is TooLong only where the text has more than 2^31 octets. OutOfMemory says nothing, and no other one comes.
+-- The answer is TooLong only where the text has more than 2^31 octets. OutOfMemory says nothing,
+-- and no other one comes.
 abbrev pub RefusesText : List ℕ → Error → Type 0
 RefusesText text errors.TooLong = most_content < length text
 RefusesText text errors.OutOfMemory = ⊤

@@ -1,4 +1,5 @@
--- Resource classes and the certificates in them, as elements (RFC 6492, 3.3.2 and 3.4.2). What is in a certificate is not looked at here.
+-- Resource classes and the certificates in them, as elements (RFC 6492, 3.3.2 and 3.4.2). What is
+-- in a certificate is not looked at here.
 use Rattle.std.specs.Prelude.{ℕ, ℤ, List, [], ◌∷◌, ◌++◌, Bool, ◌||◌, Option, None, Some, filter, codes}
 use Rattle.base64.specs.Engines.{standard}
 use Rattle.base64.specs.GeneralPurpose.{encode_of}
@@ -20,11 +21,13 @@ use Rattle.rpki_provisioning.specs.Limit.{limit_attributes, limit_in, set_attrib
 
 -- ---- certificates that were issued
 
+-- the `certificate` that is written: its URI, what was asked for it, and its octets in base64
 abbrev pub certificate_element : IssuedOf (List ℕ) → Element
 certificate_element c =
     leaf (codes "certificate") (attribute (codes "cert_url") c.uri ∷ limit_attributes c.req_limit)
     (encode_of standard c.cert)
 
+-- the attributes that a `certificate` may have
 abbrev pub certificate_attributes : List (List ℕ)
 certificate_attributes =
     codes "cert_url"
@@ -46,6 +49,7 @@ certificate_in e = do
 
 -- ---- the certificate of the issuing key
 
+-- the `issuer` that is written: the octets of the issuing key's certificate in base64
 abbrev pub issuer_element : List ℕ → Element
 issuer_element octets = leaf (codes "issuer") [] (encode_of standard octets)
 
@@ -64,6 +68,8 @@ class_children c =
     joined (elements_of certificate_element c.issued_certs)
     (alone (issuer_element c.signing_cert.cert))
 
+-- the `class` that is written: name, URI of the issuing key's certificate, the three sets and the
+-- time as attributes, and the certificates in it
 abbrev pub class_element : ClassOf (List ℕ) → Element
 class_element c = record {
   head = record {
@@ -79,6 +85,7 @@ class_element c = record {
   children = class_children c;
 }
 
+-- the attributes that a `class` may have
 abbrev pub class_attributes : List (List ℕ)
 class_attributes =
     codes "class_name"
@@ -90,15 +97,19 @@ class_attributes =
     ∷ codes "suggested_sia_head"
     ∷ []
 
+-- whether the element is a `certificate`
 abbrev pub is_certificate : Element → Bool
 is_certificate e = is_named (codes "certificate") e.head
 
+-- whether the element is an `issuer`
 abbrev pub is_issuer : Element → Bool
 is_issuer e = is_named (codes "issuer") e.head
 
+-- whether the element may stand in a `class`: a `certificate` or an `issuer`
 abbrev pub is_inside : Element → Bool
 is_inside e = is_certificate e || is_issuer e
 
+-- the certificates in a class: the issued ones, and the octets of the issuing key's
 pub record Certificates : Type 0 where
   pub issued : List (IssuedOf (List ℕ))
   pub issuer : List ℕ
@@ -146,6 +157,7 @@ class_in e = do
 
 -- ---- a class with one certificate
 
+-- the class that says what is issued, with this one certificate
 abbrev pub class_of_issuance : {C : Type 0} → IssuanceOf C → ClassOf C
 class_of_issuance i = record {
   class_name = i.class_name;
@@ -167,5 +179,6 @@ issuance_of_class c = do
     signing_cert = c.signing_cert;
   })
 
+-- what is issued, by a `class` with exactly one certificate (3.4.2)
 unfoldable pub issuance_in : Element → Option (IssuanceOf (List ℕ))
 issuance_in e = class_in e >>= issuance_of_class

@@ -14,8 +14,8 @@ pub record CmsFields : Type 0 where
   pub signed : SignedFields
   pub message : MessageFields
 
--- The content says the message: it reads as it, or it is its text. A message that was made says what it says even where its text isn't
--- read again.
+-- The content says the message: it reads as it, or it is its text. A message that was made says
+-- what it says even where its text isn't read again.
 abbrev pub Says : List ℕ → MessageFields → Type 0
 Says content m = Reads content m ⊎ (content ≡ text_of m)
 
@@ -24,9 +24,10 @@ pub record BeginsCms (octets : List ℕ) (c : CmsFields) : Type 0 where
   pub begins : BeginsSigned octets c.signed
   pub reads : Reads c.signed.content c.message
 
--- The answer is CmsDecode exactly where the octets begin with no signed message; where they begin with one, it is XmlError, of malformed
--- XML, exactly where its content has not the form of a message, and CertSyntax and InvalidCsrSyntax exactly where it has, and a certificate
--- or the request in it is none. OutOfMemory says nothing, and no other one comes.
+-- The answer is CmsDecode exactly where the octets begin with no signed message; where they begin
+-- with one, it is XmlError, of malformed XML, exactly where its content has not the form of a
+-- message, and CertSyntax and InvalidCsrSyntax exactly where it has, and a certificate or the
+-- request in it is none. OutOfMemory says nothing, and no other one comes.
 abbrev pub RefusesCms : List ℕ → Error → Type 0
 RefusesCms octets errors.CmsDecode = (signed : SignedFields) → BeginsSigned octets signed → ⊥
 RefusesCms octets (errors.XmlError e) = (e ≡ xml.Malformed) × HoldsContent HasNoShape octets

@@ -1,5 +1,5 @@
--- The messages of the provisioning protocol, as elements (RFC 6492, 3.2). Names are compared by their local parts, and the root's
--- namespace is not looked at.
+-- The messages of the provisioning protocol, as elements (RFC 6492, 3.2). Names are compared by
+-- their local parts, and the root's namespace is not looked at.
 use Rattle.std.specs.Prelude.{ℕ, List, [], ◌∷◌, Option, Some, codes}
 use Rattle.rpki_common.specs.Chaining.{◌>>=◌}
 use Rattle.rpki_message.specs.Parts.{attribute, required_by}
@@ -18,11 +18,13 @@ use Rattle.rpki_provisioning.specs.NotPerformed.{not_performed_elements, not_per
 use Rattle.rpki_provisioning.specs.Request.{request_element, request_in, key_element, key_in}
 use Rattle.rpki_provisioning.specs.Shape.{MessageOf, MessageFields, MessageShape, shape_of, message_of_shape}
 
+-- the namespace of the root that is written
 abbrev pub NAMESPACE : List ℕ
 NAMESPACE = codes "http://www.apnic.net/specs/rescerts/up-down/"
 
 -- ---- what is written
 
+-- the kind of a shape's payload, which stands in the attribute `type`
 abbrev pub shape_type : PayloadShape → PayloadType
 shape_type shape.List = kind.List
 shape_type (shape.ListResponse classes) = kind.ListResponse
@@ -32,6 +34,7 @@ shape_type (shape.Revoke request) = kind.Revoke
 shape_type (shape.RevokeResponse response) = kind.RevokeResponse
 shape_type (shape.ErrorResponse response) = kind.ErrorResponse
 
+-- the elements in the root that a payload is written as
 unfoldable pub payload_elements : PayloadShape → Elements
 payload_elements shape.List = none
 payload_elements (shape.ListResponse classes) = elements_of class_element classes
@@ -59,6 +62,7 @@ root_element sender recipient type children = record {
   children = children;
 }
 
+-- the root that a message's shape is written as
 unfoldable pub shape_element : MessageShape → Element
 shape_element s =
     root_element s.sender s.recipient (payload_type_text (shape_type s.payload))
@@ -102,8 +106,8 @@ payload_in kind.ErrorResponse children = do
   response ← not_performed_in children
   Some (shape.ErrorResponse response)
 
--- what a root gives: an element `message` without text, with sender, recipient and type, with version 1 where it has a version, and
--- without other attributes
+-- what a root gives: an element `message` without text, with sender, recipient and type, with
+-- version 1 where it has a version, and without other attributes
 unfoldable pub root_in : Element → Option (MessageOf PayloadType)
 root_in e = do
   _ ← require (is_named (codes "message") e.head)

@@ -1,4 +1,5 @@
--- Answers that a request was not performed, as elements (RFC 6492, 3.6); but `xml:lang` of a description is neither asked for nor written.
+-- Answers that a request was not performed, as elements (RFC 6492, 3.6); but `xml:lang` of a
+-- description is neither asked for nor written.
 use Rattle.std.specs.Prelude.{ℕ, ◌^◌, List, [], Option, None, Some, codes}
 use Rattle.std.specs.Fmt.{decimal}
 use Rattle.std.specs.Str.Parse.{without_leading_plus}
@@ -11,13 +12,16 @@ use Rattle.rpki_xml.specs.Tables.{require, is_named, at_most_one_child}
 
 -- ---- what is written
 
+-- the `status` that is written: the number in decimal
 abbrev pub status_element : ℕ → Element
 status_element status = leaf (codes "status") [] (decimal status)
 
+-- the `description` that is written, if there is one
 abbrev pub description_elements : Option (List ℕ) → Elements
 description_elements None = none
 description_elements (Some text) = alone (leaf (codes "description") [] text)
 
+-- the `status`, and the `description` behind it, if there is one
 abbrev pub not_performed_elements : NotPerformedFields → Elements
 not_performed_elements r =
     first (status_element r.status).head none (description_elements r.description)
@@ -42,6 +46,7 @@ description_in e = do
   _ ← require (is_none e.children)
   Some e.head.text
 
+-- the text of a `description`, if there is one, which has to be lawful then
 abbrev pub description_where_there : Option Element → Option (Option (List ℕ))
 description_where_there None = Some None
 description_where_there (Some e) = description_in e >>= λ text. Some (Some text)

@@ -1,5 +1,5 @@
--- Requests for certificates, and keys that are to be revoked, as elements (RFC 6492, 3.4.1 and 3.5). What is in a request is not looked at
--- here.
+-- Requests for certificates, and keys that are to be revoked, as elements (RFC 6492, 3.4.1 and
+-- 3.5). What is in a request is not looked at here.
 use Rattle.std.specs.Prelude.{ℕ, List, [], ◌∷◌, Option, Some, codes}
 use Rattle.base64.specs.Engines.{standard, url_safe_no_pad}
 use Rattle.base64.specs.GeneralPurpose.{encode_of}
@@ -15,12 +15,15 @@ use Rattle.rpki_provisioning.specs.Limit.{limit_attributes, limit_in}
 
 -- ---- requests
 
+-- the `request` that is written: the class, what is asked for, and the octets of the request in
+-- base64
 abbrev pub request_element : AskedOf (List ℕ) → Element
 request_element a =
     leaf (codes "request")
     (attribute (codes "class_name") a.class_name ∷ limit_attributes a.limit)
     (encode_of standard a.csr)
 
+-- the attributes that a `request` may have
 abbrev pub request_attributes : List (List ℕ)
 request_attributes =
     codes "class_name"

@@ -1,4 +1,5 @@
--- Messages, and their shapes: messages with octets in the place of certificates and requests (RFC 6492, 3).
+-- Messages, and their shapes: messages with octets in the place of certificates and requests
+-- (RFC 6492, 3).
 use Rattle.std.specs.Prelude.{ℕ, List, Option, Some, map}
 use Rattle.rpki_base.specs.RpkiSignatureAlgorithm.{x509_algorithm, spelled_x509}
 use Rattle.rpki_base.specs.SignedData.{spelled_data}
@@ -24,9 +25,11 @@ pub record MessageOf (P : Type 0) : Type 0 where
   pub recipient : List ℕ
   pub payload : P
 
+-- a message, whose certificates and request were read
 abbrev pub MessageFields : Type 0
 MessageFields = MessageOf Payload
 
+-- the shape of a message, with octets in the place of certificates and of the request
 abbrev pub MessageShape : Type 0
 MessageShape = MessageOf PayloadShape
 
@@ -42,12 +45,15 @@ payload_type_of (payload.ErrorResponse response) = kind.ErrorResponse
 
 -- ---- from a message to its shape: what is written of its certificates and its request
 
+-- what is written of a certificate: its exact octets
 abbrev pub certificate_octets : CertFields → List ℕ
 certificate_octets c = c.slice
 
+-- what is written of a request: its signed data in DER
 abbrev pub request_octets : CaRequest → List ℕ
 request_octets r = spelled_data spelled_x509 r.signed
 
+-- the shape of a payload
 unfoldable pub payload_shape : Payload → PayloadShape
 payload_shape payload.List = shape.List
 payload_shape (payload.ListResponse classes) =
@@ -59,6 +65,7 @@ payload_shape (payload.Revoke request) = shape.Revoke request
 payload_shape (payload.RevokeResponse response) = shape.RevokeResponse response
 payload_shape (payload.ErrorResponse response) = shape.ErrorResponse response
 
+-- the shape of a message
 abbrev pub shape_of : MessageFields → MessageShape
 shape_of m = record {
   sender = m.sender;
@@ -77,13 +84,15 @@ abbrev pub request_of : List ℕ → Option CaRequest
 request_of octets =
     decoded (certification_request ca_attributes (whole_of x509_algorithm) Der) Der octets
 
--- a shape, or a part of one, with what its octets are read as, where they all are
+-- an issued certificate, with what f reads its octets as, where it does
 unfoldable pub issued_by : {C D : Type 0} → (C → Option D) → IssuedOf C → Option (IssuedOf D)
 issued_by f c = f c.cert >>= λ d. Some (record { uri = c.uri; req_limit = c.req_limit; cert = d })
 
+-- the issuing key's certificate, with what f reads its octets as, where it does
 unfoldable pub signing_by : {C D : Type 0} → (C → Option D) → SigningOf C → Option (SigningOf D)
 signing_by f c = f c.cert >>= λ d. Some (record { url = c.url; cert = d })
 
+-- a class, with what f reads the octets of each of its certificates as, where it does all
 unfoldable pub class_by : {C D : Type 0} → (C → Option D) → ClassOf C → Option (ClassOf D)
 class_by f c = do
   issued ← read_all (issued_by f) c.issued_certs
@@ -96,6 +105,7 @@ class_by f c = do
     signing_cert = signing;
   })
 
+-- what is issued, with what f reads the octets of both certificates as, where it does
 unfoldable pub issuance_by : {C D : Type 0} → (C → Option D) → IssuanceOf C
     → Option (IssuanceOf D)
 issuance_by f i = do
@@ -109,10 +119,13 @@ issuance_by f i = do
     signing_cert = signing;
   })
 
+-- what is asked for, with what f reads the octets of the request as, where it does
 unfoldable pub asked_by : {R S : Type 0} → (R → Option S) → AskedOf R → Option (AskedOf S)
 asked_by f a =
     f a.csr >>= λ r. Some (record { class_name = a.class_name; limit = a.limit; csr = r })
 
+-- the payload of a shape, with its octets read as certificates or an authority's request, where
+-- they all are
 unfoldable pub payload_of_shape : PayloadShape → Option Payload
 payload_of_shape shape.List = Some payload.List
 payload_of_shape (shape.ListResponse classes) =
@@ -125,6 +138,8 @@ payload_of_shape (shape.Revoke request) = Some (payload.Revoke request)
 payload_of_shape (shape.RevokeResponse response) = Some (payload.RevokeResponse response)
 payload_of_shape (shape.ErrorResponse response) = Some (payload.ErrorResponse response)
 
+-- the message of a shape, with its octets read as certificates or an authority's request, where
+-- they all are
 unfoldable pub message_of_shape : MessageShape → Option MessageFields
 message_of_shape s = do
   read ← payload_of_shape s.payload

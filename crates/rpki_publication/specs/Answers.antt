@@ -23,19 +23,23 @@ use Rattle.rpki_publication.specs.ReportErrorCode.{code_of_text}
 
 -- ---- how errors of lower layers are passed on: want of memory is always OutOfMemory
 
+-- the Error that an XmlError becomes: Malformed is told by XmlError
 abbrev pub of_xml : XmlError → Error
 of_xml xml.Malformed = errors.XmlError xml.Malformed
 of_xml xml.OutOfMemory = errors.OutOfMemory
 
+-- the Error that a DecodeError becomes: Malformed is CmsDecode
 abbrev pub of_der : DecodeError → Error
 of_der der.Malformed = errors.CmsDecode
 of_der der.OutOfMemory = errors.OutOfMemory
 
+-- the Error that a ReadAllError becomes: each variant keeps its name
 abbrev pub of_reading : ReadAllError → Error
 of_reading read.Read = errors.Read
 of_reading read.TooLong = errors.TooLong
 of_reading read.OutOfMemory = errors.OutOfMemory
 
+-- the Error that a cause becomes: Malformed is XmlError, and every other one keeps its name
 abbrev pub of_cause : Cause → Error
 of_cause causes.Malformed = errors.XmlError xml.Malformed
 of_cause causes.Read = errors.Read
@@ -43,7 +47,8 @@ of_cause causes.Write = errors.Write
 of_cause causes.TooLong = errors.TooLong
 of_cause causes.OutOfMemory = errors.OutOfMemory
 
--- the cause of an error of a call that reads or writes a message; every other error has none, and never comes
+-- the cause of an error of a call that reads or writes a message; every other error has none, and
+-- never comes
 abbrev pub cause_of : Error → Option Cause
 cause_of (errors.XmlError xml.Malformed) = Some causes.Malformed
 cause_of errors.Read = Some causes.Read
@@ -54,11 +59,13 @@ cause_of _ = None
 
 -- ---- messages
 
--- The answer is XmlError, of malformed XML, exactly where the octets are no message. OutOfMemory says nothing, and no other one comes.
+-- The answer is XmlError, of malformed XML, exactly where the octets are no message. OutOfMemory
+-- says nothing, and no other one comes.
 abbrev pub RefusesMessage : List ℕ → Error → Type 0
 RefusesMessage octets e = answers.RefusesMessage cause_of message_of octets e
 
--- The answer is TooLong only where the text has more than 2^31 octets. OutOfMemory says nothing, and no other one comes.
+-- The answer is TooLong only where the text has more than 2^31 octets. OutOfMemory says nothing,
+-- and no other one comes.
 abbrev pub RefusesText : List ℕ → Error → Type 0
 RefusesText text errors.TooLong = most_content < length text
 RefusesText text errors.OutOfMemory = ⊤
@@ -76,7 +83,8 @@ IsReplyResult (message.Reply r) result = result ≡ Ok r
 
 -- ---- codes of errors
 
--- The answer is InvalidErrorCode, with the text, exactly where the text is no code. OutOfMemory says nothing, and no other one comes.
+-- The answer is InvalidErrorCode, with the text, exactly where the text is no code. OutOfMemory
+-- says nothing, and no other one comes.
 abbrev pub RefusesCode : List ℕ → Error → Type 0
 RefusesCode text (errors.InvalidErrorCode t) = (t ≡ text) × (code_of_text text ≡ None)
 RefusesCode text errors.OutOfMemory = ⊤

@@ -1,4 +1,5 @@
--- The elements of a query (RFC 8181, 2.2 and 2.3): `publish`, which with a hash is an update, `withdraw` and `list`.
+-- The elements of a query (RFC 8181, 2.2 and 2.3): `publish`, which with a hash is an update,
+-- `withdraw` and `list`.
 use Rattle.std.specs.Prelude.{◌≡◌, ◌≤◌, ℕ, List, [], ◌∷◌, Option, None, Some, IfSome, length, if◌then◌else◌, codes}
 use Rattle.base64.specs.Engines.{standard}
 use Rattle.base64.specs.GeneralPurpose.{encode_of, IsBytes}
@@ -19,12 +20,15 @@ use Rattle.rpki_publication.specs.Publish.{PublishFields, UpdateFields, Withdraw
 
 -- ---- what is written
 
+-- the `publish` that is written of a new object: its tag, its URI, and its octets in base64
 abbrev pub publish_element : PublishFields → Element
 publish_element p =
     leaf (codes "publish")
     (attribute (codes "tag") (tag_text p.tag) ∷ attribute (codes "uri") p.uri ∷ [])
     (encode_of standard p.content)
 
+-- the `publish` that is written of an update: its tag, its URI, the hash of the object that is
+-- replaced, and the new octets in base64
 abbrev pub update_element : UpdateFields → Element
 update_element u =
     leaf (codes "publish")
@@ -34,6 +38,7 @@ update_element u =
     ∷ [])
     (encode_of standard u.content)
 
+-- the `withdraw` that is written: its tag, its URI, and the hash of the object that is removed
 abbrev pub withdraw_element : WithdrawFields → Element
 withdraw_element w =
     leaf (codes "withdraw")
@@ -43,6 +48,7 @@ withdraw_element w =
     ∷ [])
     []
 
+-- the element that a change is written as
 unfoldable pub change_element : PublishDeltaElement → Element
 change_element (change.Publish p) = publish_element p
 change_element (change.Update u) = update_element u
@@ -52,6 +58,7 @@ change_element (change.Withdraw w) = withdraw_element w
 abbrev pub list_query_element : Element
 list_query_element = leaf (codes "list") [] []
 
+-- the element that a part of a query is written as: a change or a `list`
 unfoldable pub query_pdu_element : QueryPdu → Element
 query_pdu_element pdu.List = list_query_element
 query_pdu_element (pdu.PublishDeltaElement c) = change_element c
@@ -110,29 +117,35 @@ query_pdu_in e =
 abbrev pub IsDigest : List ℕ → Type 0
 IsDigest hash = (length hash ≡ 32) × hex.IsBytes hash
 
--- Tags consist of octets that a document may have. That URIs are lawful, that octets are octets and that digests are some is kept by the
--- types of these fields.
+-- Tags consist of octets that a document may have. That URIs are lawful, that octets are octets and
+-- that digests are some is kept by the types of these fields.
 pub record IsWritablePublish (p : PublishFields) : Type 0 where
   pub tag : IfSome p.tag AreOctets
   pub uri : fault_of rsync p.uri ≡ None
   pub content : IsBytes p.content
 
+-- an update with a lawful rsync URI, octets and a digest, and with no tag or one whose octets a
+-- document may have
 pub record IsWritableUpdate (u : UpdateFields) : Type 0 where
   pub tag : IfSome u.tag AreOctets
   pub uri : fault_of rsync u.uri ≡ None
   pub content : IsBytes u.content
   pub hash : IsDigest u.hash
 
+-- a withdrawal with a lawful rsync URI and a digest, and with no tag or one whose octets a document
+-- may have
 pub record IsWritableWithdraw (w : WithdrawFields) : Type 0 where
   pub tag : IfSome w.tag AreOctets
   pub uri : fault_of rsync w.uri ≡ None
   pub hash : IsDigest w.hash
 
+-- a change that can be written so that it is read again
 abbrev pub IsWritableChange : PublishDeltaElement → Type 0
 IsWritableChange (change.Publish p) = IsWritablePublish p
 IsWritableChange (change.Update u) = IsWritableUpdate u
 IsWritableChange (change.Withdraw w) = IsWritableWithdraw w
 
+-- a part of a query that can be written so that it is read again
 abbrev pub IsWritablePdu : QueryPdu → Type 0
 IsWritablePdu pdu.List = Unit {0}
 IsWritablePdu (pdu.PublishDeltaElement c) = IsWritableChange c
@@ -151,6 +164,7 @@ normal_change (change.Update u) =
 normal_change (change.Withdraw w) =
     change.Withdraw (record { tag = Some (tag_text w.tag); uri = w.uri; hash = w.hash })
 
+-- the form in which a part of a query is read back: a change with the tag that was written
 unfoldable pub normal_pdu : QueryPdu → QueryPdu
 normal_pdu pdu.List = pdu.List
 normal_pdu (pdu.PublishDeltaElement c) = pdu.PublishDeltaElement (normal_change c)

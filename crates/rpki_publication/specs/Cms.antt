@@ -13,8 +13,8 @@ pub record CmsFields : Type 0 where
   pub signed : MessageFields
   pub message : Message
 
--- The content says the message: it reads as it, or it is its text. A message that was made says what it says even where its text isn't
--- read again.
+-- The content says the message: it reads as it, or it is its text. A message that was made says
+-- what it says even where its text isn't read again.
 abbrev pub Says : List ℕ → Message → Type 0
 Says content m = Reads content m ⊎ (content ≡ text_of m)
 
@@ -23,8 +23,9 @@ pub record BeginsCms (octets : List ℕ) (c : CmsFields) : Type 0 where
   pub begins : BeginsSigned octets c.signed
   pub reads : Reads c.signed.content c.message
 
--- The answer is CmsDecode exactly where the octets begin with no signed message, and XmlError, of malformed XML, exactly where they
--- begin with one whose content is no message. OutOfMemory says nothing, and no other one comes.
+-- The answer is CmsDecode exactly where the octets begin with no signed message, and XmlError, of
+-- malformed XML, exactly where they begin with one whose content is no message. OutOfMemory says
+-- nothing, and no other one comes.
 abbrev pub RefusesCms : List ℕ → Error → Type 0
 RefusesCms octets errors.CmsDecode = (signed : MessageFields) → BeginsSigned octets signed → ⊥
 RefusesCms octets (errors.XmlError e) = (e ≡ xml.Malformed) × HoldsContent IsNoMessage octets

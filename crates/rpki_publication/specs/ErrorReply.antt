@@ -3,6 +3,7 @@ use Rattle.std.specs.Prelude.{ℕ, List, [], ◌∷◌, ◌++◌, Option, None, 
 use Rattle.rpki_publication.specs.ReportError.{ReportErrorFields}
 use Rattle.rpki_publication.specs.ReportErrorCode.{code_text}
 
+-- what stands behind an error's code: `, text: ` and its text where it has one, and a space
 abbrev pub shown_rest : Option (List ℕ) → List ℕ
 shown_rest None = codes " "
 shown_rest (Some text) = codes ", text: " ++ (text ++ codes " ")
@@ -11,9 +12,11 @@ shown_rest (Some text) = codes ", text: " ++ (text ++ codes " ")
 abbrev pub shown_one : ReportErrorFields → List ℕ
 shown_one r = codes "error code: " ++ (code_text r.error_code ++ shown_rest r.error_text)
 
+-- what errors print, one behind the other
 abbrev pub shown_errors : List ReportErrorFields → List ℕ
 shown_errors [] = []
 shown_errors (r ∷ more) = shown_one r ++ shown_errors more
 
+-- what a reply that reports errors prints
 abbrev pub shown_reply : List ReportErrorFields → List ℕ
 shown_reply errors = codes "error reply including: " ++ shown_errors errors

@@ -1,5 +1,6 @@
--- Said in contracts, and to be believed: all but Details and Writing. Message, Change, ListReply, ReportError, ReportErrorCode and Pdu are
--- the tables, Publish and ListElement fields, Answers what calls answer, Shown and ErrorReply what is printed, Cms signed messages.
+-- Said in contracts, and to be believed: all but Details and Writing. Message, Change, ListReply,
+-- ReportError, ReportErrorCode and Pdu are the tables, Publish and ListElement fields, Answers what
+-- calls answer, Shown and ErrorReply what is printed, Cms signed messages.
 -- Means: Details for a loop, Writing for the writer.
 pub mod Answers
 pub mod Change

@@ -11,6 +11,7 @@ use Rattle.rpki_publication.specs.ListElement.{ListElementFields}
 use Rattle.rpki_publication.specs.Pdu.{reply_attributes_in}
 use Rattle.rpki_publication.specs.Publish.{WithdrawFields}
 
+-- the `list` that is written of an object: its URI and its hash
 abbrev pub list_element : ListElementFields → Element
 list_element e =
     leaf (codes "list")

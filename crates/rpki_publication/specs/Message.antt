@@ -1,5 +1,5 @@
--- The messages of the publication protocol, as elements (RFC 8181, 2.1). Names are compared by their local parts, and the root's
--- namespace is not looked at.
+-- The messages of the publication protocol, as elements (RFC 8181, 2.1). Names are compared by
+-- their local parts, and the root's namespace is not looked at.
 use Rattle.std.specs.Prelude.{◌≢◌, ℕ, List, [], ◌∷◌, Option, None, Some, map, if◌then◌else◌, codes}
 use Rattle.std.specs.List.{AllByRecursion}
 use Rattle.std.specs.Str.{bytes_eq}
@@ -20,11 +20,13 @@ use Rattle.rpki_publication.specs.ListReply.{list_element, list_element_in, IsWr
 use Rattle.rpki_publication.specs.Pdu.{reply_attributes_in}
 use Rattle.rpki_publication.specs.ReportError.{report_error_element, report_error_in, IsWritableError, normal_error}
 
+-- the namespace of the root that is written
 abbrev pub NAMESPACE : List ℕ
 NAMESPACE = codes "http://www.hactrn.net/uris/rpki/publication-spec/"
 
 -- ---- what is written
 
+-- the elements in the root of a query: `<list/>`, or one for each change
 abbrev pub query_elements : Query → Elements
 query_elements query.List = alone list_query_element
 query_elements (query.Delta changes) = elements_of change_element changes
@@ -33,6 +35,7 @@ query_elements (query.Delta changes) = elements_of change_element changes
 abbrev pub success_element : Element
 success_element = leaf (codes "success") [] []
 
+-- the elements in the root of a reply: one for each object, `<success/>`, or one for each error
 abbrev pub reply_elements : Reply → Elements
 reply_elements (reply.List objects) = elements_of list_element objects
 reply_elements reply.Success = alone success_element
@@ -81,7 +84,8 @@ success_in e = do
   _ ← reply_attributes_in e.head
   Some tt
 
--- what stands in a reply: exactly one `success`, or one or more `report_error`, or any number of `list`
+-- what stands in a reply: exactly one `success`, or one or more `report_error`, or any number of
+-- `list`
 unfoldable pub reply_in : Elements → Option Reply
 reply_in children =
     if is_first_named (codes "success") children
@@ -110,8 +114,8 @@ body_in type children =
       Some (message.Reply r))
     else None
 
--- the type that a root gives: an element `msg` without text, with a type, with version 4 where it has a version, and without
--- other attributes
+-- the type that a root gives: an element `msg` without text, with a type, with version 4 where it
+-- has a version, and without other attributes
 unfoldable pub type_in : Element → Option (List ℕ)
 type_in e = do
   _ ← require (is_named (codes "msg") e.head)
@@ -136,6 +140,7 @@ IsNoMessage octets = reading.IsNoMessage message_of octets
 
 -- ---- what can be written so that it is read again
 
+-- a query that can be written so that it is read again: each of its changes can
 abbrev pub IsWritableQuery : Query → Type 0
 IsWritableQuery query.List = Unit {0}
 IsWritableQuery (query.Delta changes) = AllByRecursion IsWritableChange changes
@@ -146,20 +151,24 @@ IsWritableReply (reply.List objects) = AllByRecursion IsWritableListElement obje
 IsWritableReply reply.Success = Unit {0}
 IsWritableReply (reply.ErrorReply errors) = (errors ≢ []) × AllByRecursion IsWritableError errors
 
+-- a message that can be written so that it is read again
 abbrev pub IsWritable : Message → Type 0
 IsWritable (message.Query q) = IsWritableQuery q
 IsWritable (message.Reply r) = IsWritableReply r
 
--- the form in which a message is read back: each missing tag of a change is the empty one, each missing text of an error its code's
+-- the form in which a query is read back: each missing tag of a change is the empty one
 abbrev pub normal_query : Query → Query
 normal_query query.List = query.List
 normal_query (query.Delta changes) = query.Delta (map normal_change changes)
 
+-- the form in which a reply is read back: each missing text of an error is that of its code, and
+-- each failed change has the tag that was written
 abbrev pub normal_reply : Reply → Reply
 normal_reply (reply.List objects) = reply.List objects
 normal_reply reply.Success = reply.Success
 normal_reply (reply.ErrorReply errors) = reply.ErrorReply (map normal_error errors)
 
+-- the form in which a message is read back
 unfoldable pub normal_form : Message → Message
 normal_form (message.Query q) = message.Query (normal_query q)
 normal_form (message.Reply r) = message.Reply (normal_reply r)

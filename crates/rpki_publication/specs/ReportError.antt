@@ -14,6 +14,7 @@ use Rattle.rpki_publication.specs.Change.{query_pdu_element, query_pdu_in, IsWri
 use Rattle.rpki_publication.specs.Pdu.{reply_attributes_in}
 use Rattle.rpki_publication.specs.ReportErrorCode.{code_text, default_text}
 
+-- what is reported: a code, and a tag, a text and the element that failed, each if it is there
 pub record ReportErrorFields : Type 0 where
   pub error_code : ReportErrorCode
   pub tag : Option (List ℕ)
@@ -28,6 +29,7 @@ abbrev pub shown_text : ReportErrorCode → Option (List ℕ) → List ℕ
 shown_text code None = default_text code
 shown_text code (Some text) = text
 
+-- the `failed_pdu` that is written, with the element that failed in it, if there is one
 abbrev pub failed_pdu_elements : Option QueryPdu → Elements
 failed_pdu_elements None = none
 failed_pdu_elements (Some pdu) =
@@ -36,6 +38,8 @@ failed_pdu_elements (Some pdu) =
       children = alone (query_pdu_element pdu);
     })
 
+-- the `report_error` that is written: code and tag as attributes, and in it the text, and the
+-- element that failed if there is one
 unfoldable pub report_error_element : ReportErrorFields → Element
 report_error_element r = record {
   head = record {
@@ -53,12 +57,15 @@ report_error_element r = record {
 
 -- ---- what is read
 
+-- whether the element is an `error_text`
 abbrev pub is_error_text : Element → Bool
 is_error_text e = is_named (codes "error_text") e.head
 
+-- whether the element is a `failed_pdu`
 abbrev pub is_failed_pdu : Element → Bool
 is_failed_pdu e = is_named (codes "failed_pdu") e.head
 
+-- whether the element may stand in a `report_error`: an `error_text` or a `failed_pdu`
 abbrev pub is_detail : Element → Bool
 is_detail e = is_error_text e || is_failed_pdu e
 
@@ -66,6 +73,7 @@ is_detail e = is_error_text e || is_failed_pdu e
 unfoldable pub error_text_in : Element → Option (Option (List ℕ))
 error_text_in e = require (is_none e.children) >>= λ _. Some (Some e.head.text)
 
+-- the part of a query that an element is, if there is one, which has to be lawful then
 abbrev pub pdu_where_there : Option Element → Option (Option QueryPdu)
 pdu_where_there None = Some None
 pdu_where_there (Some e) = query_pdu_in e >>= λ pdu. Some (Some pdu)
@@ -77,11 +85,13 @@ failed_pdu_in e = do
   found ← at_most_one_child e.children
   pdu_where_there found
 
+-- the text of an error and the element that failed, each if it was found
 pub record ErrorDetails : Type 0 where
   pub error_text : Option (List ℕ)
   pub failed_pdu : Option QueryPdu
 
--- any number of texts and failed elements, in any order. Each has to be lawful, and the last of each counts
+-- any number of texts and failed elements, in any order. Each has to be lawful, and the last of
+-- each counts
 unfoldable pub details_in : Elements → Option ErrorDetails
 details_in children = do
   _ ← items.only is_detail (listed children)
@@ -113,6 +123,7 @@ pub record IsWritableError (r : ReportErrorFields) : Type 0 where
   pub trimmed : IfSome r.error_text (λ text. trimmed text ≡ text)
   pub failed_pdu : IfSome r.failed_pdu IsWritablePdu
 
+-- the form in which an element that failed is read back, if there is one
 abbrev pub normal_failed : Option QueryPdu → Option QueryPdu
 normal_failed None = None
 normal_failed (Some pdu) = Some (normal_pdu pdu)

@@ -4,6 +4,7 @@ use Rattle.std.specs.Str.{bytes_eq}
 use Rattle.rpki_publication.specs.declared.report_error_code.ReportErrorCode.{ReportErrorCode}
 use Rattle.rpki_publication.specs.declared.report_error_code.ReportErrorCode.TheVariants as code
 
+-- the text of a code, which stands in the attribute `error_code`
 abbrev pub code_text : ReportErrorCode → List ℕ
 code_text code.XmlError = codes "xml_error"
 code_text code.PermissionFailure = codes "permission_failure"

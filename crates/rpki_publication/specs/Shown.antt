@@ -5,6 +5,7 @@ use Rattle.rpki_xml.specs.declared.error.XmlError.TheVariants as xml
 use Rattle.rpki_publication.specs.declared.error.Error.{Error}
 use Rattle.rpki_publication.specs.declared.error.Error.TheVariants as errors
 
+-- the text that each error prints
 abbrev pub shown_error : Error → Option (List ℕ)
 shown_error errors.InvalidVersion = Some (codes "Invalid version")
 shown_error (errors.XmlError xml.Malformed) = Some (codes "malformed XML")

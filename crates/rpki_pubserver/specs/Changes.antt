@@ -10,12 +10,13 @@ use Rattle.rpki_publication.specs.declared.report_error_code.ReportErrorCode.{Re
 use Rattle.rpki_publication.specs.declared.report_error_code.ReportErrorCode.TheVariants as code
 use Rattle.rpki_pubserver.specs.Store.{Store, octets_at, put, without}
 
--- the URI and the tag of a change
+-- the URI of a change
 abbrev pub uri_of : PublishDeltaElement → List ℕ
 uri_of (change.Publish p) = p.uri
 uri_of (change.Update u) = u.uri
 uri_of (change.Withdraw w) = w.uri
 
+-- the tag of a change, if it has one (2.2)
 abbrev pub tag_of : PublishDeltaElement → Option (List ℕ)
 tag_of (change.Publish p) = p.tag
 tag_of (change.Update u) = u.tag
@@ -54,6 +55,7 @@ pub record Refused : Type 0 where
   pub element : PublishDeltaElement
   pub code : ReportErrorCode
 
+-- this store where there is no code; else that the change isn't made, for the code
 abbrev pub refused_or : PublishDeltaElement → Store → Option ReportErrorCode → Result Store Refused
 refused_or e store None = Ok store
 refused_or e store (Some code) = Err (record { element = e; code = code })

@@ -32,5 +32,6 @@ error_of refused = error_message (record {
   failed_pdu = Some (pdu.PublishDeltaElement refused.element);
 })
 
+-- the list reply: URI and hash of each object in the store (2.3)
 abbrev pub list_message : Store → Message
 list_message store = messages.Reply (replies.List (listed store))

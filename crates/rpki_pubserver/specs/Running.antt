@@ -29,6 +29,7 @@ pub record AreWords (words : List (List ℕ)) (when : ℤ) (base : List ℕ) (pu
   pub base_is : IsBase base
   pub key : key_at words 2 ≡ Some publisher
 
+-- the words are not a moment, a base URI and a publisher's key
 abbrev pub AreNoWords : List (List ℕ) → Type 0
 AreNoWords words =
     (when : ℤ) (base : List ℕ) (publisher : KeyFields) → AreWords words when base publisher → ⊥
@@ -54,7 +55,8 @@ pub record EndsAnswered {Id : Type 0} (scheme : Relation) (when : ℤ) (signer :
       (AreFirstReplied scheme when signer server messages)
       (StopsReplying scheme when signer server messages) status sink
 
--- how it ends: with the answers to all lines; or the moment has no window; or some line is that of no octets; or memory ran out
+-- how it ends: with the answers to all lines; or the moment has no window; or some line is that of
+-- no octets; or memory ran out
 abbrev pub EndsServed : {Id : Type 0} → Relation → ℤ → SignerSeen Id → ServerFields
     → List (List ℕ) → ℕ → Seen → Type 0
 EndsServed scheme when signer server lines status sink =

@@ -22,14 +22,15 @@ pub record ServerAndSigner (Id : Type 0) : Type 0 where
   pub server : ServerFields
   pub signer : SignerState Id
 
+-- the pair of this server and this state of the signer
 abbrev pub with_signer : {Id : Type 0} → ServerFields → SignerState Id → ServerAndSigner Id
 with_signer server signer = record { server = server; signer = signer }
 
--- The text is the hexadecimal of a signed message that was created with the reply to these octets, as
--- `create` does: at the moment, under the issuing key, which the signer holds. The reply's text has at
--- most 2^31 octets. Of that message the reply is received: it is accepted as its normal form, under
--- every list of keys that holds the issuing key, at each second from 300 before the moment to 300 after
--- it. Server and signer are then so.
+-- The text is the hexadecimal of a signed message that was created with the reply to these octets,
+-- as `create` does: at the moment, under the issuing key, which the signer holds. The reply's text
+-- has at most 2^31 octets. Of that message the reply is received: it is accepted as its normal
+-- form, under every list of keys that holds the issuing key, at each second from 300 before the
+-- moment to 300 after it. Server and signer are then so.
 pub record IsReplied {Id : Type 0} (scheme : Relation) (when : ℤ) (id : Id)
     (before : ServerAndSigner Id) (octets text : List ℕ) (next : ServerAndSigner Id) : Type 0 where
   pub reply : Reply
@@ -40,8 +41,8 @@ pub record IsReplied {Id : Type 0} (scheme : Relation) (when : ℤ) (id : Id)
   pub keeps : Keeps before.signer next.signer
   pub behind : next.server ≡ with_store before.server reply.next
 
--- The texts are the replies to all lines, one behind the other, and nothing is behind them. The signer
--- is then as the last reply left it.
+-- The texts are the replies to all lines, one behind the other, and nothing is behind them. The
+-- signer is then as the last reply left it.
 pub record AreAllReplied {Id : Type 0} (scheme : Relation) (when : ℤ) (signer : SignerSeen Id)
     (server : ServerFields) (messages texts : List (List ℕ)) (closing : List ℕ) : Type 0 where
   pub steps : AreAllSteps (IsReplied scheme when signer.id) (λ last. [])
@@ -57,8 +58,8 @@ pub record AreFirstReplied {Id : Type 0} (scheme : Relation) (when : ℤ) (signe
 
 -- ---- why no more lines are answered
 
--- The reply to a line isn't signed, for this cause: that its text has more than 2^31 octets is always
--- told, and of the signer's refusals it is the first.
+-- The reply to a line isn't signed, for this cause: that its text has more than 2^31 octets is
+-- always told, and of the signer's refusals it is the first.
 pub record FailsLine {Id : Type 0} (scheme : Relation) (when : ℤ) (signer : SignerSeen Id)
     (server : ServerFields) (octets : List ℕ) (refusal : Refusal) : Type 0 where
   pub reply : Reply
@@ -77,8 +78,8 @@ pub record FailsLineAt {Id : Type 0} (scheme : Relation) (when : ℤ) (signer : 
     pub stands : slice_get messages place ≡ Some octets
     pub fails : FailsLine scheme when signer server octets refusal
 
--- The texts are the replies to the first lines, and the next line isn't answered, for this cause. Of
--- want of memory no more is said than that the signer holds the same keys.
+-- The texts are the replies to the first lines, and the next line isn't answered, for this cause.
+-- Of want of memory no more is said than that the signer holds the same keys.
 pub record StopsReplying {Id : Type 0} (scheme : Relation) (when : ℤ) (signer : SignerSeen Id)
     (server : ServerFields) (messages texts : List (List ℕ)) (refusal : Refusal) : Type 0 where
   pub steps : AreFirstSteps (IsReplied scheme when signer.id) (with_signer server signer.before)

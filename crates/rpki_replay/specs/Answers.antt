@@ -13,7 +13,8 @@ use Rattle.rpki_replay.specs.Admission.{IsAdmission, state_behind}
 use Rattle.rpki_replay.specs.StateText.{state_text}
 use Rattle.rpki_replay.specs.Messages.{Sent, dash}
 
--- the octets begin with a signed message, in BER, and this is answered to it, which isn't want of memory
+-- the octets begin with a signed message, in BER, and this is answered to it, which isn't want of
+-- memory
 pub record IsJudged (scheme : Relation) (when : ℤ) (peers : List Peer) (sent : Sent)
     (text : List ℕ) (next : List Peer) : Type 0 where
   pub signed : MessageFields

@@ -7,8 +7,8 @@ use Rattle.rpki_replay.specs.declared.peers.Peer.{Peer}
 use Rattle.rpki_replay.specs.Answers.{AreAllAnswered}
 use Rattle.rpki_replay.specs.Messages.{AreNotSent, AreSent, HasNoState, Opens, Sent}
 
--- the input begins with a state, all lines behind it are messages, and the answers to all of them and
--- the new state were written
+-- the input begins with a state, all lines behind it are messages, and the answers to all of them
+-- and the new state were written
 pub record AnswersAll (scheme : Relation) (when : ℤ) (input : List ℕ) (sink : Seen) : Type 0 where
   pub peers : List Peer
   pub lines : List (List ℕ)

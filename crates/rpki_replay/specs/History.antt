@@ -22,22 +22,25 @@ AreMade scheme peers (call ∷ calls) =
     IsAdmission scheme peers call.key call.message call.when call.answer
     × AreMade scheme (state_behind peers call.key call.answer) calls
 
--- the times that were admitted under a key, in order
+-- the times, with the one that was admitted in front, if one was
 abbrev pub times_with : Result ℤ GuardError → List ℤ → List ℤ
 times_with (Ok time) times = time ∷ times
 times_with (Err error) times = times
 
+-- the times that were admitted under a key, in order
 abbrev pub times_under : KeyFields → List Call → List ℤ
 times_under key [] = []
 times_under key (call ∷ calls) =
     if same_key key call.key then times_with call.answer (times_under key calls)
     else times_under key calls
 
--- each time is later than the one before it, and the first is later than this one
+-- the time is later than the last one, if there is one
 abbrev pub IsLater : Option ℤ → ℤ → Type 0
 IsLater None time = ⊤
 IsLater (Some last) time = last <ℤ time
 
+-- each time is later than the one before it, and the first is later than the last one, if there is
+-- one
 abbrev pub Rise : Option ℤ → List ℤ → Type 0
 Rise last [] = ⊤
 Rise last (time ∷ times) = IsLater last time × Rise (Some time) times

@@ -1,4 +1,5 @@
--- Said in contracts, and to be believed: State, Admission, Shown, StateText, Messages, Answers, Running, History, Ends. Means: Places.
+-- Said in contracts, and to be believed: State, Admission, Shown, StateText, Messages, Answers,
+-- Running, History, Ends. Means: Places.
 pub mod State
 pub mod Admission
 pub mod Shown

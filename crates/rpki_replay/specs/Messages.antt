@@ -14,6 +14,7 @@ pub record Sent : Type 0 where
   pub peer : KeyFields
   pub octets : List ℕ
 
+-- what a peer sent, where both its key and the octets are there
 abbrev pub sent_by : Option KeyFields → Option (List ℕ) → Option Sent
 sent_by (Some peer) (Some octets) = Some (record { peer = peer; octets = octets })
 sent_by peer octets = None
@@ -23,6 +24,7 @@ abbrev pub sent_in_words : List (List ℕ) → Option Sent
 sent_in_words (key ∷ octets ∷ []) = sent_by (key_of key) (result_ok (decode_of octets))
 sent_in_words other = None
 
+-- what a line says that a peer sent, by the words of the line
 abbrev pub sent_in : List ℕ → Option Sent
 sent_in line = sent_in_words (words_of line)
 
@@ -36,8 +38,8 @@ pub record Opens (input : List ℕ) (peers : List Peer) (behind : List (List ℕ
   pub state : IsState peers
   pub lines : lines_of input ≡ map peer_line peers ++ dash ∷ behind
 
--- no input of the program: there is no line with a dash, or what stands before the first is no state's
--- text
+-- no input of the program: there is no line with a dash, or what stands before the first is no
+-- state's text
 abbrev pub HasNoState : List ℕ → Type 0
 HasNoState input = (peers : List Peer) (behind : List (List ℕ)) → Opens input peers behind → ⊥
 

@@ -16,6 +16,7 @@ use Rattle.rpki_ca.specs.Keys.{same_key}
 abbrev pub place_of_bits : List ℕ → BTreeMap (Vec ℕ) ℕ → Option ℕ
 place_of_bits bits map = get_by (λ held. slice_cmp nat_cmp bits held.items) map
 
+-- the place that the octets have among the keys of this format
 abbrev pub place_among : PublicKeyFormat → List ℕ → held.Places → Option ℕ
 place_among Rsa bits places = place_of_bits bits places.rsa
 place_among EcdsaP256 bits places = place_of_bits bits places.elliptic

@@ -15,6 +15,7 @@ pub record AreWords (words : List (List ℕ)) (when : ℤ) : Type 0 where
   pub one : length words ≡ 1
   pub moment : IsMomentAt words 0 when
 
+-- the words are not one moment alone
 abbrev pub AreNoWords : List (List ℕ) → Type 0
 AreNoWords words = (when : ℤ) → AreWords words when → ⊥
 
@@ -22,8 +23,7 @@ AreNoWords words = (when : ℤ) → AreWords words when → ⊥
 abbrev pub bad_state : List ℕ
 bad_state = codes "BadState" ++ 10 ∷ []
 
--- How it ends behind a state, where these lines follow: all are messages, and are answered one behind
--- the other; or some line is none; or memory ran out.
+-- How it ends where these lines are all messages: they are answered one behind the other.
 pub record EndsAnswered (scheme : Relation) (when : ℤ) (peers : List Peer) (lines : List (List ℕ))
     (status : ℕ) (sink : Seen) : Type 0 where
   pub messages : List Sent
@@ -32,12 +32,14 @@ pub record EndsAnswered (scheme : Relation) (when : ℤ) (peers : List Peer) (li
       (AreFirstAnswered scheme when peers messages)
       (StopsForMemory (AreFirstAnswered scheme when peers messages)) status sink
 
+-- how it ends behind a state, where these lines follow: all are messages, and are answered; or some
+-- line is none; or memory ran out
 abbrev pub EndsMessages : Relation → ℤ → List Peer → List (List ℕ) → ℕ → Seen → Type 0
 EndsMessages scheme when peers lines status sink =
     EndsAnswered scheme when peers lines status sink
     ⊎ ((AreNotSent lines × Ends (Err Hex) status sink) ⊎ Ends (Err OutOfMemory) status sink)
 
--- How it ends on an input: it begins with a state; or it doesn't; or memory ran out.
+-- How it ends on an input that begins with a state: by the lines behind that.
 pub record EndsState (scheme : Relation) (when : ℤ) (input : List ℕ) (status : ℕ) (sink : Seen)
     : Type 0 where
   pub peers : List Peer
@@ -45,6 +47,7 @@ pub record EndsState (scheme : Relation) (when : ℤ) (input : List ℕ) (status
   pub opens : Opens input peers lines
   pub ends : EndsMessages scheme when peers lines status sink
 
+-- how it ends on an input: it begins with a state; or it doesn't; or memory ran out
 abbrev pub EndsInput : Relation → ℤ → List ℕ → ℕ → Seen → Type 0
 EndsInput scheme when input status sink =
     EndsState scheme when input status sink

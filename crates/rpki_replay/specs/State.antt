@@ -1,4 +1,5 @@
--- The state of a guard: for each key under which a message was admitted, the signing time of the last one.
+-- The state of a guard: for each key under which a message was admitted, the signing time of the
+-- last one.
 use Rattle.std.specs.Prelude.{◌≡◌, ℤ, if◌then◌else◌, Option, None, Some, List, [], ◌∷◌}
 use Rattle.std.specs.List.{AllByRecursion}
 use Rattle.hex.specs.Hex.{IsBytes}

@@ -12,6 +12,7 @@ use Rattle.rpki_replay.specs.State.{IsState}
 abbrev pub peer_line : Peer → List ℕ
 peer_line peer = encode_lower (spelled_key peer.key) ++ (codes " " ++ signed_decimal peer.last)
 
+-- the text of a state: the lines of its peers, in their order
 abbrev pub state_text : List Peer → List ℕ
 state_text peers = answer_lines (map peer_line peers)
 

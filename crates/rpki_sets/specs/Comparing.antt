@@ -7,6 +7,7 @@ use Rattle.rpki_sets.specs.declared.run.Run.{Run}
 abbrev pub is_same : Run → Run → Bool
 is_same a b = a.first == b.first && a.last == b.last
 
+-- equality of runs is an equivalence
 pub is_same-equiv : IsEquivalence is_same
 is_same-equiv = and_equiv (on_equiv (λ r. r.first) nat_eq_equiv)
     (on_equiv (λ r. r.last) nat_eq_equiv)

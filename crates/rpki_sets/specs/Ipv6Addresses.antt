@@ -8,14 +8,14 @@ use Rattle.rpki_common.specs.Chaining.{◌>>=◌}
 use Rattle.rpki_sets.specs.declared.run.Run.{Run}
 use Rattle.rpki_sets.specs.Kinds.{Kind, blocks_of, text_of}
 
--- eight groups of one to four hexadecimal digits with colons between them, of which `::` stands for one zero group or
--- more, and the last two may be written as an IPv4 address; as one number
+-- eight groups of one to four hexadecimal digits with colons between them, of which `::` stands for
+-- one zero group or more, and the last two may be written as an IPv4 address; as one number
 unfoldable pub ipv6_number : List ℕ → Option ℕ
 ipv6_number text = whole_value (read_ipv6 text)
     >>= λ groups. Some (from_be_bytes w128 (octets_of groups))
 
--- the eight groups of a number in lower-case hexadecimal without leading zeros, the first of the longest runs of two
--- zero groups or more as `::`
+-- the eight groups of a number in lower-case hexadecimal without leading zeros, the first of the
+-- longest runs of two zero groups or more as `::`
 unfoldable pub ipv6_number_text : ℕ → List ℕ
 ipv6_number_text n = hex_groups_text (segments_of (to_be_bytes w128 n))
 

@@ -8,7 +8,8 @@ use Rattle.rpki_sets.specs.Runs.{union}
 use Rattle.rpki_sets.specs.Texts.{dash, slash, comma, space, cut, trimmed, parts, read_all, decimal_below}
 use Rattle.rpki_sets.specs.Prefixes.{prefix, prefix_length}
 
--- a kind of numbers: how many bits they have, whether their items may be prefixes, how one is read and written
+-- a kind of numbers: how many bits they have, whether their items may be prefixes, how one is read
+-- and written
 pub record Kind : Type 0 where
   pub width : ℕ
   pub has_prefixes : Bool
@@ -28,6 +29,7 @@ range_of kind text None = kind.number text >>= λ n. run_from n n
 range_of kind text (Some ends) =
     kind.number ends.0 >>= λ first. kind.number ends.1 >>= λ last. run_from first last
 
+-- the run that a text spells, which is cut at the first `-` where there is one
 unfoldable pub range : Kind → List ℕ → Option Run
 range kind text = range_of kind text (cut dash text)
 
@@ -82,7 +84,8 @@ text_of kind [] = []
 text_of kind (run ∷ more) = run_text kind run ++ flat_map (λ next. codes "," ++ run_text kind next)
     more
 
--- an octet of a printed set: `,`, `-`, `.`, `/`, a digit or `:`, which follow each other, or `a` to `f`
+-- an octet of a printed set: `,`, `-`, `.`, `/`, a digit or `:`, which follow each other, or `a` to
+-- `f`
 abbrev pub is_set_octet : ℕ → Bool
 is_set_octet octet = nat_le 44 octet && nat_le octet 58 || nat_le 97 octet && nat_le octet 102
 
@@ -92,8 +95,9 @@ is_set_octet octet = nat_le 44 octet && nat_le octet 58 || nat_le 97 octet && na
 abbrev pub IsPlain : ℕ → Type 0
 IsPlain octet = (octet ≢ comma) × (octet ≢ space) × (octet ≢ dash) × (octet ≢ slash)
 
--- numbers that are read have no more bits than the kind, what is written is read as the same number, the empty text is
--- no number, and no text of a number has an octet that stands between numbers
+-- numbers that are read have no more bits than the kind, what is written is read as the same
+-- number, the empty text is no number, and no text of a number has an octet that stands between
+-- numbers
 pub record IsLawful (kind : Kind) : Type 0 where
   pub bounded : kind.width ≤ 128
   pub within : (text : List ℕ) (n : ℕ) → kind.number text ≡ Some n → n < 2 ^ kind.width

@@ -9,8 +9,8 @@ prefix width address len =
     let size = 2 ^ (width - len) in
     record { first = address / size * size; last = address / size * size + (size - 1) }
 
--- The length of the prefix that is just this run, where one is. A prefix with k free bits has 2 ^ k addresses,
--- and the difference of its ends has k bits set.
+-- The length of the prefix that is just this run, where one is. A prefix with k free bits has 2 ^ k
+-- addresses, and the difference of its ends has k bits set.
 unfoldable pub prefix_length : ℕ → Run → Option ℕ
 prefix_length width run =
     let len = width - count_ones (run.last - run.first) in

@@ -20,6 +20,7 @@ are_same a b =
     pointwise is_same a.asn b.asn && (pointwise is_same a.ipv4 b.ipv4 && pointwise is_same a.ipv6
     b.ipv6)
 
+-- equality of resources is an equivalence
 pub are_same-equiv : IsEquivalence are_same
 are_same-equiv =
     and_equiv (on_equiv (λ r. r.asn) (lists_equiv is_same-equiv))

@@ -11,6 +11,7 @@ use Rattle.rpki_xml.specs.Spelling.{spelled}
 use Rattle.rpki_xml.specs.Tables.{only, optional}
 use Rattle.rpki_setup.specs.Root.{certificate_element, root_element, root_in, handle_in, one_certificate_in}
 
+-- what a child's request says: its BPKI trust anchor, its handle, and a tag if it has one
 pub record ChildRequestFields : Type 0 where
   -- the octets of the child's BPKI trust anchor
   pub id_cert : List ℕ
@@ -38,8 +39,8 @@ child_request_in e = do
   octets ← one_certificate_in (codes "child_bpki_ta") e.children
   Some (record { id_cert = octets; child_handle = handle; tag = tag })
 
--- What can be written so that it is read again: the handle has the pattern, and the tag consists of octets that a document may
--- have. That octets are octets is kept by the certificate's type.
+-- What can be written so that it is read again: the handle has the pattern, and the tag consists of
+-- octets that a document may have. That octets are octets is kept by the certificate's type.
 pub record IsWritableChildRequest (m : ChildRequestFields) : Type 0 where
   pub id_cert : IsBytes m.id_cert
   pub child_handle : IsHandle m.child_handle

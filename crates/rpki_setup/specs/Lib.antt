@@ -1,5 +1,6 @@
--- Said in contracts, and to be believed: all but ResponseStep and Writing. Root, ChildRequest, ParentResponse, PublisherRequest,
--- RepositoryResponse, RepoInfo and ServiceUri are the tables, Answers and Shown what calls answer and errors print. Means:
+-- Said in contracts, and to be believed: all but ResponseStep and Writing. Root, ChildRequest,
+-- ParentResponse, PublisherRequest, RepositoryResponse, RepoInfo and ServiceUri are the tables,
+-- Answers and Shown what calls answer and errors print. Means:
 -- ResponseStep for a loop, Writing for the writers.
 pub mod Answers
 pub mod ChildRequest

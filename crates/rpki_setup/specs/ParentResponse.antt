@@ -14,6 +14,8 @@ use Rattle.rpki_setup.specs.declared.service_uri.ServiceUri.{ServiceUri}
 use Rattle.rpki_setup.specs.Root.{certificate_element, root_element, root_in, handle_in, certificate_in}
 use Rattle.rpki_setup.specs.ServiceUri.{service_uri_in, service_text, IsWritableService}
 
+-- what a parent's response says: its BPKI trust anchor, both handles, where its service is, and a
+-- tag if it has one
 pub record ParentResponseFields : Type 0 where
   -- the octets of the parent's BPKI trust anchor
   pub id_cert : List ℕ
@@ -36,6 +38,7 @@ parent_response_element m =
 unfoldable pub parent_response_text : ParentResponseFields → List ℕ
 parent_response_text m = spelled (parent_response_element m)
 
+-- whether the element is a `parent_bpki_ta`
 abbrev pub holds_certificate : Element → Bool
 holds_certificate e = is_named (codes "parent_bpki_ta") e.head
 
@@ -44,14 +47,16 @@ abbrev pub is_passed_over : Element → Bool
 is_passed_over e =
     (is_named (codes "referral") e.head || is_named (codes "offer") e.head) && is_none e.children
 
+-- whether the element may stand in a response: a `parent_bpki_ta`, or one that is passed over
 abbrev pub may_stand : Element → Bool
 may_stand e = holds_certificate e || is_passed_over e
 
+-- the octets in a `parent_bpki_ta` with a base64 text and no child
 abbrev pub some_certificate : Element → Option (Option (List ℕ))
 some_certificate e = certificate_in (codes "parent_bpki_ta") e >>= λ octets. Some (Some octets)
 
--- any number of elements that may stand in a response, in any order, and among them one certificate at least. Each has to be
--- lawful, and the last one counts
+-- any number of elements that may stand in a response, in any order, and among them one certificate
+-- at least. Each has to be lawful, and the last one counts
 unfoldable pub last_certificate_in : Elements → Option (List ℕ)
 last_certificate_in children = do
   _ ← items.only may_stand (listed children)
@@ -75,8 +80,9 @@ parent_response_in e = do
     tag = tag;
   })
 
--- What can be written so that it is read again: the handles have the pattern, the service URI is one, and the tag consists of octets
--- that a document may have. That octets are octets is kept by the types of these fields.
+-- What can be written so that it is read again: the handles have the pattern, the service URI is
+-- one, and the tag consists of octets that a document may have. That octets are octets is kept by
+-- the types of these fields.
 pub record IsWritableParentResponse (m : ParentResponseFields) : Type 0 where
   pub id_cert : IsBytes m.id_cert
   pub parent_handle : IsHandle m.parent_handle

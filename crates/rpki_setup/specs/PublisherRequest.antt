@@ -11,6 +11,7 @@ use Rattle.rpki_xml.specs.Spelling.{spelled}
 use Rattle.rpki_xml.specs.Tables.{only, optional}
 use Rattle.rpki_setup.specs.Root.{certificate_element, root_element, root_in, handle_in, one_certificate_in}
 
+-- what a publisher's request says: its BPKI trust anchor, its handle, and a tag if it has one
 pub record PublisherRequestFields : Type 0 where
   -- the octets of the publisher's BPKI trust anchor
   pub id_cert : List ℕ
@@ -39,8 +40,8 @@ publisher_request_in e = do
   octets ← one_certificate_in (codes "publisher_bpki_ta") e.children
   Some (record { id_cert = octets; publisher_handle = handle; tag = tag })
 
--- What can be written so that it is read again: the handle has the pattern, and the tag consists of octets that a document may
--- have. That octets are octets is kept by the certificate's type.
+-- What can be written so that it is read again: the handle has the pattern, and the tag consists of
+-- octets that a document may have. That octets are octets is kept by the certificate's type.
 pub record IsWritablePublisherRequest (m : PublisherRequestFields) : Type 0 where
   pub id_cert : IsBytes m.id_cert
   pub publisher_handle : IsHandle m.publisher_handle

@@ -14,6 +14,8 @@ use Rattle.rpki_setup.specs.Root.{certificate_element, root_element, root_in, ha
 use Rattle.rpki_setup.specs.RepoInfo.{RepoInfoFields, repo_info_attributes, repo_info_in, IsWritableRepoInfo}
 use Rattle.rpki_setup.specs.ServiceUri.{service_uri_in, service_text, IsWritableService}
 
+-- what a repository's response says: its BPKI trust anchor, the publisher's handle, where the
+-- service is, where objects are found, and a tag if it has one
 pub record RepositoryResponseFields : Type 0 where
   -- the octets of the repository's BPKI trust anchor
   pub id_cert : List ℕ
@@ -52,8 +54,9 @@ repository_response_in e = do
     tag = tag;
   })
 
--- What can be written so that it is read again: the handle has the pattern, the service URI is one, and the tag consists of octets
--- that a document may have. That octets are octets, and that URIs are lawful, is kept by the types of these fields.
+-- What can be written so that it is read again: the handle has the pattern, the service URI is one,
+-- and the tag consists of octets that a document may have. That octets are octets, and that URIs
+-- are lawful, is kept by the types of these fields.
 pub record IsWritableRepositoryResponse (m : RepositoryResponseFields) : Type 0 where
   pub id_cert : IsBytes m.id_cert
   pub publisher_handle : IsHandle m.publisher_handle

@@ -1,5 +1,5 @@
--- What the four messages share: the root, the handles, and the element that holds a certificate (RFC 8183, 5.1). Names are
--- compared by their local parts.
+-- What the four messages share: the root, the handles, and the element that holds a certificate
+-- (RFC 8183, 5.1). Names are compared by their local parts.
 use Rattle.std.specs.Prelude.{ℕ, List, [], ◌∷◌, Bool, true, ◌||◌, Option, None, Some, codes}
 use Rattle.std.specs.Str.{bytes_eq}
 use Rattle.base64.specs.Engines.{standard}
@@ -11,6 +11,7 @@ use Rattle.rpki_text.specs.Handle.{handle_of_text}
 use Rattle.rpki_xml.specs.Element.{Attribute, Head, Elements, Element, alone, is_none, is_nil}
 use Rattle.rpki_xml.specs.Tables.{require, is_named, required, given_or_absent, the_child}
 
+-- the namespace of the setup messages
 abbrev pub setup_namespace : List ℕ
 setup_namespace = codes "http://www.hactrn.net/uris/rpki/rpki-setup/"
 
@@ -38,7 +39,8 @@ root_element name attributes child = record {
 
 -- ---- what is read
 
--- whether a root may have this namespace: none, or that of the protocol with its last `/` or without
+-- whether a root may have this namespace: none, or that of the protocol with its last `/` or
+-- without
 abbrev pub is_setup_namespace : Option (List ℕ) → Bool
 is_setup_namespace None = true
 is_setup_namespace (Some uri) = bytes_eq uri setup_namespace || bytes_eq uri setup_namespace_bare

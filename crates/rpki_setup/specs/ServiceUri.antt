@@ -33,6 +33,7 @@ service_uri_in h = do
   text ← required (codes "service_uri") h
   service_uri_of_text text
 
+-- the text of a service URI
 abbrev pub service_text : ServiceUri → List ℕ
 service_text (Https u) = u
 service_text (Http text) = text

@@ -4,6 +4,7 @@ use Rattle.rpki_xml.specs.declared.error.XmlError.TheVariants as xml
 use Rattle.rpki_setup.specs.declared.error.Error.{Error}
 use Rattle.rpki_setup.specs.declared.error.Error.TheVariants as errors
 
+-- the text that each error prints, where one is said
 abbrev pub shown_error : Error → Option (List ℕ)
 shown_error (errors.InvalidXml xml.Malformed) = Some (codes "malformed XML")
 shown_error (errors.InvalidXml xml.OutOfMemory) = Some (codes "out of memory")

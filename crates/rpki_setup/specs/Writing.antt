@@ -1,4 +1,5 @@
--- The parts that a root is written in. Means for the writers: the law of a root ties them to what it is spelled as.
+-- The parts that a root is written in. Means for the writers: the law of a root ties them to what
+-- it is spelled as.
 use Rattle.std.specs.Prelude.{ℕ, List, ◌∷◌, ◌++◌, Some, codes}
 use Rattle.rpki_xml.specs.Spelling.{spelled, spelled_attribute, spelled_namespace, spelled_end}
 use Rattle.rpki_setup.specs.Root.{setup_namespace, certificate_element}

@@ -1,4 +1,5 @@
--- Which octets begin with the identifier of a SEQUENCE: a means for readers of optional ones, tied to `optional` by proofs/Ahead.antt.
+-- Which octets begin with the identifier of a SEQUENCE: a means for readers of optional ones, tied
+-- to `optional` by proofs/Ahead.antt.
 use Rattle.std.specs.Prelude.{ℕ, Bool, false, ◌==◌, ◌||◌, List, [], ◌∷◌}
 
 -- in either form

@@ -36,7 +36,8 @@ time_in attribute = set_of time attribute.1
 unfoldable pub binary_in : List ℕ × Values → Option ℕ
 binary_in attribute = set_of u64 attribute.1
 
--- contentType and messageDigest are there exactly once each, signingTime and binarySigningTime at most once each; others may be there
+-- contentType and messageDigest are there exactly once each, signingTime and binarySigningTime at
+-- most once each; others may be there
 unfoldable pub attributes : Mode → List (List ℕ × Values) → Option AttributeFields
 attributes mode all = do
   type ← the_one type_in (filter (is content_type) all)
@@ -51,10 +52,12 @@ attributes mode all = do
 --       attrValues SET OF AttributeValue }
 --
 -- Of the four known ones attrValues is a SET of exactly one value; of others it isn't looked at.
--- [0] with attributes, each a SEQUENCE of an identifier and any values: their octets as they stand there, and what they say
+-- [0] with attributes, each a SEQUENCE of an identifier and any values: their octets as they stand
+-- there, and what they say
 unfoldable pub signed_attributes : Mode → Value → Option (List ℕ × AttributeFields)
 signed_attributes mode = within (context 0) (held (λ vs. every entry vs >>= attributes mode))
 
--- what the signature of the attributes covers: their octets as they stand, in a SET with a DER length in place of [0] (5.4)
+-- what the signature of the attributes covers: their octets as they stand, in a SET with a DER
+-- length in place of [0] (5.4)
 abbrev pub covered : List ℕ → List ℕ
 covered octets = der_constructed set octets

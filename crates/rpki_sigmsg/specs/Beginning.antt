@@ -1,4 +1,5 @@
--- Octets that begin with a signed message (RFC 6492, 3.1; RFC 8181, 2). What stands behind it isn't read.
+-- Octets that begin with a signed message (RFC 6492, 3.1; RFC 8181, 2). What stands behind it isn't
+-- read.
 use Rattle.std.specs.Prelude.{ℕ, List}
 use Rattle.rpki_der.specs.declared.mode.Mode.TheVariants.{Ber}
 use Rattle.rpki_der.specs.Takes.{BeginsAs}

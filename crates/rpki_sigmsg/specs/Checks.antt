@@ -1,4 +1,5 @@
--- The fourteen checks of a signed message under an issuer's key at a moment, and what they mean (RFC 5652, 5.4 and 5.6; RFC 6492, 3.1.2;
+-- The fourteen checks of a signed message under an issuer's key at a moment, and what they mean
+-- (RFC 5652, 5.4 and 5.6; RFC 6492, 3.1.2;
 -- RFC 8181, 2); and the same under a list of keys.
 use Rattle.std.specs.Prelude.{◌≡◌, ◌↔◌, ◌≤ℤ◌, ◌+◌, ℕ, ℤ, Bool, not, ◌||◌, ◌==◌, if◌then◌else◌, bytes_eq, true, Decides, Option, None, Some, Result, Ok, Err}
 use Rattle.std.specs.Prelude.{List, [], ◌∷◌, ◌++◌, length, max, ⊤}
@@ -16,12 +17,13 @@ use Rattle.rpki_sigmsg.specs.RevokedCertificates.{is_listed}
 use Rattle.rpki_sigmsg.specs.CrlChecks.{crl_checks, AreCrlsSigned}
 use Rattle.rpki_sigmsg.specs.Message.{MessageFields}
 
--- the question to the scheme: whether the signature of the attributes holds under the key of the certificate
+-- the question to the scheme: whether the signature of the attributes holds under the key of the
+-- certificate
 abbrev pub AreAttributesSigned : Relation → MessageFields → Type 0
 AreAttributesSigned scheme m = scheme RsaSha256 m.certificate.tbs.key m.covered m.signature.value
 
--- 1 to 3: the signer is named by the certificate's subject key identifier; the content's SHA-256 is the signed digest; q3: the
--- attributes are signed under the certificate's key
+-- 1 to 3: the signer is named by the certificate's subject key identifier; the content's SHA-256 is
+-- the signed digest; q3: the attributes are signed under the certificate's key
 abbrev pub message_checks : MessageFields → Bool → List Bool
 message_checks m q3 =
     bytes_eq m.signer m.certificate.tbs.subject_key_id
@@ -34,7 +36,8 @@ abbrev pub is_not_revoked : MessageFields → Bool
 is_not_revoked m =
     list_all (λ c. not (is_listed m.certificate.tbs.serial c.tbs.revoked.entries)) m.crls
 
--- 4 to 14, of which some ask for the issuer's key; 4 to 8 are those of the end entity's certificate, 9 to 13 those of the CRLs
+-- 4 to 14, of which some ask for the issuer's key; 4 to 8 are those of the end entity's
+-- certificate, 9 to 13 those of the CRLs
 abbrev pub key_checks : MessageFields → KeyFields → ℤ → Bool → Bool → List Bool
 key_checks m issuer when q8 q10 =
     ee_checks m.certificate issuer when q8
@@ -50,7 +53,8 @@ checks m issuer when q3 q8 q10 =
 abbrev pub kind_of : ℕ → ValidationKind
 kind_of n = if n == 1 || n == 4 then Inspection else Verification
 
--- the questions to the scheme, with their answers: of the attributes, of the certificate, and of all CRLs
+-- the questions to the scheme, with their answers: of the attributes, of the certificate, and of
+-- all CRLs
 pub record Asked (scheme : Relation) (m : MessageFields) (issuer : KeyFields) : Type 0 where
   pub q3 : Bool
   pub q8 : Bool
@@ -65,8 +69,8 @@ pub record AreChecks (scheme : Relation) (m : MessageFields) (issuer : KeyFields
   pub asked : Asked scheme m issuer
   pub are : list ≡ checks m issuer when asked.q3 asked.q8 asked.q10
 
--- the signatures hold: that of the attributes under the key of the certificate, and those of the certificate and of each CRL under
--- the issuer's key
+-- the signatures hold: that of the attributes under the key of the certificate, and those of the
+-- certificate and of each CRL under the issuer's key
 pub record AreSigned (scheme : Relation) (m : MessageFields) (issuer : KeyFields) : Type 0 where
   pub attributes : AreAttributesSigned scheme m
   pub certificate : IsSigned scheme m.certificate issuer
@@ -78,7 +82,8 @@ pub record IsBelieved (scheme : Relation) (m : MessageFields) (issuer : KeyField
   pub signatures : AreSigned scheme m issuer
   pub passes : first_failure 1 (checks m issuer when true true true) ≡ Ok tt
 
--- what the checks answer: Ok exactly where the message is believed, and else the first check that fails, whatever the scheme answers
+-- what the checks answer: Ok exactly where the message is believed, and else the first check that
+-- fails, whatever the scheme answers
 pub record IsValidation (scheme : Relation) (m : MessageFields) (issuer : KeyFields) (when : ℤ)
     (answer : Result (Unit {0}) ValidationError) : Type 0 where
   pub believed : (answer ≡ Ok tt) ↔ IsBelieved scheme m issuer when
@@ -115,7 +120,8 @@ pub record IsFirstBelieved (scheme : Relation) (m : MessageFields) (keys : List 
   pub believed : IsBelieved scheme m key when
   pub none_before : IsUnbelieved scheme m before when
 
--- what comes of the checks under the key, by answers to the questions: the first that fails, if one does
+-- what comes of the checks under the key, by answers to the questions: the first that fails, if one
+-- does
 pub record HasOutcome (scheme : Relation) (m : MessageFields) (key : KeyFields) (when : ℤ)
     (outcome : Result (Unit {0}) ℕ) : Type 0 where
   pub asked : Asked scheme m key
@@ -151,8 +157,9 @@ ranked_by None check = Err check
 abbrev pub ranked : List (Result (Unit {0}) ℕ) → Result ℕ ℕ
 ranked list = ranked_by (first_passing 0 list) (greatest list)
 
--- What the checks answer under a list of keys: the place of the first key under which the message is believed; an error only where it
--- is believed under none, and then the greatest of the first checks that fail under each key, whatever the scheme answers.
+-- What the checks answer under a list of keys: the place of the first key under which the message
+-- is believed; an error only where it is believed under none, and then the greatest of the first
+-- checks that fail under each key, whatever the scheme answers.
 pub record IsAnyValidation (scheme : Relation) (m : MessageFields) (keys : List KeyFields)
     (when : ℤ) (answer : Result ℕ ValidationError) : Type 0 where
   pub believed : (place : ℕ)
@@ -194,7 +201,8 @@ SameAnswersUnder s t m keys = AllByRecursion (SameAnswers s t m) keys
 abbrev pub Passes : MessageFields → KeyFields → Bool → Bool → Bool → ℤ → Type 0
 Passes m issuer q3 q8 q10 when = first_failure 1 (checks m issuer when q3 q8 q10) ≡ Ok tt
 
--- from the latest of notBefore and each thisUpdate to the earliest of notAfter and each nextUpdate, both ends in
+-- from the latest of notBefore and each thisUpdate to the earliest of notAfter and each nextUpdate,
+-- both ends in
 pub record IsInSpan (m : MessageFields) (when : ℤ) : Type 0 where
   pub not_before : m.certificate.tbs.validity.not_before ≤ℤ when
   pub this_updates : AllByRecursion (λ c. c.tbs.this_update ≤ℤ when) m.crls

@@ -12,6 +12,7 @@ use Rattle.rpki_base.specs.declared.validation.ValidationKind.{ValidationKind}
 use Rattle.rpki_base.specs.declared.validation.ValidationKind.TheVariants.{Verification}
 use Rattle.rpki_sigmsg.specs.Crl.{CrlFields}
 
+-- whether both are rsaEncryption, or both are sha256WithRSAEncryption
 abbrev pub same_name : RsaIdentifier → RsaIdentifier → Bool
 same_name RsaEncryption RsaEncryption = true
 same_name Sha256WithRsaEncryption Sha256WithRsaEncryption = true
@@ -25,8 +26,10 @@ same_algorithm a b = same_name a.identifier b.identifier && beq a.null b.null
 abbrev pub AreCrlsSigned : Relation → List CrlFields → KeyFields → Type 0
 AreCrlsSigned scheme crls key = AllByRecursion (λ c. IsSigned scheme c key) crls
 
--- Of all CRLs under the issuer's key, at a moment; q: each CRL is signed under that key. Each time it has to hold of each CRL:
--- 1 signatureAlgorithm is signature (5.1.1.2); 2 q (6.3.3); 3 thisUpdate (5.1.2.4); 4 nextUpdate (5.1.2.5);
+-- Of all CRLs under the issuer's key, at a moment; q: each CRL is signed under that key. Each time
+-- it has to hold of each CRL:
+-- 1 signatureAlgorithm is signature (5.1.1.2); 2 q (6.3.3); 3 thisUpdate (5.1.2.4); 4 nextUpdate
+-- (5.1.2.5);
 -- 5 authorityKeyIdentifier, if it is there, is the SHA-1 of the issuer's key (5.2.1)
 abbrev pub crl_checks : List CrlFields → KeyFields → ℤ → Bool → List Bool
 crl_checks crls issuer when q =

@@ -22,7 +22,8 @@ use Rattle.rpki_base.specs.Extension.{ExtensionFields, extension, is}
 unfoldable pub issuer_key : Mode → Value → Option (List ℕ)
 issuer_key mode = wrapped sequence (key_identifier_under (context 0) mode)
 
--- What an extension holds is in DER whatever the mode round it: a value stands at its beginning, and the rest is unread.
+-- What an extension holds is in DER whatever the mode round it: a value stands at its beginning,
+-- and the rest is unread.
 unfoldable pub authority_in : ExtensionFields → Option (List ℕ)
 authority_in e = in_der (issuer_key Der) e.value
 

@@ -14,6 +14,7 @@ create_text text create.KeyReused = Some (codes "the one-off key is the issuing 
 create_text text (create.Signing error) = signing_text text error
 create_text text create.OutOfMemory = Some (codes "out of memory")
 
+-- the error of creation that an error of making becomes: each variant keeps its name
 abbrev pub create_error_of : {E : Type 0} → MakeError E → CreateError E
 create_error_of make.TooLong = create.TooLong
 create_error_of (make.Signing error) = create.Signing error

@@ -1,6 +1,6 @@
--- The order in which a signer is asked for a message (RFC 6492, 3.1): for the signature of the attributes under a key for this one use, for
--- the issuing key, for the CRL's signature, for the certificate. Its first refusal decides: all that it gave before has at most 2^16
--- octets.
+-- The order in which a signer is asked for a message (RFC 6492, 3.1): for the signature of the
+-- attributes under a key for this one use, for the issuing key, for the CRL's signature, for the
+-- certificate. Its first refusal decides: all that it gave before has at most 2^16 octets.
 use Rattle.std.specs.Prelude.{◌≢◌, ◌<◌, ◌^◌, ◌⊎◌, ⊤, ℕ, ℤ, List, length}
 use Rattle.rpki_common.specs.Limits.{most_content}
 use Rattle.rpki_base.specs.declared.algorithm.SigningAlgorithm.TheVariants.{RsaSha256}
@@ -97,8 +97,11 @@ pub record HasAll {Id : Type 0} (scheme : Relation) (content : List ℕ) (when :
   pub certificate : CertificateFields
   pub certified : IsCertified scheme issuing key when between after crl certificate
 
--- ---- the refusals of creation; the moment is told before the signer is asked, and memory may run out behind its last call too
+-- ---- the refusals of creation; the moment is told before the signer is asked, and memory may run
+-- out behind its last call too
 
+-- what an error of creation says of where it stopped: Moment, nothing; TooLong may be of a content
+-- of more than 2^31 octets, and OutOfMemory come once all was given
 abbrev pub IsFirstRefusal : {Id E : Type 0} → Relation → List ℕ → ℤ → Id → SignerState Id
     → SignerState Id → CreateError E → Type 0
 IsFirstRefusal scheme content when id before after create.Moment = ⊤

@@ -1,6 +1,6 @@
--- Said in contracts, and to be believed: ObjectIdentifiers, Algorithm, Attributes, CrlExtensions, Signer, RevokedCertificates,
--- TbsCrl, Crl, Message, Beginning, Places, CrlChecks, Checks, Spelling, Making, FirstRefusals, Errors. Means for readers: Ahead, Gathered,
--- CrlGathered.
+-- Said in contracts, and to be believed: ObjectIdentifiers, Algorithm, Attributes, CrlExtensions,
+-- Signer, RevokedCertificates, TbsCrl, Crl, Message, Beginning, Places, CrlChecks, Checks,
+-- Spelling, Making, FirstRefusals, Errors. Means for readers: Ahead, Gathered, CrlGathered.
 pub mod ObjectIdentifiers
 pub mod Algorithm
 pub mod Attributes

@@ -49,6 +49,8 @@ pub record HasWindow (when : ℤ) : Type 0 where
 
 -- ---- what is signed
 
+-- an attribute in DER: a SEQUENCE of its type, an OBJECT IDENTIFIER, and the SET that holds its
+-- value (RFC 5652, 5.3)
 unfoldable pub spelled_attribute : List ℕ → List ℕ → List ℕ
 spelled_attribute identifier value =
     der_constructed sequence (der_primitive oid_tag identifier ++ der_constructed set value)
@@ -93,7 +95,8 @@ pub record IsCrlSigned {Id : Type 0} (scheme : Relation) (issuing : KeyFields) (
   pub signed : IsShortSignature scheme RsaSha256 id (spelled_tbs_crl c.tbs) before after
       c.signed.signature.value
 
--- the CRL of the issuing key, and the certificate that it issues for this key with the serial number that was drawn
+-- the CRL of the issuing key, and the certificate that it issues for this key with the serial
+-- number that was drawn
 pub record IsCertified {Id : Type 0} (scheme : Relation) (issuing key : KeyFields) (when : ℤ)
     (before after : SignerState Id) (crl : CrlFields) (certificate : CertificateFields) : Type 0
   where
@@ -133,6 +136,8 @@ pub record UnsignedFields : Type 0 where
   pub crl : TbsCrlFields
   pub certificate : TbsFields
 
+-- what is to be signed is this content at this moment, the issuing key's CRL, and a certificate
+-- that it issues for the key with this serial number, valid in the moment's window
 pub record IsUnsignedFor (content : List ℕ) (when : ℤ) (serial : List ℕ) (key issuing : KeyFields)
     (u : UnsignedFields) : Type 0 where
   pub content_is : u.content ≡ record { content = content; moment = when }
@@ -149,8 +154,8 @@ signed_message_of u attributes crl certificate = assembled u.content attributes
     })
     (record { signed = record { slice = spelled_tbs_crl u.crl; signature = crl }; tbs = u.crl })
 
--- The message has this content, says this moment as the time of signing, and is signed under this key; the issuing key issued a
--- certificate for that key, and a CRL.
+-- The message has this content, says this moment as the time of signing, and is signed under this
+-- key; the issuing key issued a certificate for that key, and a CRL.
 pub record IsMessageMade (scheme : Relation) (content : List ℕ) (when : ℤ)
     (issuing key : KeyFields) (serial : List ℕ) (m : MessageFields) : Type 0 where
   pub signature : SignatureParts RpkiAlgorithm
@@ -163,9 +168,9 @@ pub record IsMessageMade (scheme : Relation) (content : List ℕ) (when : ℤ)
   pub issued : IsIssued scheme issuing certificate
   pub crl_made : IsCrlMade scheme issuing when crl
 
--- The signer holds the issuing key alone under this identifier. The key for this one use is the one that it drew, and not the issuing
--- key; the serial number is what it drew last. The keys and the signatures have at most 2^16 octets each; that of the certificate's
--- signature is in `IsIssued`.
+-- The signer holds the issuing key alone under this identifier. The key for this one use is the one
+-- that it drew, and not the issuing key; the serial number is what it drew last. The keys and the
+-- signatures have at most 2^16 octets each; that of the certificate's signature is in `IsIssued`.
 pub record IsCreated {Id : Type 0} (scheme : Relation) (content : List ℕ) (when : ℤ) (id : Id)
     (before after : SignerState Id) (m : MessageFields) : Type 0 where
   pub window_is : HasWindow when
@@ -184,7 +189,8 @@ pub record IsCreated {Id : Type 0} (scheme : Relation) (content : List ℕ) (whe
 
 -- ---- why nothing is created
 
--- the key that the signer gave for one use is the issuing key, the only one under its identifier, and it told so by its count
+-- the key that the signer gave for one use is the issuing key, the only one under its identifier,
+-- and it told so by its count
 pub record IsReused {Id : Type 0} (id : Id) (before after : SignerState Id) : Type 0 where
   pub issuing : KeyFields
   pub holds : Holds before.keyring id issuing

@@ -1,4 +1,5 @@
--- Signed messages: signed data with one certificate, one or two CRLs and one signer (RFC 5652, 3, 5.1 and 5.2; RFC 6492, 3.1.1;
+-- Signed messages: signed data with one certificate, one or two CRLs and one signer (RFC 5652, 3,
+-- 5.1 and 5.2; RFC 6492, 3.1.1;
 -- RFC 8181, 2).
 use Rattle.std.specs.Prelude.{◌≤◌, ℕ, ℤ, Bool, true, false, Option, None, Some, List, [], ◌∷◌, length}
 use Rattle.rpki_common.specs.Chaining.{◌>>=◌}
@@ -21,8 +22,9 @@ use Rattle.rpki_sigmsg.specs.Attributes.{covered}
 use Rattle.rpki_sigmsg.specs.Crl.{CrlFields, revocation_list}
 use Rattle.rpki_sigmsg.specs.Signer.{SignerFields, signer_info}
 
--- what a message says: its content; the signer's key identifier, the digest and the time that were signed, the octets that the
--- signature covers, and the signature; the certificate of the signer's key; the one or two CRLs in their order
+-- what a message says: its content; the signer's key identifier, the digest and the time that were
+-- signed, the octets that the signature covers, and the signature; the certificate of the signer's
+-- key; the one or two CRLs in their order
 pub record MessageFields : Type 0 where
   pub content : List ℕ
   pub signer : List ℕ
@@ -37,8 +39,9 @@ pub record MessageFields : Type 0 where
 abbrev pub AreOneOrTwo : {X : Type 0} → List X → Type 0
 AreOneOrTwo list = (1 ≤ length list) × (length list ≤ 2)
 
--- the message, and the octets of its parts as they stand in it: the OCTET STRING of the content, the certificate, the first CRL and,
--- where there are two, the second, the signed attributes without what is round them, and the OCTET STRING of the signature
+-- the message, and the octets of its parts as they stand in it: the OCTET STRING of the content,
+-- the certificate, the first CRL and, where there are two, the second, the signed attributes
+-- without what is round them, and the OCTET STRING of the signature
 pub record ViewFields : Type 0 where
   pub message : MessageFields
   pub content_value : List ℕ
@@ -70,6 +73,7 @@ pub record CrlSet : Type 0 where
   pub first : List ℕ
   pub second : Option (List ℕ)
 
+-- the set of a first CRL, and of a second one if there is one, each given as its octets and the CRL
 abbrev pub crl_set_of : List ℕ × CrlFields → Option (List ℕ × CrlFields) → CrlSet
 crl_set_of one None = record { lists = one.1 ∷ []; first = one.0; second = None }
 crl_set_of one (Some other) = record {
@@ -83,7 +87,8 @@ unfoldable pub if_any : {X : Type 0} → (Value → Option X) → Values → Opt
 if_any field End = Some (None, End)
 if_any field (v ▸ vs) = field v >>= λ x. Some (Some x, vs)
 
--- RevocationInfoChoices (RFC 5652, 5.1 and 10.2.1): one CRL, or two. Each is in DER whatever the mode round it.
+-- RevocationInfoChoices (RFC 5652, 5.1 and 10.2.1): one CRL, or two. Each is in DER whatever the
+-- mode round it.
 unfoldable pub crl_set : Value → Option CrlSet
 crl_set = within (context 1) (λ vs. do
   one ← first (with_octets crl_in_der) vs
@@ -120,8 +125,8 @@ view_of content certificate crls signer = record {
 --       crls [1] IMPLICIT RevocationInfoChoices OPTIONAL,
 --       signerInfos SignerInfos }
 --
--- The first, second and last set have exactly one member each: SHA-256, the EE certificate, the signer. The third has its issuer's CRL,
--- or two. Signed data of version 3 (RFC 5652, 5.1).
+-- The first, second and last set have exactly one member each: SHA-256, the EE certificate, the
+-- signer. The third has its issuer's CRL, or two. Signed data of version 3 (RFC 5652, 5.1).
 unfoldable pub signed_parts : Mode → Value → Option ViewFields
 signed_parts mode = within sequence (λ vs. do
   version ← first (integer_is 3) vs
@@ -147,6 +152,7 @@ viewed_message mode = within sequence (λ vs. do
 abbrev pub message_of : ViewFields → Option MessageFields
 message_of view = Some view.message
 
+-- a signed message, as a value is read: content information that holds signed data (RFC 5652, 3)
 unfoldable pub signed_message : Mode → Value → Option MessageFields
 signed_message mode = so (viewed_message mode) message_of
 

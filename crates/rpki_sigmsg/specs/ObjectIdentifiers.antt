@@ -1,4 +1,5 @@
--- The object identifiers of signed messages, by their contents octets (RFC 5652, 5.1 and 11.1 to 11.3;
+-- The object identifiers of signed messages, by their contents octets (RFC 5652, 5.1 and 11.1 to
+-- 11.3;
 -- RFC 5754, 2.2; RFC 6019, 2; RFC 6492, 3.1.1.3).
 use Rattle.std.specs.Prelude.{ℕ, List, [], ◌∷◌}
 

@@ -2,7 +2,8 @@
 use Rattle.std.specs.Prelude.{◌≡◌, ℕ, Option, None, Some, List, [], ◌∷◌, ◌++◌, ⊤}
 use Rattle.rpki_sigmsg.specs.Message.{ViewFields}
 
--- The parts stand in the octets in this order: each between what stands before it and what stands behind it, where the later ones are.
+-- The parts stand in the octets in this order: each between what stands before it and what stands
+-- behind it, where the later ones are.
 abbrev pub StandInTurn : List (List ℕ) → List ℕ → Type 0
 StandInTurn [] octets = ⊤
 StandInTurn (part ∷ parts) octets =

@@ -14,8 +14,8 @@ use Rattle.rpki_base.specs.RpkiSignatureAlgorithm.{RpkiAlgorithm}
 use Rattle.rpki_sigmsg.specs.Algorithm.{digest_algorithm, signature_algorithm}
 use Rattle.rpki_sigmsg.specs.Attributes.{AttributeFields, signed_attributes}
 
--- the signer's key identifier; the octets of the attributes as they stand, and what they say; the value that holds the signature, by
--- its octets, and the signature
+-- the signer's key identifier; the octets of the attributes as they stand, and what they say; the
+-- value that holds the signature, by its octets, and the signature
 pub record SignerFields : Type 0 where
   pub identifier : List ℕ
   pub attributes : List ℕ

@@ -1,5 +1,5 @@
--- How CRLs and signed messages are written in DER (RFC 5280, 5.1; RFC 5652, 5.1 and 5.3; X.690, 10 and 11). What was signed is
--- written as it is held.
+-- How CRLs and signed messages are written in DER (RFC 5280, 5.1; RFC 5652, 5.1 and 5.3; X.690, 10
+-- and 11). What was signed is written as it is held.
 use Rattle.std.specs.Prelude.{ℕ, ◌^◌, ◌<◌, Option, None, Some, List, [], ◌∷◌, ◌++◌, length, false}
 use Rattle.rpki_der.specs.Tags.{sequence, set, context, oid_tag, integer_tag, octet_string_tag}
 use Rattle.rpki_der.specs.Writing.{der_primitive, der_constructed}
@@ -26,10 +26,12 @@ spelled_entry e =
 abbrev pub spelled_revoked : RevokedFields → List ℕ
 spelled_revoked r = der_constructed sequence r.octets
 
+-- the extension cRLNumber, not critical, if there is a number (RFC 5280, 5.2.3)
 abbrev pub spelled_crl_number : Option (List ℕ) → List ℕ
 spelled_crl_number None = []
 spelled_crl_number (Some number) = spelled_extension names.crl_number false (der_serial number)
 
+-- the extensions of a CRL: authorityKeyIdentifier and cRLNumber, each if there (RFC 5280, 5.2)
 abbrev pub spelled_crl_extensions : TbsCrlFields → List ℕ
 spelled_crl_extensions t =
     spelled_authority_key t.authority_key_id ++ spelled_crl_number t.crl_number
@@ -45,6 +47,7 @@ spelled_crl_fields t =
     ++ (spelled_revoked t.revoked
     ++ der_constructed (context 0) (der_constructed sequence (spelled_crl_extensions t)))))))
 
+-- TBSCertList: a SEQUENCE of the fields (RFC 5280, 5.1)
 unfoldable pub spelled_tbs_crl : TbsCrlFields → List ℕ
 spelled_tbs_crl t = der_constructed sequence (spelled_crl_fields t)
 
@@ -74,6 +77,8 @@ abbrev pub under_context : List ℕ → List ℕ
 under_context [] = []
 under_context (tag ∷ more) = 160 ∷ more
 
+-- the fields of SignerInfo: version 3, [0] the signer's key identifier, digest algorithm, [0]
+-- signed attributes, signature algorithm and signature (RFC 5652, 5.3)
 abbrev pub signer_fields : MessageFields → List ℕ
 signer_fields m =
     der_primitive integer_tag (3 ∷ [])
@@ -83,9 +88,12 @@ signer_fields m =
     ++ (spelled_cms m.signature.algorithm
     ++ der_primitive octet_string_tag m.signature.value))))
 
+-- SignerInfo: a SEQUENCE of the fields (RFC 5652, 5.3)
 unfoldable pub spelled_signer : MessageFields → List ℕ
 spelled_signer m = der_constructed sequence (signer_fields m)
 
+-- the fields of SignedData: version 3, digest algorithms, content, [0] the certificate, [1] the
+-- CRLs, and the one SignerInfo (RFC 5652, 5.1)
 unfoldable pub signed_data_fields : MessageFields → List ℕ
 signed_data_fields m =
     der_primitive integer_tag (3 ∷ [])
@@ -95,12 +103,13 @@ signed_data_fields m =
     ++ (der_constructed (context 1) (spelled_crls m.crls)
     ++ der_constructed set (spelled_signer m)))))
 
+-- the fields of ContentInfo: the type signed-data, and under [0] the signed data (RFC 5652, 3)
 unfoldable pub message_parts : MessageFields → List ℕ
 message_parts m = der_primitive oid_tag signed_data_type
     ++ der_constructed (context 0) (der_constructed sequence (signed_data_fields m))
 
--- The message in DER: content and signature are one OCTET STRING each; the attributes, and what is signed of the certificate and of
--- each CRL, stand as they are held.
+-- The message in DER: content and signature are one OCTET STRING each; the attributes, and what is
+-- signed of the certificate and of each CRL, stand as they are held.
 unfoldable pub rewritten : MessageFields → List ℕ
 rewritten m = der_constructed sequence (message_parts m)
 

@@ -12,7 +12,8 @@ use Rattle.rpki_base.specs.Time.{time}
 use Rattle.rpki_sigmsg.specs.RevokedCertificates.{RevokedFields, revoked_certificates, none_revoked}
 use Rattle.rpki_sigmsg.specs.CrlExtensions.{extension_list}
 
--- The issuer's name is its octets, the two times are seconds since 1970, and the number of the CRL is twenty octets.
+-- The issuer's name is its octets, the two times are seconds since 1970, and the number of the CRL
+-- is twenty octets.
 pub record TbsCrlFields : Type 0 where
   pub algorithm : RpkiAlgorithm
   pub issuer : List ℕ
@@ -31,8 +32,8 @@ pub record TbsCrlFields : Type 0 where
 --       revokedCertificates SEQUENCE OF SEQUENCE { .. } OPTIONAL,
 --       crlExtensions [0] EXPLICIT Extensions OPTIONAL }
 --
--- The version has to be there and is 2, which is spelled 1. The list of entries may be absent; nextUpdate and the extensions have to be
--- there.
+-- The version has to be there and is 2, which is spelled 1. The list of entries may be absent;
+-- nextUpdate and the extensions have to be there.
 unfoldable pub tbs_crl : Mode → Value → Option TbsCrlFields
 tbs_crl mode = within sequence (λ vs. do
   version ← first (integer_is 1) vs

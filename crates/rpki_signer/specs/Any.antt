@@ -1,4 +1,5 @@
--- A signature scheme under which each signature holds: what is said of it is said of a signature's place and its length alone.
+-- A signature scheme under which each signature holds: what is said of it is said of a signature's
+-- place and its length alone.
 use Rattle.std.specs.Prelude.{◌≡◌}
 use Rattle.rpki_base.specs.Scheme.{Relation}
 use Rattle.rpki_base.specs.Algorithm.{format_of}

@@ -1,4 +1,5 @@
--- Said in contracts, and to be believed: Signer, Errors, Limits, Serials, Toy, ToySigner, Any, LongSigner.
+-- Said in contracts, and to be believed: Signer, Errors, Limits, Serials, Toy, ToySigner, Any,
+-- LongSigner.
 pub mod Any
 pub mod Errors
 pub mod Limits

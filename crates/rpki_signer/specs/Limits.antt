@@ -1,4 +1,5 @@
--- Keys and signatures of a signer that are not too long, and what calls answer that make something with them.
+-- Keys and signatures of a signer that are not too long, and what calls answer that make something
+-- with them.
 use Rattle.std.specs.Prelude.{true, ◌≡◌, ◌≢◌, ◌≤◌, ◌<◌, ◌^◌, ◌⊎◌, ℕ, List, length, ⊤}
 use Rattle.rpki_common.specs.Causes.{Rose}
 use Rattle.rpki_common.specs.Limits.{most_key}
@@ -18,16 +19,20 @@ use Rattle.rpki_signer.specs.Signer.{SignerState, IsLater, Stays, IsKeyOf, IsSig
 abbrev pub IsShort : List ℕ → Type 0
 IsShort octets = length octets ≤ most_key
 
+-- the key is the identifier's, and has at most 2^16 octets
 pub record IsShortKey {Id : Type 0} (id : Id) (before after : SignerState Id) (key : KeyFields)
     : Type 0 where
   pub is : IsKeyOf id before after key
   pub short : IsShort key.bits
 
+-- the octets are a signature of the message under the identifier's key, and are at most 2^16
 pub record IsShortSignature {Id : Type 0} (scheme : Relation) (kind : SigningAlgorithm) (id : Id)
     (message : List ℕ) (before after : SignerState Id) (octets : List ℕ) : Type 0 where
   pub is : IsSignature scheme kind id message before after octets
   pub short : IsShort octets
 
+-- the octets are a signature of the message under a key for this one use, and they and the key are
+-- at most 2^16 octets each
 pub record IsShortOneOff {Id : Type 0} (scheme : Relation) (kind : SigningAlgorithm)
     (message : List ℕ) (before after : SignerState Id) (octets : List ℕ) (key : KeyFields) : Type 0
   where
@@ -40,7 +45,8 @@ pub record Keeps {Id : Type 0} (before after : SignerState Id) : Type 0 where
   pub later : IsLater before after
   pub keyring : after.keyring ≡ before.keyring
 
--- Why nothing was made: a key or a signature was too long, and the signer told so by its count; or the signer refused, by its causes.
+-- Why nothing was made: a key or a signature was too long, and the signer told so by its count; or
+-- the signer refused, by its causes.
 -- Of want of memory nothing is said, and no refusal of the signer stands for it.
 abbrev pub MakeFails : {Id E : Type 0} → SigningAlgorithm → Id → SignerState Id → SignerState Id
     → MakeError E → Type 0
@@ -60,7 +66,8 @@ pub record IsRefused {Id E : Type 0} (id : Id) (before after : SignerState Id)
   pub fails : SigningFails RsaSha256 id before after error
   pub spares : SigningSpares before after error
 
--- memory ran out: nothing was given, so no count of the signer's shows that it failed or gave too much
+-- memory ran out: nothing was given, so no count of the signer's shows that it failed or gave too
+-- much
 pub record IsSpared {Id : Type 0} (before after : SignerState Id) : Type 0 where
   pub stays : Stays before after
   pub uncounted : after.overlong ≡ before.overlong

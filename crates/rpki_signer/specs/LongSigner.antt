@@ -1,4 +1,5 @@
--- A signer whose signatures have one length, which may be too long: its keys and what it draws are those of a toy signer.
+-- A signer whose signatures have one length, which may be too long: its keys and what it draws are
+-- those of a toy signer.
 use Rattle.std.specs.Prelude.{◌≡◌, ◌^◌, ℕ, true, false, nat_lt, replicate, if◌then◌else◌, Result, Ok, Err, List, []}
 use Rattle.rpki_common.specs.Limits.{most_key}
 use Rattle.rpki_base.specs.declared.algorithm.SigningAlgorithm.{SigningAlgorithm}
@@ -13,6 +14,7 @@ use Rattle.rpki_signer.specs.declared.errors.SigningError.{SigningError}
 use Rattle.rpki_signer.specs.Signer.{SignerState}
 use Rattle.rpki_signer.specs.ToySigner.{ToyState, toy_signer, state_of, key_of, one_off_key, cannot_sign_once, after_fault, after_choosing, after_signing_once, IsToyFound, RefusesToyKey}
 
+-- what a signer whose signatures have one length holds and has done
 pub record LongState : Type 0 where
   -- the signer that has the keys and draws
   pub toy : ToyState

@@ -19,9 +19,10 @@ pub record HeldKey (Id : Type 0) : Type 0 where
   pub id : Id
   pub key : KeyFields
 
--- The keys that it holds; how often it failed, how often it gave a key or a signature of more than 2^16 octets, and how often it
--- gave, for one use, a key that it holds, counts that may stop at 2^64 - 1; the key that it gave last for one use, if it did; and the
--- octets that it drew last, none before the first.
+-- The keys that it holds; how often it failed, how often it gave a key or a signature of more than
+-- 2^16 octets, and how often it gave, for one use, a key that it holds, counts that may stop at
+-- 2^64 - 1; the key that it gave last for one use, if it did; and the octets that it drew last,
+-- none before the first.
 pub record SignerState (Id : Type 0) : Type 0 where
   pub keyring : List (HeldKey Id)
   pub faults : ℕ
@@ -64,22 +65,28 @@ TellsLength before after octets = most_key < length octets → Rose before.overl
 
 -- ---- what the answers mean; of want of memory nothing is said
 
+-- what a CallError says: Signer, that the count of faults rose or is at its end
 abbrev pub CallFails : {Id E : Type 0} → SignerState Id → SignerState Id → CallError E → Type 0
 CallFails before after (call.Signer error) = Rose before.faults after.faults
 CallFails before after call.OutOfMemory = ⊤
 
+-- what a KeyError says: KeyNotFound, that no key has the identifier; Signer, that the count of
+-- faults rose or is at its end
 abbrev pub KeyFails : {Id E : Type 0} → Id → SignerState Id → SignerState Id → KeyError E → Type 0
 KeyFails id before after key.KeyNotFound = Lacks before.keyring id
 KeyFails id before after (key.Signer error) = Rose before.faults after.faults
 KeyFails id before after key.OutOfMemory = ⊤
 
--- there is a key under the identifier, and each has another format than signatures of this kind need
+-- there is a key under the identifier, and each has another format than signatures of this kind
+-- need
 pub record IsUnfit {Id : Type 0} (kind : SigningAlgorithm) (keyring : List (HeldKey Id)) (id : Id)
     : Type 0 where
   pub key : KeyFields
   pub holds : Holds keyring id key
   pub only : (other : KeyFields) → Holds keyring id other → other.format ≢ format_of kind
 
+-- what a SigningError says: KeyNotFound, that the identifier has no key; IncompatibleKey, that each
+-- of its keys has another format; Signer, that the count of faults rose or is at its end
 abbrev pub SigningFails : {Id E : Type 0} → SigningAlgorithm → Id → SignerState Id
     → SignerState Id → SigningError E → Type 0
 SigningFails kind id before after signing.KeyNotFound = Lacks before.keyring id
@@ -89,15 +96,18 @@ SigningFails kind id before after signing.OutOfMemory = ⊤
 
 -- ---- a refusal that isn't the signer's failing leaves the count of faults
 
+-- a CallError that isn't Signer leaves the count of faults
 abbrev pub CallSpares : {Id E : Type 0} → SignerState Id → SignerState Id → CallError E → Type 0
 CallSpares before after (call.Signer error) = ⊤
 CallSpares before after call.OutOfMemory = after.faults ≡ before.faults
 
+-- a KeyError that isn't Signer leaves the count of faults
 abbrev pub KeySpares : {Id E : Type 0} → SignerState Id → SignerState Id → KeyError E → Type 0
 KeySpares before after key.KeyNotFound = after.faults ≡ before.faults
 KeySpares before after (key.Signer error) = ⊤
 KeySpares before after key.OutOfMemory = after.faults ≡ before.faults
 
+-- a SigningError that isn't Signer leaves the count of faults
 abbrev pub SigningSpares : {Id E : Type 0} → SignerState Id → SignerState Id → SigningError E
     → Type 0
 SigningSpares before after signing.KeyNotFound = after.faults ≡ before.faults
@@ -149,7 +159,8 @@ pub record IsSignature {Id : Type 0} (scheme : Relation) (kind : SigningAlgorith
   pub signed : scheme kind key message octets
   pub told : TellsLength before after octets
 
--- The octets are a signature of the message under a key for this one use. Where the signer holds that key, it is told by its count.
+-- The octets are a signature of the message under a key for this one use. Where the signer holds
+-- that key, it is told by its count.
 pub record IsOneOff {Id : Type 0} (scheme : Relation) (kind : SigningAlgorithm) (message : List ℕ)
     (before after : SignerState Id) (octets : List ℕ) (key : KeyFields) : Type 0 where
   pub later : IsLater before after

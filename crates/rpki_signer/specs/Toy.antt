@@ -16,6 +16,7 @@ abbrev pub ToyChecks : Relation
 ToyChecks kind key message signature =
     (key.format ≡ format_of kind) × (signature ≡ toy_signature key message)
 
--- key number k of a seed: an RSA key with eight octets of each as its bits, the most significant first
+-- key number k of a seed: an RSA key with eight octets of each as its bits, the most significant
+-- first
 abbrev pub toy_key : ℕ → ℕ → KeyFields
 toy_key seed number = record { format = Rsa; bits = to_be_bytes w64 seed ++ to_be_bytes w64 number }

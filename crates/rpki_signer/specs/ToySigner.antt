@@ -1,4 +1,5 @@
--- A signer of the toy scheme, as clauses see it: all that it makes follows from a seed and from numbers that it draws in turn.
+-- A signer of the toy scheme, as clauses see it: all that it makes follows from a seed and from
+-- numbers that it draws in turn.
 use Rattle.std.specs.Prelude.{◌≡◌, ◌≢◌, ◌<◌, ◌+◌, ◌-◌, ◌^◌, ◌==◌, ◌||◌, ℕ, zero, suc, Bool, true, false, if◌then◌else◌, Option, None, Some, Result, Ok, Err, List, [], ◌∷◌, ◌++◌, length, take, map}
 use Rattle.std.specs.List.{list_any, AllByRecursion}
 use Rattle.std.specs.Int.{to_be_bytes, w64}
@@ -22,6 +23,7 @@ use Rattle.rpki_signer.specs.declared.errors.SigningError.TheVariants as signing
 use Rattle.rpki_signer.specs.Signer.{HeldKey, SignerState, AreDistinct}
 use Rattle.rpki_signer.specs.Toy.{toy_key, toy_signature}
 
+-- what a toy signer holds and has done
 pub record ToyState : Type 0 where
   pub seed : ℕ
   -- the number that is drawn next
@@ -32,7 +34,8 @@ pub record ToyState : Type 0 where
   pub faults : ℕ
   -- the keys that it holds
   pub keys : List ToyKey
-  -- the number of the key that RSA signatures for one use are made with, if one was set, and how often it was used
+  -- the number of the key that RSA signatures for one use are made with, if one was set, and how
+  -- often it was used
   pub reuse : Option ℕ
   pub reused : ℕ
   -- the key that was given last for one use
@@ -61,9 +64,11 @@ toy_signer seed failing = record {
 abbrev pub key_of : ℕ → ToyKey → KeyFields
 key_of seed key = record { format = key.format; bits = (toy_key seed key.number).bits }
 
+-- a key as the signer holds it: its number is the identifier
 abbrev pub held_key : ℕ → ToyKey → HeldKey ℕ
 held_key seed key = record { id = key.number; key = key_of seed key }
 
+-- the keys as the keyring of a signer, in their order
 abbrev pub keyring_of : ℕ → List ToyKey → List (HeldKey ℕ)
 keyring_of seed keys = map (held_key seed) keys
 
@@ -99,15 +104,20 @@ is_listed s = list_any (λ n. n == s.calls) s.failing
 abbrev pub cannot_draw : ToyState → Bool
 cannot_draw s = is_listed s || (s.next == 2 ^ 64 - 1)
 
+-- a call was made: the count of calls rises, up to 2^64 - 1
 abbrev pub counted : ToyState → ToyState
 counted s = record s { calls = count_after s.calls }
 
+-- a call failed: the counts of calls and of faults rise, each up to 2^64 - 1
 abbrev pub after_fault : ToyState → ToyState
 after_fault s = record s { calls = count_after s.calls; faults = count_after s.faults }
 
+-- a call drew a number: the call is counted, and the next number is one more
 abbrev pub after_drawing : ToyState → ToyState
 after_drawing s = record s { calls = count_after s.calls; next = s.next + 1 }
 
+-- a call created a key of this format: the call is counted, and the key gets the next number and
+-- goes last
 abbrev pub after_creating : PublicKeyFormat → ToyState → ToyState
 after_creating format s = record s {
   calls = count_after s.calls;
@@ -128,7 +138,8 @@ pub record IsTakenOut (number : ℕ) (before after : List ToyKey) : Type 0 where
   pub was : before ≡ front ++ record { number = number; format = format } ∷ back
   pub is : after ≡ front ++ back
 
--- the key that a signature for one use is made with: the one that was set, for RSA signatures, and else one with the next number
+-- the key that a signature for one use is made with: the one that was set, for RSA signatures, and
+-- else one with the next number
 abbrev pub one_off_key : PublicKeyFormat → Option ℕ → ℕ → ToyKey
 one_off_key Rsa (Some number) next = record { number = number; format = Rsa }
 one_off_key Rsa None next = record { number = next; format = Rsa }
@@ -157,7 +168,8 @@ after_signing_once format s =
 
 -- ---- what it draws
 
--- the SHA-256 of seed, number and the number of the block, eight octets each, the most significant first
+-- the SHA-256 of seed, number and the number of the block, eight octets each, the most significant
+-- first
 abbrev pub random_block : ℕ → ℕ → ℕ → List ℕ
 random_block seed number block =
     sha256 ((to_be_bytes w64 seed ++ to_be_bytes w64 number) ++ to_be_bytes w64 block)
@@ -172,6 +184,7 @@ random_blocks seed number block (suc more) =
 abbrev pub octets_from : ℕ → ℕ → ℕ → ℕ → List ℕ
 octets_from seed number block count = take count (random_blocks seed number block count)
 
+-- this many octets of the blocks of a number, from its first block on
 abbrev pub random_octets : ℕ → ℕ → ℕ → List ℕ
 random_octets seed number count = octets_from seed number 0 count
 
@@ -214,6 +227,8 @@ pub record IsToyGone (number : ℕ) (before after : ToyState) : Type 0 where
   pub out : IsTakenOut number before.keys after.keys
   pub is : after ≡ record (counted before) { keys = after.keys }
 
+-- `destroy_key`: the key is gone; KeyNotFound where none has the number; Signer where the call is
+-- listed as one that fails; OutOfMemory doesn't come
 abbrev pub IsToyDestroyed : ℕ → ToyState → ToyState → Result (Unit {0}) (KeyError ToyFault)
     → Type 0
 IsToyDestroyed number before after (Ok u) = IsToyGone number before after
@@ -240,6 +255,8 @@ pub record IsToyUnfit (number : ℕ) (format : PublicKeyFormat) (before after : 
     pub unfit : key.format ≢ format
     pub is : after ≡ counted before
 
+-- why a signature under the key with this number isn't given: the call is listed as one that fails,
+-- there is no such key, it has another format, or memory ran out once it was found
 abbrev pub RefusesToyKey : ℕ → PublicKeyFormat → ToyState → ToyState → SigningError ToyFault
     → Type 0
 RefusesToyKey number format before after signing.KeyNotFound = (is_listed before ≡ false)
@@ -298,10 +315,12 @@ IsToyRandom before after was octets (Err call.OutOfMemory) = ⊥
 
 -- ---- the octets of what is answered
 
+-- of an answer with a signature, its octets
 abbrev pub octets_of : {A E : Type 0} → Result (SignatureParts A) E → Result (List ℕ) E
 octets_of (Ok signature) = Ok signature.value
 octets_of (Err error) = Err error
 
+-- of an answer with a signature under a key for one use, its octets and that key
 abbrev pub once_of : {A K E : Type 0} → Result (SignatureParts A × K) E → Result (List ℕ × K) E
 once_of (Ok (signature, key)) = Ok (signature.value, key)
 once_of (Err error) = Err error

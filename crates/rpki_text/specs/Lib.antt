@@ -1,5 +1,5 @@
--- Said in contracts, and to be believed: all of these. MemorySink, MemorySource, StdSink and StdSource are how clauses see the types
--- of these names.
+-- Said in contracts, and to be believed: all of these. MemorySink, MemorySource, StdSink and
+-- StdSource are how clauses see the types of these names.
 pub mod Base64
 pub mod Counts
 pub mod Handle

@@ -2,6 +2,7 @@
 use Rattle.std.specs.Prelude.{ℕ, ◌-◌, List, [], ◌++◌, length}
 use Rattle.rpki_text.specs.Counts.{count_after}
 
+-- what a sink in memory holds, how much more it takes, and how its calls went
 pub record SinkState : Type 0 where
   -- the octets written so far
   pub written : List ℕ

@@ -2,6 +2,7 @@
 use Rattle.std.specs.Prelude.{ℕ, List, drop}
 use Rattle.rpki_text.specs.Counts.{count_after}
 
+-- what a source in memory has still to give, how much a call gives, and how its calls went
 pub record SourceState : Type 0 where
   -- the octets still to come
   pub rest : List ℕ

@@ -12,7 +12,8 @@ abbrev pub TakesAtMost : Option (List ℕ) → Option (List ℕ) → ℕ → Typ
 TakesAtMost before after most =
     (octets : List ℕ) × Consumes before after octets × (length octets ≤ most)
 
--- The fact holds of the input: of the octets that the source tells; where it tells none, of some octets.
+-- The fact holds of the input: of the octets that the source tells; where it tells none, of some
+-- octets.
 abbrev pub OfInput : Option (List ℕ) → (List ℕ → Type 0) → Type 0
 OfInput (Some input) fact = fact input
 OfInput None fact = (input : List ℕ) × fact input

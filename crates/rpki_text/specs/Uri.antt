@@ -16,6 +16,7 @@ is_uri_octet octet =
     || (nat_le 63 octet && nat_le octet 91) || (octet == 93) || (octet == 95)
     || (nat_le 97 octet && nat_le octet 122) || (octet == 126)
 
+-- whether the octet is `/`
 abbrev pub is_slash : ℕ → Bool
 is_slash octet = octet == 47
 
@@ -29,6 +30,7 @@ has_scheme scheme text =
 abbrev pub parts_behind : List ℕ → List ℕ → List (List ℕ)
 parts_behind scheme text = slice_split is_slash (drop (length scheme) text)
 
+-- whether the part has no octets
 abbrev pub is_empty : List ℕ → Bool
 is_empty part = length part == 0
 
@@ -107,6 +109,7 @@ fault_of kind text = uri_fault kind.scheme kind.has_parts text
 abbrev pub path_of : Kind → List ℕ → List ℕ
 path_of kind text = kind.path (drop (length kind.scheme) text)
 
+-- whether the text ends with `/`
 abbrev pub ends_with_slash : List ℕ → Bool
 ends_with_slash text = ends_with nat_eq text (codes "/")
 

@@ -14,15 +14,18 @@ use Rattle.rpki_updown.specs.RequestResourceLimit.{LimitFields, IsContained}
 
 -- ---- how errors of lower layers are passed on: want of memory is always OutOfMemory
 
+-- the Error that an XmlError becomes: Malformed is told by XmlError
 abbrev pub of_xml : XmlError → Error
 of_xml xml.Malformed = errors.XmlError xml.Malformed
 of_xml xml.OutOfMemory = errors.OutOfMemory
 
+-- the Error that a ReadAllError becomes: each variant keeps its name
 abbrev pub of_reading : ReadAllError → Error
 of_reading read.Read = errors.Read
 of_reading read.TooLong = errors.TooLong
 of_reading read.OutOfMemory = errors.OutOfMemory
 
+-- the Error that a cause becomes: Malformed is XmlError, and every other one keeps its name
 abbrev pub of_cause : Cause → Error
 of_cause causes.Malformed = errors.XmlError xml.Malformed
 of_cause causes.Read = errors.Read
@@ -30,7 +33,8 @@ of_cause causes.Write = errors.Write
 of_cause causes.TooLong = errors.TooLong
 of_cause causes.OutOfMemory = errors.OutOfMemory
 
--- the cause of an error of a call that reads or writes a message; every other error has none, and never comes
+-- the cause of an error of a call that reads or writes a message; every other error has none, and
+-- never comes
 abbrev pub cause_of : Error → Option Cause
 cause_of (errors.XmlError xml.Malformed) = Some causes.Malformed
 cause_of errors.CertSyntax = Some causes.Malformed
@@ -43,8 +47,8 @@ cause_of _ = None
 
 -- ---- kinds of messages
 
--- The answer is InvalidPayloadType, with the text, exactly where the text is no kind of message. OutOfMemory says nothing, and no other one
--- comes.
+-- The answer is InvalidPayloadType, with the text, exactly where the text is no kind of message.
+-- OutOfMemory says nothing, and no other one comes.
 abbrev pub RefusesPayloadType : List ℕ → Error → Type 0
 RefusesPayloadType text (errors.InvalidPayloadType e) =
     (e.0 ≡ text) × (payload_type_of_text text ≡ None)
@@ -53,8 +57,8 @@ RefusesPayloadType text _ = ⊥
 
 -- ---- limits
 
--- The answer is Limit, with the set and the limit, exactly where the set does not include all that is stated. OutOfMemory says nothing, and
--- no other one comes.
+-- The answer is Limit, with the set and the limit, exactly where the set does not include all that
+-- is stated. OutOfMemory says nothing, and no other one comes.
 abbrev pub RefusesLimit : LimitFields → Resources → Error → Type 0
 RefusesLimit limit set (errors.Limit s l) =
     (s ≡ set) × (l ≡ limit) × ¬ (IsContained limit set)

@@ -5,6 +5,7 @@ use Rattle.sha1.specs.Sha1.{sha1}
 use Rattle.rpki_updown.specs.Entitlements.{IssuanceRequestFields, CaRequest}
 use Rattle.rpki_updown.specs.RequestResourceLimit.{LimitFields, limit_text}
 
+-- the URI, or `<none>` where there is none
 abbrev pub or_none : Option (List ℕ) → List ℕ
 or_none None = codes "<none>"
 or_none (Some uri) = uri
@@ -21,8 +22,8 @@ abbrev pub asked_text : List ℕ → LimitFields → List ℕ → List ℕ
 asked_text name limit key = codes "class name '" ++ (name ++ (codes "' limit '"
     ++ (limit_text limit ++ (codes "' csr for key '" ++ encode_upper key))))
 
--- What is printed: the name of the class, the limit, the identifier of the key in hexadecimal digits in upper case, and the three
--- places, or `<none>`, each in quotation marks.
+-- What is printed: the name of the class, the limit, the identifier of the key in hexadecimal
+-- digits in upper case, and the three places, or `<none>`, each in quotation marks.
 abbrev pub issuance_request_text : IssuanceRequestFields → List ℕ
 issuance_request_text r =
     asked_text r.class_name r.limit (sha1 r.csr.tbs.key.bits) ++ places_text r.csr

@@ -20,7 +20,8 @@ stated_in_text blocks text =
 unfoldable pub stated_in : (List ℕ → Option (List Run)) → Data → Option (Option (List Run))
 stated_in blocks value = as_str value >>= stated_in_text blocks
 
--- what the member of a kind states, which may have either of two names; where it is absent nothing, and not both can be there
+-- what the member of a kind states, which may have either of two names; where it is absent nothing,
+-- and not both can be there
 abbrev pub stated : (List ℕ → Option (List Run)) → Option Data → Option Data
     → Option (Option (List Run))
 stated blocks None None = Some None
@@ -28,6 +29,7 @@ stated blocks (Some value) None = stated_in blocks value
 stated blocks None (Some value) = stated_in blocks value
 stated blocks (Some value) (Some other) = None
 
+-- whether the name is one that a member of a limit may have
 abbrev pub is_limit_name : List ℕ → Bool
 is_limit_name name =
     bytes_eq name (codes "asn") || bytes_eq name (codes "ipv4") || bytes_eq name (codes "v4")

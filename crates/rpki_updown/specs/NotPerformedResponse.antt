@@ -3,6 +3,7 @@ use Rattle.std.specs.Prelude.{ℕ, List, [], ◌∷◌, ◌++◌, ◌==◌, Opti
 use Rattle.std.specs.Fmt.{decimal}
 use Rattle.std.specs.Option.{option_map}
 
+-- the status, and a description if there is one
 pub record NotPerformedFields : Type 0 where
   pub status : ℕ
   pub description : Option (List ℕ)
@@ -32,5 +33,6 @@ abbrev pub shown : ℕ → Option (List ℕ) → List ℕ
 shown status None = decimal status
 shown status (Some text) = decimal status ++ (codes " - " ++ text)
 
+-- what is printed of an answer that a request was not performed
 abbrev pub not_performed_text : NotPerformedFields → List ℕ
 not_performed_text r = shown r.status r.description

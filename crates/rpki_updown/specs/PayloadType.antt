@@ -4,6 +4,7 @@ use Rattle.std.specs.Str.{bytes_eq}
 use Rattle.rpki_updown.specs.declared.payload_type.PayloadType.{PayloadType}
 use Rattle.rpki_updown.specs.declared.payload_type.PayloadType.TheVariants as kind
 
+-- the text of a kind, which stands in the attribute `type`
 abbrev pub payload_type_text : PayloadType → List ℕ
 payload_type_text kind.List = codes "list"
 payload_type_text kind.ListResponse = codes "list_response"

@@ -56,6 +56,7 @@ are_same a b =
     option_eq (pointwise is_same) a.asn b.asn && (option_eq (pointwise is_same) a.ipv4 b.ipv4
     && option_eq (pointwise is_same) a.ipv6 b.ipv6)
 
+-- equality of limits is an equivalence
 pub are_same-equiv : IsEquivalence are_same
 are_same-equiv =
     and_equiv (on_equiv (λ l. l.asn) (options_equiv (lists_equiv is_same-equiv)))
@@ -75,6 +76,7 @@ parts limit =
     part (codes "asn: ") as_text limit.asn ++ (part (codes "ipv4: ") ipv4_blocks_text limit.ipv4
     ++ part (codes "ipv6: ") ipv6_blocks_text limit.ipv6)
 
+-- `none` where there are no parts, and else the parts with a space between each two
 abbrev pub none_or_joined : List (List ℕ) → List ℕ
 none_or_joined [] = codes "none"
 none_or_joined (first ∷ more) = join_with_byte 32 (first ∷ more)

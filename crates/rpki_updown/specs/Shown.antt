@@ -7,6 +7,7 @@ use Rattle.rpki_updown.specs.declared.error.Error.{Error}
 use Rattle.rpki_updown.specs.declared.error.Error.TheVariants as errors
 use Rattle.rpki_updown.specs.RequestResourceLimit.{limit_text}
 
+-- the text that each error prints
 abbrev pub shown_error : Error → Option (List ℕ)
 shown_error errors.InvalidVersion = Some (codes "Invalid protocol version, MUST be 1")
 shown_error (errors.XmlError xml.Malformed) = Some (codes "malformed XML")

@@ -29,6 +29,7 @@ pub record ParentAndIssuer : Type 0 where
   pub parent : ParentState
   pub issuer : IssuerState
 
+-- the pair of this parent and this issuer
 abbrev pub with_issuer : ParentState → IssuerState → ParentAndIssuer
 with_issuer parent issuer = record { parent = parent; issuer = issuer }
 

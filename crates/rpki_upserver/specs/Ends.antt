@@ -26,8 +26,8 @@ pub record AnswersAll {Id : Type 0} (scheme : Relation) (run : Run Id) (input : 
   pub wrote : WroteAll (AreAllAnswered scheme run.when run.signer
       (with_issuer parent run.issuer_before) run.issuer_after messages) sink
 
--- The reply to some line, behind the lines before it, was decided in the run, which left the issuer so,
--- and has a text of more than 2^31 octets.
+-- The reply to some line, behind the lines before it, was decided in the run, which left the issuer
+-- so, and has a text of more than 2^31 octets.
 pub record HasLongLine {Id : Type 0} (scheme : Relation) (run : Run Id) (start : ParentAndIssuer)
     (messages : List (List ℕ)) : Type 0 where
   pub texts : List (List ℕ)

@@ -72,7 +72,8 @@ standing_behind name key (payloads.RevokeResponse k) before =
     if is_revoked_by name key k then None else before
 standing_behind name key other before = before
 
--- the certificate of a class and a key behind all replies: the last one that was issued, unless it was revoked since
+-- the certificate of a class and a key behind all replies: the last one that was issued, unless it
+-- was revoked since
 abbrev pub standing : List ℕ → List ℕ → List Call → Option IssuedFields → Option IssuedFields
 standing name key [] before = before
 standing name key (call ∷ calls) before =

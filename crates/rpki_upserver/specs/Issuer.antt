@@ -54,8 +54,11 @@ pub record IsRevoked (class_name key : List ℕ) (before after : IssuerState) : 
   pub gone : after.gone ≡ before.gone ++ record { class_name = class_name; key = key } ∷ []
   pub faults : after.faults ≡ before.faults
 
--- ---- why a call did nothing: the issuer failed, and its count rose; or memory ran out, and all is as before
+-- ---- why a call did nothing: the issuer failed, and its count rose; or memory ran out, and all is
+-- as before
 
+-- what an IssuerError says: Failed, that nothing was issued or revoked, and the count of faults
+-- rose or is at its end; OutOfMemory, that nothing changed
 abbrev pub IssuerFails : IssuerState → IssuerState → IssuerError → Type 0
 IssuerFails before after errors.Failed = Leaves before after × Rose before.faults after.faults
 IssuerFails before after errors.OutOfMemory = after ≡ before

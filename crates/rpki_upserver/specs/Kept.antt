@@ -6,11 +6,14 @@ use Rattle.std.specs.Global.{Vec}
 use Rattle.rpki_updown.specs.Entitlements.{IssuedFields}
 use Rattle.rpki_upserver.specs.Table.{has_key}
 
+-- the items that a list holds, and for how many more it has room
 pub record KeptItems (T : Type 0) : Type 0 where
   pub items : List T
   -- for how many more there is room
   pub room : ℕ
 
+-- of a vector, its items and as much room as its capacity exceeds its length; of None, no items and
+-- no room
 abbrev pub kept_items : {T : Type 0} → Option (Vec T) → KeptItems T
 kept_items None = record { items = []; room = 0 }
 kept_items (Some held) = record { items = held.items; room = vec_capacity held - vec_len held }

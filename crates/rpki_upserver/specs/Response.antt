@@ -44,6 +44,7 @@ pub record Stays (table : Table) (o : Outcome) : Type 0 where
 abbrev pub refusal : ℕ → Payload
 refusal status = payloads.ErrorResponse (record { status = status; description = reason status })
 
+-- the reply is the refusal with this status, and neither table nor issuer changes
 pub record Refuses (status : ℕ) (table : Table) (o : Outcome) : Type 0 where
   pub payload : o.payload ≡ refusal status
   pub stays : Stays table o
@@ -57,6 +58,8 @@ pub record Fails (table : Table) (o : Outcome) : Type 0 where
 
 -- ---- the list request (3.3)
 
+-- the reply tells of each class what the child is entitled to in it (3.3.2), and neither table nor
+-- issuer changes
 pub record Lists (table : Table) (o : Outcome) : Type 0 where
   pub payload : o.payload ≡ payloads.ListResponse (map entitled table)
   pub stays : Stays table o
@@ -100,6 +103,8 @@ pub record Issues (table : Table) (c : ClassState) (request : IssuanceRequestFie
       ≡ payloads.IssueResponse (issuance (entitled c) (published c request cert))
   pub next : o.next ≡ change request.class_name (with_issued (published c request cert)) table
 
+-- the rows for a request in this class: no resources 1202, not signed under its key 1203, key used
+-- 1204, limit not contained 1202; else the issuer fails, or issues
 abbrev pub IsIssueAnswerIn : Relation → Table → IssuanceRequestFields → ClassState → Outcome
     → Type 0
 IsIssueAnswerIn scheme table request c o =
@@ -123,6 +128,8 @@ pub record Revokes (table : Table) (request : KeyElementFields) (o : Outcome) : 
   pub payload : o.payload ≡ payloads.RevokeResponse request
   pub next : o.next ≡ change request.class_name (with_revoked request.key) table
 
+-- the rows for a request to revoke: no class of its name 1301, no certificate of the key in it
+-- 1302; else the issuer fails, or revokes
 abbrev pub IsRevokeAnswer : Table → KeyElementFields → Option ClassState → Outcome → Type 0
 IsRevokeAnswer table request None o = Refuses 1301 table o
 IsRevokeAnswer table request (Some c) o =

@@ -27,6 +27,7 @@ pub record AreWords (words : List (List ℕ)) (when : ℤ) (key : KeyFields) : T
   pub moment : IsMomentAt words 0 when
   pub key_is : key_at words 1 ≡ Some key
 
+-- the words are not a moment and a child's key
 abbrev pub AreNoWords : List (List ℕ) → Type 0
 AreNoWords words = (when : ℤ) (key : KeyFields) → AreWords words when key → ⊥
 
@@ -63,6 +64,8 @@ pub record Run (Id : Type 0) : Type 0 where
   pub issuer_after : IssuerState
   pub signer : SignerSeen Id
 
+-- the run with this moment, child's key, issuing key's certificate, issuer before and after, and
+-- signer
 abbrev pub run_of : {Id : Type 0} → ℤ → KeyFields → SigningFields → IssuerState → IssuerState
     → SignerSeen Id → Run Id
 run_of when key signing issuer_before issuer_after signer = record {
@@ -101,7 +104,8 @@ pub record EndsAnswered {Id : Type 0} (scheme : Relation) (run : Run Id) (lines 
   pub first : IsFirstParent run.key run.signing parent
   pub ends : EndsFrom scheme run parent messages status sink
 
--- how it ends: with the answers from a first parent; or the moment has no window; or some line is that of no octets; or memory ran out
+-- how it ends: with the answers from a first parent; or the moment has no window; or some line is
+-- that of no octets; or memory ran out
 abbrev pub EndsServed : {Id : Type 0} → Relation → Run Id → List (List ℕ) → ℕ → Seen → Type 0
 EndsServed scheme run lines status sink =
     EndsAnswered scheme run lines status sink

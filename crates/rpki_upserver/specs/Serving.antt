@@ -26,16 +26,17 @@ pub record Service (Id : Type 0) : Type 0 where
   pub parties : ParentAndIssuer
   pub signer : SignerState Id
 
+-- the service of these parties, whose signer is in this state
 abbrev pub service_of : {Id : Type 0} → ParentAndIssuer → SignerState Id → Service Id
 service_of parties signer = record { parties = parties; signer = signer }
 
 -- ---- one line
 
--- The octets are accepted under the child's key, and the text is the hexadecimal of a signed message
--- that was created with the reply to them, as `create` does: at the moment, under the issuing key, which
--- the signer holds. The reply's text has at most 2^31 octets. Of that message the reply is received: it
--- is accepted under every list of keys that holds the issuing key, at each second from 300 before the
--- moment to 300 after it. Parent, issuer and signer are then so.
+-- The octets are accepted under the child's key, and the text is the hexadecimal of a signed
+-- message that was created with the reply to them, as `create` does: at the moment, under the
+-- issuing key, which the signer holds. The reply's text has at most 2^31 octets. Of that message
+-- the reply is received: it is accepted under every list of keys that holds the issuing key, at
+-- each second from 300 before the moment to 300 after it. Parent, issuer and signer are then so.
 pub record IsReplied {Id : Type 0} (scheme : Relation) (when : ℤ) (id : Id) (before : Service Id)
     (octets text : List ℕ) (after : Service Id) : Type 0 where
   pub payload : Payload
@@ -65,8 +66,8 @@ IsLineAnswered scheme when id before octets text after =
 
 -- ---- all lines
 
--- The texts are the answers to all lines, one behind the other, and nothing is behind them. Issuer and
--- signer are then as the last answer left them.
+-- The texts are the answers to all lines, one behind the other, and nothing is behind them. Issuer
+-- and signer are then as the last answer left them.
 pub record AreAllAnswered {Id : Type 0} (scheme : Relation) (when : ℤ) (signer : SignerSeen Id)
     (start : ParentAndIssuer) (issuer : IssuerState) (messages texts : List (List ℕ))
     (closing : List ℕ) : Type 0 where
@@ -75,7 +76,8 @@ pub record AreAllAnswered {Id : Type 0} (scheme : Relation) (when : ℤ) (signer
   pub issuer_is : issuer ≡ steps.last.parties.issuer
   pub signer_is : signer.after ≡ steps.last.signer
 
--- The texts are the answers to the first lines. Issuer and signer are then as the last one left them.
+-- The texts are the answers to the first lines. Issuer and signer are then as the last one left
+-- them.
 pub record AreFirstAnswered {Id : Type 0} (scheme : Relation) (when : ℤ) (signer : SignerSeen Id)
     (start : ParentAndIssuer) (issuer : IssuerState) (messages texts : List (List ℕ)) : Type 0
   where
@@ -92,8 +94,8 @@ IsLeft scheme when before octets after =
     IsUndecided before after
     ⊎ ((payload : Payload) × IsDecided scheme octets when before after payload)
 
--- The octets are accepted and the reply to them was decided, and isn't signed, for this cause: that its
--- text has more than 2^31 octets is always told, and of the signer's refusals it is the first.
+-- The octets are accepted and the reply to them was decided, and isn't signed, for this cause: that
+-- its text has more than 2^31 octets is always told, and of the signer's refusals it is the first.
 pub record FailsLine {Id : Type 0} (scheme : Relation) (when : ℤ) (signer : SignerSeen Id)
     (before : ParentAndIssuer) (octets : List ℕ) (after : ParentAndIssuer) (refusal : Refusal)
     : Type 0 where
@@ -123,9 +125,9 @@ pub record FailsLineAt {Id : Type 0} (scheme : Relation) (when : ℤ) (signer : 
   pub parent : ParentState
   pub fails : FailsLine scheme when signer last octets (with_issuer parent issuer) refusal
 
--- The texts are the answers to the first lines, and the next line isn't answered, for this cause. Of
--- want of memory no more is said than that the issuer did nothing besides but what that line asks for,
--- and that the signer holds the same keys.
+-- The texts are the answers to the first lines, and the next line isn't answered, for this cause.
+-- Of want of memory no more is said than that the issuer did nothing besides but what that line
+-- asks for, and that the signer holds the same keys.
 pub record StopsAnswering {Id : Type 0} (scheme : Relation) (when : ℤ) (signer : SignerSeen Id)
     (start : ParentAndIssuer) (issuer : IssuerState) (messages texts : List (List ℕ))
     (refusal : Refusal) : Type 0 where

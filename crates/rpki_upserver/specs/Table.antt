@@ -25,6 +25,7 @@ pub record ClassState : Type 0 where
   pub issued_certs : List IssuedFields
   pub revoked : List (List ℕ)
 
+-- what a parent keeps of its child: its resource classes, in their order
 abbrev pub Table : Type 0
 Table = List ClassState
 
@@ -63,6 +64,7 @@ place_of base key = joined base (encode_upper key ++ codes ".cer")
 
 -- ---- classes and keys. Keys are compared by their identifiers.
 
+-- whether the class has this name
 abbrev pub is_named : List ℕ → ClassState → Bool
 is_named name c = bytes_eq c.class_name name
 
@@ -74,6 +76,7 @@ class_named name table = find (is_named name) table
 abbrev pub key_of : IssuedFields → List ℕ
 key_of issued = sha1 issued.cert.key.bits
 
+-- whether the certificate is of the key with this identifier
 abbrev pub has_key : List ℕ → IssuedFields → Bool
 has_key key issued = bytes_eq (key_of issued) key
 
@@ -107,9 +110,11 @@ abbrev pub without : List IssuedFields → List ℕ → List IssuedFields
 without [] key = []
 without (held ∷ more) key = if has_key key held then more else held ∷ without more key
 
+-- the class with the certificate put among those that were issued in it
 abbrev pub with_issued : IssuedFields → ClassState → ClassState
 with_issued issued c = record c { issued_certs = put c.issued_certs issued }
 
+-- the class with the key's certificate taken out, and the key put last among its revoked ones
 abbrev pub with_revoked : List ℕ → ClassState → ClassState
 with_revoked key c = record c {
   issued_certs = without c.issued_certs key;
@@ -146,6 +151,7 @@ pub record ParentState : Type 0 where
   pub child_key : KeyFields
   pub table : Table
 
+-- the parent with these two handles, this child's key and this table
 abbrev pub new_parent : List ℕ → List ℕ → KeyFields → Table → ParentState
 new_parent me child key table = record { me = me; child = child; child_key = key; table = table }
 
@@ -153,8 +159,8 @@ new_parent me child key table = record { me = me; child = child; child_key = key
 abbrev pub with_table : Table → ParentState → ParentState
 with_table table p = record p { table = table }
 
--- The names of parent and child are handles, and the classes have distinct names, which can be written so that they are read
--- again.
+-- The names of parent and child are handles, and the classes have distinct names, which can be
+-- written so that they are read again.
 pub record IsParent (me child : List ℕ) (table : Table) : Type 0 where
   pub me_is : IsHandle me
   pub child_is : IsHandle child

@@ -27,7 +27,8 @@ use Rattle.rpki_upserver.specs.declared.issuer.IssuerError.TheVariants as errors
 use Rattle.rpki_upserver.specs.declared.toy_issuer.ToyMade.{ToyMade}
 use Rattle.rpki_upserver.specs.Issuer.{IssuerState, Made}
 
--- a toy issuer: its signer, the identifier of its key, from when its certificates are valid, and what it did
+-- a toy issuer: its signer, the identifier of its key, from when its certificates are valid, and
+-- what it did
 pub record ToyIssuerState : Type 0 where
   pub signer : ToyState
   pub key : ℕ
@@ -43,6 +44,7 @@ toy_issuer signer key from = record {
   issuer = record { made = []; gone = []; faults = 0 };
 }
 
+-- a toy issuer as an issuer: what it issued and revoked, and how often it failed
 abbrev pub issuer_state : ToyIssuerState → IssuerState
 issuer_state i = i.issuer
 
@@ -109,6 +111,7 @@ pub record IsToyIssued (name : List ℕ) (csr : CaRequest) (set : Resources) (no
     }) between.issuer;
   }
 
+-- what `issue` answers: a certificate that was issued, or an error for which none was
 abbrev pub IsToyIssue : List ℕ → CaRequest → Resources → ℤ → ToyIssuerState → ToyIssuerState
     → Result CertFields IssuerError → Type 0
 IsToyIssue name csr set not_after before after (Ok cert) =
@@ -145,6 +148,7 @@ pub record IsToyRevoked (name key : List ℕ) (before after : ToyIssuerState) : 
     issuer = with_gone (record { class_name = name; key = key }) between.issuer;
   }
 
+-- what `revoke` answers: that the key was revoked, or an error for which it wasn't
 abbrev pub IsToyRevocation : List ℕ → List ℕ → ToyIssuerState → ToyIssuerState
     → Result (Unit {0}) IssuerError → Type 0
 IsToyRevocation name key before after (Ok done) = IsToyRevoked name key before after
