@@ -102,7 +102,8 @@ pub record IsCertified {Id : Type 0} (scheme : Relation) (issuing key : KeyField
   where
     pub crl_made : IsCrlMade scheme issuing when crl
     pub twenty : length after.random ≡ 20
-    pub fields : IsMadeFor issuing key (without_first_bit after.random) (window when) certificate.tbs
+    pub fields : IsMadeFor issuing key (without_first_bit after.random) (window when)
+        certificate.tbs
     pub issued : IsIssued scheme issuing certificate
     pub keeps : Keeps before after
     pub no_fault : after.faults ≡ before.faults
@@ -210,7 +211,8 @@ abbrev pub CreateFails : {Id E : Type 0} → List ℕ → ℤ → Id → SignerS
 CreateFails content when id before after create.Moment = HasWindow when → ⊥
 CreateFails content when id before after create.TooLong =
     HasWindow when × IsTooLong content before after
-CreateFails content when id before after create.KeyReused = HasWindow when × IsReused id before after
+CreateFails content when id before after create.KeyReused =
+    HasWindow when × IsReused id before after
 CreateFails content when id before after (create.Signing error) =
     HasWindow when × (error ≢ signing.OutOfMemory) × SigningFails RsaSha256 id before after error
 CreateFails content when id before after create.OutOfMemory = ⊤

@@ -184,8 +184,8 @@ impl SignedMessage {
 
         // The signer is asked in turn, and its first refusal decides: all that it gave before has at most
         // 2^16 octets.
-        ensures first_refusal { IfErr result (IsFirstRefusal P.checks content when issuing_key_id.now
-            (S.state signer.old) (S.state signer.new)) }
+        ensures first_refusal { IfErr result (IsFirstRefusal P.checks content when
+            issuing_key_id.now (S.state signer.old) (S.state signer.new)) }
 
         // The signer holds the same keys, whatever the answer, and where there is a message, it didn't fail.
         ensures keeps { Keeps (S.state signer.old) (S.state signer.new) }

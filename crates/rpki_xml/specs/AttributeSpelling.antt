@@ -1,4 +1,5 @@
--- The lawful spellings of an attribute: white space, a name, `=` with white space round it, and a value in either quote.
+-- The lawful spellings of an attribute: white space, a name, `=` with white space round it, and a
+-- value in either quote.
 use Rattle.std.specs.Prelude.{◌≡◌, ℕ, List, [], ◌∷◌, ◌++◌, Bool, true, false, ◌||◌, not, ◌&&◌, nat_eq, codes}
 use Rattle.std.specs.List.{list_all}
 use Rattle.std.specs.Str.{bytes_eq}

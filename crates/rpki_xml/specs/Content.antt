@@ -47,6 +47,7 @@ behind [] b = Some b
 behind (c ∷ front) [] = None
 behind (c ∷ front) (d ∷ b) = if nat_eq d c then behind front b else None
 
+-- whether there is no text
 abbrev pub is_none_of : Option (List ℕ) → Bool
 is_none_of None = true
 is_none_of (Some text) = false
@@ -56,7 +57,8 @@ abbrev pub is_text : List ℕ → Option (List ℕ) → Bool
 is_text text None = false
 is_text text (Some other) = bytes_eq other text
 
--- whether an attribute's name declares the namespace of a prefix, or of names without one: `xmlns:p` for the prefix p, or `xmlns`
+-- whether an attribute's name declares the namespace of a prefix, or of names without one:
+-- `xmlns:p` for the prefix p, or `xmlns`
 unfoldable pub declares : Option (List ℕ) → List ℕ → Bool
 declares None declaration = bytes_eq declaration (codes "xmlns")
 declares (Some prefix) declaration = is_text prefix (behind (codes "xmlns:") declaration)
@@ -113,7 +115,8 @@ characters (and_passed_over more) = characters more
 characters (and_leaf tag more) = characters more
 characters (and_element tag inside more) = characters more
 
--- the text of an element with these children and runs: none beside a child, else the runs without outer white space
+-- the text of an element with these children and runs: none beside a child, else the runs without
+-- outer white space
 abbrev pub text_of : Elements → List ℕ → List ℕ
 text_of none text = trimmed text
 text_of (first head children rest) text = []
@@ -142,7 +145,8 @@ abbrev pub fits : Elements → List ℕ → Bool
 fits none text = true
 fits (first head children rest) text = list_all is_white text
 
--- in each start no two attributes have one whole name, and each element has a child or a text, not both
+-- in each start no two attributes have one whole name, and each element has a child or a text, not
+-- both
 abbrev pub IsLawful : Content → Type 0
 IsLawful nothing = Unit {0}
 IsLawful (and_run text more) = IsLawful more

@@ -1,4 +1,5 @@
--- The one element of a document, as it lies in the list of nodes: a means for the document in memory.
+-- The one element of a document, as it lies in the list of nodes: a means for the document in
+-- memory.
 use Rattle.std.specs.Prelude.{◌≡◌, ℕ, List, [], ◌∷◌, Option, None, drop, if◌then◌else◌}
 use Rattle.std.specs.List.{list_all}
 use Rattle.rpki_xml.specs.declared.element.Node.{Node}
@@ -27,6 +28,7 @@ IsWhole source nodes = slots source (drop 1 nodes) ≡ flat (alone (root_of sour
 abbrev pub root_in : Document → Element
 root_in d = root_of d.source.now d.nodes.items
 
+-- behind the own node of a document in memory there is one element, and nothing else
 abbrev pub IsWholeIn : Document → Type 0
 IsWholeIn d = IsWhole d.source.now d.nodes.items
 

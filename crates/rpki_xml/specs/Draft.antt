@@ -3,13 +3,14 @@ use Rattle.std.specs.Prelude.{ℕ, List, [], ◌∷◌, ◌++◌, Bool, true, fa
 use Rattle.rpki_xml.specs.Element.{Attribute, Head, Elements, none, first, Element, alone}
 use Rattle.rpki_xml.specs.Spelling.{spelled_text, spelled_attribute, spelled_end, spelled_all}
 
--- the octets so far, the names of the open elements, the innermost first, and whether the innermost one's start
--- still takes attributes
+-- the octets so far, the names of the open elements, the innermost first, and whether the innermost
+-- one's start still takes attributes
 pub record Draft : Type 0 where
   pub octets : List ℕ
   pub open_names : List (List ℕ)
   pub in_start : Bool
 
+-- nothing is written, and no element is open
 abbrev pub empty_draft : Draft
 empty_draft = record { octets = []; open_names = []; in_start = false }
 
@@ -25,6 +26,7 @@ with_inside inside d = record {
   in_start = false;
 }
 
+-- the draft after the start of an element with this name, which still takes attributes
 unfoldable pub opened : List ℕ → Draft → Draft
 opened name d = record {
   octets = settled d.in_start d.octets ++ 60 ∷ name;
@@ -32,6 +34,7 @@ opened name d = record {
   in_start = true;
 }
 
+-- the draft with an attribute more in the innermost start
 unfoldable pub with_attribute : List ℕ → List ℕ → Draft → Draft
 with_attribute name value d = record {
   octets = d.octets ++ spelled_attribute name value;
@@ -44,6 +47,7 @@ abbrev pub with_text : List ℕ → Draft → Draft
 with_text [] d = d
 with_text (c ∷ text) d = with_inside (spelled_text (c ∷ text)) d
 
+-- the end of the innermost element: `/>` while its start takes attributes, else its end tag
 abbrev pub ending : Bool → List (List ℕ) → List ℕ
 ending true names = 47 ∷ 62 ∷ []
 ending false [] = []
@@ -57,6 +61,7 @@ closed d = record {
   in_start = false;
 }
 
+-- the draft with these attributes more in the innermost start, in their order
 abbrev pub with_attributes : List Attribute → Draft → Draft
 with_attributes [] d = d
 with_attributes (a ∷ more) d = with_attributes more (with_attribute a.name a.value d)
@@ -66,6 +71,7 @@ abbrev pub optional_attribute : List ℕ → Option (List ℕ) → List Attribut
 optional_attribute name None = []
 optional_attribute name (Some value) = record { name = name; value = value } ∷ []
 
+-- the draft with a declaration of the namespace in the innermost start, where there is one
 abbrev pub with_namespace : Option (List ℕ) → Draft → Draft
 with_namespace uri d = with_attributes (optional_attribute (codes "xmlns") uri) d
 
@@ -74,6 +80,7 @@ unfoldable pub with_elements : Elements → Draft → Draft
 with_elements none d = d
 with_elements (first head children rest) d = with_inside (spelled_all (first head children rest)) d
 
+-- the draft with a whole element inside its innermost element
 abbrev pub with_element : Element → Draft → Draft
 with_element e d = with_elements (alone e) d
 

@@ -7,18 +7,21 @@ pub record Attribute : Type 0 where
   pub name : List ℕ
   pub value : List ℕ
 
--- an element without its children: its whole name, its namespace if it has one, its attributes in their order, its text
+-- an element without its children: its whole name, its namespace if it has one, its attributes in
+-- their order, its text
 pub record Head : Type 0 where
   pub name : List ℕ
   pub namespace : Option (List ℕ)
   pub attributes : List Attribute
   pub text : List ℕ
 
--- elements that follow each other: none, or a first one with its head and its children, and then the rest
+-- elements that follow each other: none, or a first one with its head and its children, and then
+-- the rest
 pub data Elements : Type 0 where
   none : Elements
   first : Head → Elements → Elements → Elements
 
+-- an element: its head, and the elements inside it
 pub record Element : Type 0 where
   pub head : Head
   pub children : Elements

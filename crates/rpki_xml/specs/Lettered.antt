@@ -8,10 +8,12 @@ use Rattle.rpki_xml.specs.Lexing.{is_octet}
 abbrev pub AreOctets : List ℕ → Type 0
 AreOctets text = list_all is_octet text ≡ true
 
+-- name and value of an attribute consist of octets that a document may have
 pub record IsLetteredAttribute (a : Attribute) : Type 0 where
   pub name : AreOctets a.name
   pub value : AreOctets a.value
 
+-- an element's name, namespace, attributes and text consist of octets that a document may have
 pub record IsLetteredHead (h : Head) : Type 0 where
   pub name : AreOctets h.name
   pub namespace : IfSome h.namespace AreOctets

@@ -12,6 +12,7 @@ abbrev pub front_of : (ℕ → Bool) → List ℕ → List ℕ
 front_of passes [] = []
 front_of passes (c ∷ b) = if passes c then c ∷ front_of passes b else []
 
+-- what follows the longest front of octets that pass
 abbrev pub back_of : (ℕ → Bool) → List ℕ → List ℕ
 back_of passes [] = []
 back_of passes (c ∷ b) = if passes c then back_of passes b else c ∷ b
@@ -78,8 +79,8 @@ repeated stops at (suc n) b =
       more ← repeated stops at n x.1
       Some (x.0 ∷ more.0, more.1))
 
--- reading these one after the other, up to where it stops: each takes an octet at least, so that many are enough. What this
--- gives is told by the relation RunsTo of Runs
+-- reading these one after the other, up to where it stops: each takes an octet at least, so that
+-- many are enough. What this gives is told by the relation RunsTo of Runs
 unfoldable pub until : {X : Type 0} → (List ℕ → Bool) → (List ℕ → Option (X × List ℕ)) → List ℕ
     → Option (List X × List ℕ)
 until stops at b = repeated stops at (suc (length b)) b
@@ -109,10 +110,12 @@ attribute_at b = do
   value ← quoted_at (past_white rest)
   Some (record { name = name.0; value = value.0 }, value.1)
 
+-- whether white space stands first
 abbrev pub begins_white : List ℕ → Bool
 begins_white [] = false
 begins_white (c ∷ b) = is_white c
 
+-- whether `/` or `>` stands first
 abbrev pub begins_close : List ℕ → Bool
 begins_close [] = false
 begins_close (c ∷ b) = nat_eq c 47 || nat_eq c 62
@@ -145,6 +148,7 @@ passed_at close b = do
   rest ← past_next close b
   Some (passed_over, rest)
 
+-- what is read behind a front where that front is there, or otherwise the other
 abbrev pub behind_front : {X : Type 0} → Option (List ℕ) → (List ℕ → Option X) → Option X → Option X
 behind_front (Some rest) at other = at rest
 behind_front None at other = other

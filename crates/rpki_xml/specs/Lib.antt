@@ -1,9 +1,9 @@
 -- Said in contracts, and to be believed:
--- documents and elements: Name, AttributeSpelling, PieceSpelling, Content, Element, Lettered, Texts, Trimmed;
--- the same octets in a reader's steps, as laws say: Lexing, Runs;
--- what is asked of an element, and answered: Tables, Answers, Errors;
--- what is written: Spelling, Draft, PlainElement.
--- Means for loops, proofs and the element in memory: PlainCharacter, Kept, Pieces, Stack, Nodes, DocumentNodes, Views.
+-- documents and elements: Name, AttributeSpelling, PieceSpelling, Content, Element, Lettered,
+-- Texts, Trimmed; the same octets in a reader's steps, as laws say: Lexing, Runs; what is asked of
+-- an element, and answered: Tables, Answers, Errors; what is written: Spelling, Draft,
+-- PlainElement. Means for loops, proofs and the element in memory: PlainCharacter, Kept, Pieces,
+-- Stack, Nodes, DocumentNodes, Views.
 pub mod Answers
 pub mod AttributeSpelling
 pub mod Content

@@ -16,6 +16,7 @@ flat none = []
 flat (first head children rest) =
     record { head = head; below = length (flat children) } ∷ (flat children ++ flat rest)
 
+-- the elements that the slots stand for, of which at most n are looked at
 abbrev pub tree_at : ℕ → List Slot → Elements
 tree_at zero slots = none
 tree_at (suc n) [] = none
@@ -26,6 +27,7 @@ tree_at (suc n) (s ∷ slots) =
 unfoldable pub tree_of : List Slot → Elements
 tree_of slots = tree_at (length slots) slots
 
+-- the slots are the flat list of some elements
 abbrev pub IsFlat : List Slot → Type 0
 IsFlat slots = flat (tree_of slots) ≡ slots
 
@@ -53,12 +55,15 @@ attribute_code =
     code_by (List ℕ × List ℕ) (coded× (coded_list coded_ℕ) (coded_list coded_ℕ))
     (λ a. (a.name, a.value)) (λ p. record { name = p.0; value = p.1 }) (λ _. refl)
 
+-- how attributes are stored where a proof keeps them
 abbrev pub attributes_code : Coded (List Attribute)
 attributes_code = coded_list attribute_code
 
+-- name, namespace, attributes and text of a head
 abbrev pub HeadParts : Type 0
 HeadParts = (List ℕ × Option (List ℕ)) × (List Attribute × List ℕ)
 
+-- how a head is stored where a proof keeps it
 abbrev head_code : Coded Head
 head_code =
     code_by HeadParts
@@ -68,14 +73,17 @@ head_code =
     (λ p. record { name = p.0.0; namespace = p.0.1; attributes = p.1.0; text = p.1.1 })
     (λ _. refl)
 
+-- how a slot is stored where a proof keeps it
 abbrev slot_code : Coded Slot
 slot_code =
     code_by (Head × ℕ) (coded× head_code coded_ℕ) (λ s. (s.head, s.below))
     (λ p. record { head = p.0; below = p.1 }) (λ _. refl)
 
+-- how elements are stored where a proof keeps them: as their flat list
 abbrev pub elements_code : Coded Elements
 elements_code = code_by (List Slot) (coded_list slot_code) flat tree_of tree_of-flat
 
+-- how an element is stored where a proof keeps it
 abbrev pub element_code : Coded Element
 element_code =
     code_by (Head × Elements) (coded× head_code elements_code) (λ e. (e.head, e.children))

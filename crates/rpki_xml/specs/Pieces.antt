@@ -6,12 +6,14 @@ use Rattle.rpki_xml.specs.declared.lexing.Piece.TheVariants as code
 use Rattle.rpki_xml.specs.Content.{Tag, Piece, run, passed_over, leaf, start, end}
 use Rattle.rpki_xml.specs.Kept.{name_from, text_of, attributes_of}
 
+-- a tag of the code: its name and its attributes, as they stand in the document
 abbrev pub tag : List ℕ → declared_tag.Tag → Tag
 tag source t = record {
   name = name_from source t.name;
   attributes = attributes_of source t.attributes.items;
 }
 
+-- a piece of the code, as a piece of the document
 abbrev pub piece : List ℕ → Found → Piece
 piece source (code.Run text) = run (text_of source text)
 piece source code.PassedOver = passed_over

@@ -18,7 +18,8 @@ pub record IsPlainAttribute (a : Attribute) : Type 0 where
   pub handed_on : is_declaration a ≡ false
   pub value : list_all is_octet a.value ≡ true
 
--- the namespace, where there is one, is not empty, no two attributes have one name, and the text has no outer white space
+-- the namespace, where there is one, is not empty, no two attributes have one name, and the text
+-- has no outer white space
 pub record IsPlainHead (h : Head) : Type 0 where
   pub name : IsPlainName h.name
   pub namespace : IfSome h.namespace (λ uri. (is_nil uri ≡ false) × (list_all is_octet uri ≡ true))

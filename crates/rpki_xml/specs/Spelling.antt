@@ -18,9 +18,11 @@ value_character c =
     else if nat_eq c 39 then codes "&apos;"
     else text_character c
 
+-- a text with its characters spelled one after the other
 unfoldable pub spelled_text : List ℕ → List ℕ
 spelled_text text = flat_map text_character text
 
+-- a value with its characters spelled one after the other
 unfoldable pub spelled_value : List ℕ → List ℕ
 spelled_value value = flat_map value_character value
 
@@ -28,10 +30,12 @@ spelled_value value = flat_map value_character value
 abbrev pub spelled_attribute : List ℕ → List ℕ → List ℕ
 spelled_attribute name value = 32 ∷ (name ++ 61 ∷ 34 ∷ (spelled_value value ++ 34 ∷ []))
 
+-- attributes spelled one after the other
 abbrev pub spelled_attributes : List Attribute → List ℕ
 spelled_attributes [] = []
 spelled_attributes (a ∷ more) = spelled_attribute a.name a.value ++ spelled_attributes more
 
+-- the declaration of a namespace, where there is one
 abbrev pub spelled_namespace : Option (List ℕ) → List ℕ
 spelled_namespace None = []
 spelled_namespace (Some uri) = spelled_attribute (codes "xmlns") uri
@@ -50,6 +54,7 @@ abbrev pub spelled_inside : Bool → List ℕ → List ℕ → List ℕ
 spelled_inside true name inside = 47 ∷ 62 ∷ []
 spelled_inside false name inside = 62 ∷ (inside ++ spelled_end name)
 
+-- elements spelled one after the other, each with what is inside it
 abbrev pub spelled_all : Elements → List ℕ
 spelled_all none = []
 spelled_all (first head children rest) =
@@ -58,5 +63,6 @@ spelled_all (first head children rest) =
     (spelled_text head.text ++ spelled_all children))
     ++ spelled_all rest
 
+-- an element spelled with all that is inside it
 abbrev pub spelled : Element → List ℕ
 spelled e = spelled_all (alone e)

@@ -1,5 +1,5 @@
--- Reading piece by piece, with the elements that are still open: a means for the reader, tied to Content by
--- proofs/Stacks.antt.
+-- Reading piece by piece, with the elements that are still open: a means for the reader, tied to
+-- Content by proofs/Stacks.antt.
 use Rattle.std.specs.Prelude.{ℕ, List, [], ◌∷◌, ◌++◌, ◌&&◌, Option, Some, None, if◌then◌else◌, length, take, drop, reverse, ◌≡◌, nat_eq}
 use Rattle.std.specs.List.{list_all}
 use Rattle.std.specs.Str.{bytes_eq}
@@ -19,6 +19,7 @@ pub record Open : Type 0 where
 abbrev pub bare_head : List ℕ → Head
 bare_head name = record { name = name; namespace = None; attributes = []; text = [] }
 
+-- a head with this text in the place of its own
 abbrev pub with_text : List ℕ → Head → Head
 with_text text h = record {
   name = h.name;
@@ -27,6 +28,7 @@ with_text text h = record {
   text = text;
 }
 
+-- an element whose start was read, with nothing inside yet
 abbrev pub opened : Head → Open
 opened h = record { head = h; done = none }
 
@@ -41,23 +43,27 @@ and_more text children o = record {
   done = joined o.done children;
 }
 
+-- an open element at its end: the text it has then, and its children
 abbrev pub closed : Open → Element
 closed o = record { head = with_text (text_of o.done o.head.text) o.head; children = o.done }
 
--- the open elements, the innermost first, after one more run, element without children, start or end
+-- the open elements, the innermost first, after one run more
 unfoldable pub add_run : List ℕ → List Open → Option (List Open)
 add_run text [] = None
 add_run text (o ∷ outer) = Some (and_more text none o ∷ outer)
 
+-- the open elements after an element without children inside the innermost one
 unfoldable pub add_element : Head → List Open → Option (List Open)
 add_element head [] = None
 add_element head (o ∷ outer) =
     Some (and_more [] (alone (record { head = head; children = none })) o ∷ outer)
 
+-- the open elements after the start of an element inside the innermost one
 unfoldable pub begin_element : Head → List Open → Option (List Open)
 begin_element head [] = None
 begin_element head (o ∷ outer) = Some (opened head ∷ o ∷ outer)
 
+-- the open elements after the end of the innermost one, if that has this name and may have its text
 unfoldable pub end_element : List ℕ → List Open → Option (List Open)
 end_element name [] = None
 end_element name (o ∷ []) = None
@@ -66,6 +72,7 @@ end_element name (o ∷ p ∷ outer) =
     then Some (and_more [] (alone (closed o)) p ∷ outer)
     else None
 
+-- the open elements after one piece more
 abbrev pub step : Piece → List Open → Option (List Open)
 step (run text) opens = add_run text opens
 step passed_over opens = Some opens
@@ -75,6 +82,7 @@ step (start tag) opens =
     if is_distinct tag.attributes then begin_element (head_of tag []) opens else None
 step (end name) opens = end_element name opens
 
+-- the open elements after these pieces
 abbrev pub steps : List Piece → List Open → Option (List Open)
 steps [] opens = Some opens
 steps (piece ∷ more) opens = step piece opens >>= λ after. steps more after
@@ -85,6 +93,7 @@ steps (piece ∷ more) opens = step piece opens >>= λ after. steps more after
 abbrev pub open_slot : Open → Slot
 open_slot o = record { head = o.head; below = 0 }
 
+-- the open elements and their children so far, in the order of their starts
 abbrev pub slots_of : List Open → List Slot
 slots_of [] = []
 slots_of (o ∷ outer) = slots_of outer ++ open_slot o ∷ flat o.done
@@ -120,7 +129,7 @@ settled below text =
     else if list_all is_white text then Some []
     else None
 
--- text, namespace and attributes of an element after one more run, and at its end
+-- an element's parts with this text
 abbrev pub with_part : List ℕ → Parts → Parts
 with_part text parts = record {
   text = text;
@@ -128,8 +137,10 @@ with_part text parts = record {
   attributes = parts.attributes;
 }
 
+-- an element's parts with this text behind its text
 abbrev pub with_more_text : List ℕ → Parts → Parts
 with_more_text text parts = with_part (parts.text ++ text) parts
 
+-- an element's parts at its end, with so many elements below it, if it may have its text
 unfoldable pub settled_parts : ℕ → Parts → Option Parts
 settled_parts below parts = settled below parts.text >>= λ text. Some (with_part text parts)

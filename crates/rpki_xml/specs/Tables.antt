@@ -1,5 +1,5 @@
--- What a table of messages asks of an element: which name, which attributes, which text, which children. Names are compared
--- by their local parts.
+-- What a table of messages asks of an element: which name, which attributes, which text, which
+-- children. Names are compared by their local parts.
 use Rattle.std.specs.Prelude.{ℕ, List, [], ◌∷◌, Bool, true, false, ◌&&◌, Option, Some, None, filter}
 use Rattle.std.specs.List.{list_any}
 use Rattle.std.specs.Str.{bytes_eq}
@@ -29,6 +29,7 @@ is_listed locals a = list_any (λ local. is_called local a) locals
 
 -- ---- attributes
 
+-- the value of an attribute, which is always there
 abbrev pub value_of : Attribute → Option (List ℕ)
 value_of a = Some a.value
 

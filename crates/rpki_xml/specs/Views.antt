@@ -1,4 +1,5 @@
--- What the code holds, as values: the nodes of the document in memory, and the names of a writer's open elements.
+-- What the code holds, as values: the nodes of the document in memory, and the names of a writer's
+-- open elements.
 use Rattle.std.specs.Prelude.{ℕ, List, [], map, reverse, Option, Some, None, String, string_bytes}
 use Rattle.std.specs.Option.{option_map}
 use Rattle.rpki_xml.specs.declared.element.Node as declared_node
@@ -11,7 +12,7 @@ use Rattle.rpki_xml.specs.Element.{Attribute, Head}
 use Rattle.rpki_xml.specs.Kept.{name_from, part_of, text_of, attributes_of}
 use Rattle.rpki_xml.specs.Nodes.{Slot}
 
--- the text of a node, its namespace and its attributes
+-- the text of a node
 abbrev pub text_in : List ℕ → Rest → List ℕ
 text_in source (rest.Plain start end) = part_of start end source
 text_in source (rest.Own octets) = octets.value.items
@@ -19,6 +20,7 @@ text_in source (rest.Bare attributes) = []
 text_in source (rest.Attributed more) = text_of source more.value.text
 text_in source (rest.Namespaced more) = text_of source more.value.text
 
+-- the namespace of a node, where it has one
 abbrev pub namespace_in : List ℕ → Rest → Option (List ℕ)
 namespace_in source (rest.Plain start end) = None
 namespace_in source (rest.Own octets) = None
@@ -26,6 +28,7 @@ namespace_in source (rest.Bare attributes) = None
 namespace_in source (rest.Attributed more) = None
 namespace_in source (rest.Namespaced more) = Some (text_of source more.value.namespace)
 
+-- the attributes of a node
 abbrev pub attributes_in : List ℕ → Rest → List Attribute
 attributes_in source (rest.Plain start end) = []
 attributes_in source (rest.Own octets) = []
@@ -39,6 +42,7 @@ pub record Parts : Type 0 where
   pub namespace : Option (List ℕ)
   pub attributes : List Attribute
 
+-- text, namespace and attributes that are kept as places of a document, or by themselves
 abbrev pub parts_of : List ℕ → Text → Option Text → List Named → Parts
 parts_of source text namespace attributes = record {
   text = text_of source text;
@@ -46,6 +50,7 @@ parts_of source text namespace attributes = record {
   attributes = attributes_of source attributes;
 }
 
+-- text, namespace and attributes of a node
 abbrev pub parts_in : List ℕ → Rest → Parts
 parts_in source r = record {
   text = text_in source r;
@@ -66,6 +71,7 @@ head_of source n = record {
   text = text_in source n.rest;
 }
 
+-- the nodes of a document as slots: each one's head, and how many nodes are below it
 abbrev pub slots : List ℕ → List declared_node.Node → List Slot
 slots source nodes = map (λ n. record { head = head_of source n; below = n.below }) nodes
 
