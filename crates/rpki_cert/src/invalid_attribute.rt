@@ -1,6 +1,6 @@
 //! An attribute that a request can't have.
 
-ghost use Rattle.std.specs.Prelude.{◌≡◌, ◌++◌, IfOk, Some, codes};
+ghost use Rattle.std.specs.Prelude.{◌≡◌, ◌↔◌, ◌++◌, ℕ, List, true, IfOk, Some, codes};
 ghost use Rattle.rpki_der.specs.Arcs.{oid_text};
 
 use rpki_der::{Oid, OutOfMemory};
@@ -25,6 +25,11 @@ impl Model for InvalidAttribute {
 
     ghost inverse = { λ l. record { oid = l } };
 }
+
+/// `==` holds exactly between attributes with one identifier.
+pub fn equal_invalid_attributes_are_the_same()
+    ensures { (a b : List ℕ) → (⟦<InvalidAttribute as PartialEq>⟧.eq a b ≡ true) ↔ (a ≡ b) }
+{}
 
 impl InvalidAttribute {
     /// The attribute with this identifier.

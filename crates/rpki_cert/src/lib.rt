@@ -25,7 +25,7 @@ pub use construct::{CsrError, construct_rpki_ca, equal_request_errors_are_the_sa
 pub use csr::{BgpsecCsr, Csr, RpkiCaCsr};
 pub use csr_attributes::{BgpsecCsrAttributes, CsrAttributes, RpkiCaCsrAttributes};
 pub use extended_key_usage::ExtendedKeyUsage;
-pub use invalid_attribute::InvalidAttribute;
+pub use invalid_attribute::{InvalidAttribute, equal_invalid_attributes_are_the_same};
 pub use key_usage::{KeyUsage, equal_usages_are_the_same};
 pub use law::{
     octets_determine_certificates, read_certificates_are_no_longer, requests_are_read_again,

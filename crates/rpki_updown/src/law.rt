@@ -8,12 +8,13 @@ ghost use Rattle.rpki_updown.specs.NotPerformedResponse.{NotPerformedFields};
 ghost use Rattle.rpki_updown.specs.PayloadType.{payload_type_of_text, payload_type_text};
 ghost use Rattle.rpki_updown.specs.RequestResourceLimit.{LimitFields, IsContained, limited_set};
 ghost use Rattle.rpki_updown.specs.declared.payload_type.PayloadType.{PayloadType as Kind};
+ghost use Rattle.rpki_updown.specs.declared.payload_type.PayloadTypeError.{PayloadTypeError as KindError};
 
 use crate::issuance_response::IssuanceResponse;
 use crate::issued_cert::IssuedCert;
 use crate::key_element::KeyElement;
 use crate::not_performed_response::NotPerformedResponse;
-use crate::payload_type::PayloadType;
+use crate::payload_type::{PayloadType, PayloadTypeError};
 use crate::request_resource_limit::RequestResourceLimit;
 use crate::resource_class_entitlements::ResourceClassEntitlements;
 use crate::resource_class_list_response::ResourceClassListResponse;
@@ -41,6 +42,8 @@ pub fn equal_values_are_the_same()
     ensures class_name { (a b : List ℕ)
         → (⟦<ResourceClassName as PartialEq>⟧.eq a b ≡ true) ↔ (a ≡ b) }
     ensures payload_type { (a b : Kind) → (⟦<PayloadType as PartialEq>⟧.eq a b ≡ true) ↔ (a ≡ b) }
+    ensures payload_type_error { (a b : KindError)
+        → (⟦<PayloadTypeError as PartialEq>⟧.eq a b ≡ true) ↔ (a ≡ b) }
     ensures key_element { (a b : KeyElementFields)
         → (⟦<KeyElement as PartialEq>⟧.eq a b ≡ true) ↔ (a ≡ b) }
     ensures request { (a b : KeyElementFields)
