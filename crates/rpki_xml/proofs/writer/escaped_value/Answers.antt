@@ -8,6 +8,6 @@ use Rattle.rpki_xml.proofs.writer.escaped_value.Goals as goal
 pub unreachable-requires : goal.unreachable-requires
 unreachable-requires c =
     let made : c.put_value.new.out.items ≡ spelled_value c.args.value.now =
-      c.in_ok-put_value.ensures ∙ ap₂ (λ (a b : List ℕ). a ++ spelled_value b) c.new-out.ensures.items c.as_bytes.ensures.value in
+    c.in_ok-put_value.ensures ∙ ap₂ (λ (a b : List ℕ). a ++ spelled_value b) c.new-out.ensures.items c.as_bytes.ensures.value in
     let read = subst IsOk c.in-Err.is (c.from_utf8.ensures.succeeds (subst IsUtf8 (sym made) (value_is_text c.args.value.now c.utf8.value))) in
     cc
