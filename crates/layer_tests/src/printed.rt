@@ -1,4 +1,5 @@
 use rpki_base::ToyFault;
+use rpki_ca::ReceiveError;
 use rpki_common::OutOfMemory;
 use rpki_der::DecodeError;
 use rpki_sets::BlocksError;
@@ -50,5 +51,12 @@ fn want_of_memory_is_printed(rt: HostRuntime) -> Result<(), Fail> {
         text.as_str(),
         "out of memory/out of memory/out of memory/out of memory"
     );
+    Ok(())
+}
+
+#[test]
+fn want_of_memory_is_printed(rt: HostRuntime) -> Result<(), Fail> {
+    let text = format!(in rt.alloc(); "{}/{}", rpki_publication::Error::OutOfMemory, ReceiveError::OutOfMemory)?;
+    assert_eq!(rt; text.as_str(), "out of memory/out of memory");
     Ok(())
 }
