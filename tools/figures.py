@@ -56,15 +56,15 @@ def kinds_of_cases(crate):
 TICKS = r"≤ steps\.old \+ (\d+) \* length octets\.now \+ (\d+) \}"
 TEXTS = r"length \(text_of m\) ≤ (\d+) \* length octets \+ (\d+) \}"
 LIMITS = {
-    "powers of input": ("rpki_ca/src/reading.rt", r"const LIMIT: u64 = 1 << (\d+);"),
-    "powers of a content": ("rpki_sigmsg/src/creating.rt", r"const CONTENT_LIMIT: usize = 1 << (\d+);"),
-    "powers of a key": ("rpki_signer/src/limits.rt", r"const LIMIT: usize = 1 << (\d+);"),
+    "powers of input": ("rpki_common/specs/Limits.antt", r"most_input = 2 \^ (\d+)"),
+    "powers of a content": ("rpki_common/specs/Limits.antt", r"most_content = 2 \^ (\d+)"),
+    "powers of a key": ("rpki_common/specs/Limits.antt", r"most_key = 2 \^ (\d+)"),
     "octets of a message": ("rpki_message/src/transfer.rt", r"const MOST_OCTETS: u64 = (0x[\d_a-f]+);"),
-    "seconds of a window": ("rpki_sigmsg/src/window.rt", r"Time::new\(seconds [-+] ([\d_]+)\)"),
+    "seconds of a window": ("rpki_common/specs/Limits.antt", r"window_seconds = (\d+)"),
     "moments with a window": ("rpki_sigmsg/src/window.rt", r"seconds < ([\d_]+) \|\| seconds > ([\d_]+)"),
     "last moment": ("rpki_base/src/time.rt", r"seconds > ([\d_]+) "),
-    "elements that are made": ("rpki_ca/src/command.rt", r"const MOST_ELEMENTS: u32 = ([\d_]+);"),
-    "keys": ("rpki_ca/src/receiving.rt", r"length keys\.now ≤ (\d+) \}"),
+    "elements that are made": ("rpki_common/specs/Limits.antt", r"most_elements = (\d+)"),
+    "keys": ("rpki_common/specs/Limits.antt", r"most_keys = (\d+)"),
     "octets of a base": ("rpki_upserver/src/class.rt", r"const MOST_OCTETS: usize = ([\d_]+);"),
     "ticks of an envelope": ("rpki_publication/src/cms.rt", TICKS),
     "ticks of certificates and requests": ("rpki_provisioning/src/message.rt", TICKS),
