@@ -7,6 +7,7 @@ pub mod Accepting
 pub mod Answering
 pub mod Laws
 pub mod Making
+pub mod Named
 pub mod Runs
 pub mod Creating
 pub mod SettingUp

@@ -42,7 +42,7 @@ fn object_at(alloc: Global, seed: u32, place: u32) -> Result<Vec<u8>, OutOfMemor
     Ok(octets)
 }
 
-// Where it is published. The text breaks no rule, so memory alone is wanting where none is made.
+// Where it is published. The text is a lawful URI.
 fn uri_at(alloc: Global, place: u32) -> Result<uri::Rsync, OutOfMemory>
     ensures uri { IfOk result (λ u. u ≡ uri_at place) }
     ensures lawful { IfOk result (λ u. fault_of rsync u ≡ None) }
@@ -50,7 +50,8 @@ fn uri_at(alloc: Global, place: u32) -> Result<uri::Rsync, OutOfMemory>
     let text = format!(in alloc; "rsync://localhost/ca/f{place}.txt")?;
     match uri::Rsync::from_str(alloc, text.as_str()) {
         Ok(uri) => Ok(uri),
-        Err(_) => Err(OutOfMemory),
+        Err(uri::Error::OutOfMemory) => Err(OutOfMemory),
+        Err(_) => unreachable!(),
     }
 }
 
