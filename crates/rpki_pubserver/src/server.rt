@@ -14,7 +14,7 @@ ghost use Rattle.rpki_ca.specs.Sending.{FailsToSign};
 ghost use Rattle.rpki_pubserver.specs.Replies.{reply_to_delta};
 ghost use Rattle.rpki_pubserver.specs.Running.{new_server};
 ghost use Rattle.rpki_pubserver.specs.Server.{FailsReply, IsAnswered, IsSigned, with_store};
-ghost use Rattle.rpki_pubserver.specs.Store.{IsStore, listed, octets_at};
+ghost use Rattle.rpki_pubserver.specs.Store.{IsStore, LieUnder, listed, octets_at};
 
 use crate::asking::{Asked, asked_by};
 use crate::changes::{change_all, drop_places, prepare, undo};
@@ -56,6 +56,7 @@ impl Drop for Server {
 impl Model for Server {
     ghost use Rattle.rpki_pubserver.specs.Places.{live};
     ghost use Rattle.rpki_pubserver.specs.Server.{ServerFields};
+    ghost use Rattle.rpki_pubserver.specs.Store.{LieUnder};
 
     ghost Value = { ServerFields };
 
@@ -64,6 +65,8 @@ impl Model for Server {
       publisher = s.publisher;
       store = live s.objects;
     } };
+
+    ghost invariant = { λ s. LieUnder s.base (live s.objects) };
 }
 
 impl Server {
@@ -99,8 +102,10 @@ impl Server {
     pub fn len(&self) -> usize
         ensures number { result ≡ length self.now.store }
 
-        // Whatever was done before, the objects stand in the order of their URIs, one at each.
+        // Whatever was done before, the objects stand in the order of their URIs, one at each, and
+        // all lie under the base.
         ensures ordered { IsStore self.now.store }
+        ensures under { LieUnder self.now.base self.now.store }
     {
         self.objects.len()
     }
