@@ -57,6 +57,10 @@ module _ (base : List ℕ) (P : Store → Type 0) (keeps : (store : Store) (e : 
   kept_behind store (Ok (received.Publication (messages.Reply reply))) has = has
   kept_behind store (Ok (received.Provisioning m)) has = has
 
+-- behind changes that were all made, objects lie under the base as before
+pub lie_all : (base : List ℕ) (store next : Store) (elements : List PublishDeltaElement) → after_all base (Ok store) elements ≡ Ok next → LieUnder base store → LieUnder base next
+lie_all base store next elements made lie = kept_all base (LieUnder base) (lie_made base) store elements next made lie
+
 kept_still : (scheme : Relation) (server : ServerFields) (octets : List ℕ) (when : ℤ) (reply : Reply) (P : Store → Type 0) → ((store : Store) (e : PublishDeltaElement) → code_of server.base store e ≡ None → P store → P (changed store e))
     → IsReply scheme server octets when reply → P server.store → P reply.next
 kept_still scheme server octets when reply P keeps is has = subst (λ (r : Reply). P r.next) (sym is.is) (kept_behind server.base P keeps server.store is.result has)

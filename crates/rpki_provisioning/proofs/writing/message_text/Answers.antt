@@ -1,12 +1,11 @@
 use Rattle.std.proofs.Common.{◌∙◌, ap}
-use Rattle.std.proofs.lemmas.Result.{IfOk-weaker}
 use Rattle.rpki_xml.proofs.Drafts.{done_is}
 use Rattle.rpki_xml.specs.Draft.{with_element}
 use Rattle.rpki_provisioning.specs.Message.{element_of, text_of}
-use Rattle.rpki_provisioning.proofs.writing.text_octets.Goals as goal
+use Rattle.rpki_provisioning.proofs.writing.message_text.Goals as goal
 
 pub returns : goal.returns
 unfolding text_of
 returns c =
     let e = element_of c.args.message.now in
-    IfOk-weaker c.done.result _ _ (λ octets h. h ∙ done_is e c.write_message.new.writer (c.in_ok-write_message.ensures ∙ ap (with_element e) c.new-writer.ensures)) c.done.ensures
+    c.into_string.ensures ∙ done_is e c.write_message.new.writer (c.in_ok-write_message.ensures ∙ ap (with_element e) c.new-writer.ensures)
