@@ -153,10 +153,10 @@ fn few(keys: &[PublicKey]) -> Option<&[PublicKey]>
 
 // The message's text, and the place of the key.
 fn placed(alloc: Global, message: &Received, place: usize) -> io::Result<Fields> {
-    let Ok(text) = message.to_xml_bytes(alloc) else {
+    let Ok(text) = message.to_xml_vec(alloc) else {
         return Err(out_of_memory());
     };
-    let mut fields = Fields::one(alloc, text.as_slice())?;
+    let mut fields = Fields::one(alloc, &text)?;
     fields.print(alloc, place)?;
     Ok(fields)
 }

@@ -45,7 +45,7 @@ fn is_sunk(alloc: Global, message: &Message, octets: &[u8]) -> Result<bool, Deco
 // Whether a copy is equal, and is written as these octets.
 fn is_copied(alloc: Global, message: &Message, octets: &[u8]) -> Result<bool, DecodeError> {
     let copy = message.clone(alloc)?;
-    let text = copy.text_bytes(alloc)?;
+    let text = copy.text_vec(alloc)?;
     Ok(copy.equals(alloc, message)? && text.as_slice() == octets)
 }
 

@@ -22,7 +22,7 @@ pub fn refused(alloc: Global, error: Error) -> Result<Fields, DecodeError> {
 
 /// A message as it is written.
 pub fn written(alloc: Global, message: &Message) -> Result<Fields, DecodeError> {
-    Ok(Fields::one(alloc, message.text_bytes(alloc)?.as_slice())?)
+    Ok(Fields::one(alloc, &message.text_vec(alloc)?)?)
 }
 
 /// A message that was read, as it is written; or why none was read.
