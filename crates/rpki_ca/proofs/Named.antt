@@ -1,7 +1,8 @@
 -- Where the objects of `make` are published: each place has a lawful URI.
-use Rattle.std.proofs.Common.{◌≡◌, ℕ, ◌<◌, ◌≤◌, Bool, true, ◌&&◌, None, List, [], ◌∷◌, ◌++◌, length, codes, get_or, refl, sym, ap, ◌∙◌, subst, append_assoc, length-append, arith}
+use Rattle.std.proofs.Common.{◌≡◌, ℕ, ◌^◌, ◌<◌, ◌≤◌, Bool, true, ◌&&◌, None, List, [], ◌∷◌, ◌++◌, length, codes, get_or, refl, sym, ap, ◌∙◌, subst, append_assoc, length-append, arith}
 use Rattle.std.proofs.lemmas.Bool.Decides.{nat_tests}
 use Rattle.std.proofs.lemmas.Fmt.{decimal_is_IsNumeral, length-decimal-le}
+use Rattle.std.proofs.lemmas.List.{get_or_default}
 use Rattle.std.proofs.lemmas.List.Folds.{list_all-append}
 use Rattle.std.proofs.lemmas.List.Sums.{list_all-from_AllPass}
 use Rattle.std.proofs.lemmas.Str.Parse.{digit_at}
@@ -25,11 +26,11 @@ name_at place = codes "f" ++ decimal place ++ codes ".txt"
 
 module _ (p : ℕ → Bool) (digits : (c : ℕ) → IsInRange 48 57 c → p c ≡ true) (front : list_all p (codes "f") ≡ true) (end : list_all p (codes ".txt") ≡ true) where
   digits_pass : (n : ℕ) → n < 2 ^ 32 → list_all p (decimal n) ≡ true
-  digits_pass n small = list_all-from_AllPass p (decimal n) (λ k d below. digits _ (digit_at (decimal n) k (decimal_is_IsNumeral n (omega arith)).0.1 below))
+  digits_pass n small = list_all-from_AllPass p (decimal n) (λ k d below. subst (λ (c : ℕ). p c ≡ true) (get_or_default (decimal n) k 0 d below) (digits _ (digit_at (decimal n) k (decimal_is_IsNumeral n (omega arith)).0.1 below)))
 
   all_pass : (n : ℕ) → n < 2 ^ 32 → list_all p (name_at n) ≡ true
   all_pass n small =
-      are_true (list_all p (codes "f")) (list_all p (decimal n ++ codes ".txt")) front
+      list_all-append p (codes "f") (decimal n ++ codes ".txt") ∙ are_true (list_all p (codes "f")) (list_all p (decimal n ++ codes ".txt")) front
       (list_all-append p (decimal n) (codes ".txt") ∙ are_true (list_all p (decimal n)) (list_all p (codes ".txt")) (digits_pass n small) end)
 
 is_name : (place : ℕ) → place < 2 ^ 32 → IsName (name_at place)

@@ -4,7 +4,7 @@ ghost use Rattle.std.specs.Prelude.{◌≡◌, ◌≢◌, ℕ, Ok, Err, IfOk, If
 ghost use Rattle.rpki_sigmsg.specs.Beginning.{BeginsSigned};
 ghost use Rattle.rpki_ca.specs.Answer.{IsContentAnswer, IsLineOf};
 
-use crate::line::line_of;
+use crate::line::line_of_lent;
 use crate::refusals::Refusal;
 use rpki_sigmsg::{DecodeError, SignedMessage};
 use std::alloc::Global;
@@ -23,10 +23,7 @@ fn content_line_of(
     if !message.digest_holds() {
         return Err(Refusal::Validation(2));
     }
-    let content = message.content().as_slice();
-    let mut text = Vec::with_capacity(alloc, content.len().saturating_add(1))?;
-    text.extend_from_slice(content)?;
-    Ok(line_of(text)?)
+    Ok(line_of_lent(alloc, message.content().as_slice())?)
 }
 
 /// The content of the signed message at the beginning of the octets, and a line feed.

@@ -18,6 +18,6 @@ returns-in_err-validate_any_at-clause-err g c =
     (record { believed = c.in_err-validate_any_at.ensures.believed; none = c.in_err-validate_any_at.ensures.none; first_failing = c.in_err-validate_any_at.ensures.first_failing }))
 
 pub returns-clause-ok : goal.returns-clause-ok
-returns-clause-ok g c = text_accepted g.P.Scheme.checks kinds.Provisioning c.args.octets.now c.args.keys.now c.args.when c.in_ok-cms.cms.signed (received.Provisioning c.in_ok-cms.cms.message) c.signed_message.result.now c.in_ok-validate_any_at.field-0 c.in_ok-text_bytes.field-0
+returns-clause-ok g c = text_accepted g.P.Scheme.checks kinds.Provisioning c.args.octets.now c.args.keys.now c.args.when c.in_ok-cms.cms.signed (received.Provisioning c.in_ok-cms.cms.message) c.signed_message.result.now c.in_ok-validate_any_at.field-0 c.in_ok-text_vec.field-0.items
     c.in_ok-cms.ensures.begins c.in_ok-cms.ensures.reads c.signed_message.ensures ((c.in_ok-validate_any_at.ensures.believed c.in_ok-validate_any_at.field-0).0 refl)
-    (c.in_ok-text_bytes.ensures ∙ ap provisioning.text_of c.message.ensures.message)
+    (c.in_ok-text_vec.ensures ∙ ap provisioning.text_of c.message.ensures.message)
