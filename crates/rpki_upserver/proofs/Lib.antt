@@ -11,6 +11,7 @@ pub mod Changing
 pub mod Tables
 pub mod Deciding
 pub mod Outer
+pub mod Lawful
 pub mod Toys
 pub mod Issuing
 pub mod Saying

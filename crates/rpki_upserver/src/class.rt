@@ -1,6 +1,7 @@
 //! Resource classes.
 
 ghost use Rattle.std.specs.Prelude.{◌≡◌, ◌↔◌, ◌<◌, [], true, length, position, IfErr, IfOk, IfSome, IsSome, IsTrue, OnErr, OnOk, Some, slice_get};
+ghost use Rattle.hex.specs.Hex.{IsBytes};
 ghost use Rattle.rpki_provisioning.specs.Writable.{IsWritableClass, IsWritableLimit};
 ghost use Rattle.rpki_xml.specs.Lettered.{AreOctets};
 ghost use Rattle.rpki_updown.specs.Entitlements.{IssuedFields, issuance};
@@ -18,7 +19,7 @@ use crate::writable::are_octets;
 use rpki_base::{KeyIdentifier, Time};
 use rpki_common::OutOfMemory;
 use rpki_sets::ResourceSet;
-use rpki_text::uri::Rsync;
+use rpki_text::uri::{Error, Rsync};
 use rpki_updown::{
     IssuanceRequest, IssuanceResponse, IssuedCert, ResourceClassEntitlements, ResourceClassName,
     SigningCert,
@@ -86,6 +87,11 @@ fn are_sound(set: &ResourceSet, not_after: Time, signing: &SigningCert)
     let _url = signing.url().as_str();
     let _cert = signing.cert().as_slice();
 }
+
+// For the proof: each octet is below 256.
+fn are_bytes(octets: &[u8])
+    ensures { IsBytes octets.now }
+{}
 
 /// # Making
 impl Class {
@@ -191,11 +197,15 @@ impl Class {
     pub fn uri_of(&self, alloc: Global, key: KeyIdentifier) -> Result<Rsync, OutOfMemory>
         ensures { IfOk result (λ uri. uri ≡ place_of self.now.base key) }
     {
+        // For the proof: the directory's URI is lawful, and the identifier has twenty octets.
+        let _base = self.base.as_str();
+        are_bytes(key.as_slice());
         let name = format!(in alloc; "{key}.cer")?;
         match self.base.join(alloc, name.as_bytes()) {
             Ok(uri) => Ok(uri),
+            Err(Error::OutOfMemory) => Err(OutOfMemory),
             // A directory of at most 65000 octets with such a name behind it is lawful.
-            Err(_) => Err(OutOfMemory),
+            Err(_) => unreachable!(),
         }
     }
 }

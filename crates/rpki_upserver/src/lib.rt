@@ -7,7 +7,7 @@
 //!   certificates are signed in the toy scheme, without security.
 //! - [`no_certificate_is_beyond_its_class`], [`revoked_keys_are_not_certified_again`], [`what_is_told_was_issued_and_not_revoked`],
 //!   [`internal_errors_have_causes`]: what holds of every parent, whatever its child asks.
-//! - [`serve`] is what the program `rpkiup` does.
+//! - [`serve`] is what the program `rpkiup` does, and [`program_issuer`] the issuer with which it begins.
 //!
 //! What is answered stands row by row in specs/Response.antt, what is sent in specs/Answering.antt, and what the program writes in
 //! specs/Serving.antt.
@@ -19,9 +19,11 @@ mod decision;
 mod issuer;
 mod kept;
 mod law;
+mod lawful;
 mod limits;
 mod parent;
 mod preparing;
+mod program_issuer;
 mod serving;
 mod signing;
 mod table;
@@ -36,5 +38,6 @@ pub use law::{
     what_is_told_was_issued_and_not_revoked, zero_answers_all,
 };
 pub use parent::{AnswerError, Parent};
+pub use program_issuer::program_issuer;
 pub use serving::serve;
 pub use toy_issuer::{ToyIssuer, ToyMade, resource_certificate};

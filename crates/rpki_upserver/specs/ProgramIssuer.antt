@@ -1,0 +1,46 @@
+-- The issuer with which the program begins, and the certificate of its key.
+use Rattle.std.specs.Prelude.{◌≡◌, ℕ, List, codes, pos}
+use Rattle.rpki_base.specs.RpkiSignatureAlgorithm.{spelled_x509}
+use Rattle.rpki_base.specs.SignedData.{spelled_data}
+use Rattle.rpki_base.specs.Validity.{ValidityFields}
+use Rattle.rpki_base.specs.declared.errors.ToyFault.{ToyFault}
+use Rattle.rpki_der.specs.declared.mode.Mode.TheVariants.{Der}
+use Rattle.rpki_der.specs.Takes.{BeginsAs}
+use Rattle.rpki_cert.specs.Cert.{certificate}
+use Rattle.rpki_idcert.specs.IdCert.{CertificateFields}
+use Rattle.rpki_idcert.specs.Making.{IsAnchorMade}
+use Rattle.rpki_signer.specs.Limits.{StopsInTurn}
+use Rattle.rpki_signer.specs.Toy.{ToyChecks}
+use Rattle.rpki_signer.specs.ToySigner.{ToyState, state_of}
+use Rattle.rpki_signer.specs.declared.errors.MakeError.{MakeError}
+use Rattle.rpki_sigmsg.specs.Errors.{create_error_of}
+use Rattle.rpki_ca.specs.Creation.{refusal_of_create}
+use Rattle.rpki_ca.specs.declared.refusals.Refusal.{Refusal}
+use Rattle.rpki_updown.specs.Entitlements.{SigningFields}
+use Rattle.rpki_upserver.specs.ToyIssuer.{ToyIssuerState, toy_issuer}
+
+-- from the first second of 1970 to the last of 9999
+abbrev pub always : ValidityFields
+always = record { not_before = pos 0; not_after = pos 253402300799 }
+
+-- where the certificate of the issuing key is published
+abbrev pub signing_url : List ℕ
+signing_url = codes "rsync://localhost/repo/ta.cer"
+
+-- The signer made the certificate of its key with this key itself, always valid; the issuer has the
+-- signer as it is behind that, issues from the first second of 1970 on, and did nothing yet. What
+-- is published is what the certificate's octets are read as.
+pub record IsProgramIssuer (signer : ToyState) (key : ℕ) (issuer : ToyIssuerState)
+    (signing : SigningFields) : Type 0 where
+  pub anchor : CertificateFields
+  pub made : IsAnchorMade ToyChecks key always (state_of signer) (state_of issuer.signer) anchor
+  pub issuer_is : issuer ≡ toy_issuer issuer.signer key (pos 0)
+  pub url : signing.url ≡ signing_url
+  pub cert : BeginsAs (certificate Der) Der (spelled_data spelled_x509 anchor.signed) signing.cert
+
+-- The signer refused, which this was of its refusals of the key or the signature, or memory ran out,
+-- and that is told by its name.
+pub record StopsAnchor (key : ℕ) (before after : ToyState) (refusal : Refusal) : Type 0 where
+  pub error : MakeError ToyFault
+  pub stops : StopsInTurn ToyChecks key (state_of before) (state_of after) error
+  pub is : refusal ≡ refusal_of_create (create_error_of error)
