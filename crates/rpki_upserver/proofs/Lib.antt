@@ -11,7 +11,8 @@ pub mod Changing
 pub mod Tables
 pub mod Deciding
 pub mod Outer
-pub mod Lawful
+pub mod Naming
+pub mod Meanings
 pub mod Toys
 pub mod Issuing
 pub mod Saying

@@ -142,8 +142,7 @@ first_found {A = A} {B = B} a b f g (v ▸ vs) x h there k =
     let e : (c.x, vs) ≡ s.x = cc in
     let q = there v c.x c.found in
     let r = k c.x q.x vs (ap f e ∙ s.then') in
-    let i : (b v >>= λ q. Some (q, vs)) ≡ Some (q.x, vs) = ap (λ (o : Option B). o >>= λ q. Some (q, vs)) q.is in
-    record { x = r.x; is = ap (λ (o : Option (B × Values)). o >>= g) i ∙ r.is }
+    rw q.is (record { x = r.x; is = r.is })
 
 done_found : {X Y : Type 0} (x z : X) (y : Y) (vs : Values) → done x vs ≡ Some z → Found (done y vs)
 unfolding done

@@ -1,5 +1,7 @@
 -- What a toy issuer has done by the calls of its signer.
-use Rattle.std.proofs.Common.{◌≡◌, ◌≤◌, ◌<◌, ◌+◌, ◌-◌, ◌^◌, ◌∙◌, ◌⊎◌, min, ℕ, ℤ, inl, inr, List, [], length, Result, Ok, Err, sym, ap, subst, refl, arith}
+use Rattle.std.proofs.Common.{◌≡◌, ◌≤◌, ◌<◌, ◌+◌, ◌-◌, ◌^◌, ◌∙◌, min, nat_lt, Bool, true, false, ℕ, ℤ, IfErr, IfOk, inl, inr, List, [], ◌∷◌, length, set, get_or, bit_and, Result, Ok, Err, sym, ap, subst, refl, arith}
+use Rattle.std.proofs.lemmas.Bool.Decides.{nat_tests}
+use Rattle.std.proofs.lemmas.Nat.{and_mask}
 use Rattle.rpki_common.specs.Causes.{Rose}
 use Rattle.rpki_der.specs.declared.mode.Mode.TheVariants.{Der}
 use Rattle.rpki_base.specs.declared.algorithm.SigningAlgorithm.TheVariants.{RsaSha256}
@@ -14,10 +16,10 @@ use Rattle.rpki_idcert.specs.Spelling.{spelled_tbs}
 use Rattle.rpki_idcert.specs.TbsIdCert.{TbsFields}
 use Rattle.rpki_idcert.proofs.Issuing.{end_entities_again, end_entity_made, issued_to}
 use Rattle.rpki_signer.specs.Limits.{default_algorithm}
-use Rattle.rpki_signer.specs.Serials.{IsSerialDrawn}
+use Rattle.rpki_signer.specs.Serials.{IsSerialDrawn, without_first_bit}
 use Rattle.rpki_signer.specs.Signer.{AreDistinct, IsKeyOf, IsSignature}
 use Rattle.rpki_signer.specs.Toy.{ToyChecks}
-use Rattle.rpki_signer.specs.ToySigner.{ToyState, state_of}
+use Rattle.rpki_signer.specs.ToySigner.{ToyState, after_drawing, cannot_draw, random_octets, state_of}
 use Rattle.rpki_updown.specs.Entitlements.{CaRequest}
 use Rattle.rpki_upserver.specs.declared.issuer.IssuerError.{IssuerError}
 use Rattle.rpki_upserver.specs.declared.issuer.IssuerError.TheVariants as errors
@@ -63,6 +65,24 @@ signature_counted fields before after made s = record { due = s.asked.1.listed; 
 -- what was signed is spent where memory runs out later
 pub spent : (key : KeyFields) (not_after : ℤ) (before after : ToyIssuerState) (made : CertificateFields) → IsSignedFor key not_after before after made → MakesNone before after errors.OutOfMemory
 spent key not_after before after made s = inr (record { between = s.between; serial = s.serial; issuing = s.issuing; ready = s.ready; call = signature_counted s.fields s.between after made s.signs })
+
+-- ---- a serial number
+
+-- the first bit is cleared
+cleared : (octets : List ℕ) → length octets ≡ 20 → set octets 0 (bit_and (get_or octets 0 0) 127) ≡ without_first_bit octets
+cleared [] e = absurd (omega (arith, e))
+cleared (a ∷ more) e = ap (λ (n : ℕ). n ∷ more) (and_mask a 7)
+
+pub drew_so : (before after : ToyIssuerState) (was now : ToyState) (octets serial : List ℕ) → was ≡ before.signer → after ≡ record before { signer = now } → length octets ≡ 20 → cannot_draw was ≡ false → octets ≡ random_octets was.seed was.next 20
+    → now ≡ record (after_drawing was) { random = octets } → serial ≡ set octets 0 (bit_and (get_or octets 0 0) 127) → DrewSerial before after serial
+drew_so before after was now octets serial w a twenty due o n s = record {
+  due = subst (λ (x : ToyState). cannot_draw x ≡ false) w due;
+  octets = octets;
+  octets_are = subst (λ (x : ToyState). octets ≡ random_octets x.seed x.next 20) w o;
+  serial_is = s ∙ cleared octets twenty;
+  drawn_is = ap (λ (i : ToyIssuerState). i.signer) a ∙ n ∙ ap (λ (x : ToyState). record (after_drawing x) { random = octets }) w;
+  rest = idle_by before after now a;
+}
 
 -- ---- which call was the last
 
@@ -111,7 +131,14 @@ no_key_so before after errors.OutOfMemory m later = counted_so before before aft
 -- ---- a certificate
 
 short_told : (octets : List ℕ) → (2 ^ 16 < length octets → min (0 + 1) (2 ^ 64 - 1) ≤ 0) → length octets ≤ 2 ^ 16
-short_told octets told = omega (arith, told)
+short_told octets told = one (nat_lt 65536 (length octets)) refl
+  where
+    one : (b : Bool) → nat_lt 65536 (length octets) ≡ b → length octets ≤ 65536
+    one true e =
+        let more : 65536 < length octets = grind (arith, nat_tests) in
+        let rose = told more in
+        absurd (omega (arith, rose))
+    one false e = grind (arith, nat_tests)
 
 module _ (key : KeyFields) (id : ℕ) (validity : ValidityFields) (a b c d : ToyState) (serial : List ℕ) (issuing : KeyFields) (fields : TbsFields) (made : CertificateFields) (value : List ℕ)
   (drawn : IsSerialDrawn (state_of a) (state_of b) serial)
@@ -137,3 +164,60 @@ module _ (key : KeyFields) (id : ℕ) (validity : ValidityFields) (a b c d : Toy
 
     pub read_again : IsMoment validity.not_before × IsMoment validity.not_after → IsReadAgain Der made
     read_again moments = end_entities_again {E = ToyFault} ToyChecks key serial id validity (state_of a) (state_of b) (state_of d) (Ok made) (λ e. Unit {0}) moments drawn to_key Der
+
+-- ---- behind the third call
+
+module _ (key : KeyFields) (not_after : ℤ) (before between given after : ToyIssuerState) (serial : List ℕ) (issuing : KeyFields) (fields : TbsFields)
+  (draws : DrewSerial before between serial)
+  (gives : GaveKey between given issuing)
+  (fields_are : IsMadeFor issuing key serial (record { not_before = before.from; not_after = not_after }) fields)
+  where
+    pub signed_so : (r : Result CertificateFields IssuerError) → IfOk r (SignedFields fields given after) → IfOk r (IsSignedFor key not_after before after)
+    signed_so (Ok made) s = record {
+      between = given;
+      serial = serial;
+      issuing = issuing;
+      ready = record { between = between; draws = draws; gives = gives };
+      fields = fields;
+      fields_are = fields_are;
+      signs = s;
+    }
+    signed_so (Err e) s = tt
+
+    pub unsigned_so : (r : Result CertificateFields IssuerError) → IfErr r (SignsNone given after) → IfErr r (MakesNone before after)
+    unsigned_so (Ok made) s = tt
+    unsigned_so (Err e) s = stops_at_signature before between given after serial issuing e draws gives s
+
+    module _ (drawn : IsSerialDrawn (state_of before.signer) (state_of between.signer) serial)
+      (key_is : IsKeyOf between.key (state_of between.signer) (state_of given.signer) issuing)
+      (distinct : AreDistinct (state_of given.signer).keyring)
+      where
+        own_key : between.key ≡ before.key
+        own_key = ap (λ (i : ToyIssuerState). i.key) draws.rest.is
+
+        given_key : given.key ≡ before.key
+        given_key = ap (λ (i : ToyIssuerState). i.key) gives.rest.is ∙ own_key
+
+        key_of_own : IsKeyOf before.key (state_of between.signer) (state_of given.signer) issuing
+        key_of_own = subst (λ (id : ℕ). IsKeyOf id (state_of between.signer) (state_of given.signer) issuing) own_key key_is
+
+        signature_of : (made : CertificateFields) (s : SignedFields fields given after made) → IsSignature ToyChecks RsaSha256 given.key (spelled_tbs fields) (state_of given.signer) (state_of after.signer) made.signed.signature.value
+            → IsSignature ToyChecks RsaSha256 before.key (spelled_tbs fields) (state_of given.signer) (state_of after.signer) s.value
+        signature_of made s signature =
+            subst (λ (value : List ℕ). IsSignature ToyChecks RsaSha256 before.key (spelled_tbs fields) (state_of given.signer) (state_of after.signer) value) (ap (λ (m : CertificateFields). m.signed.signature.value) s.is)
+            (subst (λ (id : ℕ). IsSignature ToyChecks RsaSha256 id (spelled_tbs fields) (state_of given.signer) (state_of after.signer) made.signed.signature.value) given_key signature)
+
+        pub made_so : (r : Result CertificateFields IssuerError) → IfOk r (SignedFields fields given after)
+            → IfOk r (λ made. IsSignature ToyChecks RsaSha256 given.key (spelled_tbs fields) (state_of given.signer) (state_of after.signer) made.signed.signature.value)
+            → IfOk r (IsEndEntityMade ToyChecks key before.key (record { not_before = before.from; not_after = not_after }) (state_of before.signer) (state_of after.signer))
+        made_so (Ok made) s signature =
+            end_entity key before.key (record { not_before = before.from; not_after = not_after }) before.signer between.signer given.signer after.signer serial issuing fields made s.value
+            drawn key_of_own distinct fields_are (signature_of made s signature) s.is
+        made_so (Err e) s signature = tt
+
+        pub again_so : IsMoment before.from × IsMoment not_after → (r : Result CertificateFields IssuerError) → IfOk r (SignedFields fields given after)
+            → IfOk r (λ made. IsSignature ToyChecks RsaSha256 given.key (spelled_tbs fields) (state_of given.signer) (state_of after.signer) made.signed.signature.value) → IfOk r (IsReadAgain Der)
+        again_so moments (Ok made) s signature =
+            read_again key before.key (record { not_before = before.from; not_after = not_after }) before.signer between.signer given.signer after.signer serial issuing fields made s.value
+            drawn key_of_own distinct fields_are (signature_of made s signature) s.is moments
+        again_so moments (Err e) s signature = tt

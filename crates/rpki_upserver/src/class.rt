@@ -15,11 +15,12 @@ ghost use Rattle.rpki_upserver.specs.Table.{new_class, place_of, put as put_in, 
 use crate::certified::Certified;
 use crate::issuer::{Issuer, IssuerError};
 use crate::kept::Kept;
+use crate::lawful::join;
 use crate::writable::are_octets;
 use rpki_base::{KeyIdentifier, Time};
 use rpki_common::OutOfMemory;
 use rpki_sets::ResourceSet;
-use rpki_text::uri::{Error, Rsync};
+use rpki_text::uri::Rsync;
 use rpki_updown::{
     IssuanceRequest, IssuanceResponse, IssuedCert, ResourceClassEntitlements, ResourceClassName,
     SigningCert,
@@ -201,12 +202,8 @@ impl Class {
         let _base = self.base.as_str();
         are_bytes(key.as_slice());
         let name = format!(in alloc; "{key}.cer")?;
-        match self.base.join(alloc, name.as_bytes()) {
-            Ok(uri) => Ok(uri),
-            Err(Error::OutOfMemory) => Err(OutOfMemory),
-            // A directory of at most 65000 octets with such a name behind it is lawful.
-            Err(_) => unreachable!(),
-        }
+        // A directory of at most 65000 octets with such a name behind it is lawful.
+        join(alloc, &self.base, name.as_bytes())
     }
 }
 

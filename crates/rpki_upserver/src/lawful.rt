@@ -1,26 +1,13 @@
-//! Values of a program's own numbers and texts, which are lawful.
+//! Values of texts that are lawful, so that memory alone may be wanting.
 
 ghost use Rattle.std.specs.Prelude.{◌≡◌, IfOk, None};
-ghost use Rattle.rpki_base.specs.Civil.{IsMoment};
 ghost use Rattle.rpki_text.specs.Handle.{IsHandle};
-ghost use Rattle.rpki_text.specs.Uri.{fault_of, rsync};
+ghost use Rattle.rpki_text.specs.Uri.{fault_of, joined, rsync};
 
-use rpki_base::Time;
 use rpki_common::OutOfMemory;
 use rpki_text::uri::{Error, Rsync};
 use rpki_text::{Handle, InvalidHandle};
 use std::alloc::Global;
-
-/// The moment of a second since 1970 in the years 0 to 9999.
-pub(crate) fn moment(seconds: i64) -> Time
-    requires { IsMoment seconds }
-    ensures { result ≡ seconds }
-{
-    match Time::new(seconds) {
-        Some(time) => time,
-        None => unreachable!(),
-    }
-}
 
 /// The URI that a text is.
 pub(crate) fn rsync_uri(alloc: Global, text: &str) -> Result<Rsync, OutOfMemory>
@@ -28,6 +15,18 @@ pub(crate) fn rsync_uri(alloc: Global, text: &str) -> Result<Rsync, OutOfMemory>
     ensures { IfOk result (λ uri. uri ≡ text.now) }
 {
     match Rsync::from_str(alloc, text) {
+        Ok(uri) => Ok(uri),
+        Err(Error::OutOfMemory) => Err(OutOfMemory),
+        Err(_) => unreachable!(),
+    }
+}
+
+/// The URI with a path behind it.
+pub(crate) fn join(alloc: Global, base: &Rsync, path: &[u8]) -> Result<Rsync, OutOfMemory>
+    requires { fault_of rsync (joined base.now path.now) ≡ None }
+    ensures { IfOk result (λ uri. uri ≡ joined base.now path.now) }
+{
+    match base.join(alloc, path) {
         Ok(uri) => Ok(uri),
         Err(Error::OutOfMemory) => Err(OutOfMemory),
         Err(_) => unreachable!(),

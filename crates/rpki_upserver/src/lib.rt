@@ -13,6 +13,7 @@
 //! specs/Serving.antt.
 #![tactic(auto)]
 
+mod beginning;
 mod certified;
 mod class;
 mod decision;
@@ -23,13 +24,13 @@ mod lawful;
 mod limits;
 mod parent;
 mod preparing;
-mod program_issuer;
 mod serving;
 mod signing;
 mod table;
 mod toy_issuer;
 mod writable;
 
+pub use beginning::program_issuer;
 pub use class::Class;
 pub use issuer::{Issuer, IssuerError};
 pub use law::{
@@ -38,6 +39,5 @@ pub use law::{
     what_is_told_was_issued_and_not_revoked, zero_answers_all,
 };
 pub use parent::{AnswerError, Parent};
-pub use program_issuer::program_issuer;
 pub use serving::serve;
 pub use toy_issuer::{ToyIssuer, ToyMade, resource_certificate};

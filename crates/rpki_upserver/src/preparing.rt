@@ -5,7 +5,7 @@ ghost use Rattle.rpki_sets.specs.Kinds.{blocks_of};
 ghost use Rattle.rpki_upserver.specs.Running.{AreNoWords, AreWords, IsFirstClass, IsFirstParent, IsFirstSet};
 
 use crate::class::Class;
-use crate::lawful::{handle, moment, rsync_uri};
+use crate::lawful::{handle, rsync_uri};
 use crate::parent::Parent;
 use rpki_base::{PublicKey, Time};
 use rpki_ca::Words;
@@ -54,13 +54,10 @@ fn blocks<N: Numbers>(alloc: Global, text: &str) -> Result<Option<Blocks<N>>, Ou
 fn resources(alloc: Global) -> Result<ResourceSet, OutOfMemory>
     ensures { IfOk result IsFirstSet }
 {
-    let asn: Option<AsBlocks> = blocks(alloc, "1-10")?;
-    let ipv4: Option<Ipv4Blocks> = blocks(alloc, "10.0.0.0/8")?;
-    let ipv6: Option<Ipv6Blocks> = blocks(alloc, "2001:db8::/32")?;
-    match (asn, ipv4, ipv6) {
-        (Some(asn), Some(ipv4), Some(ipv6)) => Ok(ResourceSet::new(asn, ipv4, ipv6)),
-        _ => unreachable!(),
-    }
+    let asn: AsBlocks = blocks(alloc, "1-10")?.unwrap();
+    let ipv4: Ipv4Blocks = blocks(alloc, "10.0.0.0/8")?.unwrap();
+    let ipv6: Ipv6Blocks = blocks(alloc, "2001:db8::/32")?.unwrap();
+    Ok(ResourceSet::new(asn, ipv4, ipv6))
 }
 
 // The one class.
@@ -71,10 +68,8 @@ fn class(alloc: Global, signing: &SigningCert) -> Result<Class, OutOfMemory>
     let set = resources(alloc)?;
     let signing = signing.clone(alloc)?;
     let base = rsync_uri(alloc, "rsync://localhost/repo/")?;
-    match Class::new(name, set, moment(2_524_607_999), base, signing) {
-        Some(class) => Ok(class),
-        None => unreachable!(),
-    }
+    let until = Time::new(2_524_607_999).unwrap();
+    Ok(Class::new(name, set, until, base, signing).unwrap())
 }
 
 /// The program's parent: it calls itself `Bob`, its child is `Carol` with this key, and it has one class, `0`, in which nothing was
@@ -91,8 +86,5 @@ pub(crate) fn first_parent(
     classes.push(class)?;
     let me: RecipientHandle = handle(alloc, "Bob")?;
     let child: SenderHandle = handle(alloc, "Carol")?;
-    match Parent::new(alloc, me, child, child_key, classes) {
-        Some(parent) => Ok(parent),
-        None => unreachable!(),
-    }
+    Ok(Parent::new(alloc, me, child, child_key, classes).unwrap())
 }

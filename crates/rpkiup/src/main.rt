@@ -1,6 +1,12 @@
 //! The program: its words, standard input and standard output are handed to `rpki_upserver::serve`, with toy signers and a toy issuer.
 #![tactic(auto)]
 
+ghost use Rattle.std.specs.Prelude.{◌≡◌, ℤ, IfOk, OnErr};
+ghost use Rattle.rpki_base.specs.PublicKey.{KeyFields};
+ghost use Rattle.rpki_ca.specs.Seen.{seen};
+ghost use Rattle.rpki_upserver.specs.ProgramIssuer.{IsProgramRun};
+ghost use Rattle.rpki_upserver.specs.Running.{AreWords};
+
 use command_line::{Own, own_text, program_signer, signer_of, words_of, write_text};
 use rpki_ca::{Refusal, Status, Words, refuse};
 use rpki_signer::ToyVerifier;
@@ -66,13 +72,22 @@ Example: rpkiup --help; echo $?
 
 const VERSION: &[u8] = b"rpkiup 0.1.0\n";
 
-// What it does, with a toy signer of replies and a toy issuer.
+// What it does with its words, where they ask for no text on itself.
 fn run<I: Source, O: Sink>(
     alloc: Global,
     words: &Words,
     input: &mut I,
     output: &mut O,
-) -> Result<Status, Refusal> {
+) -> Result<Status, Refusal>
+    // The issuer and the signer of replies are those of the program.
+    ensures ran { IfOk result (λ status. (when : ℤ) (child : KeyFields)
+        → AreWords words.now when child → IsProgramRun when child status.0
+        (seen I.rest I.faults input.old input.new)
+        (seen O.written O.faults output.old output.new)) }
+
+    // Where they aren't made, nothing is read or written.
+    ensures idle { OnErr result ((input.new ≡ input.old) × (output.new ≡ output.old)) }
+{
     let (mut signer, key) = program_signer(alloc)?;
     let (of_issuer, issuing_key) = signer_of(alloc, 3)?;
     let (mut issuer, signing) = program_issuer(alloc, of_issuer, issuing_key)?;

@@ -108,7 +108,11 @@ too_short text e short =
     cc
 
 by_length : (n : ℕ) → (n ≤ 8 → ⊥) → 8 < n
-by_length n no = elim (nat_lt 8 n) as (λ b. nat_lt 8 n ≡ b → 8 < n) [ true ↦ λ e. grind (arith, nat_tests) | false ↦ λ e. absurd (no (grind (arith, nat_tests))) ] refl
+by_length n never = one (nat_lt 8 n) refl
+  where
+    one : (b : Bool) → nat_lt 8 n ≡ b → 8 < n
+    one true e = grind (arith, nat_tests)
+    one false e = absurd (never (grind (arith, nat_tests)))
 
 -- a text with others behind it
 with_behind : (base more : List ℕ) → Rules base → 8 < length base → list_all is_uri_octet more ≡ true → has_host_and_module (slice_split is_slash (drop 8 base ++ more)) ≡ true → has_dot_segment (slice_split is_slash (drop 8 base ++ more)) ≡ false → Rules (base ++ more)

@@ -12,9 +12,9 @@ ghost use Rattle.rpki_signer.specs.ToySigner.{ToyState, state_of};
 ghost use Rattle.rpki_ca.specs.declared.refusals.Refusal.TheVariants as refusals;
 ghost use Rattle.rpki_upserver.specs.ProgramIssuer.{IsProgramIssuer, StopsAnchor, always, signing_url};
 
-use crate::lawful::{moment, rsync_uri};
+use crate::lawful::rsync_uri;
 use crate::toy_issuer::{ToyIssuer, made_certificate};
-use rpki_base::Validity;
+use rpki_base::{Time, Validity};
 use rpki_ca::Refusal;
 use rpki_common::OutOfMemory;
 use rpki_idcert::IdCert;
@@ -30,7 +30,9 @@ fn anchor(alloc: Global, signer: &mut ToySigner, key: u64) -> Result<IdCert, Ref
     ensures again { IfOk result (IsReadAgain Der) }
     ensures err { IfErr result (StopsAnchor key signer.old signer.new) }
 {
-    let validity = Validity::new(moment(0), moment(253_402_300_799));
+    let first = Time::new(0).unwrap();
+    let last = Time::new(253_402_300_799).unwrap();
+    let validity = Validity::new(first, last);
     match IdCert::new_ta::<ToyScheme, ToySigner>(alloc, validity, &key, signer) {
         Ok(anchor) => Ok(anchor),
         Err(error) => Err(Refusal::from(CreateError::from(error))),
@@ -66,5 +68,6 @@ pub fn program_issuer(
     let mut signer = signer;
     let anchor = anchor(alloc, &mut signer, key)?;
     let signing = published(alloc, &anchor)?;
-    Ok((ToyIssuer::new(alloc, signer, key, moment(0)), signing))
+    let from = Time::new(0).unwrap();
+    Ok((ToyIssuer::new(alloc, signer, key, from), signing))
 }
