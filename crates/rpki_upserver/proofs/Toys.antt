@@ -141,12 +141,12 @@ short_told octets told = one (nat_lt 65536 (length octets)) refl
     one false e = grind (arith, nat_tests)
 
 module _ (key : KeyFields) (id : ℕ) (validity : ValidityFields) (a b c d : ToyState) (serial : List ℕ) (issuing : KeyFields) (fields : TbsFields) (made : CertificateFields) (value : List ℕ)
-  (drawn : IsSerialDrawn (state_of a) (state_of b) serial)
-  (given : IsKeyOf id (state_of b) (state_of c) issuing)
-  (distinct : AreDistinct (state_of c).keyring)
-  (fields_are : IsMadeFor issuing key serial validity fields)
-  (signature : IsSignature ToyChecks RsaSha256 id (spelled_tbs fields) (state_of c) (state_of d) value)
-  (is : made ≡ record { signed = record { slice = spelled_tbs fields; signature = record { algorithm = default_algorithm; value = value } }; tbs = fields })
+    (drawn : IsSerialDrawn (state_of a) (state_of b) serial)
+    (given : IsKeyOf id (state_of b) (state_of c) issuing)
+    (distinct : AreDistinct (state_of c).keyring)
+    (fields_are : IsMadeFor issuing key serial validity fields)
+    (signature : IsSignature ToyChecks RsaSha256 id (spelled_tbs fields) (state_of c) (state_of d) value)
+    (is : made ≡ record { signed = record { slice = spelled_tbs fields; signature = record { algorithm = default_algorithm; value = value } }; tbs = fields })
   where
     signed_as : IsSignedAs ToyChecks fields id (state_of c) (state_of d) made
     signed_as = subst (λ (m : CertificateFields). IsSignedAs ToyChecks fields id (state_of c) (state_of d) m) (sym is) (record {
@@ -168,9 +168,9 @@ module _ (key : KeyFields) (id : ℕ) (validity : ValidityFields) (a b c d : Toy
 -- ---- behind the third call
 
 module _ (key : KeyFields) (not_after : ℤ) (before between given after : ToyIssuerState) (serial : List ℕ) (issuing : KeyFields) (fields : TbsFields)
-  (draws : DrewSerial before between serial)
-  (gives : GaveKey between given issuing)
-  (fields_are : IsMadeFor issuing key serial (record { not_before = before.from; not_after = not_after }) fields)
+    (draws : DrewSerial before between serial)
+    (gives : GaveKey between given issuing)
+    (fields_are : IsMadeFor issuing key serial (record { not_before = before.from; not_after = not_after }) fields)
   where
     pub signed_so : (r : Result CertificateFields IssuerError) → IfOk r (SignedFields fields given after) → IfOk r (IsSignedFor key not_after before after)
     signed_so (Ok made) s = record {
@@ -189,8 +189,8 @@ module _ (key : KeyFields) (not_after : ℤ) (before between given after : ToyIs
     unsigned_so (Err e) s = stops_at_signature before between given after serial issuing e draws gives s
 
     module _ (drawn : IsSerialDrawn (state_of before.signer) (state_of between.signer) serial)
-      (key_is : IsKeyOf between.key (state_of between.signer) (state_of given.signer) issuing)
-      (distinct : AreDistinct (state_of given.signer).keyring)
+        (key_is : IsKeyOf between.key (state_of between.signer) (state_of given.signer) issuing)
+        (distinct : AreDistinct (state_of given.signer).keyring)
       where
         own_key : between.key ≡ before.key
         own_key = ap (λ (i : ToyIssuerState). i.key) draws.rest.is
