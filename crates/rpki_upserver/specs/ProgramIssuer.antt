@@ -44,8 +44,8 @@ pub record IsProgramIssuer (signer : ToyState) (key : ℕ) (issuer : ToyIssuerSt
   pub url : signing.url ≡ signing_url
   pub cert : BeginsAs (certificate Der) Der (spelled_data spelled_x509 anchor.signed) signing.cert
 
--- The signer refused, which this was of its refusals of the key or the signature, or memory ran out,
--- and that is told by its name.
+-- The signer didn't make the certificate: it refused the key or the signature, or memory ran out.
+-- This is told by its name.
 pub record StopsAnchor (key : ℕ) (before after : ToyState) (refusal : Refusal) : Type 0 where
   pub error : MakeError ToyFault
   pub stops : StopsInTurn ToyChecks key (state_of before) (state_of after) error

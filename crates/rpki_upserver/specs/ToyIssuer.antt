@@ -81,7 +81,7 @@ pub record CountedCall (before after : ToyIssuerState) : Type 0 where
   pub counted_is : after.signer ≡ counted before.signer
   pub rest : DidNothing before after
 
--- ---- the calls of its signer. For a certificate there are three: it draws, gives its key and signs.
+-- ---- the calls of its signer, three for a certificate: it draws, gives its key and signs
 
 -- the signer drew twenty octets, which are the serial number when their first bit is cleared
 pub record DrewSerial (before after : ToyIssuerState) (serial : List ℕ) : Type 0 where
@@ -151,7 +151,8 @@ pub record IsReady (before after : ToyIssuerState) (serial : List ℕ) (issuing 
     pub draws : DrewSerial before between serial
     pub gives : GaveKey between after issuing
 
--- the signer drew and gave the key, and signed the fields of a certificate of this key, valid until then
+-- The signer drew and gave the key, and signed the fields of a certificate of this key, valid until
+-- then.
 pub record IsSignedFor (key : KeyFields) (not_after : ℤ) (before after : ToyIssuerState)
     (made : CertificateFields) : Type 0 where
   pub between : ToyIssuerState
@@ -191,7 +192,8 @@ pub record StopsAtSignature (before after : ToyIssuerState) : Type 0 where
   pub ready : IsReady before between serial issuing
   pub stops : SignedNone between after
 
--- its signer made no certificate, for another reason than want of memory: it stopped at the first, the second or the third call
+-- its signer made no certificate, for another reason than want of memory: it stopped at the first
+-- call, the second or the third
 abbrev pub MadeNone : ToyIssuerState → ToyIssuerState → Type 0
 MadeNone before after =
     DrewNone before after ⊎ (StopsAtKey before after ⊎ StopsAtSignature before after)

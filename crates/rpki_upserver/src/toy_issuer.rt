@@ -15,7 +15,7 @@ ghost use Rattle.rpki_signer.specs.Signer.{AreDistinct, IsKeyOf, IsSignature};
 ghost use Rattle.rpki_signer.specs.Toy.{ToyChecks};
 ghost use Rattle.rpki_signer.specs.ToySigner.{state_of};
 ghost use Rattle.rpki_upserver.specs.Issuer.{IsIssued, IsRevoked, IssuerFails};
-ghost use Rattle.rpki_upserver.specs.ToyIssuer.{DrewNone, DrewSerial, GaveKey, GivesNoKey, IsReady, IsSignedFor};
+ghost use Rattle.rpki_upserver.specs.ToyIssuer.{DrewNone, DrewSerial, GaveKey, GivesNoKey, IsSignedFor};
 ghost use Rattle.rpki_upserver.specs.ToyIssuer.{IsToyCertificate, IsToyIssue, IsToyRevocation, MakesNone, SignedFields, SignsNone};
 ghost use Rattle.rpki_upserver.specs.ToyIssuer.{after_fault, issuer_state, made_of, toy_issuer, with_gone, with_made};
 ghost use Rattle.rpki_upserver.specs.declared.issuer.IssuerError.TheVariants as errors;
