@@ -88,3 +88,13 @@ pub fn signer_of(alloc: Global, seed: u64) -> Result<(ToySigner, u64), Refusal>
         Err(CallError::OutOfMemory) => Err(Refusal::OutOfMemory),
     }
 }
+
+/// The signer of the programs: the toy signer of seed 1, of which no call is to fail, with the RSA key that its first call makes, and
+/// that key's identifier. The only refusal is OutOfMemory.
+pub fn program_signer(alloc: Global) -> Result<(ToySigner, u64), Refusal>
+    ensures signer { IfOk result (λ r. r.0 ≡ after_creating Rsa (toy_signer 1 [])) }
+    ensures key { IfOk result (λ r. (key : KeyFields) × Holds (state_of r.0).keyring r.1 key) }
+    ensures err { IfErr result (λ e. e ≡ Refusal.OutOfMemory) }
+{
+    signer_of(alloc, 1)
+}

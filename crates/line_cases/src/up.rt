@@ -2,14 +2,12 @@
 
 ghost use Rattle.std.specs.Prelude.{IfOk};
 
-use rpki_base::{PublicKeyFormat, Time, Validity};
-use rpki_ca::{Status, Words};
-use rpki_idcert::IdCert;
+use rpki_base::PublicKeyFormat;
+use rpki_ca::{Refusal, Status, Words};
 use rpki_signer::{Signer, ToyScheme, ToySigner, ToyVerifier};
-use rpki_text::uri::Rsync;
 use rpki_text::{MemorySink, MemorySource};
 use rpki_updown::SigningCert;
-use rpki_upserver::{ToyIssuer, resource_certificate, serve};
+use rpki_upserver::{ToyIssuer, program_issuer, serve};
 use std::alloc::Global;
 use std::io;
 use std::io::ErrorKind;
@@ -38,34 +36,6 @@ fn signer_of(alloc: Global, seed: u64, failing: Option<u64>) -> io::Result<ToySi
     match Signer::<ToyScheme>::create_key(&mut signer, alloc, PublicKeyFormat::Rsa) {
         Ok(_) => Ok(signer),
         Err(_) => Err(out_of_memory()),
-    }
-}
-
-// From the first moment to the last.
-fn always() -> io::Result<Validity> {
-    let (Some(first), Some(last)) = (Time::new(0), Time::new(253_402_300_799)) else {
-        return Err(out_of_memory());
-    };
-    Ok(Validity::new(first, last))
-}
-
-fn signing_url(alloc: Global) -> io::Result<Rsync> {
-    Rsync::from_str(alloc, "rsync://localhost/repo/ta.cer").map_err(|_| out_of_memory())
-}
-
-fn published(alloc: Global, anchor: &IdCert) -> io::Result<SigningCert> {
-    let url = signing_url(alloc)?;
-    match resource_certificate(alloc, anchor) {
-        Ok(cert) => Ok(SigningCert::new(url, cert)),
-        Err(_) => Err(out_of_memory()),
-    }
-}
-
-// The certificate of the issuer's key: its own, always valid.
-fn signing_cert(alloc: Global, signer: &mut ToySigner) -> io::Result<SigningCert> {
-    match IdCert::new_ta::<ToyScheme, ToySigner>(alloc, always()?, &0, signer) {
-        Ok(anchor) => published(alloc, &anchor),
-        Err(_) => Err(invalid()),
     }
 }
 
@@ -125,11 +95,11 @@ pub fn first_signer(alloc: Global, failing: &Failing) -> io::Result<ToySigner> {
 
 /// The issuer, and the certificate of its key.
 pub fn first_issuer(alloc: Global, failing: &Failing) -> io::Result<(ToyIssuer, SigningCert)> {
-    let mut signer = signer_of(alloc, 3, failing.issuer)?;
-    let signing = signing_cert(alloc, &mut signer)?;
-    match Time::new(0) {
-        Some(from) => Ok((ToyIssuer::new(alloc, signer, 0, from), signing)),
-        None => Err(invalid()),
+    let signer = signer_of(alloc, 3, failing.issuer)?;
+    match program_issuer(alloc, signer, 0) {
+        Ok(made) => Ok(made),
+        Err(Refusal::OutOfMemory) => Err(out_of_memory()),
+        Err(_) => Err(invalid()),
     }
 }
 

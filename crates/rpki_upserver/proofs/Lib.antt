@@ -11,6 +11,8 @@ pub mod Changing
 pub mod Tables
 pub mod Deciding
 pub mod Outer
+pub mod Naming
+pub mod Meanings
 pub mod Toys
 pub mod Issuing
 pub mod Saying

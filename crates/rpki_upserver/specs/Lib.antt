@@ -1,5 +1,5 @@
 -- Said in contracts, and to be believed: Issuer, Table, Response, Answering, Serving, Running,
--- History, Ends, ToyIssuer. Means: Kept, Decision.
+-- History, Ends, ToyIssuer, ProgramIssuer. Means: Kept, Decision.
 pub mod Issuer
 pub mod Table
 pub mod Response
@@ -9,5 +9,6 @@ pub mod Running
 pub mod History
 pub mod Ends
 pub mod ToyIssuer
+pub mod ProgramIssuer
 pub mod Kept
 pub mod Decision

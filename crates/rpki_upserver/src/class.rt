@@ -1,6 +1,7 @@
 //! Resource classes.
 
 ghost use Rattle.std.specs.Prelude.{◌≡◌, ◌↔◌, ◌<◌, [], true, length, position, IfErr, IfOk, IfSome, IsSome, IsTrue, OnErr, OnOk, Some, slice_get};
+ghost use Rattle.hex.specs.Hex.{IsBytes};
 ghost use Rattle.rpki_provisioning.specs.Writable.{IsWritableClass, IsWritableLimit};
 ghost use Rattle.rpki_xml.specs.Lettered.{AreOctets};
 ghost use Rattle.rpki_updown.specs.Entitlements.{IssuedFields, issuance};
@@ -14,6 +15,7 @@ ghost use Rattle.rpki_upserver.specs.Table.{new_class, place_of, put as put_in, 
 use crate::certified::Certified;
 use crate::issuer::{Issuer, IssuerError};
 use crate::kept::Kept;
+use crate::lawful::join;
 use crate::writable::are_octets;
 use rpki_base::{KeyIdentifier, Time};
 use rpki_common::OutOfMemory;
@@ -86,6 +88,11 @@ fn are_sound(set: &ResourceSet, not_after: Time, signing: &SigningCert)
     let _url = signing.url().as_str();
     let _cert = signing.cert().as_slice();
 }
+
+// For the proof: each octet is below 256.
+fn are_bytes(octets: &[u8])
+    ensures { IsBytes octets.now }
+{}
 
 /// # Making
 impl Class {
@@ -191,12 +198,12 @@ impl Class {
     pub fn uri_of(&self, alloc: Global, key: KeyIdentifier) -> Result<Rsync, OutOfMemory>
         ensures { IfOk result (λ uri. uri ≡ place_of self.now.base key) }
     {
+        // For the proof: the directory's URI is lawful, and the identifier has twenty octets.
+        let _base = self.base.as_str();
+        are_bytes(key.as_slice());
         let name = format!(in alloc; "{key}.cer")?;
-        match self.base.join(alloc, name.as_bytes()) {
-            Ok(uri) => Ok(uri),
-            // A directory of at most 65000 octets with such a name behind it is lawful.
-            Err(_) => Err(OutOfMemory),
-        }
+        // A directory of at most 65000 octets with such a name behind it is lawful.
+        join(alloc, &self.base, name.as_bytes())
     }
 }
 

@@ -7,18 +7,20 @@
 //!   certificates are signed in the toy scheme, without security.
 //! - [`no_certificate_is_beyond_its_class`], [`revoked_keys_are_not_certified_again`], [`what_is_told_was_issued_and_not_revoked`],
 //!   [`internal_errors_have_causes`]: what holds of every parent, whatever its child asks.
-//! - [`serve`] is what the program `rpkiup` does.
+//! - [`serve`] is what the program `rpkiup` does, and [`program_issuer`] the issuer with which it begins.
 //!
 //! What is answered stands row by row in specs/Response.antt, what is sent in specs/Answering.antt, and what the program writes in
 //! specs/Serving.antt.
 #![tactic(auto)]
 
+mod beginning;
 mod certified;
 mod class;
 mod decision;
 mod issuer;
 mod kept;
 mod law;
+mod lawful;
 mod limits;
 mod parent;
 mod preparing;
@@ -28,6 +30,7 @@ mod table;
 mod toy_issuer;
 mod writable;
 
+pub use beginning::program_issuer;
 pub use class::Class;
 pub use issuer::{Issuer, IssuerError};
 pub use law::{

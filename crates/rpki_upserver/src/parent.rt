@@ -181,7 +181,7 @@ impl Parent {
         match receive(self.alloc, kind, octets, &self.child_key, when, verifier) {
             Ok(Received::Provisioning(message)) => Ok(message),
             // A message of the other protocol isn't received.
-            Ok(Received::Publication(_)) => Err(ReceiveError::OutOfMemory),
+            Ok(Received::Publication(_)) => unreachable!(),
             Err(error) => Err(error),
         }
     }

@@ -1,16 +1,16 @@
 //! What the program begins with: what its words ask for, and its parent.
 
-ghost use Rattle.std.specs.Prelude.{◌≡◌, IfOk, IfSome, IsNone, Some};
+ghost use Rattle.std.specs.Prelude.{◌≡◌, IfOk, IfSome, IsNone};
 ghost use Rattle.rpki_sets.specs.Kinds.{blocks_of};
 ghost use Rattle.rpki_upserver.specs.Running.{AreNoWords, AreWords, IsFirstClass, IsFirstParent, IsFirstSet};
 
 use crate::class::Class;
+use crate::lawful::{handle, rsync_uri};
 use crate::parent::Parent;
 use rpki_base::{PublicKey, Time};
 use rpki_ca::Words;
 use rpki_common::OutOfMemory;
-use rpki_sets::{AsBlocks, Blocks, Ipv4Blocks, Ipv6Blocks, Numbers, ResourceSet};
-use rpki_text::uri::Rsync;
+use rpki_sets::{AsBlocks, Blocks, BlocksError, Ipv4Blocks, Ipv6Blocks, Numbers, ResourceSet};
 use rpki_text::{RecipientHandle, SenderHandle};
 use rpki_updown::{ResourceClassName, SigningCert};
 use std::alloc::Global;
@@ -39,13 +39,14 @@ pub(crate) fn terms_of(alloc: Global, words: &Words) -> Result<Option<Terms>, Ou
     Ok(Some(Terms { when, child }))
 }
 
-// The set that a text means, which means one.
-fn blocks<N: Numbers>(alloc: Global, text: &str) -> Result<Blocks<N>, OutOfMemory>
-    ensures { IfOk result (λ blocks. blocks_of N.kind text.now ≡ Some blocks) }
+// The set that a text means, if it means one.
+fn blocks<N: Numbers>(alloc: Global, text: &str) -> Result<Option<Blocks<N>>, OutOfMemory>
+    ensures { IfOk result (λ o. o ≡ blocks_of N.kind text.now) }
 {
     match Blocks::from_str(alloc, text) {
-        Ok(blocks) => Ok(blocks),
-        Err(_) => Err(OutOfMemory),
+        Ok(blocks) => Ok(Some(blocks)),
+        Err(BlocksError::OutOfMemory) => Err(OutOfMemory),
+        Err(BlocksError::Malformed) => Ok(None),
     }
 }
 
@@ -53,48 +54,22 @@ fn blocks<N: Numbers>(alloc: Global, text: &str) -> Result<Blocks<N>, OutOfMemor
 fn resources(alloc: Global) -> Result<ResourceSet, OutOfMemory>
     ensures { IfOk result IsFirstSet }
 {
-    let asn: AsBlocks = blocks(alloc, "1-10")?;
-    let ipv4: Ipv4Blocks = blocks(alloc, "10.0.0.0/8")?;
-    let ipv6: Ipv6Blocks = blocks(alloc, "2001:db8::/32")?;
+    let asn: AsBlocks = blocks(alloc, "1-10")?.unwrap();
+    let ipv4: Ipv4Blocks = blocks(alloc, "10.0.0.0/8")?.unwrap();
+    let ipv6: Ipv6Blocks = blocks(alloc, "2001:db8::/32")?.unwrap();
     Ok(ResourceSet::new(asn, ipv4, ipv6))
 }
 
-// The one class, or None where it isn't made.
-fn class(alloc: Global, signing: &SigningCert) -> Result<Option<Class>, OutOfMemory>
-    ensures { IfOk result (λ o. IfSome o (IsFirstClass signing.now)) }
+// The one class.
+fn class(alloc: Global, signing: &SigningCert) -> Result<Class, OutOfMemory>
+    ensures { IfOk result (IsFirstClass signing.now) }
 {
     let name = ResourceClassName::default_name(alloc)?;
     let set = resources(alloc)?;
     let signing = signing.clone(alloc)?;
-    let (Some(until), Ok(base)) = (
-        Time::new(2_524_607_999),
-        Rsync::from_str(alloc, "rsync://localhost/repo/"),
-    ) else {
-        return Ok(None);
-    };
-    Ok(Class::new(name, set, until, base, signing))
-}
-
-// The parent, or None where it isn't made.
-fn made_parent(
-    alloc: Global,
-    child_key: PublicKey,
-    signing: &SigningCert,
-) -> Result<Option<Parent>, OutOfMemory>
-    ensures { IfOk result (λ o. IfSome o (IsFirstParent child_key signing.now)) }
-{
-    let Some(class) = class(alloc, signing)? else {
-        return Ok(None);
-    };
-    let mut classes = Vec::with_capacity(alloc, 1)?;
-    classes.push(class)?;
-    let (Ok(me), Ok(child)) = (
-        RecipientHandle::from_str(alloc, "Bob"),
-        SenderHandle::from_str(alloc, "Carol"),
-    ) else {
-        return Ok(None);
-    };
-    Ok(Parent::new(alloc, me, child, child_key, classes))
+    let base = rsync_uri(alloc, "rsync://localhost/repo/")?;
+    let until = Time::new(2_524_607_999).unwrap();
+    Ok(Class::new(name, set, until, base, signing).unwrap())
 }
 
 /// The program's parent: it calls itself `Bob`, its child is `Carol` with this key, and it has one class, `0`, in which nothing was
@@ -106,8 +81,10 @@ pub(crate) fn first_parent(
 ) -> Result<Parent, OutOfMemory>
     ensures { IfOk result (IsFirstParent child_key signing.now) }
 {
-    match made_parent(alloc, child_key, signing)? {
-        Some(parent) => Ok(parent),
-        None => Err(OutOfMemory),
-    }
+    let class = class(alloc, signing)?;
+    let mut classes = Vec::with_capacity(alloc, 1)?;
+    classes.push(class)?;
+    let me: RecipientHandle = handle(alloc, "Bob")?;
+    let child: SenderHandle = handle(alloc, "Carol")?;
+    Ok(Parent::new(alloc, me, child, child_key, classes).unwrap())
 }

@@ -1,27 +1,33 @@
 //! An issuer of the toy scheme.
 
-ghost use Rattle.std.specs.Prelude.{◌≡◌, ◌≤◌, map, Decides, IfErr, IfOk, MatchResult, OnErr, OnOk};
+ghost use Rattle.std.specs.Prelude.{◌≡◌, ◌≤◌, map, IfErr, IfOk, IsErrOf, MatchResult, OnErr, OnOk};
 ghost use Rattle.sha1.specs.Sha1.{sha1};
 ghost use Rattle.rpki_der.specs.declared.mode.Mode.TheVariants.{Der};
-ghost use Rattle.rpki_der.specs.Takes.{Decodes};
+ghost use Rattle.rpki_der.specs.Takes.{BeginsAs, Decodes};
+ghost use Rattle.rpki_base.specs.declared.algorithm.SigningAlgorithm.TheVariants.{RsaSha256};
 ghost use Rattle.rpki_base.specs.RpkiSignatureAlgorithm.{spelled_x509};
 ghost use Rattle.rpki_base.specs.SignedData.{CanBeSpelled, spelled_data};
 ghost use Rattle.rpki_cert.specs.Cert.{certificate};
+ghost use Rattle.rpki_idcert.specs.Making.{IsEndEntityMade, IsReadAgain};
+ghost use Rattle.rpki_idcert.specs.Spelling.{spelled_tbs};
+ghost use Rattle.rpki_signer.specs.Serials.{IsSerialDrawn};
+ghost use Rattle.rpki_signer.specs.Signer.{AreDistinct, IsKeyOf, IsSignature};
+ghost use Rattle.rpki_signer.specs.Toy.{ToyChecks};
+ghost use Rattle.rpki_signer.specs.ToySigner.{state_of};
 ghost use Rattle.rpki_upserver.specs.Issuer.{IsIssued, IsRevoked, IssuerFails};
-ghost use Rattle.rpki_upserver.specs.ToyIssuer.{GaveKey, GivesNoKey, IsToyCertificate, IsToyIssue, IsToyRevocation, MakesNone};
-ghost use Rattle.rpki_upserver.specs.ToyIssuer.{with_gone, with_made};
-ghost use Rattle.rpki_signer.specs.declared.errors.MakeError.TheVariants as make;
-ghost use Rattle.rpki_upserver.specs.ToyIssuer.{after_fault, issuer_state, made_of, toy_issuer};
+ghost use Rattle.rpki_upserver.specs.ToyIssuer.{DrewNone, DrewSerial, GaveKey, GivesNoKey, IsSignedFor};
+ghost use Rattle.rpki_upserver.specs.ToyIssuer.{IsToyCertificate, IsToyIssue, IsToyRevocation, MakesNone, SignedFields, SignsNone};
+ghost use Rattle.rpki_upserver.specs.ToyIssuer.{after_fault, issuer_state, made_of, toy_issuer, with_gone, with_made};
 ghost use Rattle.rpki_upserver.specs.declared.issuer.IssuerError.TheVariants as errors;
 
 use crate::issuer::{Issuer, IssuerError};
-use rpki_base::{KeyIdentifier, Time, ToyFault, Validity};
+use rpki_base::{KeyIdentifier, PublicKey, RpkiSignatureAlgorithm, Serial, Time, Validity};
 use rpki_cert::{Cert, RpkiCaCsr};
 use rpki_common::OutOfMemory;
 use rpki_der::DecodeError;
-use rpki_idcert::IdCert;
+use rpki_idcert::{IdCert, TbsIdCert, UnsignedIdCert};
 use rpki_sets::ResourceSet;
-use rpki_signer::{KeyError, MakeError, Signer, ToyScheme, ToySigner};
+use rpki_signer::{CallError, KeyError, Signer, SigningError, ToyScheme, ToySigner};
 use rpki_updown::{KeyElement, ResourceClassName};
 use std::alloc::Global;
 use std::marker::Model;
@@ -147,41 +153,6 @@ impl ToyIssuer {
         IssuerError::Failed
     }
 
-    // The signed certificate for the key of a request, until this time.
-    fn certificate(
-        &mut self,
-        alloc: Global,
-        csr: &RpkiCaCsr,
-        not_after: Time,
-    ) -> Result<Cert, IssuerError>
-        ensures ok { IfOk result (IsToyCertificate csr.now not_after self.old self.new) }
-        ensures err { IfErr result (MakesNone self.old self.new) }
-        ensures later { OnErr result (self.old.issuer.faults ≤ self.new.issuer.faults) }
-    {
-        let validity = Validity::new(self.from, not_after);
-        let made = IdCert::new_ee::<ToyScheme, ToySigner>(
-            alloc,
-            csr.public_key(),
-            validity,
-            &self.key,
-            &mut self.signer,
-        );
-        match made {
-            Ok(cert) => match resource_certificate(alloc, &cert) {
-                Ok(cert) => Ok(cert),
-                // What is written of a certificate that was made is read as one, so memory alone is
-                // wanting.
-                Err(_) => Err(IssuerError::OutOfMemory),
-            },
-            Err(error) => {
-                if is_memory(&error) {
-                    return Err(IssuerError::OutOfMemory);
-                }
-                Err(self.fail())
-            }
-        }
-    }
-
     // Adds what was issued.
     fn add_made(&mut self, made: ToyMade) -> Result<(), OutOfMemory>
         ensures ok { OnOk result (self.new ≡ record self.old {
@@ -203,29 +174,108 @@ impl ToyIssuer {
         self.gone.push(gone)?;
         Ok(())
     }
+}
 
-    // Asks the signer for its key.
-    fn ask(&mut self, alloc: Global) -> Result<(), IssuerError>
-        ensures ok { OnOk result (GaveKey self.old self.new) }
+// The calls of the signer, by what they answer exactly.
+impl ToyIssuer {
+    // A serial number that the signer draws. It takes no memory.
+    fn draw(&mut self) -> Result<Serial, IssuerError>
+        ensures ok { IfOk result (DrewSerial self.old self.new) }
+        ensures err { IfErr result (λ e. (e ≡ errors.Failed) × DrewNone self.old self.new) }
+        ensures later { OnErr result (self.old.issuer.faults ≤ self.new.issuer.faults) }
+        ensures drawn { IfOk result (IsSerialDrawn (state_of self.old.signer)
+            (state_of self.new.signer)) }
+    {
+        let mut octets = [0u8; 20];
+        match Signer::<ToyScheme>::rand(&mut self.signer, &mut octets) {
+            Ok(()) => {
+                octets[0] &= 0x7F;
+                Ok(Serial::from(octets))
+            }
+            Err(CallError::Signer(_)) => Err(self.fail()),
+            Err(CallError::OutOfMemory) => unreachable!(),
+        }
+    }
+
+    // The signer's key.
+    fn ask(&mut self, alloc: Global) -> Result<PublicKey, IssuerError>
+        ensures ok { IfOk result (GaveKey self.old self.new) }
         ensures err { IfErr result (GivesNoKey self.old self.new) }
         ensures later { OnErr result (self.old.issuer.faults ≤ self.new.issuer.faults) }
+        ensures given { IfOk result (IsKeyOf self.old.key (state_of self.old.signer)
+            (state_of self.new.signer)) }
+        ensures distinct { OnOk result (AreDistinct (state_of self.new.signer).keyring) }
     {
         match Signer::<ToyScheme>::get_key_info(&mut self.signer, alloc, &self.key) {
-            Ok(_) => Ok(()),
+            Ok(key) => Ok(key),
             Err(KeyError::OutOfMemory) => Err(IssuerError::OutOfMemory),
             Err(KeyError::KeyNotFound) => Err(self.fail()),
             Err(KeyError::Signer(_)) => Err(self.fail()),
         }
     }
+
+    // The certificate with these fields, signed under the signer's key.
+    fn sign(&mut self, alloc: Global, fields: UnsignedIdCert) -> Result<IdCert, IssuerError>
+        ensures ok { IfOk result (SignedFields fields self.old self.new) }
+        ensures err { IfErr result (SignsNone self.old self.new) }
+        ensures later { OnErr result (self.old.issuer.faults ≤ self.new.issuer.faults) }
+        ensures signed { IfOk result (λ made. IsSignature ToyChecks RsaSha256 self.old.key
+            (spelled_tbs fields) (state_of self.old.signer) (state_of self.new.signer)
+            made.signed.signature.value) }
+    {
+        let algorithm = RpkiSignatureAlgorithm::default();
+        let octets = fields.as_slice();
+        match Signer::<ToyScheme>::sign(&mut self.signer, alloc, &self.key, algorithm, octets) {
+            Ok(signature) => Ok(fields.with_signature(signature)),
+            Err(SigningError::OutOfMemory) => Err(IssuerError::OutOfMemory),
+            Err(SigningError::KeyNotFound) => Err(self.fail()),
+            Err(SigningError::IncompatibleKey) => Err(self.fail()),
+            Err(SigningError::Signer(_)) => Err(self.fail()),
+        }
+    }
 }
 
-// Whether memory ran out.
-fn is_memory(error: &MakeError<ToyFault>) -> bool
-    ensures { Decides result (error.now ≡ make.OutOfMemory) }
-{
-    match error {
-        MakeError::OutOfMemory => true,
-        _ => false,
+// What is made by these calls.
+impl ToyIssuer {
+    // The certificate of a key until this time, by the calls with which `IdCert::new_ee` makes it.
+    fn signed_for(
+        &mut self,
+        alloc: Global,
+        key: &PublicKey,
+        not_after: Time,
+    ) -> Result<IdCert, IssuerError>
+        ensures ok { IfOk result (IsSignedFor key.now not_after self.old self.new) }
+        ensures err { IfErr result (MakesNone self.old self.new) }
+        ensures later { OnErr result (self.old.issuer.faults ≤ self.new.issuer.faults) }
+        ensures made { IfOk result (IsEndEntityMade ToyChecks key.now self.old.key
+            (record { not_before = self.old.from; not_after = not_after })
+            (state_of self.old.signer) (state_of self.new.signer)) }
+        ensures again { IfOk result (IsReadAgain Der) }
+    {
+        // For the proof: both ends of the validity are in the years 0 to 9999, by their type.
+        let _from = self.from.seconds();
+        let _until = not_after.seconds();
+        let validity = Validity::new(self.from, not_after);
+        let serial = self.draw()?;
+        let issuing = self.ask(alloc)?;
+        let fields = TbsIdCert::new(alloc, serial, validity, key, &issuing)?;
+        let unsigned = UnsignedIdCert::new(alloc, fields)?;
+        self.sign(alloc, unsigned)
+    }
+
+    // The signed certificate for the key of a request, until this time.
+    fn certificate(
+        &mut self,
+        alloc: Global,
+        csr: &RpkiCaCsr,
+        not_after: Time,
+    ) -> Result<Cert, IssuerError>
+        ensures ok { IfOk result (IsToyCertificate csr.now not_after self.old self.new) }
+        ensures err { IfErr result (MakesNone self.old self.new) }
+        ensures later { OnErr result (self.old.issuer.faults ≤ self.new.issuer.faults) }
+    {
+        let made = self.signed_for(alloc, csr.public_key(), not_after)?;
+        Ok(made_certificate(alloc, &made)?)
     }
 }
 
@@ -261,9 +311,26 @@ pub fn resource_certificate(alloc: Global, cert: &IdCert) -> Result<Cert, Decode
     ensures decoded { Decodes (certificate Der) (λ c. c) Der
         (spelled_data spelled_x509 cert.now.signed) result }
     ensures spelled { OnOk result (CanBeSpelled spelled_x509 cert.now.signed) }
+
+    // Of a certificate whose octets are read again memory alone may be wanting.
+    ensures again { IsReadAgain Der cert.now → ¬ (IsErrOf result DecodeError.Malformed) }
 {
     let octets = cert.to_bytes(alloc)?;
     Cert::decode(alloc, octets.as_slice())
+}
+
+/// What [`resource_certificate`] gives of a certificate that was made, whose octets are read again.
+pub(crate) fn made_certificate(alloc: Global, cert: &IdCert) -> Result<Cert, OutOfMemory>
+    requires { IsReadAgain Der cert.now }
+    ensures decoded { IfOk result (BeginsAs (certificate Der) Der
+        (spelled_data spelled_x509 cert.now.signed)) }
+    ensures key { IfOk result (λ c. c.key ≡ cert.now.tbs.key) }
+{
+    match resource_certificate(alloc, cert) {
+        Ok(cert) => Ok(cert),
+        Err(DecodeError::OutOfMemory) => Err(OutOfMemory),
+        Err(DecodeError::Malformed) => unreachable!(),
+    }
 }
 
 impl Issuer for ToyIssuer {

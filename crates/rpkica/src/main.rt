@@ -2,7 +2,7 @@
 //! `rpki_ca::run`.
 #![tactic(auto)]
 
-use command_line::{Own, own_text, signer_of, words_of, write_text};
+use command_line::{Own, own_text, program_signer, words_of, write_text};
 use rpki_ca::{Status, refuse, run};
 use rpki_signer::ToyVerifier;
 use rpki_text::{StdSink, StdSource};
@@ -115,7 +115,7 @@ fn main(rt: HostRuntime) -> ExitCode {
         Err(refusal) => refuse(&mut output, refusal),
         Ok(words) => match own_text(&words, own) {
             Some(text) => write_text(&mut output, text),
-            None => match signer_of(rt.alloc(), 1) {
+            None => match program_signer(rt.alloc()) {
                 Err(refusal) => refuse(&mut output, refusal),
                 Ok((mut signer, key)) => run(
                     rt.alloc(),

@@ -1,15 +1,17 @@
 //! The program: its words, standard input and standard output are handed to `rpki_upserver::serve`, with toy signers and a toy issuer.
 #![tactic(auto)]
 
-use command_line::{Own, own_text, signer_of, words_of, write_text};
-use rpki_base::{Time, Validity};
+ghost use Rattle.std.specs.Prelude.{◌≡◌, ℤ, IfOk, OnErr};
+ghost use Rattle.rpki_base.specs.PublicKey.{KeyFields};
+ghost use Rattle.rpki_ca.specs.Seen.{seen};
+ghost use Rattle.rpki_upserver.specs.ProgramIssuer.{IsProgramRun};
+ghost use Rattle.rpki_upserver.specs.Running.{AreWords};
+
+use command_line::{Own, own_text, program_signer, signer_of, words_of, write_text};
 use rpki_ca::{Refusal, Status, Words, refuse};
-use rpki_idcert::IdCert;
-use rpki_signer::{ToyScheme, ToySigner, ToyVerifier};
-use rpki_text::uri::Rsync;
+use rpki_signer::ToyVerifier;
 use rpki_text::{Sink, Source, StdSink, StdSource};
-use rpki_updown::SigningCert;
-use rpki_upserver::{ToyIssuer, resource_certificate, serve};
+use rpki_upserver::{program_issuer, serve};
 use std::alloc::Global;
 use std::process::ExitCode;
 
@@ -70,43 +72,25 @@ Example: rpkiup --help; echo $?
 
 const VERSION: &[u8] = b"rpkiup 0.1.0\n";
 
-// The certificate of the key under which certificates are issued: its own, always valid.
-fn signing_cert(alloc: Global, signer: &mut ToySigner, key: u64) -> Result<SigningCert, Refusal> {
-    let (Some(first), Some(last), Ok(url)) = (
-        Time::new(0),
-        Time::new(253_402_300_799),
-        Rsync::from_str(alloc, "rsync://localhost/repo/ta.cer"),
-    ) else {
-        return Err(Refusal::OutOfMemory);
-    };
-    let validity = Validity::new(first, last);
-    let Ok(anchor) = IdCert::new_ta::<ToyScheme, ToySigner>(alloc, validity, &key, signer) else {
-        return Err(Refusal::OutOfMemory);
-    };
-    match resource_certificate(alloc, &anchor) {
-        Ok(cert) => Ok(SigningCert::new(url, cert)),
-        Err(_) => Err(Refusal::OutOfMemory),
-    }
-}
-
-// The issuer, and the certificate of its key.
-fn issuer_of(alloc: Global) -> Result<(ToyIssuer, SigningCert), Refusal> {
-    let (mut signer, key) = signer_of(alloc, 3)?;
-    let signing = signing_cert(alloc, &mut signer, key)?;
-    match Time::new(0) {
-        Some(from) => Ok((ToyIssuer::new(alloc, signer, key, from), signing)),
-        None => Err(Refusal::OutOfMemory),
-    }
-}
-
+// What it does with its words, where they ask for no text on itself.
 fn run<I: Source, O: Sink>(
     alloc: Global,
     words: &Words,
     input: &mut I,
     output: &mut O,
-) -> Result<Status, Refusal> {
-    let (mut signer, key) = signer_of(alloc, 1)?;
-    let (mut issuer, signing) = issuer_of(alloc)?;
+) -> Result<Status, Refusal>
+    // The issuer and the signer of replies are those of the program.
+    ensures ran { IfOk result (λ status. (when : ℤ) (child : KeyFields)
+        → AreWords words.now when child → IsProgramRun when child status.0
+        (seen I.rest I.faults input.old input.new)
+        (seen O.written O.faults output.old output.new)) }
+
+    // Where they aren't made, nothing is read or written.
+    ensures idle { OnErr result ((input.new ≡ input.old) × (output.new ≡ output.old)) }
+{
+    let (mut signer, key) = program_signer(alloc)?;
+    let (of_issuer, issuing_key) = signer_of(alloc, 3)?;
+    let (mut issuer, signing) = program_issuer(alloc, of_issuer, issuing_key)?;
     let verifier = ToyVerifier::new();
     Ok(serve(
         alloc,
