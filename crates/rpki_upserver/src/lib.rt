@@ -40,4 +40,4 @@ pub use law::{
 };
 pub use parent::{AnswerError, Parent};
 pub use serving::serve;
-pub use toy_issuer::{ToyIssuer, ToyMade, resource_certificate};
+pub use toy_issuer::{ToyIssuer, ToyMade};

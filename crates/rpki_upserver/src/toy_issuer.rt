@@ -108,7 +108,7 @@ impl Model for ToyIssuer {
 impl ToyIssuer {
     /// An issuer that signs with the signer's key of this number, and whose certificates are valid from this moment. It has issued and
     /// revoked nothing. It takes no memory; later growth takes it from `alloc`.
-    pub fn new(alloc: Global, signer: ToySigner, key: u64, from: Time) -> ToyIssuer
+    pub(crate) fn new(alloc: Global, signer: ToySigner, key: u64, from: Time) -> ToyIssuer
         ensures { result ≡ toy_issuer signer key from }
     {
         ToyIssuer {
@@ -307,7 +307,7 @@ fn entry(
 
 /// The resource certificate that the octets of an identity certificate are read as, of which it has the outer form (RFC 5280, 4.1;
 /// RFC 6487, 4). Malformed exactly where they are none.
-pub fn resource_certificate(alloc: Global, cert: &IdCert) -> Result<Cert, DecodeError>
+pub(crate) fn resource_certificate(alloc: Global, cert: &IdCert) -> Result<Cert, DecodeError>
     ensures decoded { Decodes (certificate Der) (λ c. c) Der
         (spelled_data spelled_x509 cert.now.signed) result }
     ensures spelled { OnOk result (CanBeSpelled spelled_x509 cert.now.signed) }

@@ -1,7 +1,8 @@
 use Rattle.std.proofs.Common.{◌≡◌, ◌++◌, ℕ, None, List, codes, length, sym, subst, ◌∙◌}
 use Rattle.hex.specs.Hex.{IsBytes, encode_upper}
 use Rattle.rpki_text.specs.Uri.{fault_of, joined, rsync}
-use Rattle.rpki_upserver.proofs.Naming.{key_named, place_lawful}
+use Rattle.rpki_text.proofs.Naming.{place_lawful}
+use Rattle.rpki_upserver.proofs.Naming.{key_named}
 use Rattle.rpki_upserver.proofs.class.Class.uri_of.Goals as goal
 
 pub join-requires : goal.join-requires
