@@ -1,5 +1,5 @@
 #!/usr/bin/env python3
-"""Times the layers of the library alone, by the program crates/layers, on inputs that are made in a temporary folder.
+"""Times the layers of the library alone, by the program crates/bench_layers, on inputs that are made in a temporary folder.
 
     bench/layers.py [document|tree|walk ..]
 
@@ -29,7 +29,7 @@ import tempfile
 from content import nested, value
 from measuring import TOP, best_of_three
 
-PROGRAM = os.path.join(TOP, "crates", "layers", "out", "layers")
+PROGRAM = os.path.join(TOP, "crates", "bench_layers", "out", "bench_layers")
 
 ETREE = """
 import sys, time
@@ -287,7 +287,7 @@ def row(folder, layer, shape, size, least):
 def main():
     layers = sys.argv[1:] or ["document", "tree", "walk"]
     if not os.path.exists(PROGRAM):
-        subprocess.run(["rt", "run"], cwd=os.path.join(TOP, "crates", "layers"), stdout=subprocess.DEVNULL, check=False)
+        subprocess.run(["rt", "run"], cwd=os.path.join(TOP, "crates", "bench_layers"), stdout=subprocess.DEVNULL, check=False)
     print(f"{'layer':<9} {'shape':<18} {'MB':>5} {'answer':<16} {'seconds':>8} {'MB/s':>8} {'peak MB':>8} {'each':>6} {'etree s':>8} {'ratio':>6} {'allocs':>16}")
     with tempfile.TemporaryDirectory() as folder:
         for layer in layers:

@@ -1,5 +1,5 @@
 #!/usr/bin/env python3
-"""Writes the cases on which crates/answer_cases runs `rpki_answers::run_keys`: its data/cases.txt, and the stdout beside it.
+"""Writes the cases on which crates/test_external runs `rpki_external::run_keys`: its data/cases.txt, and the stdout beside it.
 
     tools/answer_cases.py                  writes the rows of this script, and keeps the sets of cases that the file has
     tools/answer_cases.py SET FOLDER       takes a set of cases of the command `receive` anew from a folder
@@ -45,7 +45,7 @@ from run_cases import NO_VALUE, asked, issued, issuer, resource_class, updown
 from stored import SIZES, terms, write
 
 ROOT = pathlib.Path(__file__).resolve().parent.parent
-CRATE = ROOT / "crates" / "answer_cases"
+CRATE = ROOT / "crates" / "test_external"
 INPUT = (ROOT / "examples" / "query-list.hex").read_bytes()
 SETS = "ber", "two", "pub", "prov"
 USAGE = 2, b"Usage"
@@ -621,7 +621,7 @@ def main():
         name, folder = sys.argv[1], pathlib.Path(sys.argv[2])
         assert name in SETS, name
         kept = [line for line in kept if line.split("-")[0] != name] + list(cases_of(name, folder))
-    write("answer_cases", [*rows(), *kept])
+    write("test_external", [*rows(), *kept])
 
 
 if __name__ == "__main__":

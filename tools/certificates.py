@@ -1,5 +1,5 @@
 #!/usr/bin/env python3
-"""Writes identity certificates and CRLs, and what their calls have to answer: crates/certificate_cases/data/cases.txt, and the
+"""Writes identity certificates and CRLs, and what their calls have to answer: crates/test_certificates/data/cases.txt, and the
 stdout beside it.
 
 The certificates are put together here from RFC 5280, 4.1, and signed by the rules of the toy scheme in tools/messages.py; each
@@ -810,4 +810,4 @@ def lines():
 
 
 if __name__ == "__main__":
-    write("certificate_cases", lines())
+    write("test_certificates", lines())

@@ -1,5 +1,5 @@
 #!/usr/bin/env python3
-"""Writes the documents that crates/document_cases reads: its data/cases.txt, and the stdout beside it.
+"""Writes the documents that crates/test_documents reads: its data/cases.txt, and the stdout beside it.
 
     tools/document_cases.py
 
@@ -42,7 +42,7 @@ import re
 from stored import DONE, MALFORMED, NOTHING, step
 from text_cases import BASE64, HANDLE, HTTPS, RSYNC, Refused, octets_of_base64
 
-CRATE = pathlib.Path(__file__).resolve().parent.parent / "crates" / "document_cases"
+CRATE = pathlib.Path(__file__).resolve().parent.parent / "crates" / "test_documents"
 SIZES = [127, 128, 255, 256, 65535, 65536]
 
 # ---- what a document is

@@ -121,7 +121,7 @@ def counts(tree):
     count, first, last = values_in(octets_of("query-list.hex"))
     ee = re.search(r"^ee_checks [^=]*=(.*?)\[\]", (CRATES / "rpki_idcert/specs/Checks.antt").read_text(encoding="utf-8"), re.M | re.S)
     made = re.findall(r"pub fn err_\d+", source("rpki_updown", "not_performed_response.rt"))
-    cases = kinds_of_cases("answer_cases")
+    cases = kinds_of_cases("test_external")
     margin, keys, now = limit("seconds of a window")[0], limit("keys")[0], moment_of_examples()
     return {name: limit(name) for name in LIMITS} | {
         "values": [count],
@@ -508,7 +508,7 @@ def statuses(looker):
 def summary(looker):
     """The line of `make` that README shows is the one of its stored case."""
     readme = TOP / "README.md"
-    cases = (CRATES / "run_cases" / "data" / "cases.txt").read_text(encoding="utf-8")
+    cases = (CRATES / "test_run" / "data" / "cases.txt").read_text(encoding="utf-8")
     for count, seed, line in re.findall(r"`make (\d+) (\d+)` writes\s+`([^`]*)\.\.`", readme.read_text(encoding="utf-8")):
         if not re.search(rf"^make-{count}-{seed} 0 {line.encode().hex()}", cases, re.MULTILINE):
             looker.say(readme, 0, f"make {count} {seed} is stored with another line than {line}")

@@ -4,9 +4,9 @@
     tools/figures.py
 
 Printed are, for each crate, the lines of src/, specs/ and proofs/, how many wrong bodies it has (`must-fail/*.edit`), how many stored
-cases (lines of data/cases.txt; of refused_growth, of stdin) and how many functions with `#[test]`; then the same of all crates, of the
+cases (lines of data/cases.txt; of test_growth, of stdin) and how many functions with `#[test]`; then the same of all crates, of the
 library (rpki_*), and of the others. Lines are those of the files, empty ones and comments among them. Behind that stands how many of the
-stored cases of answer_cases there are of each kind, and each limit and bound of LIMITS below, as its source or its clause has it.
+stored cases of test_external there are of each kind, and each limit and bound of LIMITS below, as its source or its clause has it.
 tools/documents.py compares with all these what the documents say."""
 
 import collections
@@ -24,7 +24,7 @@ def lines_of(folder, ending):
 
 def cases_of(crate):
     """How many stored cases a crate has."""
-    file = CRATES / crate / ("stdin" if crate == "refused_growth" else "data/cases.txt")
+    file = CRATES / crate / ("stdin" if crate == "test_growth" else "data/cases.txt")
     return len(file.read_text(encoding="utf-8", errors="replace").splitlines()) if file.exists() else 0
 
 
@@ -59,7 +59,7 @@ LIMITS = {
     "powers of input": ("rpki_common/specs/Limits.antt", r"most_input = 2 \^ (\d+)"),
     "powers of a content": ("rpki_common/specs/Limits.antt", r"most_content = 2 \^ (\d+)"),
     "powers of a key": ("rpki_common/specs/Limits.antt", r"most_key = 2 \^ (\d+)"),
-    "octets of a message": ("rpki_message/src/transfer.rt", r"const MOST_OCTETS: u64 = (0x[\d_a-f]+);"),
+    "octets of a message": ("rpki_xmltext/src/transfer.rt", r"const MOST_OCTETS: u64 = (0x[\d_a-f]+);"),
     "seconds of a window": ("rpki_common/specs/Limits.antt", r"window_seconds = (\d+)"),
     "moments with a window": ("rpki_sigmsg/src/window.rt", r"seconds < ([\d_]+) \|\| seconds > ([\d_]+)"),
     "last moment": ("rpki_base/src/time.rt", r"seconds > ([\d_]+) "),
@@ -112,7 +112,7 @@ def main():
     print(f"{'':22}" + "".join(f"{name:>8}" for name in Figures._fields))
     for name, figures in [*found.items(), *sums.items()]:
         print(f"{name:22}" + "".join(f"{number:8}" for number in figures))
-    print("answer_cases: " + ", ".join(f"{number} {kind}" for kind, number in sorted(kinds_of_cases("answer_cases").items())))
+    print("test_external: " + ", ".join(f"{number} {kind}" for kind, number in sorted(kinds_of_cases("test_external").items())))
     for name in LIMITS:
         print(f"{name}: " + ", ".join(map(str, limit(name))))
     return 0

@@ -3,7 +3,7 @@
 
     tools/fuzz.py [--count N] [--seed N] [--jobs N] [--program FILE] [--keep FOLDER]
 
-An input is made of a stored case of crates/run_cases: octets of it are changed, cut out, repeated or put in, lengths are changed, or its
+An input is made of a stored case of crates/test_run: octets of it are changed, cut out, repeated or put in, lengths are changed, or its
 front is joined with the end of another case's. What is in hexadecimal is broken before it is spelled, and now and then behind that.
 
 Of each it is asked that the program ends with a status of its table, within ten seconds; that it writes one line, which is that
@@ -28,7 +28,7 @@ import termios
 from stored import octets_of
 
 ROOT = pathlib.Path(__file__).resolve().parent.parent
-CASES = ROOT / "crates" / "run_cases" / "data" / "cases.txt"
+CASES = ROOT / "crates" / "test_run" / "data" / "cases.txt"
 PROGRAM = ROOT / "crates" / "rpkica" / "out" / "rpkica"
 SECONDS = 10
 

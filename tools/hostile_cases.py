@@ -1,5 +1,5 @@
 #!/usr/bin/env python3
-"""Writes the stored cases of crates/hostile_cases, whose head says what a line is.
+"""Writes the stored cases of crates/test_hostile, whose head says what a line is.
 
 The messages are made by the formats and by the toy rules alone (tools/messages.py). How many calls a source or a sink has follows from the
 length of the input or of the line: the end of the input is a call of its own. How many calls `create`, `new_ta`, `new_ee` and
@@ -81,4 +81,4 @@ def lines():
 
 
 if __name__ == "__main__":
-    write("hostile_cases", lines())
+    write("test_hostile", lines())

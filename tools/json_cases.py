@@ -1,5 +1,5 @@
 #!/usr/bin/env python3
-"""Writes JSON texts, and what is read and written of them: crates/json_cases/data/cases.txt, and the stdout beside it.
+"""Writes JSON texts, and what is read and written of them: crates/test_json/data/cases.txt, and the stdout beside it.
 
 The expected answers come from Python's base64 and json and from the rows here; certificates and requests are those that
 tools/certificates.py and tools/requests.py put together.
@@ -208,4 +208,4 @@ def lines():
 
 
 if __name__ == "__main__":
-    write("json_cases", lines())
+    write("test_json", lines())

@@ -1,5 +1,5 @@
 #!/usr/bin/env python3
-"""Writes the cases on which crates/line_cases runs the programs that answer line by line: its data/cases.txt, and the stdout beside
+"""Writes the cases on which crates/test_lines runs the programs that answer line by line: its data/cases.txt, and the stdout beside
 it.
 
     tools/line_cases.py                    writes the rows of this script, and keeps the sets of cases that the file has
@@ -30,7 +30,7 @@ from parent_talks import Talk, issuer_rows, program_rows, rows_of_class, rows_of
 from stored import SIZES, terms, write
 
 ROOT = pathlib.Path(__file__).resolve().parent.parent
-CRATE = ROOT / "crates" / "line_cases"
+CRATE = ROOT / "crates" / "test_lines"
 MESSAGE = (ROOT / "examples" / "query-list.hex").read_text().strip()
 PROGRAMS = "guard", "state", "arch", "pub", "up", "parent", "issuer", "class"
 
@@ -379,7 +379,7 @@ def main():
     if len(sys.argv) > 1:
         name, folder = sys.argv[1:]
         sets[name] = list(cases_of(name, pathlib.Path(folder)))
-    write("line_cases", [line for name in PROGRAMS for line in sets[name] + list(ROWS.get(name, tuple)())])
+    write("test_lines", [line for name in PROGRAMS for line in sets[name] + list(ROWS.get(name, tuple)())])
 
 
 if __name__ == "__main__":

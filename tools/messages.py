@@ -1,5 +1,5 @@
 #!/usr/bin/env python3
-"""Writes signed messages and what their validation has to answer: crates/message_cases/data/cases.txt, and the stdout beside it.
+"""Writes signed messages and what their validation has to answer: crates/test_messages/data/cases.txt, and the stdout beside it.
 
     tools/messages.py            writes both files
     tools/messages.py MESSAGE    compares the builder with a message in hex, octet by octet, and says whether they are equal
@@ -42,7 +42,7 @@ from types import SimpleNamespace
 from stored import SIZES, terms
 
 ROOT = pathlib.Path(__file__).resolve().parent.parent
-CRATE = ROOT / "crates" / "message_cases"
+CRATE = ROOT / "crates" / "test_messages"
 NOW = 1700000000
 FIRST, LAST = NOW - 300, NOW + 300
 

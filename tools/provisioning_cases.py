@@ -1,5 +1,5 @@
 #!/usr/bin/env python3
-"""Writes messages of the provisioning protocol and what their calls answer: crates/provisioning_cases/data/cases.txt, and the stdout
+"""Writes messages of the provisioning protocol and what their calls answer: crates/test_provisioning/data/cases.txt, and the stdout
 beside it.
 
 The messages are laid out by RFC 6492, 3, the certificates are those of tools/resource_certificates.py, the requests those of
@@ -772,4 +772,4 @@ def lines():
 
 
 if __name__ == "__main__":
-    write("provisioning_cases", lines())
+    write("test_provisioning", lines())

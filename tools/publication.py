@@ -1,5 +1,5 @@
 #!/usr/bin/env python3
-"""Writes signed messages of the publication protocol and what their calls answer: crates/publication_cases/data/cases.txt, and the stdout
+"""Writes signed messages of the publication protocol and what their calls answer: crates/test_publication/data/cases.txt, and the stdout
 beside it.
 
 The envelopes are those of tools/messages.py, the texts those of RFC 8181; no expected answer comes from the program under test.
@@ -407,4 +407,4 @@ def lines():
 
 
 if __name__ == "__main__":
-    write("publication_cases", lines())
+    write("test_publication", lines())

@@ -1,5 +1,5 @@
 #!/usr/bin/env python3
-"""Runs the cases of crates/refused_growth with each of their growths refused in turn, outside of the gate.
+"""Runs the cases of crates/test_growth with each of their growths refused in turn, outside of the gate.
 
     tools/refused_growth.py [NAME ..]
     tools/refused_growth.py --rpkica [NAME ..]
@@ -14,7 +14,7 @@ Printed are, for each case, how many growths were refused and the seconds. The p
 compiler there: tools/refused_growth.c, which refuses the growth, stands between the program and the C library. A run that ends otherwise is
 shown, and this ends with 1.
 
-With --write it writes crates/refused_growth/stdin and stdout: the cases that the gate runs, with nothing refused. The inputs and lines of
+With --write it writes crates/test_growth/stdin and stdout: the cases that the gate runs, with nothing refused. The inputs and lines of
 `run` are made by the formats and by the toy rules alone.
 """
 
@@ -29,8 +29,8 @@ import time
 from run_cases import MOMENT, NOW, QUERY, ROOTS, own_anchor, certificate, create, created, message, receive, setup_message, updown
 
 TOP = pathlib.Path(__file__).resolve().parent.parent
-CRATE = TOP / "crates" / "refused_growth"
-PROGRAM = CRATE / "out" / "refused_growth"
+CRATE = TOP / "crates" / "test_growth"
+PROGRAM = CRATE / "out" / "test_growth"
 RPKICA = TOP / "crates" / "rpkica" / "out" / "rpkica"
 CALLS = "changes", "objects", "errors", "values", "elements", "words", "levels", "segments", "request", "classes", "delta"
 MOST, SECONDS = 100000, 60

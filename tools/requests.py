@@ -1,5 +1,5 @@
 #!/usr/bin/env python3
-"""Writes certificate requests and resource certificates, and what their calls have to answer: crates/request_cases/data/cases.txt,
+"""Writes certificate requests and resource certificates, and what their calls have to answer: crates/test_requests/data/cases.txt,
 and the stdout beside it.
 
 The requests are put together here from RFC 2986, 4, RFC 6487, 6 and RFC 8209, 3.2, the certificates from RFC 5280, 4.1, and signed by
@@ -773,4 +773,4 @@ def lines():
 
 
 if __name__ == "__main__":
-    write("request_cases", lines())
+    write("test_requests", lines())

@@ -1,6 +1,6 @@
 #!/usr/bin/env python3
 """Makes signed messages with RSA keys of 2048 bits by the `openssl` command, and writes them and their keys:
-crates/answer_cases/data/messages.txt, and examples/rsa-query.der, rsa-query.hex, rsa-key.pem and rsa-key.hex.
+crates/test_external/data/messages.txt, and examples/rsa-query.der, rsa-query.hex, rsa-key.pem and rsa-key.hex.
 
     tools/rsa_messages.py
 
@@ -21,7 +21,7 @@ import time
 from messages import RSA, RSA_SHA256, seq, value
 
 ROOT = pathlib.Path(__file__).resolve().parent.parent
-FOLDER = ROOT / "crates" / "answer_cases" / "data"
+FOLDER = ROOT / "crates" / "test_external" / "data"
 EXAMPLES = ROOT / "examples"
 CONTENT_TYPE = "1.2.840.113549.1.9.16.1.28"
 

@@ -1,5 +1,5 @@
 #!/usr/bin/env python3
-"""Writes the cases on which crates/run_cases runs `rpki_ca::run`: its data/cases.txt, and the stdout beside it.
+"""Writes the cases on which crates/test_run runs `rpki_ca::run`: its data/cases.txt, and the stdout beside it.
 
     tools/run_cases.py               writes the rows of this script, and keeps the sets of cases that the file has
     tools/run_cases.py SET FOLDER    takes a set anew from a folder of cases
@@ -56,7 +56,7 @@ from resource_certificates import certificate_of
 from stored import SIZES, terms
 
 ROOT = pathlib.Path(__file__).resolve().parent.parent
-CRATE = ROOT / "crates" / "run_cases"
+CRATE = ROOT / "crates" / "test_run"
 INPUT = (ROOT / "examples" / "query-list.hex").read_bytes()
 CONTENT_INPUT = (ROOT / "examples" / "content.hex").read_bytes()
 SETS = "ber", "two", "made", "set", "pub", "prov"

@@ -1,5 +1,5 @@
 #!/usr/bin/env python3
-"""Writes setup messages and what their calls answer: crates/setup_cases/data/cases.txt, and the stdout beside it.
+"""Writes setup messages and what their calls answer: crates/test_setup/data/cases.txt, and the stdout beside it.
 
 The messages are laid out by RFC 8183, 5.2, the certificates those of tools/certificates.py; no expected answer comes from the program
 under test.
@@ -102,4 +102,4 @@ def lines():
 
 
 if __name__ == "__main__":
-    write("setup_cases", lines())
+    write("test_setup", lines())

@@ -1,4 +1,4 @@
-"""How stored cases are spelled, for the scripts that write them: crates/stored_cases reads them, and says what the terms are."""
+"""How stored cases are spelled, for the scripts that write them: crates/test_stored reads them, and says what the terms are."""
 
 import pathlib
 import re

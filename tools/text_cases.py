@@ -1,10 +1,10 @@
 #!/usr/bin/env python3
-"""Writes the cases on which crates/text_cases calls rpki_text and rpki_sets: its data/cases.txt, and the stdout beside it.
+"""Writes the cases on which crates/test_texts calls rpki_text and rpki_sets: its data/cases.txt, and the stdout beside it.
 
 The expected answers come from Python's base64, hashlib, ipaddress, json and re, and where no library says it from the rows below
 and in tools/sets.py. None comes from the program under test.
 
-A line is `NAME CALL ANSWER INPUT INPUT`, as crates/text_cases/src/main.rt says.
+A line is `NAME CALL ANSWER INPUT INPUT`, as crates/test_texts/src/main.rt says.
 """
 
 import base64
@@ -16,7 +16,7 @@ import re
 import sets
 
 ROOT = pathlib.Path(__file__).resolve().parent.parent
-CRATE = ROOT / "crates" / "text_cases"
+CRATE = ROOT / "crates" / "test_texts"
 
 # Where counts of one and of two octets end, and the most octets of a URI.
 SIZES = 127, 128, 255, 256, 65535, 65536

@@ -1,5 +1,5 @@
 #!/usr/bin/env python3
-"""Writes values and what their calls have to answer: crates/value_cases/data/cases.txt, and the stdout beside it.
+"""Writes values and what their calls have to answer: crates/test_values/data/cases.txt, and the stdout beside it.
 
 The octets are put together here from X.690 and RFC 5280, and each expected answer is what they were put together from, or comes from
 Python's calendar and hashlib, from OpenSSL or from the library `cryptography`; none comes from the crates under test.
@@ -884,4 +884,4 @@ def lines():
 
 
 if __name__ == "__main__":
-    write("value_cases", lines())
+    write("test_values", lines())

@@ -4,7 +4,7 @@
 
 ghost use Rattle.std.specs.Prelude.{◌≡◌, ◌⊎◌, ◌∷◌, [], codes, IfErr, IfOk, IfSome, IsNone};
 ghost use Rattle.rpki_base.specs.PublicKey.{KeyFields};
-ghost use Rattle.rpki_signer.specs.Signer.{Holds};
+ghost use Rattle.rpki_signer.specs.Signer.{HoldsKey};
 ghost use Rattle.rpki_base.specs.declared.algorithm.PublicKeyFormat.TheVariants.{Rsa};
 ghost use Rattle.rpki_signer.specs.ToySigner.{after_creating, state_of, toy_signer};
 ghost use Rattle.rpki_ca.specs.Lines.{EndsWith};
@@ -78,7 +78,7 @@ pub fn write_text<O: Sink>(output: &mut O, text: &[u8]) -> Status
 /// The only refusal is OutOfMemory.
 pub fn signer_of(alloc: Global, seed: u64) -> Result<(ToySigner, u64), Refusal>
     ensures signer { IfOk result (λ r. r.0 ≡ after_creating Rsa (toy_signer seed [])) }
-    ensures key { IfOk result (λ r. (key : KeyFields) × Holds (state_of r.0).keyring r.1 key) }
+    ensures key { IfOk result (λ r. (key : KeyFields) × HoldsKey (state_of r.0).keyring r.1 key) }
     ensures err { IfErr result (λ e. e ≡ Refusal.OutOfMemory) }
 {
     let mut signer = ToySigner::new(alloc, seed, &[])?;
@@ -93,7 +93,7 @@ pub fn signer_of(alloc: Global, seed: u64) -> Result<(ToySigner, u64), Refusal>
 /// that key's identifier. The only refusal is OutOfMemory.
 pub fn program_signer(alloc: Global) -> Result<(ToySigner, u64), Refusal>
     ensures signer { IfOk result (λ r. r.0 ≡ after_creating Rsa (toy_signer 1 [])) }
-    ensures key { IfOk result (λ r. (key : KeyFields) × Holds (state_of r.0).keyring r.1 key) }
+    ensures key { IfOk result (λ r. (key : KeyFields) × HoldsKey (state_of r.0).keyring r.1 key) }
     ensures err { IfErr result (λ e. e ≡ Refusal.OutOfMemory) }
 {
     signer_of(alloc, 1)

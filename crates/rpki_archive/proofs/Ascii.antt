@@ -19,7 +19,7 @@ use Rattle.rpki_base.specs.PublicKey.{KeyFields, public_key}
 use Rattle.rpki_ca.specs.declared.receiving.Kind.{Kind}
 use Rattle.rpki_ca.specs.declared.receiving.Kind.TheVariants.{Publication, Provisioning}
 use Rattle.rpki_ca.specs.Command.{kind_word}
-use Rattle.rpki_ca.specs.Words.{IsMoment, key_of}
+use Rattle.rpki_ca.specs.Words.{SpellsMoment, key_of_word}
 
 ascii_from : (octets : List ℕ) → list_all (λ octet. nat_lt octet 128) octets ≡ true → IsAscii octets
 ascii_from [] e = IsAscii-nil
@@ -31,7 +31,7 @@ pub kind_is_text : (kind : Kind) → IsUtf8 (kind_word kind)
 kind_is_text Publication = IsUtf8-from_ascii (codes "publication") (ascii_from (codes "publication") refl)
 kind_is_text Provisioning = IsUtf8-from_ascii (codes "provisioning") (ascii_from (codes "provisioning") refl)
 
-pub moment_is_text : (word : List ℕ) (when : ℤ) → IsMoment word when → IsUtf8 word
+pub moment_is_text : (word : List ℕ) (when : ℤ) → SpellsMoment word when → IsUtf8 word
 moment_is_text word (pos n) m =
     let most : n ≤ 253402300799 = m.1 in
     subst IsUtf8 (sym m.0) (IsUtf8-from_ascii _ (IsAscii-decimal n (omega (arith, most))))
@@ -52,5 +52,5 @@ decoded word (Err f) key e k = absurd (no_key key k)
     no_key : (key : KeyFields) → None ≡ Some key → ⊥
     no_key key e = cc
 
-pub key_is_text : (word : List ℕ) (key : KeyFields) → key_of word ≡ Some key → IsUtf8 word
+pub key_is_text : (word : List ℕ) (key : KeyFields) → key_of_word word ≡ Some key → IsUtf8 word
 key_is_text word key e = decoded word (decode_of word) key refl e

@@ -7,7 +7,7 @@ use Rattle.rpki_ca.specs.declared.command.Command.{Command}
 use Rattle.rpki_ca.specs.declared.receiving.Kind.{Kind}
 use Rattle.rpki_ca.specs.Command.{AreKeys, IsCommand, IsNoCommand, IsReceive, kind_word}
 use Rattle.rpki_ca.specs.Lines.{words_of}
-use Rattle.rpki_ca.specs.Words.{key_of}
+use Rattle.rpki_ca.specs.Words.{key_of_word}
 use Rattle.rpki_ca.proofs.Asked.{asks_to_receive}
 use Rattle.std.specs.Result.{result_ok}
 use Rattle.hex.specs.Hex.{decode_of}
@@ -67,15 +67,15 @@ parts : (kind moment key a b : List ℕ) (keys : List (List ℕ)) → codes "rec
 parts kind moment key a b keys e = (let p : kind ≡ a = cc in p, let q : moment ≡ b = cc in q, let r : key ∷ [] ≡ keys = cc in r)
 
 one_key : (key : List ℕ) (keys : List KeyFields) → AreKeys (key ∷ []) keys → (length keys ≡ 1) × IsUtf8 key
-one_key key [] e = absurd (no (key_of key) e)
+one_key key [] e = absurd (no (key_of_word key) e)
   where
     no : (o : Option KeyFields) → o ∷ [] ≡ [] → ⊥
     no o e = cc
-one_key key (k ∷ []) e = (refl, key_is_text key k (head (key_of key) (Some k) e))
+one_key key (k ∷ []) e = (refl, key_is_text key k (head (key_of_word key) (Some k) e))
   where
     head : (a b : Option KeyFields) → a ∷ [] ≡ b ∷ [] → a ≡ b
     head a b e = cc
-one_key key (k ∷ l ∷ keys) e = absurd (no (key_of key) (Some k) (Some l) (map Some keys) e)
+one_key key (k ∷ l ∷ keys) e = absurd (no (key_of_word key) (Some k) (Some l) (map Some keys) e)
   where
     no : (a b c : Option KeyFields) (more : List (Option KeyFields)) → a ∷ [] ≡ b ∷ c ∷ more → ⊥
     no a b c more e = cc

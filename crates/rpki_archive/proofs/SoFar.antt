@@ -7,7 +7,7 @@ use Rattle.rpki_ca.specs.Lines.{answer_lines, lines_of}
 use Rattle.rpki_ca.specs.declared.refusals.Refusal.{Refusal}
 use Rattle.rpki_archive.specs.Explanation.{AreExplanations, IsExplanation}
 use Rattle.rpki_archive.specs.Verdict.{AreLineAnswers, IsLineAnswer, accepted_of, total_of, verdict_text}
-use Rattle.rpki_archive.specs.Checking.{AreAllExplanations, AreAllVerdicts, AreFirstExplanations, AreFirstVerdicts, IsTask, task_word}
+use Rattle.rpki_archive.specs.Checking.{AreAllExplanations, AreAllVerdicts, AreFirstExplanations, AreFirstVerdicts, IsArchiveTask, task_word}
 use Rattle.rpki_archive.specs.declared.checking.Task.{Task}
 use Rattle.rpki_archive.specs.declared.checking.Task.TheVariants.{Batch, Explain}
 use Rattle.rpki_archive.specs.Lines.{IsLine}
@@ -190,7 +190,7 @@ few_accepted scheme lines behind counted taken old new so = let count = so.count
 
 -- ---- the task
 
-pub one_task : (words : List (List ℕ)) (one other : Task) → IsTask words one → IsTask words other → one ≡ other
+pub one_task : (words : List (List ℕ)) (one other : Task) → IsArchiveTask words one → IsArchiveTask words other → one ≡ other
 one_task words Batch Batch a b = refl
 one_task words Explain Explain a b = refl
 one_task words Batch Explain a b = absurd (differ (sym a ∙ b))

@@ -23,7 +23,7 @@ use Rattle.rpki_ca.proofs.Commands.{is_command}
 use Rattle.rpki_ca.proofs.Ended.{lines_end, on_input, on_input_or_12, wrote_all}
 use Rattle.rpki_ca.proofs.Laws.{one_answer_to_words, one_signed}
 use Rattle.rpki_ca.proofs.Reasons.{no_reason, reason}
-use Rattle.rpki_archive.specs.Checking.{AreAllExplanations, AreAllVerdicts, EndsTask}
+use Rattle.rpki_archive.specs.Checking.{AreAllExplanations, AreAllVerdicts, EndsArchiveTask}
 use Rattle.rpki_archive.specs.Explanation.{IsExplanation, IsSaidOfSpelled}
 use Rattle.rpki_ca.specs.Lines.{digit_of}
 use Rattle.rpki_archive.specs.Lines.{IsLine}
@@ -137,22 +137,22 @@ digits_tell scheme line text answer line_is b explained answered =
 
 -- ---- how a run ends
 
-task_ends : (scheme : Relation) (task : Task) (lines : List (List ℕ)) (status : ℕ) (sink : Seen) → ¬ (HasFailed sink) → EndsTask scheme task lines status sink → (status ≡ 0) ⊎ (status ≡ 12)
+task_ends : (scheme : Relation) (task : Task) (lines : List (List ℕ)) (status : ℕ) (sink : Seen) → ¬ (HasFailed sink) → EndsArchiveTask scheme task lines status sink → (status ≡ 0) ⊎ (status ≡ 12)
 task_ends scheme Batch lines status sink none ends = lines_end _ _ (StopsForMemory _) status sink (λ texts r stops. stops.1) none ends
 task_ends scheme Explain lines status sink none ends = lines_end _ _ (StopsForMemory _) status sink (λ texts r stops. stops.1) none ends
 
-pub ends_so : (scheme : Relation) (task : Task) (status : ℕ) (source sink : Seen) (input : List ℕ) → EndsRun (λ octets. EndsTask scheme task (lines_of octets) status sink) status source sink → source.before ≡ Some input → length input ≤ 2 ^ 26
+pub ends_so : (scheme : Relation) (task : Task) (status : ℕ) (source sink : Seen) (input : List ℕ) → EndsRun (λ octets. EndsArchiveTask scheme task (lines_of octets) status sink) status source sink → source.before ≡ Some input → length input ≤ 2 ^ 26
     → ¬ (HasFailed source) → ¬ (HasFailed sink) → (status ≡ 0) ⊎ (status ≡ 12)
 ends_so scheme task status source sink input run e le sound whole =
-    elim (on_input_or_12 (λ octets. EndsTask scheme task (lines_of octets) status sink) status source sink input run e le sound whole) [
+    elim (on_input_or_12 (λ octets. EndsArchiveTask scheme task (lines_of octets) status sink) status source sink input run e le sound whole) [
       | inl memory ↦ inr memory
       | inr ends ↦ task_ends scheme task (lines_of input) status sink whole ends
     ]
 
 -- ---- with 0
 
-pub batch_wrote : (scheme : Relation) (source sink : Seen) (input : List ℕ) → EndsRun (λ octets. EndsTask scheme Batch (lines_of octets) 0 sink) 0 source sink → source.before ≡ Some input → WroteAll (AreAllVerdicts scheme (lines_of input)) sink
-batch_wrote scheme source sink input run e = wrote_all (AreAllVerdicts scheme (lines_of input)) _ (StopsForMemory _) sink (on_input (λ octets. EndsTask scheme Batch (lines_of octets) 0 sink) source sink input run e)
+pub batch_wrote : (scheme : Relation) (source sink : Seen) (input : List ℕ) → EndsRun (λ octets. EndsArchiveTask scheme Batch (lines_of octets) 0 sink) 0 source sink → source.before ≡ Some input → WroteAll (AreAllVerdicts scheme (lines_of input)) sink
+batch_wrote scheme source sink input run e = wrote_all (AreAllVerdicts scheme (lines_of input)) _ (StopsForMemory _) sink (on_input (λ octets. EndsArchiveTask scheme Batch (lines_of octets) 0 sink) source sink input run e)
 
-pub explain_wrote : (scheme : Relation) (source sink : Seen) (input : List ℕ) → EndsRun (λ octets. EndsTask scheme Explain (lines_of octets) 0 sink) 0 source sink → source.before ≡ Some input → WroteAll (AreAllExplanations scheme (lines_of input)) sink
-explain_wrote scheme source sink input run e = wrote_all (AreAllExplanations scheme (lines_of input)) _ (StopsForMemory _) sink (on_input (λ octets. EndsTask scheme Explain (lines_of octets) 0 sink) source sink input run e)
+pub explain_wrote : (scheme : Relation) (source sink : Seen) (input : List ℕ) → EndsRun (λ octets. EndsArchiveTask scheme Explain (lines_of octets) 0 sink) 0 source sink → source.before ≡ Some input → WroteAll (AreAllExplanations scheme (lines_of input)) sink
+explain_wrote scheme source sink input run e = wrote_all (AreAllExplanations scheme (lines_of input)) _ (StopsForMemory _) sink (on_input (λ octets. EndsArchiveTask scheme Explain (lines_of octets) 0 sink) source sink input run e)

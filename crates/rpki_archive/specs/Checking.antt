@@ -15,12 +15,12 @@ task_word Batch = codes "batch"
 task_word Explain = codes "explain"
 
 -- the only word is the one for this task
-abbrev pub IsTask : List (List ℕ) → Task → Type 0
-IsTask words task = words ≡ task_word task ∷ []
+abbrev pub IsArchiveTask : List (List ℕ) → Task → Type 0
+IsArchiveTask words task = words ≡ task_word task ∷ []
 
 -- the words ask for no task
-abbrev pub IsNoTask : List (List ℕ) → Type 0
-IsNoTask words = (task : Task) → IsTask words task → ⊥
+abbrev pub IsNoArchiveTask : List (List ℕ) → Type 0
+IsNoArchiveTask words = (task : Task) → IsArchiveTask words task → ⊥
 
 -- ---- with `batch`
 
@@ -55,10 +55,10 @@ AreFirstExplanations scheme lines texts =
 
 -- how it ends, by the task, with verdicts or with explanations: of all lines, or of the first ones,
 -- where memory ran out or the sink failed
-abbrev pub EndsTask : Relation → Task → List (List ℕ) → ℕ → Seen → Type 0
-EndsTask scheme Batch lines status sink =
+abbrev pub EndsArchiveTask : Relation → Task → List (List ℕ) → ℕ → Seen → Type 0
+EndsArchiveTask scheme Batch lines status sink =
     EndsLines (AreAllVerdicts scheme lines) (AreFirstVerdicts scheme lines)
     (StopsForMemory (AreFirstVerdicts scheme lines)) status sink
-EndsTask scheme Explain lines status sink =
+EndsArchiveTask scheme Explain lines status sink =
     EndsLines (AreAllExplanations scheme lines) (AreFirstExplanations scheme lines)
     (StopsForMemory (AreFirstExplanations scheme lines)) status sink

@@ -9,7 +9,7 @@ ghost use Rattle.rpki_ca.specs.Lines.{Answered, EndsRun, StopsForMemory, lines_o
 ghost use Rattle.rpki_ca.specs.Seen.{seen};
 ghost use Rattle.rpki_archive.specs.Checking.{AreAllExplanations, AreAllVerdicts};
 ghost use Rattle.rpki_archive.specs.Checking.{AreFirstExplanations, AreFirstVerdicts};
-ghost use Rattle.rpki_archive.specs.Checking.{EndsTask, IsNoTask, IsTask};
+ghost use Rattle.rpki_archive.specs.Checking.{EndsArchiveTask, IsNoArchiveTask, IsArchiveTask};
 ghost use Rattle.rpki_archive.specs.declared.checking.Task.{Task as TaskOf};
 ghost use Rattle.rpki_archive.specs.Verdict.{total_of};
 
@@ -29,8 +29,8 @@ enum Task {
 }
 
 fn task_of(words: &Words) -> Option<Task>
-    ensures some { IfSome result (IsTask words.now) }
-    ensures none { IsNone result → IsNoTask words.now }
+    ensures some { IfSome result (IsArchiveTask words.now) }
+    ensures none { IsNone result → IsNoArchiveTask words.now }
 {
     if words.len() != 1 {
         return None;
@@ -129,7 +129,7 @@ fn check_read<P: Scheme, O: Sink, V: Verifier<P>>(
     verifier: &V,
 ) -> Status
     requires { length input.now ≤ most_input }
-    ensures { EndsTask P.checks task (lines_of input.now) result.0
+    ensures { EndsArchiveTask P.checks task (lines_of input.now) result.0
         (seen O.written O.faults output.old output.new) }
 {
     match task {
@@ -165,17 +165,17 @@ pub fn check<P: Scheme, I: Source, O: Sink, V: Verifier<P>>(
     verifier: &V,
 ) -> Status
     // Words that name no task are refused, and the source is left unread.
-    ensures usage { IsNoTask words.now
+    ensures usage { IsNoArchiveTask words.now
         → Ends (Err Refusal.Usage) result.0 (seen O.written O.faults output.old output.new) }
-    ensures unread { IsNoTask words.now → input.new ≡ input.old }
+    ensures unread { IsNoArchiveTask words.now → input.new ≡ input.old }
 
     // At most one octet more than the limit is taken of the source.
     ensures most { TakesAtMost (I.rest input.old) (I.rest input.new) (most_input + 1) }
 
     // Where the source isn't read whole, that is what is answered; where it is, each line is answered,
     // and no line's form ends the run.
-    ensures ends { (task : TaskOf) → IsTask words.now task
-        → EndsRun (λ octets. EndsTask P.checks task (lines_of octets) result.0
+    ensures ends { (task : TaskOf) → IsArchiveTask words.now task
+        → EndsRun (λ octets. EndsArchiveTask P.checks task (lines_of octets) result.0
         (seen O.written O.faults output.old output.new))
         result.0 (seen I.rest I.faults input.old input.new)
         (seen O.written O.faults output.old output.new) }

@@ -2,7 +2,7 @@
 
 ghost use Rattle.std.specs.Prelude.{◌≡◌, ◌⊎◌, ◌≤◌, ℕ, Bool, List, Result, Some, length, map};
 ghost use Rattle.rpki_common.specs.Limits.{most_input};
-ghost use Rattle.rpki_archive.specs.Checking.{AreAllExplanations, AreAllVerdicts, EndsTask};
+ghost use Rattle.rpki_archive.specs.Checking.{AreAllExplanations, AreAllVerdicts, EndsArchiveTask};
 ghost use Rattle.rpki_archive.specs.Explanation.{IsExplanation};
 ghost use Rattle.rpki_ca.specs.Lines.{digit_of};
 ghost use Rattle.rpki_archive.specs.Lines.{IsLine};
@@ -36,7 +36,7 @@ pub fn digits_tell_the_answer<P: Scheme>()
 /// and the input is within the limit.
 pub fn ends_with_0_or_12<P: Scheme>()
     ensures { (task : TaskOf) (status : ℕ) (source sink : Seen) (input : List ℕ) →
-        EndsRun (λ octets. EndsTask P.checks task (lines_of octets) status sink) status source
+        EndsRun (λ octets. EndsArchiveTask P.checks task (lines_of octets) status sink) status source
         sink → source.before ≡ Some input → length input ≤ most_input
         → ¬ (HasFailed source) → ¬ (HasFailed sink) →
         (status ≡ 0) ⊎ (status ≡ 12) }
@@ -45,7 +45,7 @@ pub fn ends_with_0_or_12<P: Scheme>()
 /// With 0 the verdicts on all lines were written, and their total.
 pub fn batch_writes_all<P: Scheme>()
     ensures { (source sink : Seen) (input : List ℕ) →
-        EndsRun (λ octets. EndsTask P.checks tasks.Batch (lines_of octets) 0 sink) 0 source sink →
+        EndsRun (λ octets. EndsArchiveTask P.checks tasks.Batch (lines_of octets) 0 sink) 0 source sink →
         source.before ≡ Some input →
         WroteAll (AreAllVerdicts P.checks (lines_of input)) sink }
 {}
@@ -53,7 +53,7 @@ pub fn batch_writes_all<P: Scheme>()
 /// With 0 the explanations of all lines were written.
 pub fn explain_writes_all<P: Scheme>()
     ensures { (source sink : Seen) (input : List ℕ) →
-        EndsRun (λ octets. EndsTask P.checks tasks.Explain (lines_of octets) 0 sink) 0 source sink →
+        EndsRun (λ octets. EndsArchiveTask P.checks tasks.Explain (lines_of octets) 0 sink) 0 source sink →
         source.before ≡ Some input →
         WroteAll (AreAllExplanations P.checks (lines_of input)) sink }
 {}

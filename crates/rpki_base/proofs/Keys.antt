@@ -14,7 +14,7 @@ use Rattle.rpki_base.specs.declared.algorithm.PublicKeyFormat.{PublicKeyFormat}
 use Rattle.rpki_base.specs.declared.algorithm.PublicKeyFormat.TheVariants.{Rsa, EcdsaP256}
 use Rattle.rpki_base.specs.Bits.{spelled_bits}
 use Rattle.rpki_base.specs.ObjectIdentifiers.{rsa_encryption, ec_public_key, prime256v1}
-use Rattle.rpki_base.specs.PublicKey.{KeyFields, parameters, named_format, key_algorithm, public_key, spelled_algorithm, spelled_key, CanBeSpelled}
+use Rattle.rpki_base.specs.PublicKey.{KeyFields, parameters, named_format, key_algorithm, public_key, spelled_algorithm, spelled_key, CanSpellKey}
 use Rattle.rpki_base.specs.WritingLaws.{is_sequence, is_oid, is_null, is_bits}
 
 -- the values that the two formats and the bits are written as
@@ -39,7 +39,7 @@ bits_spell mode octets h = spells_primitive mode bit_string_tag (0 ∷ octets) i
 pub bits_within : (octets : List ℕ) → length octets + 1 ≤ length (spelled_bits octets)
 bits_within octets = let n : ℕ = length (0 ∷ octets) in omega (arith, length-append (der_length n) (0 ∷ octets))
 
-key_bits : (key : KeyFields) → CanBeSpelled key → length key.bits + 1 < 4294967296
+key_bits : (key : KeyFields) → CanSpellKey key → length key.bits + 1 < 4294967296
 key_bits key h = omega (arith, bits_within key.bits, length-append (spelled_algorithm key.format) (spelled_bits key.bits), h)
 
 key_reads : (format : PublicKeyFormat) (octets : List ℕ) → public_key (key_value format octets) ≡ Some (record { format = format; bits = octets })
@@ -49,7 +49,7 @@ key_reads Rsa (a ∷ octets) = refl
 key_reads EcdsaP256 [] = refl
 key_reads EcdsaP256 (a ∷ octets) = refl
 
-pub written_key : (mode : Mode) (key : KeyFields) (rest : List ℕ) → CanBeSpelled key → (v : Value) × Begins mode (spelled_key key ++ rest) v rest × (public_key v ≡ Some key)
+pub written_key : (mode : Mode) (key : KeyFields) (rest : List ℕ) → CanSpellKey key → (v : Value) × Begins mode (spelled_key key ++ rest) v rest × (public_key v ≡ Some key)
 written_key mode key rest h = (
   key_value key.format key.bits,
   begins_constructed mode sequence _ rest _ is_sequence h (spells_followed mode _ _ _ _ (algorithm_spells mode key.format) (bits_spell mode key.bits (key_bits key h))),

@@ -10,7 +10,7 @@ use Rattle.rpki_der.specs.Bits.{bit_string}
 use Rattle.rpki_der.specs.Writing.{constructed_value, Spells}
 use Rattle.rpki_der.proofs.Written.{spells_followed, spells_one, begins_constructed}
 use Rattle.rpki_base.specs.Bits.{spelled_bits}
-use Rattle.rpki_base.specs.SignedData.{SignedParts, signature_in, signed_as, signed_data, spelled_data, CanBeSpelled}
+use Rattle.rpki_base.specs.SignedData.{SignedParts, signature_in, signed_as, signed_data, spelled_data, CanSpellSigned}
 use Rattle.rpki_base.specs.WritingLaws.{is_sequence}
 use Rattle.rpki_base.proofs.Keys.{bits_value, bits_spell, bits_within}
 
@@ -29,11 +29,11 @@ unfolding signed_data signed_as signature_in within first done so bit_string ◌
 data_reads reads mode slice algorithm [] a v w p q e = rw (p, (ap (reads mode) (sym q) ∙ e)) refl
 data_reads reads mode slice algorithm (b ∷ value) a v w p q e = rw (p, (ap (reads mode) (sym q) ∙ e)) refl
 
-data_bits : {A : Type 0} (spelled : A → List ℕ) (d : SignedParts A) → CanBeSpelled spelled d → length d.signature.value + 1 < 4294967296
+data_bits : {A : Type 0} (spelled : A → List ℕ) (d : SignedParts A) → CanSpellSigned spelled d → length d.signature.value + 1 < 4294967296
 data_bits spelled d h =
     omega (arith, bits_within d.signature.value, length-append d.slice (spelled d.signature.algorithm ++ spelled_bits d.signature.value), length-append (spelled d.signature.algorithm) (spelled_bits d.signature.value), h)
 
-pub written_data : {A : Type 0} (reads : Mode → List ℕ → Option A) (spelled : A → List ℕ) (mode : Mode) (d : SignedParts A) (signed named : Value) (rest : List ℕ) → CanBeSpelled spelled d → Begins mode d.slice signed [] → Begins mode (spelled d.signature.algorithm ++ []) named [] → reads mode (spelled d.signature.algorithm) ≡ Some d.signature.algorithm → (v : Value) × Begins mode (spelled_data spelled d ++ rest) v rest × (signed_data reads mode v ≡ Some d)
+pub written_data : {A : Type 0} (reads : Mode → List ℕ → Option A) (spelled : A → List ℕ) (mode : Mode) (d : SignedParts A) (signed named : Value) (rest : List ℕ) → CanSpellSigned spelled d → Begins mode d.slice signed [] → Begins mode (spelled d.signature.algorithm ++ []) named [] → reads mode (spelled d.signature.algorithm) ≡ Some d.signature.algorithm → (v : Value) × Begins mode (spelled_data spelled d ++ rest) v rest × (signed_data reads mode v ≡ Some d)
 written_data reads spelled mode d signed named rest h b n e =
     let m : Begins mode (spelled d.signature.algorithm) named [] = begins_alone mode (spelled d.signature.algorithm) named n in
     let short = data_bits spelled d h in (

@@ -81,5 +81,5 @@ abbrev pub spelled_key : KeyFields → List ℕ
 spelled_key key = der_constructed sequence (spelled_parts key)
 
 -- the key has a spelling: four length octets can say how long its parts are (X.690, 8.1.3)
-abbrev pub CanBeSpelled : KeyFields → Type 0
-CanBeSpelled key = length (spelled_parts key) < 2 ^ 32
+abbrev pub CanSpellKey : KeyFields → Type 0
+CanSpellKey key = length (spelled_parts key) < 2 ^ 32

@@ -82,5 +82,5 @@ abbrev pub spelled_data : {A : Type 0} → (A → List ℕ) → SignedParts A �
 spelled_data spelled d = der_constructed sequence (spelled_parts spelled d)
 
 -- the data have a spelling: four length octets can say how long their parts are (X.690, 8.1.3)
-abbrev pub CanBeSpelled : {A : Type 0} → (A → List ℕ) → SignedParts A → Type 0
-CanBeSpelled spelled d = length (spelled_parts spelled d) < 2 ^ 32
+abbrev pub CanSpellSigned : {A : Type 0} → (A → List ℕ) → SignedParts A → Type 0
+CanSpellSigned spelled d = length (spelled_parts spelled d) < 2 ^ 32

@@ -160,7 +160,7 @@ impl PublicKey {
     /// appended; a key that is longer than length octets can say is refused as want of memory.
     pub fn encode_ref(&self, out: &mut Writer) -> Result<(), OutOfMemory>
         ensures ok { OnOk result (out.new ≡ out.old ++ spec.spelled_key self.now) }
-        ensures spelled { OnOk result (spec.CanBeSpelled self.now) }
+        ensures spelled { OnOk result (spec.CanSpellKey self.now) }
         ensures err { OnErr result (out.new ≡ out.old) }
     {
         let mut inner = out.inner();
@@ -183,7 +183,7 @@ fn write_algorithm(format: PublicKeyFormat, out: &mut Writer) -> Result<(), OutO
 /// What `encode_ref` writes of a key is taken again as the same key, in both modes and whatever stands behind it.
 pub fn written_key_is_taken()
     ensures { (mode : Mode) (key : spec.KeyFields) (rest : List ℕ) →
-        spec.CanBeSpelled key →
+        spec.CanSpellKey key →
         (v : Value) × Begins mode (spec.spelled_key key ++ rest) v rest ×
         (spec.public_key v ≡ Some key) }
 {}

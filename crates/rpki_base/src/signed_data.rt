@@ -7,7 +7,7 @@ ghost use Rattle.rpki_der.specs.Takes.{Takes};
 ghost use Rattle.rpki_der.specs.Ticks.{TakesCounted, TakesRestCounted};
 ghost use Rattle.rpki_der.specs.Whole.{HoldsOne};
 ghost use Rattle.rpki_base.specs.Signature.{SignatureParts};
-ghost use Rattle.rpki_base.specs.SignedData.{SignedParts, algorithm_in, signature_in, signed_data, spelled_data, CanBeSpelled};
+ghost use Rattle.rpki_base.specs.SignedData.{SignedParts, algorithm_in, signature_in, signed_data, spelled_data, CanSpellSigned};
 
 use crate::bits::{write_bits, write_constructed};
 use crate::errors::SignatureVerificationError;
@@ -138,7 +138,7 @@ impl<Alg: SignatureAlgorithm> SignedData<Alg> {
     /// want of memory.
     pub fn encode_ref(&self, out: &mut Writer) -> Result<(), OutOfMemory>
         ensures ok { OnOk result (out.new ≡ out.old ++ spelled_data Alg.spelled self.now) }
-        ensures spelled { OnOk result (CanBeSpelled Alg.spelled self.now) }
+        ensures spelled { OnOk result (CanSpellSigned Alg.spelled self.now) }
         ensures err { OnErr result (out.new ≡ out.old) }
     {
         let mut inner = out.inner();
@@ -153,7 +153,7 @@ impl<Alg: SignatureAlgorithm> SignedData<Alg> {
 /// the algorithm is a named one.
 pub fn written_data_are_taken<Alg: SignatureAlgorithm>()
     ensures { (mode : Mode) (d : SignedParts Alg) (signed : Value) (rest : List ℕ) →
-        CanBeSpelled Alg.spelled d → Begins mode d.slice signed [] →
+        CanSpellSigned Alg.spelled d → Begins mode d.slice signed [] →
         Alg.is_named d.signature.algorithm →
         (v : Value) × Begins mode (spelled_data Alg.spelled d ++ rest) v rest ×
         (signed_data Alg.reads mode v ≡ Some d) }

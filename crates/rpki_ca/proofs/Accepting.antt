@@ -19,7 +19,7 @@ use Rattle.rpki_ca.specs.declared.receiving.ReceiveError.TheVariants as errors
 use Rattle.rpki_ca.specs.declared.refusals.Refusal.TheVariants as refusals
 use Rattle.rpki_ca.specs.Answer.{IsReceiveAnswer, IsTextAccepted}
 use Rattle.rpki_base.specs.Scheme.{Relation}
-use Rattle.rpki_ca.specs.Acceptance.{ReadsAs, Accepted, AcceptedAt, FailsCheck, RefusesReceipt, IsReceived, IsReceivedUnder, FindsSigned, without_place, of_publication, of_provisioning, refusal_of, text_of}
+use Rattle.rpki_ca.specs.Acceptance.{ReadsAs, Accepted, AcceptedAt, FailsCheck, RefusesReceipt, IsReceived, IsReceivedUnder, FindsSigned, without_place, of_publication, of_provisioning, refusal_of, accepted_text}
 
 -- ---- a message of the publication protocol
 
@@ -129,7 +129,7 @@ found_under (Err errors.OutOfMemory) f = f
 -- ---- the answer of the command
 
 pub text_accepted : (scheme : Relation) (kind : Kind) (octets : List ℕ) (keys : List KeyFields) (when : ℤ) (signed : MessageFields) (message : Received) (m : MessageFields) (place : ℕ) (text : List ℕ) → BeginsSigned octets signed → ReadsAs kind signed.content message
-    → m ≡ signed → IsFirstBelieved scheme m keys when place → text ≡ text_of message → IsTextAccepted scheme kind octets keys when text
+    → m ≡ signed → IsFirstBelieved scheme m keys when place → text ≡ accepted_text message → IsTextAccepted scheme kind octets keys when text
 text_accepted scheme kind octets keys when signed message m place text begins reads same believed written = record {
   message = message;
   accepted = under_some scheme kind octets keys when message place (accepted scheme kind octets keys when signed message m place begins reads same believed);

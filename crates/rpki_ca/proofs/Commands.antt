@@ -17,7 +17,7 @@ use Rattle.rpki_ca.specs.declared.command.Command.TheVariants.{Content, Receive,
 use Rattle.rpki_ca.specs.declared.setup_message.SetupKind.{SetupKind}
 use Rattle.rpki_ca.specs.declared.setup_message.SetupKind.TheVariants as setup
 use Rattle.rpki_common.proofs.Truths.{same_some}
-use Rattle.rpki_ca.specs.Words.{IsMoment, IsMomentAt, IsNumber, IsNumberAt, key_of, key_at}
+use Rattle.rpki_ca.specs.Words.{SpellsMoment, IsMomentAt, IsNumber, IsNumberAt, key_of_word, key_at}
 use Rattle.rpki_ca.specs.Command.{setup_kind_word, setup_kind_of, setup_kind_at, IsSetup, IsMake, AreNoMake, ReadsInput}
 use Rattle.rpki_ca.specs.Command.{kind_word, kind_of, kind_at, verb_word, verb_of, verb_in, AreKeys, IsReceive, IsDated, IsCreate, AreNoCreate, AsksSigner, AskToReceive, Ask, IsCommand, IsNoCommand, AskInVain, IsLimited}
 
@@ -203,10 +203,10 @@ behind_one : (word : List ℕ) (words : List (List ℕ)) (all : List KeyFields) 
 behind_one word words [] e = cc
 behind_one word words (k ∷ more) e = (more, ap (drop 1) e)
 
-in_front : (word : List ℕ) (words : List (List ℕ)) (key : KeyFields) (more : List KeyFields) → key_of word ≡ Some key → AreKeys words more → AreKeys (word ∷ words) (key ∷ more)
+in_front : (word : List ℕ) (words : List (List ℕ)) (key : KeyFields) (more : List KeyFields) → key_of_word word ≡ Some key → AreKeys words more → AreKeys (word ∷ words) (key ∷ more)
 in_front word words key more e a = rw (e, a) refl
 
-spelled_at : (words : List (List ℕ)) (i : ℕ) (s : StandsAt words i) (key : Option KeyFields) → key ≡ key_at words i → key_of s.word ≡ key
+spelled_at : (words : List (List ℕ)) (i : ℕ) (s : StandsAt words i) (key : Option KeyFields) → key ≡ key_at words i → key_of_word s.word ≡ key
 unfolding ◌>>=◌
 spelled_at words i s key e = sym (rw s.stands at e)
 
@@ -227,21 +227,21 @@ no_key_here words from i keys l e sofar all a =
     let m = sofar.rest all a in
     none s.word (drop (suc i) words) m.0 (spelled_at words i s None e) (subst (λ (ws : List (List ℕ)). AreKeys ws m.0) s.parts m.1)
   where
-    none : (word : List ℕ) (words : List (List ℕ)) (all : List KeyFields) → key_of word ≡ None → AreKeys (word ∷ words) all → ⊥
+    none : (word : List ℕ) (words : List (List ℕ)) (all : List KeyFields) → key_of_word word ≡ None → AreKeys (word ∷ words) all → ⊥
     none word words [] f b = unlike (ap (λ (l : List (Option KeyFields)). length l) b)
       where
-        unlike : suc (length (map key_of words)) ≡ 0 → ⊥
+        unlike : suc (length (map key_of_word words)) ≡ 0 → ⊥
         unlike k = cc
     none word words (k ∷ more) f b = unlike (sym f ∙ first b)
       where
-        first : map key_of (word ∷ words) ≡ map some_key (k ∷ more) → key_of word ≡ Some k
+        first : map key_of_word (word ∷ words) ≡ map some_key (k ∷ more) → key_of_word word ≡ Some k
         first k = cc
 
         unlike : None ≡ some_key k → ⊥
         unlike k = cc
 
 pub all_spelled : (words : List (List ℕ)) (from i : ℕ) (keys : List KeyFields) → length words ≤ i → SpellSoFar words from i keys → AreKeys (drop from words) keys
-all_spelled words from i keys l sofar = subst (AreKeys (drop from words)) (append-nil keys) (sofar.whole [] (ap (map key_of) (drop_of_length-le words l)))
+all_spelled words from i keys l sofar = subst (AreKeys (drop from words)) (append-nil keys) (sofar.whole [] (ap (map key_of_word) (drop_of_length-le words l)))
 
 -- ---- `receive`
 
@@ -299,7 +299,7 @@ received words kind when keys e l k m s =
         are = w.2 ∙ ap (λ (x : List ℕ). codes "receive" ∷ x ∷ w.1 ∷ drop 3 words) b;
         some = omega (arith, n, l.0);
         few = omega (arith, n, l.1);
-        moment = subst (λ (w : List ℕ). IsMoment w when) same m.moment;
+        moment = subst (λ (w : List ℕ). SpellsMoment w when) same m.moment;
         spell = s;
       };
       is = refl;
@@ -350,7 +350,7 @@ dated words verb about when e l named m =
     record {
       moment_word = w.1;
       are = w.2 ∙ ap (λ (x : List ℕ). verb_word verb ∷ x ∷ w.1 ∷ []) (named w.0 (w.1 ∷ []) w.2);
-      moment = subst (λ (w : List ℕ). IsMoment w when) same m.moment;
+      moment = subst (λ (w : List ℕ). SpellsMoment w when) same m.moment;
     }
 
 pub created : (words : List (List ℕ)) (kind : Kind) (when : ℤ) → verb_in words ≡ Some verbs.Create → length words ≡ 3 → Some kind ≡ kind_at words 1 → IsMomentAt words 2 when → Ask verbs.Create words (Create kind when)
@@ -464,7 +464,7 @@ made words count seed e l n m =
 
 -- ---- one command
 
-pub one_moment : (word : List ℕ) (a b : ℤ) → IsMoment word a → IsMoment word b → a ≡ b
+pub one_moment : (word : List ℕ) (a b : ℤ) → SpellsMoment word a → SpellsMoment word b → a ≡ b
 one_moment word (pos m) (pos n) p q =
     let low : m ≤ 253402300799 = p.1 in
     let high : n ≤ 253402300799 = q.1 in
@@ -474,14 +474,14 @@ one_moment word (negsuc m) b p q = absurd p
 
 -- the word at a place is one moment
 pub one_moment_at : (words : List (List ℕ)) (index : ℕ) (one other : ℤ) → IsMomentAt words index one → IsMomentAt words index other → one ≡ other
-one_moment_at words index one other a b = one_moment b.word one other (subst (λ (w : List ℕ). IsMoment w one) (same_some a.word b.word (sym a.stands ∙ b.stands)) a.moment) b.moment
+one_moment_at words index one other a b = one_moment b.word one other (subst (λ (w : List ℕ). SpellsMoment w one) (same_some a.word b.word (sym a.stands ∙ b.stands)) a.moment) b.moment
 
 one_receive : (words : List (List ℕ)) (a b : Kind) (s t : ℤ) (k l : List KeyFields) → IsReceive words a s k → IsReceive words b t l → Receive a s k ≡ Receive b t l
 one_receive words a b s t k l p q =
     let e = sym p.are ∙ q.are in
     let moment : p.moment_word ≡ q.moment_word = same_at 2 p.moment_word q.moment_word _ _ e refl refl in
     let behind : p.key_words ≡ q.key_words = ap (drop 3) e in
-    let st : s ≡ t = one_moment q.moment_word s t (subst (λ (w : List ℕ). IsMoment w s) moment p.moment) q.moment in
+    let st : s ≡ t = one_moment q.moment_word s t (subst (λ (w : List ℕ). SpellsMoment w s) moment p.moment) q.moment in
     let kl : k ≡ l = one_list q.key_words k l (subst (λ (ws : List (List ℕ)). AreKeys ws k) behind p.spell) q.spell in
     let word : kind_word a ≡ kind_word b = same_at 1 (kind_word a) (kind_word b) _ _ e refl refl in
     let ab : a ≡ b = one_kind a b word in
@@ -490,7 +490,7 @@ one_receive words a b s t k l p q =
 one_date : (words : List (List ℕ)) (verb about other : List ℕ) (s t : ℤ) → IsDated verb about words s → IsDated verb other words t → (about ≡ other) × (s ≡ t)
 one_date words verb about other s t p q =
     let moment : p.moment_word ≡ q.moment_word = same_at 2 p.moment_word q.moment_word _ _ (sym p.are ∙ q.are) refl refl in
-    (same_at 1 about other _ _ (sym p.are ∙ q.are) refl refl, one_moment q.moment_word s t (subst (λ (w : List ℕ). IsMoment w s) moment p.moment) q.moment)
+    (same_at 1 about other _ _ (sym p.are ∙ q.are) refl refl, one_moment q.moment_word s t (subst (λ (w : List ℕ). SpellsMoment w s) moment p.moment) q.moment)
 
 one_create : (words : List (List ℕ)) (a b : Kind) (s t : ℤ) → IsCreate words a s → IsCreate words b t → Create a s ≡ Create b t
 one_create words a b s t p q =
@@ -577,7 +577,7 @@ limited words c a = by_verb a.verb a.ask
     by_verb : (verb : Verb) → Ask verb words c → IsLimited c
     by_verb verbs.Content p = subst IsLimited (sym p.1) tt
     by_verb verbs.Receive p =
-        let n : length p.receive.key_words ≡ length p.keys = same_count key_of some_key p.receive.key_words p.keys p.receive.spell in
+        let n : length p.receive.key_words ≡ length p.keys = same_count key_of_word some_key p.receive.key_words p.keys p.receive.spell in
         subst IsLimited (sym p.is) (omega (arith, n, p.receive.some), omega (arith, n, p.receive.few))
     by_verb verbs.Create p = subst IsLimited (sym p.is) tt
     by_verb verbs.Setup p = subst IsLimited (sym p.is) tt

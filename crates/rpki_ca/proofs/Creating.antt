@@ -15,15 +15,15 @@ use Rattle.rpki_der.specs.declared.mode.Mode.TheVariants.{Ber}
 use Rattle.rpki_der.specs.Takes.{BeginsAs}
 use Rattle.rpki_signer.specs.declared.errors.SigningError.TheVariants as signing
 use Rattle.rpki_signer.specs.declared.errors.SigningError.{SigningError}
-use Rattle.rpki_signer.specs.Signer.{Holds, SigningFails}
+use Rattle.rpki_signer.specs.Signer.{HoldsKey, SigningFails}
 use Rattle.rpki_sigmsg.specs.declared.create_error.CreateError.{CreateError}
 use Rattle.rpki_sigmsg.specs.declared.create_error.CreateError.TheVariants as create
 use Rattle.rpki_sigmsg.specs.Checks.{IsBelieved}
 use Rattle.rpki_sigmsg.specs.FirstRefusals.{IsFirstRefusal, StopsCreating}
 use Rattle.rpki_signer.specs.declared.errors.MakeError.TheVariants as make
-use Rattle.rpki_sigmsg.specs.Making.{window, HasWindow, IsCreated, CreateFails}
+use Rattle.rpki_sigmsg.specs.Making.{window, HasWindow, IsMessageCreated, CreateFails}
 use Rattle.rpki_sigmsg.specs.Message.{MessageFields, signed_message}
-use Rattle.rpki_sigmsg.specs.Spelling.{rewritten, CanBeSpelled}
+use Rattle.rpki_sigmsg.specs.Spelling.{rewritten, CanSpellMessage}
 use Rattle.rpki_publication.proofs.Plain.{text_again}
 use Rattle.rpki_provisioning.proofs.Plain as plain
 use Rattle.rpki_ca.specs.declared.command.Command.{Command}
@@ -34,8 +34,8 @@ use Rattle.rpki_ca.specs.declared.receiving.Received.{Received}
 use Rattle.rpki_ca.specs.declared.receiving.Received.TheVariants as received
 use Rattle.rpki_ca.specs.declared.refusals.Refusal.{Refusal}
 use Rattle.rpki_ca.specs.declared.refusals.Refusal.TheVariants as refusals
-use Rattle.rpki_ca.specs.Acceptance.{ReadsAs, IsWritable, protocol_of, text_of, normal_form}
-use Rattle.rpki_ca.specs.Creation.{RefusesInput, IsCreateRefusal, IsReceivable, AreCreated, IsFirstToRefuse, IsSigned, IsSignersAnswer, IsCreateAnswer, Creates, CanCreate, CanSign, refusal_of_create}
+use Rattle.rpki_ca.specs.Acceptance.{ReadsAs, IsWritable, protocol_of, accepted_text, normal_form}
+use Rattle.rpki_ca.specs.Creation.{RefusesInput, IsCreateRefusal, IsReceivable, AreCreated, IsFirstToRefuse, IsSigningAnswer, IsSignersAnswer, IsCreateAnswer, Creates, CanCreate, CanSign, refusal_of_create}
 use Rattle.rpki_ca.specs.Answer.{AnswersSigned, IsFromSigner, IsGiven}
 use Rattle.rpki_ca.specs.Command.{IsCreate}
 use Rattle.rpki_ca.specs.Seen.{Seen, SignerSeen}
@@ -47,9 +47,9 @@ use Rattle.rpki_ca.proofs.Retyped.{creating}
 -- ---- what is made of a message
 
 -- believed, read again, and its content read as the message: received
-pub receivable : {I : Type 0} (scheme : Relation) (message : Received) (when : ℤ) (signer : SignerSeen I) (signed : MessageFields) (octets : List ℕ) → octets ≡ rewritten signed → CanBeSpelled signed
-    → ((mode : Mode) (rest : List ℕ) → CanBeSpelled signed → BeginsAs (signed_message mode) mode (rewritten signed ++ rest) signed)
-    → ((key : KeyFields) → Holds signer.before.keyring signer.id key → (moment : ℤ) → (window when).not_before ≤ℤ moment → moment ≤ℤ (window when).not_after → IsBelieved scheme signed key moment)
+pub receivable : {I : Type 0} (scheme : Relation) (message : Received) (when : ℤ) (signer : SignerSeen I) (signed : MessageFields) (octets : List ℕ) → octets ≡ rewritten signed → CanSpellMessage signed
+    → ((mode : Mode) (rest : List ℕ) → CanSpellMessage signed → BeginsAs (signed_message mode) mode (rewritten signed ++ rest) signed)
+    → ((key : KeyFields) → HoldsKey signer.before.keyring signer.id key → (moment : ℤ) → (window when).not_before ≤ℤ moment → moment ≤ℤ (window when).not_after → IsBelieved scheme signed key moment)
     → ReadsAs (protocol_of message) signed.content (normal_form message) → IsReceivable scheme (protocol_of message) octets message when signer
 receivable scheme message when signer signed octets are spelled again believed reads = λ key holds keys among moment first last. record {
   signed = signed;
@@ -59,21 +59,21 @@ receivable scheme message when signer signed octets are spelled again believed r
 }
 
 -- a message's text is read as its normal form
-pub read_again : (message : Received) → IsWritable message → ReadsAs (protocol_of message) (text_of message) (normal_form message)
+pub read_again : (message : Received) → IsWritable message → ReadsAs (protocol_of message) (accepted_text message) (normal_form message)
 read_again (received.Publication m) writable = text_again m writable
 read_again (received.Provisioning m) writable = plain.text_again m writable
 
 -- what was created of it
-pub message_created : {I : Type 0} (scheme : Relation) (m : Received) (when : ℤ) (signer : SignerSeen I) (signed : MessageFields) (text octets : List ℕ) → text ≡ text_of m
-    → IsCreated scheme text when signer.id signer.before signer.after signed → octets ≡ rewritten signed → CanBeSpelled signed
-    → ((mode : Mode) (rest : List ℕ) → CanBeSpelled signed → BeginsAs (signed_message mode) mode (rewritten signed ++ rest) signed)
-    → ((key : KeyFields) → Holds signer.before.keyring signer.id key → (moment : ℤ) → (window when).not_before ≤ℤ moment → moment ≤ℤ (window when).not_after → IsBelieved scheme signed key moment)
+pub message_created : {I : Type 0} (scheme : Relation) (m : Received) (when : ℤ) (signer : SignerSeen I) (signed : MessageFields) (text octets : List ℕ) → text ≡ accepted_text m
+    → IsMessageCreated scheme text when signer.id signer.before signer.after signed → octets ≡ rewritten signed → CanSpellMessage signed
+    → ((mode : Mode) (rest : List ℕ) → CanSpellMessage signed → BeginsAs (signed_message mode) mode (rewritten signed ++ rest) signed)
+    → ((key : KeyFields) → HoldsKey signer.before.keyring signer.id key → (moment : ℤ) → (window when).not_before ≤ℤ moment → moment ≤ℤ (window when).not_after → IsBelieved scheme signed key moment)
     → IsWritable m → AreCreated scheme (protocol_of m) m when signer octets
 message_created scheme m when signer signed text octets is created are spelled again believed writable =
-    let content : signed.content ≡ text_of m = ap (λ (s : MessageFields). s.content) created.made.is ∙ is in
+    let content : signed.content ≡ accepted_text m = ap (λ (s : MessageFields). s.content) created.made.is ∙ is in
     record {
       signed = signed;
-      created = subst (λ (t : List ℕ). IsCreated scheme t when signer.id signer.before signer.after signed) is created;
+      created = subst (λ (t : List ℕ). IsMessageCreated scheme t when signer.id signer.before signer.after signed) is created;
       are = are;
       receivable = receivable scheme m when signer signed octets are spelled again believed (subst (λ o. ReadsAs (protocol_of m) o (normal_form m)) (sym content) (read_again m writable));
     }
@@ -108,12 +108,12 @@ not_error {T = T} {E = E} r x e is err = unlike (sym is ∙ err)
 
 -- a text that is too long is told so, or memory ran out
 abbrev pub TellsText : {T E : Type 0} → Received → ℤ → Result T (CreateError E) → Type 0
-TellsText message when r = HasWindow when → 2 ^ 31 < length (text_of message) → IsErrOf r create.TooLong ⊎ IsErrOf r create.OutOfMemory
+TellsText message when r = HasWindow when → 2 ^ 31 < length (accepted_text message) → IsErrOf r create.TooLong ⊎ IsErrOf r create.OutOfMemory
 
 -- a text fits where neither TooLong nor want of memory is told
-fits : {T E : Type 0} (message : Received) (when : ℤ) (r : Result T (CreateError E)) → TellsText message when r → HasWindow when → (IsErrOf r create.TooLong → ⊥) → (IsErrOf r create.OutOfMemory → ⊥) → length (text_of message) ≤ 2 ^ 31
+fits : {T E : Type 0} (message : Received) (when : ℤ) (r : Result T (CreateError E)) → TellsText message when r → HasWindow when → (IsErrOf r create.TooLong → ⊥) → (IsErrOf r create.OutOfMemory → ⊥) → length (accepted_text message) ≤ 2 ^ 31
 fits message when r tells w long memory =
-    elim (leb_tells (length (text_of message)) (2 ^ 31)) [
+    elim (leb_tells (length (accepted_text message)) (2 ^ 31)) [
       | inl within ↦ within.1
       | inr longer ↦
           elim (tells w longer.1) [
@@ -122,12 +122,12 @@ fits message when r tells w long memory =
           ]
     ]
 
-pub fits_ok : {T E : Type 0} (message : Received) (when : ℤ) (r : Result T (CreateError E)) (x : T) → r ≡ Ok x → TellsText message when r → HasWindow when → length (text_of message) ≤ 2 ^ 31
+pub fits_ok : {T E : Type 0} (message : Received) (when : ℤ) (r : Result T (CreateError E)) (x : T) → r ≡ Ok x → TellsText message when r → HasWindow when → length (accepted_text message) ≤ 2 ^ 31
 fits_ok message when r x is tells w = fits message when r tells w (not_error r x create.TooLong is) (not_error r x create.OutOfMemory is)
 
 -- a refusal of the signer, each by its cause
 pub signer_refused : {I E : Type 0} (scheme : Relation) (kind : Kind) (message : Received) (when : ℤ) (signer : SignerSeen I) (s : SigningError E) → SigningFails RsaSha256 signer.id signer.before signer.after s
-    → refusal_of_create (create.Signing s) ≢ refusals.OutOfMemory → IsSigned scheme kind message when signer (Err (refusal_of_create (create.Signing s)))
+    → refusal_of_create (create.Signing s) ≢ refusals.OutOfMemory → IsSigningAnswer scheme kind message when signer (Err (refusal_of_create (create.Signing s)))
 signer_refused scheme kind message when signer signing.KeyNotFound f other = f
 signer_refused scheme kind message when signer signing.IncompatibleKey f other = f
 signer_refused scheme kind message when signer (signing.Signer x) f other = f
@@ -162,11 +162,11 @@ abbrev err_as : {T E : Type 0} → CreateError E → Result T (CreateError E)
 err_as e = Err e
 
 pub refused : {T I E : Type 0} (scheme : Relation) (kind : Kind) (input : List ℕ) (message : Received) (when : ℤ) (signer : SignerSeen I) (e : CreateError E) → ReadsAs kind input message → TellsText message when (err_as {T = T} e)
-    → CreateFails (text_of message) when signer.id signer.before signer.after e → IsFirstRefusal scheme (text_of message) when signer.id signer.before signer.after e → refusal_of_create e ≢ refusals.OutOfMemory → IsCreateAnswer scheme kind input when signer (Err (refusal_of_create e))
+    → CreateFails (accepted_text message) when signer.id signer.before signer.after e → IsFirstRefusal scheme (accepted_text message) when signer.id signer.before signer.after e → refusal_of_create e ≢ refusals.OutOfMemory → IsCreateAnswer scheme kind input when signer (Err (refusal_of_create e))
 refused scheme kind input message when signer create.Moment r t f first other = inl (record { message = message; reads = r; none = f })
 refused scheme kind input message when signer create.TooLong r t (w, inl long) first other = inl (record { message = message; reads = r; window_is = w; long = long })
 refused scheme kind input message when signer create.TooLong r t (w, inr short) first other =
-    inr (record { message = message; reads = r; window_is = w; fits = short.0; signed = short.1; first = first_too_long scheme (text_of message) when signer short.0 first })
+    inr (record { message = message; reads = r; window_is = w; fits = short.0; signed = short.1; first = first_too_long scheme (accepted_text message) when signer short.0 first })
 refused {T = T} {I = I} {E = E} scheme kind input message when signer create.KeyReused r t f first other =
     inr (record { message = message; reads = r; window_is = f.0; fits = fits message when (err_as {T = T} create.KeyReused) t f.0 (λ k. long k) (λ k. memory k); signed = f.1; first = first })
   where
@@ -182,7 +182,7 @@ refused {T = T} {I = I} {E = E} scheme kind input message when signer (create.Si
       window_is = f.0;
       fits = fits message when (err_as {T = T} (create.Signing error)) t f.0 (λ k. long k) (λ k. memory k);
       signed = signer_refused scheme kind message when signer error f.2 other;
-      first = first_of scheme (text_of message) when signer error first;
+      first = first_of scheme (accepted_text message) when signer error first;
     })
   where
     long : err_as {T = T} {E = E} (create.Signing error) ≡ Err create.TooLong → ⊥
@@ -194,7 +194,7 @@ refused scheme kind input message when signer create.OutOfMemory r t f first oth
 
 -- ---- the line
 
-pub line_created : {I : Type 0} (scheme : Relation) (kind : Kind) (input : List ℕ) (message : Received) (when : ℤ) (signer : SignerSeen I) (octets : List ℕ) → ReadsAs kind input message → length (text_of message) ≤ 2 ^ 31
+pub line_created : {I : Type 0} (scheme : Relation) (kind : Kind) (input : List ℕ) (message : Received) (when : ℤ) (signer : SignerSeen I) (octets : List ℕ) → ReadsAs kind input message → length (accepted_text message) ≤ 2 ^ 31
     → AreCreated scheme (protocol_of message) message when signer octets → IsCreateAnswer scheme kind input when signer (Ok (encode_lower octets))
 line_created scheme kind input message when signer octets r l c =
     let here = subst (λ (k : Kind). AreCreated scheme k message when signer octets) (sym (of_protocol kind input message r)) c in
@@ -234,12 +234,12 @@ no_pure : {I : Type 0} (kind : Kind) (when : ℤ) (input : List ℕ) (signer : S
 no_pure kind when input signer a can (inl p) = no_reason kind input can.message p.0 can.reads (reason kind input p.0 p.2)
 no_pure kind when input signer a can (inr (inl p)) = p.1.none can.window_is
 no_pure kind when input signer a can (inr (inr p)) =
-    never (length (text_of can.message)) (subst (λ (m : Received). 2 ^ 31 < length (text_of m)) (one_reading kind input p.1.message can.message p.1.reads can.reads) p.1.long) can.fits
+    never (length (accepted_text can.message)) (subst (λ (m : Received). 2 ^ 31 < length (accepted_text m)) (one_reading kind input p.1.message can.message p.1.reads can.reads) p.1.long) can.fits
   where
     never : (n : ℕ) → 2 ^ 31 < n → n ≤ 2 ^ 31 → ⊥
     never n l m = omega (arith, l, m)
 
-pub no_signed : {I : Type 0} (scheme : Relation) (kind : Kind) (when : ℤ) (signer : SignerSeen I) (message : Received) (r : Refusal) → CanSign signer → IsSigned scheme kind message when signer (Err r) → ⊥
+pub no_signed : {I : Type 0} (scheme : Relation) (kind : Kind) (when : ℤ) (signer : SignerSeen I) (message : Received) (r : Refusal) → CanSign signer → IsSigningAnswer scheme kind message when signer (Err r) → ⊥
 no_signed scheme kind when signer message refusals.TooLong can s = can.short_answers s
 no_signed scheme kind when signer message refusals.KeyReused can s =
     can.other s.told (s.drawn ∙ ap (λ (k : KeyFields). Some k) (sym (s.only can.issuing can.holds)))

@@ -14,7 +14,7 @@ use Rattle.rpki_base.specs.declared.validation.ValidationKind.TheVariants.{Inspe
 use Rattle.rpki_sigmsg.specs.Checks.{checks, kind_of, Asked, IsBelieved, IsBelievedUnder, IsUnbelieved, AreAmong, AreOutcomes, IsFirstBelieved, ranked, SameAnswersUnder, IsInSpan}
 use Rattle.rpki_sigmsg.proofs.AnyKey.{at_one, under_more, one_place, one_span_under, first_too, unbelieved_too, outcomes_too}
 use Rattle.rpki_sigmsg.specs.Message.{MessageFields, signed_message}
-use Rattle.rpki_sigmsg.specs.Spelling.{rewritten, CanBeSpelled}
+use Rattle.rpki_sigmsg.specs.Spelling.{rewritten, CanSpellMessage}
 use Rattle.rpki_sigmsg.proofs.Again.{begins_loosely}
 use Rattle.rpki_sigmsg.proofs.HeldMessages.{message_held}
 use Rattle.rpki_sigmsg.specs.Beginning.{BeginsSigned, HoldsContent}
@@ -48,9 +48,9 @@ use Rattle.rpki_setup.specs.ChildRequest.{child_request_in}
 use Rattle.rpki_setup.specs.ParentResponse.{parent_response_in}
 use Rattle.rpki_setup.specs.PublisherRequest.{publisher_request_in}
 use Rattle.rpki_setup.specs.RepositoryResponse.{repository_response_in}
-use Rattle.rpki_message.proofs.Read.{one_message}
+use Rattle.rpki_xmltext.proofs.Read.{one_message}
 use Rattle.rpki_base.specs.Scheme.{Relation}
-use Rattle.rpki_ca.specs.Acceptance.{ReadsAs, Accepted, AcceptedAt, HoldsNoSigned, FailsCheck, RefusesReceipt, IsReceived, IsReceivedUnder, text_of, refusal_of}
+use Rattle.rpki_ca.specs.Acceptance.{ReadsAs, Accepted, AcceptedAt, HoldsNoSigned, FailsCheck, RefusesReceipt, IsReceived, IsReceivedUnder, accepted_text, refusal_of}
 use Rattle.rpki_ca.proofs.Reasons.{reason, no_reason, one_reason}
 use Rattle.rpki_base.proofs.Believing.{decides_yes}
 
@@ -148,7 +148,7 @@ one_accepted scheme kind octets keys when m n p q =
 one_text : (scheme : Relation) (kind : Kind) (octets : List ℕ) (keys : List KeyFields) (when : ℤ) (s t : List ℕ) → IsTextAccepted scheme kind octets keys when s → IsTextAccepted scheme kind octets keys when t → s ≡ t
 one_text scheme kind octets keys when s t p q =
     let message = one_accepted scheme kind octets keys when p.message q.message p.accepted q.accepted in
-    p.written ∙ ap text_of message ∙ sym q.written
+    p.written ∙ ap accepted_text message ∙ sym q.written
 
 no_reading : (kind : Kind) (octets : List ℕ) (signed : MessageFields) (m : Received) (e : Refusal) → BeginsSigned octets signed → ReadsAs kind signed.content m → HoldsContent (λ o. RefusesInput kind o e) octets → ⊥
 no_reading kind octets signed m e b r h =
@@ -281,7 +281,7 @@ no_refusal : {I : Type 0} (scheme : Relation) (kind : Kind) (input : List ℕ) (
 no_refusal scheme kind input when signer a b (inl p) s = no_reason kind input s.message p.0 s.reads (reason kind input p.0 p.2)
 no_refusal scheme kind input when signer a b (inr (inl p)) s = p.1.none s.window_is
 no_refusal scheme kind input when signer a b (inr (inr p)) s =
-    never (length (text_of s.message)) (subst (λ (m : Received). 2 ^ 31 < length (text_of m)) (one_reading kind input p.1.message s.message p.1.reads s.reads) p.1.long) s.fits
+    never (length (accepted_text s.message)) (subst (λ (m : Received). 2 ^ 31 < length (accepted_text m)) (one_reading kind input p.1.message s.message p.1.reads s.reads) p.1.long) s.fits
   where
     never : (n : ℕ) → 2 ^ 31 < n → n ≤ 2 ^ 31 → ⊥
     never n l m = omega (arith, l, m)
@@ -645,11 +645,11 @@ same_message scheme kind octets others signed keys when (Err (errors.Validation 
 same_message scheme kind octets others signed keys when (Err errors.OutOfMemory) b c r = tt
 
 -- the DER of a message with which octets begin, whatever stands behind it
-written_begins : (octets rest : List ℕ) (signed : MessageFields) → BeginsSigned octets signed → CanBeSpelled signed → BeginsSigned (rewritten signed ++ rest) signed
+written_begins : (octets rest : List ℕ) (signed : MessageFields) → BeginsSigned octets signed → CanSpellMessage signed → BeginsSigned (rewritten signed ++ rest) signed
 written_begins octets rest signed b k = begins_loosely Ber signed rest (message_held Ber b.value signed b.begins.lawful b.reads) k
 
 pub written_alike : (scheme : Relation) (kind : Kind) (octets rest : List ℕ) (signed : MessageFields) (keys : List KeyFields) (when : ℤ) (a : Result (Received × ℕ) ReceiveError)
-    → BeginsSigned octets signed → CanBeSpelled signed → IsReceivedUnder scheme kind octets keys when a ↔ IsReceivedUnder scheme kind (rewritten signed ++ rest) keys when a
+    → BeginsSigned octets signed → CanSpellMessage signed → IsReceivedUnder scheme kind octets keys when a ↔ IsReceivedUnder scheme kind (rewritten signed ++ rest) keys when a
 written_alike scheme kind octets rest signed keys when a b k =
     let c = written_begins octets rest signed b k in
     (same_message scheme kind octets (rewritten signed ++ rest) signed keys when a b c, same_message scheme kind (rewritten signed ++ rest) octets signed keys when a c b)

@@ -34,7 +34,7 @@ use Rattle.rpki_base.specs.Scheme.{Relation}
 use Rattle.rpki_signer.specs.declared.errors.KeyError.{KeyError}
 use Rattle.rpki_signer.specs.declared.errors.KeyError.TheVariants as keys
 use Rattle.rpki_signer.specs.Limits.{Keeps}
-use Rattle.rpki_signer.specs.Signer.{SignerState, HeldKey, Holds, Stays, KeyFails, IsKeyOf}
+use Rattle.rpki_signer.specs.Signer.{SignerState, HeldKey, HoldsKey, Stays, KeyFails, IsKeyOf}
 use Rattle.rpki_signer.proofs.States.{then_rose}
 use Rattle.rpki_sigmsg.specs.declared.create_error.CreateError.{CreateError}
 use Rattle.rpki_sigmsg.specs.declared.create_error.CreateError.TheVariants as create
@@ -46,13 +46,13 @@ use Rattle.rpki_ca.specs.declared.receiving.Kind.TheVariants as kinds
 use Rattle.rpki_ca.specs.declared.receiving.ReceiveError.{ReceiveError}
 use Rattle.rpki_ca.specs.declared.receiving.Received.{Received}
 use Rattle.rpki_ca.specs.declared.refusals.Refusal.TheVariants as refusals
-use Rattle.rpki_ca.specs.Acceptance.{IsWritable, Accepted, RefusesReceipt, protocol_of, text_of, normal_form, refusal_of}
+use Rattle.rpki_ca.specs.Acceptance.{IsWritable, Accepted, RefusesReceipt, protocol_of, accepted_text, normal_form, refusal_of}
 use Rattle.rpki_ca.specs.Answer.{IsLineOf}
-use Rattle.rpki_ca.specs.Creation.{AreCreated, IsSigned, IsFirstToRefuse, refusal_of_create, refusal_of_key}
+use Rattle.rpki_ca.specs.Creation.{AreCreated, IsSigningAnswer, IsFirstToRefuse, refusal_of_create, refusal_of_key}
 use Rattle.rpki_ca.specs.Seen.{SignerSeen, seen_signer}
 use Rattle.rpki_ca.proofs.Creating.{signer_refused, first_told, drawn_other}
 use Rattle.rpki_ca.proofs.Laws.{one_accepted, accepted_alone}
-use Rattle.rpki_ca.specs.Summary.{made_at, object_at, uri_at, tag_at, publish_at, update_at, withdraw_at, change_at, changes, made_message, changes_in, does, summary, FailsToGiveKey, IsMakeAnswer}
+use Rattle.rpki_ca.specs.Summary.{made_at, object_at, uri_at, change_tag_at, publish_at, update_at, withdraw_at, change_at, changes, made_message, changes_in, does, summary, FailsToGiveKey, IsMakeAnswer}
 
 -- ---- the changes
 
@@ -80,7 +80,7 @@ unfolding normal_change
 normal seed place = of_three (λ c. normal_change c ≡ c) seed place refl refl refl
 
 -- a made change is small
-tag_length : (seed place : ℕ) → length (tag_at seed place) ≤ 64
+tag_length : (seed place : ℕ) → length (change_tag_at seed place) ≤ 64
 tag_length seed place =
     let twice = length-encode_with lower_digits (sha256 (object_at seed place)) in
     let size = length-sha256 (object_at seed place) in
@@ -160,7 +160,7 @@ unfolding publication.normal_form
 normal_message seed count = rw (each_same normal_change (change_at seed) 0 count (normal seed)) refl
 
 -- its text is not too long, and its moment has a window
-pub fits : (seed count : ℕ) → count ≤ 10000 → length (text_of (made_message seed count)) ≤ 2 ^ 31
+pub fits : (seed count : ℕ) → count ≤ 10000 → length (accepted_text (made_message seed count)) ≤ 2 ^ 31
 fits seed count few =
     let long = small_delta (changes seed count) (all_of IsSmallChange (change_at seed) 0 count (λ i l. small seed i (omega (arith, few, l)))) in
     let number = length-map-range_with_len (change_at seed) 0 count in
@@ -172,10 +172,10 @@ made_window = record { first = le_z_yes tt; last = le_z_yes tt }
 -- ---- what comes of it
 
 -- nothing was created
-pub made_refused : {I E : Type 0} (scheme : Relation) (message : Received) (when : ℤ) (signer : SignerSeen I) (e : CreateError E) → HasWindow when → length (text_of message) ≤ 2 ^ 31
-    → CreateFails (text_of message) when signer.id signer.before signer.after e → refusal_of_create e ≢ refusals.OutOfMemory → IsSigned scheme kinds.Publication message when signer (Err (refusal_of_create e))
+pub made_refused : {I E : Type 0} (scheme : Relation) (message : Received) (when : ℤ) (signer : SignerSeen I) (e : CreateError E) → HasWindow when → length (accepted_text message) ≤ 2 ^ 31
+    → CreateFails (accepted_text message) when signer.id signer.before signer.after e → refusal_of_create e ≢ refusals.OutOfMemory → IsSigningAnswer scheme kinds.Publication message when signer (Err (refusal_of_create e))
 made_refused scheme message when signer create.Moment w l f other = absurd (f w)
-made_refused scheme message when signer create.TooLong w l (v, inl long) other = absurd (never (length (text_of message)) long l)
+made_refused scheme message when signer create.TooLong w l (v, inl long) other = absurd (never (length (accepted_text message)) long l)
   where
     never : (n : ℕ) → 2 ^ 31 < n → n ≤ 2 ^ 31 → ⊥
     never n l m = omega (arith, l, m)
@@ -185,17 +185,17 @@ made_refused scheme message when signer (create.Signing error) w l f other = sig
 made_refused scheme message when signer create.OutOfMemory w l f other = absurd (other refl)
 
 -- the signer holds the same keys before and after it signed
-held_before : {I : Type 0} (id : I) (before middle : SignerState I) (key : KeyFields) → Keeps before middle → Holds middle.keyring id key → Holds before.keyring id key
-held_before {I = I} id before middle key keeps holds = subst (λ (k : List (HeldKey I)). Holds k id key) keeps.keyring holds
+held_before : {I : Type 0} (id : I) (before middle : SignerState I) (key : KeyFields) → Keeps before middle → HoldsKey middle.keyring id key → HoldsKey before.keyring id key
+held_before {I = I} id before middle key keeps holds = subst (λ (k : List (HeldKey I)). HoldsKey k id key) keeps.keyring holds
 
-held_after : {I : Type 0} (id : I) (before middle : SignerState I) (key : KeyFields) → Keeps before middle → Holds before.keyring id key → Holds middle.keyring id key
-held_after {I = I} id before middle key keeps holds = subst (λ (k : List (HeldKey I)). Holds k id key) (sym keeps.keyring) holds
+held_after : {I : Type 0} (id : I) (before middle : SignerState I) (key : KeyFields) → Keeps before middle → HoldsKey before.keyring id key → HoldsKey middle.keyring id key
+held_after {I = I} id before middle key keeps holds = subst (λ (k : List (HeldKey I)). HoldsKey k id key) (sym keeps.keyring) holds
 
 -- the issuing key wasn't given then
 pub key_refused : {I E : Type 0} (scheme : Relation) (message : Received) (when : ℤ) (id : I) (before middle after : SignerState I) (octets : List ℕ) (e : KeyError E)
     → AreCreated scheme kinds.Publication message when (seen_signer id before middle) octets → Keeps before middle → Stays middle after × KeyFails id middle after e → refusal_of_key e ≢ refusals.OutOfMemory
-    → IsSigned scheme kinds.Publication message when (seen_signer id before after) (Err (refusal_of_key e))
-    × (IsFirstToRefuse scheme (text_of message) when (seen_signer id before after) (refusal_of_key e) ⊎ FailsToGiveKey scheme (text_of message) when (seen_signer id before after) (refusal_of_key e))
+    → IsSigningAnswer scheme kinds.Publication message when (seen_signer id before after) (Err (refusal_of_key e))
+    × (IsFirstToRefuse scheme (accepted_text message) when (seen_signer id before after) (refusal_of_key e) ⊎ FailsToGiveKey scheme (accepted_text message) when (seen_signer id before after) (refusal_of_key e))
 key_refused scheme message when id before middle after octets keys.KeyNotFound created keeps f other =
     absurd (f.1 created.created.issuing (held_after id before middle created.created.issuing keeps created.created.holds))
 key_refused scheme message when id before middle after octets (keys.Signer x) created keeps f other =
@@ -204,7 +204,7 @@ key_refused scheme message when id before middle after octets keys.OutOfMemory c
 
 -- under the issuing key the octets are accepted as the message
 pub accepted_made : {I : Type 0} (scheme : Relation) (seed count : ℕ) (id : I) (before middle : SignerState I) (octets : List ℕ) (issuing : KeyFields)
-    → AreCreated scheme kinds.Publication (made_message seed count) made_at (seen_signer id before middle) octets → Keeps before middle → Holds middle.keyring id issuing
+    → AreCreated scheme kinds.Publication (made_message seed count) made_at (seen_signer id before middle) octets → Keeps before middle → HoldsKey middle.keyring id issuing
     → Accepted scheme kinds.Publication octets (issuing ∷ []) made_at (made_message seed count)
 accepted_made scheme seed count id before middle octets issuing created keeps holds =
     subst (λ (m : Received). Accepted scheme kinds.Publication octets (issuing ∷ []) made_at m) (normal_message seed count)
@@ -242,16 +242,16 @@ created_here scheme seed count m when signer octets is at created =
     subst (λ (t : ℤ). AreCreated scheme kinds.Publication (made_message seed count) t signer octets) at (subst (λ (x : Received). AreCreated scheme (protocol_of x) x when signer octets) is created)
 
 pub octets_refused : {I E : Type 0} (scheme : Relation) (seed count : ℕ) (m : Received) (when : ℤ) (signer : SignerSeen I) (e : CreateError E) → m ≡ made_message seed count → when ≡ made_at → count ≤ 10000
-    → CreateFails (text_of m) when signer.id signer.before signer.after e → IsFirstRefusal scheme (text_of m) when signer.id signer.before signer.after e → refusal_of_create e ≢ refusals.OutOfMemory → IsMakeAnswer scheme count seed signer (Err (refusal_of_create e))
+    → CreateFails (accepted_text m) when signer.id signer.before signer.after e → IsFirstRefusal scheme (accepted_text m) when signer.id signer.before signer.after e → refusal_of_create e ≢ refusals.OutOfMemory → IsMakeAnswer scheme count seed signer (Err (refusal_of_create e))
 octets_refused scheme seed count m when signer e is at few f first other =
-    let here = subst (λ (x : Received). CreateFails (text_of x) when signer.id signer.before signer.after e) is f in
-    let turn = subst (λ (x : Received). IsFirstRefusal scheme (text_of x) when signer.id signer.before signer.after e) is first in (
-      made_refused scheme (made_message seed count) made_at signer e made_window (fits seed count few) (subst (λ (t : ℤ). CreateFails (text_of (made_message seed count)) t signer.id signer.before signer.after e) at here) other,
-      inl (first_told scheme (text_of (made_message seed count)) made_at signer e (fits seed count few) (subst (λ (t : ℤ). IsFirstRefusal scheme (text_of (made_message seed count)) t signer.id signer.before signer.after e) at turn)),
+    let here = subst (λ (x : Received). CreateFails (accepted_text x) when signer.id signer.before signer.after e) is f in
+    let turn = subst (λ (x : Received). IsFirstRefusal scheme (accepted_text x) when signer.id signer.before signer.after e) is first in (
+      made_refused scheme (made_message seed count) made_at signer e made_window (fits seed count few) (subst (λ (t : ℤ). CreateFails (accepted_text (made_message seed count)) t signer.id signer.before signer.after e) at here) other,
+      inl (first_told scheme (accepted_text (made_message seed count)) made_at signer e (fits seed count few) (subst (λ (t : ℤ). IsFirstRefusal scheme (accepted_text (made_message seed count)) t signer.id signer.before signer.after e) at turn)),
     )
 
 pub receipt_refused : {I : Type 0} (scheme : Relation) (seed count : ℕ) (id : I) (before middle after : SignerState I) (octets held : List ℕ) (issuing : KeyFields) (when : ℤ) (e : ReceiveError)
-    → AreCreated scheme kinds.Publication (made_message seed count) made_at (seen_signer id before middle) octets → Keeps before middle → Holds middle.keyring id issuing → held ≡ octets → when ≡ made_at
+    → AreCreated scheme kinds.Publication (made_message seed count) made_at (seen_signer id before middle) octets → Keeps before middle → HoldsKey middle.keyring id issuing → held ≡ octets → when ≡ made_at
     → RefusesReceipt scheme kinds.Publication held (issuing ∷ []) when e → refusal_of e ≢ refusals.OutOfMemory → IsMakeAnswer scheme count seed (seen_signer id before after) (Err (refusal_of e))
 receipt_refused scheme seed count id before middle after octets held issuing when e created keeps holds same at refused other =
     absurd (accepted_alone scheme kinds.Publication octets (issuing ∷ []) made_at (made_message seed count) e (accepted_made scheme seed count id before middle octets issuing created keeps holds)

@@ -6,7 +6,7 @@ use Rattle.rpki_signer.specs.declared.errors.MakeError.{MakeError}
 use Rattle.rpki_signer.specs.declared.errors.MakeError.TheVariants as make
 use Rattle.rpki_signer.specs.declared.errors.SigningError.{SigningError}
 use Rattle.rpki_signer.specs.declared.errors.SigningError.TheVariants as signing
-use Rattle.rpki_signer.specs.Limits.{IsRefused, RefusesKey, RefusesOneOff, RefusesSignature, StopsBehindKey, StopsInTurn}
+use Rattle.rpki_signer.specs.Limits.{IsCallRefused, RefusesKey, RefusesOneOff, RefusesSignature, StopsBehindKey, StopsInTurn}
 use Rattle.rpki_signer.specs.Signer.{SignerState}
 use Rattle.rpki_idcert.specs.Making.{RefusesDraw, StopsAtEndEntity}
 use Rattle.rpki_sigmsg.specs.FirstRefusals.{StopsAtKeys, StopsCertifying, StopsCreating}
@@ -22,7 +22,7 @@ retyped g make.TooLong = make.TooLong
 retyped g (make.Signing s) = make.Signing (retyped_signing g s)
 retyped g make.OutOfMemory = make.OutOfMemory
 
-refused : {I A B : Type 0} (g : A → B) (id : I) (a b : SignerState I) (e : SigningError A) → IsRefused id a b e → IsRefused id a b (retyped_signing g e)
+refused : {I A B : Type 0} (g : A → B) (id : I) (a b : SignerState I) (e : SigningError A) → IsCallRefused id a b e → IsCallRefused id a b (retyped_signing g e)
 refused {B = B} g id a b signing.KeyNotFound r = record { stays = r.stays; uncounted = r.uncounted; known = unlike; fails = r.fails; spares = r.spares }
   where
     unlike : ◌≡◌ {A = SigningError B} signing.KeyNotFound signing.OutOfMemory → ⊥

@@ -21,10 +21,10 @@ use Rattle.rpki_ca.specs.Summary.{made_at, made_message, IsMakeAnswer, Makes}
 use Rattle.rpki_ca.specs.Hexadecimal.{hexadecimal}
 use Rattle.rpki_ca.specs.Refusal.{status_of}
 use Rattle.rpki_base.specs.Scheme.{Relation}
-use Rattle.rpki_ca.specs.Acceptance.{text_of}
+use Rattle.rpki_ca.specs.Acceptance.{accepted_text}
 use Rattle.rpki_text.specs.Source.{OfInput}
 use Rattle.rpki_ca.specs.Seen.{Seen, SignerSeen, HasFailed, IsSteady}
-use Rattle.rpki_ca.specs.Answer.{AnswersSpelled, AnswersSigned, IsAnswer, IsGiven, IsShown, IsAdmitted, IsLineOf, Ends, EndsAs, ReadsAll, Delivers, Holds, Succeeds}
+use Rattle.rpki_ca.specs.Answer.{AnswersSpelled, AnswersSigned, IsAnswer, IsGiven, IsShown, IsAdmitted, IsLineOf, Ends, EndsAs, ReadsAll, Delivers, BringsAccepted, Succeeds}
 use Rattle.rpki_ca.proofs.Commands.{is_command, is_setup, one_command}
 use Rattle.rpki_ca.proofs.Answering.{always_some, answers, each_input, sort_of, to_shown, told_input}
 use Rattle.rpki_ca.proofs.Laws.{one_answer_to_words, from_signer_alone}
@@ -165,18 +165,18 @@ text_succeeds text status source sink (inr (inl (inr w))) = inr (inr (inr (w.0, 
 text_succeeds text status source sink (inr (inr (inl w, failed))) = inr (inr (inl (w.0, failed)))
 text_succeeds text status source sink (inr (inr (inr w, failed))) = inr (inr (inr (w.0, w.2)))
 
-holds_text : (scheme : Relation) (words : List (List ℕ)) (kind : Kind) (keys : List KeyFields) (when : ℤ) (input : List ℕ) (h : Holds scheme kind keys when input) → IsReceive words kind when keys
-    → IsAnswer scheme words input (Ok (text_of h.message))
+holds_text : (scheme : Relation) (words : List (List ℕ)) (kind : Kind) (keys : List KeyFields) (when : ℤ) (input : List ℕ) (h : BringsAccepted scheme kind keys when input) → IsReceive words kind when keys
+    → IsAnswer scheme words input (Ok (accepted_text h.message))
 holds_text scheme words kind keys when input h is =
-    let said : AnswersSpelled scheme (Receive kind when keys) (Some h.octets) (Ok (text_of h.message)) = record { message = h.message; accepted = h.accepted; written = refl } in
-    answers scheme words input (Receive kind when keys) (Ok (text_of h.message)) (is_command words kind when keys is) (λ reads. h.short)
-    (subst (λ (o : Option (List ℕ)). AnswersSpelled scheme (Receive kind when keys) o (Ok (text_of h.message))) (sym h.spells) said)
+    let said : AnswersSpelled scheme (Receive kind when keys) (Some h.octets) (Ok (accepted_text h.message)) = record { message = h.message; accepted = h.accepted; written = refl } in
+    answers scheme words input (Receive kind when keys) (Ok (accepted_text h.message)) (is_command words kind when keys is) (λ reads. h.short)
+    (subst (λ (o : Option (List ℕ)). AnswersSpelled scheme (Receive kind when keys) o (Ok (accepted_text h.message))) (sym h.spells) said)
 
 pub succeeds : {I : Type 0} (scheme : Relation) (words : List (List ℕ)) (source sink : Seen) (signer : SignerSeen I) (status : ℕ) → Answered scheme words source sink signer status → (kind : Kind) (when : ℤ) (keys : List KeyFields)
-    → IsReceive words kind when keys → IfSome source.before (λ rest. Holds scheme kind keys when rest → Succeeds status source sink)
+    → IsReceive words kind when keys → IfSome source.before (λ rest. BringsAccepted scheme kind keys when rest → Succeeds status source sink)
 succeeds scheme words source sink signer status a kind when keys is =
     if_each source.before (λ (b : Result (List ℕ) Refusal) rest. IsAnswer scheme words rest b → EndsAs b status source sink) _
-    (λ rest each h. text_succeeds (text_of h.message) status source sink (each (Ok (text_of h.message)) (holds_text scheme words kind keys when rest h is)))
+    (λ rest each h. text_succeeds (accepted_text h.message) status source sink (each (Ok (accepted_text h.message)) (holds_text scheme words kind keys when rest h is)))
     (ends_as scheme words source sink signer status a)
 
 -- ---- what `create` creates

@@ -6,34 +6,34 @@ use Rattle.rpki_base.specs.Scheme.{Relation}
 use Rattle.rpki_der.specs.declared.mode.Mode.{Mode}
 use Rattle.rpki_der.specs.Takes.{BeginsAs}
 use Rattle.rpki_signer.specs.Limits.{Keeps}
-use Rattle.rpki_signer.specs.Signer.{HeldKey, Holds, SignerState}
+use Rattle.rpki_signer.specs.Signer.{HeldKey, HoldsKey, SignerState}
 use Rattle.rpki_signer.specs.declared.errors.SigningError.TheVariants as signing
 use Rattle.rpki_signer.proofs.States.{then_rose}
 use Rattle.rpki_sigmsg.specs.declared.create_error.CreateError.{CreateError}
 use Rattle.rpki_sigmsg.specs.declared.create_error.CreateError.TheVariants as create
 use Rattle.rpki_sigmsg.specs.Checks.{IsBelieved}
 use Rattle.rpki_sigmsg.specs.FirstRefusals.{IsFirstRefusal}
-use Rattle.rpki_sigmsg.specs.Making.{window, HasWindow, IsCreated, CreateFails}
+use Rattle.rpki_sigmsg.specs.Making.{window, HasWindow, IsMessageCreated, CreateFails}
 use Rattle.rpki_sigmsg.specs.Message.{MessageFields, signed_message}
-use Rattle.rpki_sigmsg.specs.Spelling.{rewritten, CanBeSpelled}
+use Rattle.rpki_sigmsg.specs.Spelling.{rewritten, CanSpellMessage}
 use Rattle.rpki_ca.specs.declared.receiving.Received.{Received}
 use Rattle.rpki_ca.specs.declared.refusals.Refusal.{Refusal}
 use Rattle.rpki_ca.specs.declared.refusals.Refusal.TheVariants as refusals
-use Rattle.rpki_ca.specs.Acceptance.{ReadsAs, IsWritable, protocol_of, text_of, normal_form}
+use Rattle.rpki_ca.specs.Acceptance.{ReadsAs, IsWritable, protocol_of, accepted_text, normal_form}
 use Rattle.rpki_ca.specs.Creation.{CanSign, refusal_of_create}
 use Rattle.rpki_ca.specs.Seen.{SignerSeen, seen_signer}
-use Rattle.rpki_ca.specs.Sending.{IsSignedAs, FailsToSign, IsSigningCause}
+use Rattle.rpki_ca.specs.Sending.{IsSentAs, FailsToSign, IsSigningCause}
 use Rattle.rpki_ca.proofs.Creating.{TellsText, fits_ok, read_again, receivable}
 
 -- ---- one message
 
 pub signed_as : {I T E : Type 0} (scheme : Relation) (message : Received) (when : ℤ) (signer : SignerSeen I) (r : Result T (CreateError E)) (x : T) (signed : MessageFields) → r ≡ Ok x → IsWritable message
-    → IsCreated scheme (text_of message) when signer.id signer.before signer.after signed
-    → ((key : KeyFields) → Holds signer.before.keyring signer.id key → (moment : ℤ) → (window when).not_before ≤ℤ moment → moment ≤ℤ (window when).not_after → IsBelieved scheme signed key moment)
-    → ((mode : Mode) (rest : List ℕ) → CanBeSpelled signed → BeginsAs (signed_message mode) mode (rewritten signed ++ rest) signed)
-    → TellsText message when r → IsSignedAs scheme when signer message signed
+    → IsMessageCreated scheme (accepted_text message) when signer.id signer.before signer.after signed
+    → ((key : KeyFields) → HoldsKey signer.before.keyring signer.id key → (moment : ℤ) → (window when).not_before ≤ℤ moment → moment ≤ℤ (window when).not_after → IsBelieved scheme signed key moment)
+    → ((mode : Mode) (rest : List ℕ) → CanSpellMessage signed → BeginsAs (signed_message mode) mode (rewritten signed ++ rest) signed)
+    → TellsText message when r → IsSentAs scheme when signer message signed
 signed_as scheme message when signer r x signed is writable created believed again tells =
-    let content : signed.content ≡ text_of message = ap (λ (s : MessageFields). s.content) created.made.is in
+    let content : signed.content ≡ accepted_text message = ap (λ (s : MessageFields). s.content) created.made.is in
     record {
       fits = fits_ok message when r x is tells created.window_is;
       created = created;
@@ -49,8 +49,8 @@ module _ {T E : Type 0} where
   told e wanted other (inl is) = cc
   told e wanted other (inr is) = let memory : e ≡ create.OutOfMemory = cc in absurd (other memory)
 
-  pub fails_to_sign : {I : Type 0} (scheme : Relation) (message : Received) (when : ℤ) (signer : SignerSeen I) (e : CreateError E) → CreateFails (text_of message) when signer.id signer.before signer.after e
-      → ((HasWindow when → ⊥) → IsErrOf (err_as e) create.Moment ⊎ IsErrOf (err_as e) create.OutOfMemory) → TellsText message when (err_as e) → IsFirstRefusal scheme (text_of message) when signer.id signer.before signer.after e → e ≢ create.OutOfMemory → FailsToSign scheme when signer message e
+  pub fails_to_sign : {I : Type 0} (scheme : Relation) (message : Received) (when : ℤ) (signer : SignerSeen I) (e : CreateError E) → CreateFails (accepted_text message) when signer.id signer.before signer.after e
+      → ((HasWindow when → ⊥) → IsErrOf (err_as e) create.Moment ⊎ IsErrOf (err_as e) create.OutOfMemory) → TellsText message when (err_as e) → IsFirstRefusal scheme (accepted_text message) when signer.id signer.before signer.after e → e ≢ create.OutOfMemory → FailsToSign scheme when signer message e
   fails_to_sign scheme message when signer e cause moment long first other = record {
     cause = cause;
     moment = λ none. told e create.Moment other (moment none);
@@ -75,7 +75,7 @@ signing_cause scheme when signer message create.OutOfMemory f other = absurd (ot
 -- ---- the messages of a run
 
 -- where the signer can sign in the whole run, and the text isn't too long, a message isn't signed for want of memory alone
-module _ {I : Type 0} (when : ℤ) (id : I) (first between after : SignerState I) (message : Received) (can : CanSign (seen_signer id first after)) (w : HasWindow when) (keeps : Keeps first between) (short : 2 ^ 31 < length (text_of message) → ⊥) where
+module _ {I : Type 0} (when : ℤ) (id : I) (first between after : SignerState I) (message : Received) (can : CanSign (seen_signer id first after)) (w : HasWindow when) (keeps : Keeps first between) (short : 2 ^ 31 < length (accepted_text message) → ⊥) where
   pub no_cause : (r : Refusal) → IsSigningCause when (seen_signer id between after) message r → ⊥
   no_cause refusals.TooLong f =
       elim f [
@@ -83,10 +83,10 @@ module _ {I : Type 0} (when : ℤ) (id : I) (first between after : SignerState I
         | inr long ↦ short long
       ]
   no_cause refusals.KeyReused f =
-      let same = f.only can.issuing (subst (λ (k : List (HeldKey I)). Holds k id can.issuing) (sym keeps.keyring) can.holds) in
+      let same = f.only can.issuing (subst (λ (k : List (HeldKey I)). HoldsKey k id can.issuing) (sym keeps.keyring) can.holds) in
       can.other (then_rose first.reused between.reused after.reused keeps.later.reused f.told) (f.drawn ∙ ap (λ (k : KeyFields). Some k) (sym same))
-  no_cause refusals.KeyNotFound f = f can.issuing (subst (λ (k : List (HeldKey I)). Holds k id can.issuing) (sym keeps.keyring) can.holds)
-  no_cause refusals.IncompatibleKey f = f.only can.issuing (subst (λ (k : List (HeldKey I)). Holds k id can.issuing) (sym keeps.keyring) can.holds) can.format
+  no_cause refusals.KeyNotFound f = f can.issuing (subst (λ (k : List (HeldKey I)). HoldsKey k id can.issuing) (sym keeps.keyring) can.holds)
+  no_cause refusals.IncompatibleKey f = f.only can.issuing (subst (λ (k : List (HeldKey I)). HoldsKey k id can.issuing) (sym keeps.keyring) can.holds) can.format
   no_cause refusals.Signer f = can.no_fault (then_rose first.faults between.faults after.faults keeps.later.faults f)
   no_cause refusals.OutOfMemory f = f
   no_cause refusals.Moment f = f w

@@ -7,19 +7,19 @@ use Rattle.rpki_base.specs.Scheme.{Relation}
 use Rattle.rpki_der.specs.declared.mode.Mode.{Mode}
 use Rattle.rpki_der.specs.Takes.{BeginsAs}
 use Rattle.rpki_signer.specs.Limits.{Keeps}
-use Rattle.rpki_signer.specs.Signer.{Holds, SignerState}
+use Rattle.rpki_signer.specs.Signer.{HoldsKey, SignerState}
 use Rattle.rpki_signer.proofs.States.{keeps_same, keeps_then}
 use Rattle.rpki_sigmsg.specs.declared.create_error.CreateError.{CreateError}
 use Rattle.rpki_sigmsg.specs.declared.create_error.CreateError.TheVariants as create
 use Rattle.rpki_sigmsg.specs.Checks.{IsBelieved}
 use Rattle.rpki_sigmsg.specs.FirstRefusals.{IsFirstRefusal}
-use Rattle.rpki_sigmsg.specs.Making.{window, HasWindow, IsCreated, CreateFails}
+use Rattle.rpki_sigmsg.specs.Making.{window, HasWindow, IsMessageCreated, CreateFails}
 use Rattle.rpki_sigmsg.specs.Message.{MessageFields, signed_message}
-use Rattle.rpki_sigmsg.specs.Spelling.{rewritten, CanBeSpelled}
+use Rattle.rpki_sigmsg.specs.Spelling.{rewritten, CanSpellMessage}
 use Rattle.rpki_ca.specs.declared.receiving.Received.{Received}
-use Rattle.rpki_ca.specs.Acceptance.{IsWritable, text_of}
+use Rattle.rpki_ca.specs.Acceptance.{IsWritable, accepted_text}
 use Rattle.rpki_ca.specs.Seen.{SignerSeen}
-use Rattle.rpki_ca.specs.Sending.{FailsToSign, IsSignedAs}
+use Rattle.rpki_ca.specs.Sending.{FailsToSign, IsSentAs}
 use Rattle.rpki_ca.specs.Steps.{AreSteps}
 use Rattle.rpki_ca.proofs.Creating.{TellsText}
 use Rattle.rpki_ca.proofs.Sending.{fails_to_sign, signed_as}
@@ -31,16 +31,16 @@ use Rattle.rpki_ca.proofs.Stepping.{counted}
 module _ {I E C : Type 0} (scheme : Relation) (when : ℤ) (signer : SignerSeen I) (message : Received) (signed_of : C → MessageFields) where
   abbrev pub IsCreatedOrFails : Result C (CreateError E) → Type 0
   IsCreatedOrFails r =
-      MatchResult r (λ c. IsCreated scheme (text_of message) when signer.id signer.before signer.after (signed_of c)) (CreateFails (text_of message) when signer.id signer.before signer.after)
+      MatchResult r (λ c. IsMessageCreated scheme (accepted_text message) when signer.id signer.before signer.after (signed_of c)) (CreateFails (accepted_text message) when signer.id signer.before signer.after)
 
   pub signed_so : (r : Result C (CreateError E)) → IsWritable message → IsCreatedOrFails r
-      → IfOk r (λ c. (key : KeyFields) → Holds signer.before.keyring signer.id key → (moment : ℤ) → (window when).not_before ≤ℤ moment → moment ≤ℤ (window when).not_after → IsBelieved scheme (signed_of c) key moment)
-      → IfOk r (λ c. (mode : Mode) (rest : List ℕ) → CanBeSpelled (signed_of c) → BeginsAs (signed_message mode) mode (rewritten (signed_of c) ++ rest) (signed_of c))
-      → TellsText message when r → IfOk r (λ c. IsSignedAs scheme when signer message (signed_of c))
+      → IfOk r (λ c. (key : KeyFields) → HoldsKey signer.before.keyring signer.id key → (moment : ℤ) → (window when).not_before ≤ℤ moment → moment ≤ℤ (window when).not_after → IsBelieved scheme (signed_of c) key moment)
+      → IfOk r (λ c. (mode : Mode) (rest : List ℕ) → CanSpellMessage (signed_of c) → BeginsAs (signed_message mode) mode (rewritten (signed_of c) ++ rest) (signed_of c))
+      → TellsText message when r → IfOk r (λ c. IsSentAs scheme when signer message (signed_of c))
   signed_so (Ok c) writable created believed again tells = signed_as scheme message when signer (Ok c) c (signed_of c) refl writable created believed again tells
   signed_so (Err e) writable created believed again tells = tt
 
-  pub fails_so : (r : Result C (CreateError E)) → IsCreatedOrFails r → ((HasWindow when → ⊥) → IsErrOf r create.Moment ⊎ IsErrOf r create.OutOfMemory) → TellsText message when r → IfErr r (IsFirstRefusal scheme (text_of message) when signer.id signer.before signer.after)
+  pub fails_so : (r : Result C (CreateError E)) → IsCreatedOrFails r → ((HasWindow when → ⊥) → IsErrOf r create.Moment ⊎ IsErrOf r create.OutOfMemory) → TellsText message when r → IfErr r (IsFirstRefusal scheme (accepted_text message) when signer.id signer.before signer.after)
       → IfErr r (λ e. e ≢ create.OutOfMemory → FailsToSign scheme when signer message e)
   fails_so (Ok c) cause moment tells first = tt
   fails_so (Err e) cause moment tells first = fails_to_sign scheme message when signer e cause moment tells first

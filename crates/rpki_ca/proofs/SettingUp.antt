@@ -1,13 +1,13 @@
 -- Setup messages that are read, and why none is.
 use Rattle.std.proofs.Common.{◌≡◌, ◌≢◌, ℕ, ℤ, Option, Err, List, refl}
-use Rattle.rpki_message.specs.Answers.{RefusesMessage}
+use Rattle.rpki_xmltext.specs.Answers.{RefusesMessage}
 use Rattle.rpki_setup.specs.Answers.{cause_of, RefusesCertificate}
 use Rattle.rpki_base.specs.Scheme.{Relation}
 use Rattle.rpki_setup.specs.ChildRequest.{child_request_in}
 use Rattle.rpki_setup.specs.ParentResponse.{parent_response_in}
 use Rattle.rpki_setup.specs.PublisherRequest.{publisher_request_in}
 use Rattle.rpki_setup.specs.RepositoryResponse.{repository_response_in}
-use Rattle.rpki_message.specs.Reading as setup
+use Rattle.rpki_xmltext.specs.Reading as setup
 use Rattle.rpki_setup.specs.declared.error.Error.{Error}
 use Rattle.rpki_setup.specs.declared.error.Error.TheVariants as setup_error
 use Rattle.rpki_xml.specs.Element.{Element}

@@ -8,7 +8,7 @@ use Rattle.rpki_ca.specs.declared.command.Command.TheVariants.{Content, Receive,
 use Rattle.rpki_ca.specs.declared.receiving.Kind.{Kind}
 use Rattle.rpki_ca.specs.declared.receiving.Received.{Received}
 use Rattle.rpki_ca.specs.declared.refusals.Refusal.{Refusal}
-use Rattle.rpki_ca.specs.Acceptance.{ReadsAs, text_of}
+use Rattle.rpki_ca.specs.Acceptance.{ReadsAs, accepted_text}
 use Rattle.rpki_ca.specs.Answer.{AnswersSpelled, IsAnswer, octets_in}
 use Rattle.rpki_ca.specs.Command.{IsCommand, ReadsInput}
 use Rattle.rpki_ca.specs.Creation.{IsCreateRefusal}
@@ -17,13 +17,13 @@ use Rattle.rpki_ca.proofs.Laws.{CreateView, create_view, one_reading}
 use Rattle.rpki_ca.proofs.Reasons.{reason, no_reason}
 
 -- where `create` refuses its input, the moment has no window or the text is too long
-pub create_unasked : {P : Type 0} (kind : Kind) (input : List ℕ) (when : ℤ) (m : Received) (a : Result (List ℕ) Refusal) → ReadsAs kind input m → ((HasWindow when → ⊥) ⊎ (2 ^ 31 < length (text_of m)) → P) → IsCreateRefusal kind input when a → P
+pub create_unasked : {P : Type 0} (kind : Kind) (input : List ℕ) (when : ℤ) (m : Received) (a : Result (List ℕ) Refusal) → ReadsAs kind input m → ((HasWindow when → ⊥) ⊎ (2 ^ 31 < length (accepted_text m)) → P) → IsCreateRefusal kind input when a → P
 create_unasked {P = P} kind input when m a r unasked refused = by_view (create_view kind input when a refused)
   where
     by_view : CreateView kind input when a → P
     by_view (inl p) = absurd (no_reason kind input m p.0 r (reason kind input p.0 p.2))
     by_view (inr (inl p)) = unasked (inl p.1.none)
-    by_view (inr (inr p)) = unasked (inr (subst (λ (x : Received). 2 ^ 31 < length (text_of x)) (one_reading kind input p.1.message m p.1.reads r) p.1.long))
+    by_view (inr (inr p)) = unasked (inr (subst (λ (x : Received). 2 ^ 31 < length (accepted_text x)) (one_reading kind input p.1.message m p.1.reads r) p.1.long))
 
 -- what was read is the input, where the command reads it
 spelled_so : (scheme : Relation) (c : Command) (octets input : List ℕ) (a : Result (List ℕ) Refusal) → (ReadsInput c → octets ≡ input) → AnswersSpelled scheme c (octets_in c input) a → AnswersSpelled scheme c (octets_in c octets) a

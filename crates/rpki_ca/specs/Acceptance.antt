@@ -36,9 +36,9 @@ protocol_of (received.Publication m) = kinds.Publication
 protocol_of (received.Provisioning m) = kinds.Provisioning
 
 -- the text of a message
-abbrev pub text_of : Received → List ℕ
-text_of (received.Publication m) = publication.text_of m
-text_of (received.Provisioning m) = provisioning.text_of m
+abbrev pub accepted_text : Received → List ℕ
+accepted_text (received.Publication m) = publication.text_of m
+accepted_text (received.Provisioning m) = provisioning.text_of m
 
 -- a message whose text is read as its normal form
 abbrev pub IsWritable : Received → Type 0

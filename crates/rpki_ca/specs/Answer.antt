@@ -39,7 +39,7 @@ use Rattle.rpki_ca.specs.Summary.{IsMakeAnswer}
 use Rattle.rpki_ca.specs.Hexadecimal.{hexadecimal}
 use Rattle.rpki_base.specs.Scheme.{Relation}
 use Rattle.rpki_ca.specs.Acceptance.{Accepted, HoldsNoSigned, HasNoForm, HoldsNoCertificate}
-use Rattle.rpki_ca.specs.Acceptance.{HoldsNoRequest, FailsCheck, text_of}
+use Rattle.rpki_ca.specs.Acceptance.{HoldsNoRequest, FailsCheck, accepted_text}
 use Rattle.rpki_ca.specs.Refusal.{status_of, name_of}
 use Rattle.rpki_text.specs.Source.{OfInput}
 use Rattle.rpki_ca.specs.Seen.{Seen, SignerSeen, HasFailed, IsSteady}
@@ -79,7 +79,7 @@ pub record IsTextAccepted (scheme : Relation) (kind : Kind) (octets : List ℕ)
     (keys : List KeyFields) (when : ℤ) (text : List ℕ) : Type 0 where
   pub message : Received
   pub accepted : Accepted scheme kind octets keys when message
-  pub written : text ≡ text_of message
+  pub written : text ≡ accepted_text message
 
 -- `receive`: the text of the accepted message, or why there is none
 abbrev pub IsReceiveAnswer : Relation → Kind → List ℕ → List KeyFields → ℤ
@@ -238,10 +238,10 @@ pub record Delivers (scheme : Relation) (kind : Kind) (keys : List KeyFields) (w
   pub spells : hexadecimal input ≡ Some octets
   pub message : Received
   pub accepted : Accepted scheme kind octets keys when message
-  pub written : Appends sink.before sink.after (text_of message ++ 10 ∷ [])
+  pub written : Appends sink.before sink.after (accepted_text message ++ 10 ∷ [])
 
 -- The input has at most 2^26 octets, and spells octets that begin with an accepted message.
-pub record Holds (scheme : Relation) (kind : Kind) (keys : List KeyFields) (when : ℤ)
+pub record BringsAccepted (scheme : Relation) (kind : Kind) (keys : List KeyFields) (when : ℤ)
     (input : List ℕ) : Type 0 where
   pub short : length input ≤ most_input
   pub octets : List ℕ

@@ -11,7 +11,7 @@ use Rattle.rpki_ca.specs.declared.command.Command.{Command}
 use Rattle.rpki_ca.specs.declared.command.Command.TheVariants.{Content, Receive, Create, Setup, Make}
 use Rattle.rpki_ca.specs.declared.setup_message.SetupKind.{SetupKind}
 use Rattle.rpki_ca.specs.declared.setup_message.SetupKind.TheVariants as setup
-use Rattle.rpki_ca.specs.Words.{IsMoment, IsNumber, key_of}
+use Rattle.rpki_ca.specs.Words.{SpellsMoment, IsNumber, key_of_word}
 
 -- the word for a kind
 abbrev pub kind_word : Kind → List ℕ
@@ -52,7 +52,7 @@ setup_kind_at words index = slice_get words index >>= setup_kind_of
 
 -- each word spells the key at its place
 abbrev pub AreKeys : List (List ℕ) → List KeyFields → Type 0
-AreKeys words keys = map key_of words ≡ map Some keys
+AreKeys words keys = map key_of_word words ≡ map Some keys
 
 -- `receive`, the kind, a moment and one to eight keys
 pub record IsReceive (words : List (List ℕ)) (kind : Kind) (when : ℤ) (keys : List KeyFields)
@@ -62,14 +62,14 @@ pub record IsReceive (words : List (List ℕ)) (kind : Kind) (when : ℤ) (keys 
   pub are : words ≡ codes "receive" ∷ kind_word kind ∷ moment_word ∷ key_words
   pub some : 1 ≤ length key_words
   pub few : length key_words ≤ most_keys
-  pub moment : IsMoment moment_word when
+  pub moment : SpellsMoment moment_word when
   pub spell : AreKeys key_words keys
 
 -- a verb, the word for what it is about, and a moment
 pub record IsDated (verb about : List ℕ) (words : List (List ℕ)) (when : ℤ) : Type 0 where
   pub moment_word : List ℕ
   pub are : words ≡ verb ∷ about ∷ moment_word ∷ []
-  pub moment : IsMoment moment_word when
+  pub moment : SpellsMoment moment_word when
 
 -- `create`, the kind and a moment
 abbrev pub IsCreate : List (List ℕ) → Kind → ℤ → Type 0

@@ -9,7 +9,7 @@ use Rattle.rpki_base.specs.declared.algorithm.SigningAlgorithm.TheVariants.{RsaS
 use Rattle.rpki_base.specs.Algorithm.{format_of}
 use Rattle.rpki_base.specs.PublicKey.{KeyFields}
 use Rattle.rpki_base.specs.Scheme.{Relation}
-use Rattle.rpki_signer.specs.Signer.{Holds, Lacks, IsUnfit}
+use Rattle.rpki_signer.specs.Signer.{HoldsKey, LacksKey, IsUnfit}
 use Rattle.rpki_sigmsg.specs.Checks.{IsAmong}
 use Rattle.rpki_signer.specs.declared.errors.KeyError.{KeyError}
 use Rattle.rpki_signer.specs.declared.errors.KeyError.TheVariants as keys
@@ -18,7 +18,7 @@ use Rattle.rpki_sigmsg.specs.declared.create_error.CreateError.{CreateError}
 use Rattle.rpki_sigmsg.specs.declared.create_error.CreateError.TheVariants as create
 use Rattle.rpki_signer.specs.declared.errors.MakeError.TheVariants as make
 use Rattle.rpki_sigmsg.specs.FirstRefusals.{HasOneKey, StopsCreating}
-use Rattle.rpki_sigmsg.specs.Making.{window, HasWindow, IsCreated, IsReused, made_covered}
+use Rattle.rpki_sigmsg.specs.Making.{window, HasWindow, IsMessageCreated, IsReused, made_covered}
 use Rattle.rpki_sigmsg.specs.Message.{MessageFields}
 use Rattle.rpki_sigmsg.specs.Spelling.{rewritten}
 use Rattle.rpki_ca.specs.declared.receiving.Kind.{Kind}
@@ -26,7 +26,7 @@ use Rattle.rpki_ca.specs.declared.receiving.Received.{Received}
 use Rattle.rpki_ca.specs.declared.refusals.Refusal.{Refusal}
 use Rattle.rpki_ca.specs.declared.refusals.Refusal.TheVariants as refusals
 use Rattle.rpki_ca.specs.Acceptance.{ReadsAs, HasNoForm, HoldsNoCertificate, HoldsNoRequest}
-use Rattle.rpki_ca.specs.Acceptance.{text_of, normal_form, Accepted}
+use Rattle.rpki_ca.specs.Acceptance.{accepted_text, normal_form, Accepted}
 use Rattle.rpki_ca.specs.Seen.{Seen, SignerSeen}
 
 -- ---- before the signer is asked
@@ -50,7 +50,7 @@ pub record HasLongText (kind : Kind) (input : List ℕ) (when : ℤ) : Type 0 wh
   pub message : Received
   pub reads : ReadsAs kind input message
   pub window_is : HasWindow when
-  pub long : most_content < length (text_of message)
+  pub long : most_content < length (accepted_text message)
 
 -- why nothing is created, whoever signs
 abbrev pub IsCreateRefusal : Kind → List ℕ → ℤ → Result (List ℕ) Refusal → Type 0
@@ -66,7 +66,7 @@ IsCreateRefusal kind input when (Ok text) = ⊥
 abbrev pub IsReceivable : {Id : Type 0} → Relation → Kind → List ℕ → Received → ℤ → SignerSeen Id
     → Type 0
 IsReceivable scheme kind octets message when signer =
-    (key : KeyFields) → Holds signer.before.keyring signer.id key
+    (key : KeyFields) → HoldsKey signer.before.keyring signer.id key
     → (keys : List KeyFields) → IsAmong keys key
     → (moment : ℤ) → (window when).not_before ≤ℤ moment → moment ≤ℤ (window when).not_after
     → Accepted scheme kind octets keys moment (normal_form message)
@@ -76,7 +76,7 @@ IsReceivable scheme kind octets message when signer =
 pub record AreCreated {Id : Type 0} (scheme : Relation) (kind : Kind) (message : Received)
     (when : ℤ) (signer : SignerSeen Id) (octets : List ℕ) : Type 0 where
   pub signed : MessageFields
-  pub created : IsCreated scheme (text_of message) when signer.id signer.before signer.after signed
+  pub created : IsMessageCreated scheme (accepted_text message) when signer.id signer.before signer.after signed
   pub are : octets ≡ rewritten signed
   pub receivable : IsReceivable scheme kind octets message when signer
 
@@ -88,21 +88,21 @@ pub record IsTextCreated {Id : Type 0} (scheme : Relation) (kind : Kind) (messag
   pub written : text ≡ encode_lower octets
 
 -- what comes of asking the signer, each refusal by its cause
-abbrev pub IsSigned : {Id : Type 0} → Relation → Kind → Received → ℤ → SignerSeen Id
+abbrev pub IsSigningAnswer : {Id : Type 0} → Relation → Kind → Received → ℤ → SignerSeen Id
     → Result (List ℕ) Refusal → Type 0
-IsSigned scheme kind message when signer (Ok text) =
+IsSigningAnswer scheme kind message when signer (Ok text) =
     IsTextCreated scheme kind message when signer text
-IsSigned scheme kind message when signer (Err refusals.TooLong) =
+IsSigningAnswer scheme kind message when signer (Err refusals.TooLong) =
     Rose signer.before.overlong signer.after.overlong
-IsSigned scheme kind message when signer (Err refusals.KeyReused) =
+IsSigningAnswer scheme kind message when signer (Err refusals.KeyReused) =
     IsReused signer.id signer.before signer.after
-IsSigned scheme kind message when signer (Err refusals.KeyNotFound) =
-    Lacks signer.before.keyring signer.id
-IsSigned scheme kind message when signer (Err refusals.IncompatibleKey) =
+IsSigningAnswer scheme kind message when signer (Err refusals.KeyNotFound) =
+    LacksKey signer.before.keyring signer.id
+IsSigningAnswer scheme kind message when signer (Err refusals.IncompatibleKey) =
     IsUnfit RsaSha256 signer.before.keyring signer.id
-IsSigned scheme kind message when signer (Err refusals.Signer) =
+IsSigningAnswer scheme kind message when signer (Err refusals.Signer) =
     Rose signer.before.faults signer.after.faults
-IsSigned scheme kind message when signer other = ⊥
+IsSigningAnswer scheme kind message when signer other = ⊥
 
 -- The signer is asked in turn for the signature of the attributes, for the issuing key, for the
 -- CRL's signature and for the certificate, and this is its first refusal: all that it gave before
@@ -131,9 +131,9 @@ pub record IsSignersAnswer {Id : Type 0} (scheme : Relation) (kind : Kind) (inpu
   pub message : Received
   pub reads : ReadsAs kind input message
   pub window_is : HasWindow when
-  pub fits : length (text_of message) ≤ most_content
-  pub signed : IsSigned scheme kind message when signer answer
-  pub first : IfErr answer (IsFirstToRefuse scheme (text_of message) when signer)
+  pub fits : length (accepted_text message) ≤ most_content
+  pub signed : IsSigningAnswer scheme kind message when signer answer
+  pub first : IfErr answer (IsFirstToRefuse scheme (accepted_text message) when signer)
 
 -- what is answered where a message is to be created
 abbrev pub IsCreateAnswer : {Id : Type 0} → Relation → Kind → List ℕ → ℤ → SignerSeen Id
@@ -168,7 +168,7 @@ pub record Creates {Id : Type 0} (scheme : Relation) (kind : Kind) (when : ℤ) 
   pub message : Received
   pub reads : ReadsAs kind input message
   pub issuing : KeyFields
-  pub holds : Holds signer.before.keyring signer.id issuing
+  pub holds : HoldsKey signer.before.keyring signer.id issuing
   pub format : issuing.format ≡ format_of RsaSha256
   pub other : signer.after.drawn ≢ Some issuing
   pub octets : List ℕ
@@ -179,7 +179,7 @@ pub record Creates {Id : Type 0} (scheme : Relation) (kind : Kind) (when : ℤ) 
 -- one use.
 pub record CanSign {Id : Type 0} (signer : SignerSeen Id) : Type 0 where
   pub issuing : KeyFields
-  pub holds : Holds signer.before.keyring signer.id issuing
+  pub holds : HoldsKey signer.before.keyring signer.id issuing
   pub format : issuing.format ≡ format_of RsaSha256
   pub no_fault : Rose signer.before.faults signer.after.faults → ⊥
   pub short_answers : Rose signer.before.overlong signer.after.overlong → ⊥
@@ -193,5 +193,5 @@ pub record CanCreate {Id : Type 0} (kind : Kind) (when : ℤ) (input : List ℕ)
   pub message : Received
   pub reads : ReadsAs kind input message
   pub window_is : HasWindow when
-  pub fits : length (text_of message) ≤ most_content
+  pub fits : length (accepted_text message) ≤ most_content
   pub signs : CanSign signer

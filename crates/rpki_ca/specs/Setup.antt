@@ -6,7 +6,7 @@ use Rattle.rpki_setup.specs.Answers.{BeginsCertificate, IsBelievedIn, HoldsUnbel
 use Rattle.rpki_setup.specs.ChildRequest.{child_request_in, child_request_text}
 use Rattle.rpki_setup.specs.ParentResponse.{parent_response_in, parent_response_text}
 use Rattle.rpki_setup.specs.PublisherRequest.{publisher_request_in, publisher_request_text}
-use Rattle.rpki_message.specs.Reading as setup
+use Rattle.rpki_xmltext.specs.Reading as setup
 use Rattle.rpki_setup.specs.RepositoryResponse.{repository_response_in, repository_response_text}
 use Rattle.rpki_setup.specs.declared.error.Error.{Error}
 use Rattle.rpki_setup.specs.declared.error.Error.TheVariants as setup_error

@@ -11,8 +11,8 @@ use Rattle.rpki_base.specs.Algorithm.{format_of}
 use Rattle.rpki_base.specs.PublicKey.{KeyFields}
 use Rattle.rpki_base.specs.Scheme.{Relation}
 use Rattle.rpki_common.specs.Causes.{Rose}
-use Rattle.rpki_signer.specs.Signer.{SignerState, Holds, Stays}
-use Rattle.rpki_sigmsg.specs.Making.{IsCreated}
+use Rattle.rpki_signer.specs.Signer.{SignerState, HoldsKey, Stays}
+use Rattle.rpki_sigmsg.specs.Making.{IsMessageCreated}
 use Rattle.rpki_sigmsg.specs.Message.{MessageFields}
 use Rattle.rpki_publication.specs.declared.message.Message.TheVariants as messages
 use Rattle.rpki_publication.specs.declared.query.Query.TheVariants as queries
@@ -26,8 +26,8 @@ use Rattle.rpki_ca.specs.declared.receiving.Received.{Received}
 use Rattle.rpki_ca.specs.declared.receiving.Received.TheVariants as received
 use Rattle.rpki_ca.specs.declared.refusals.Refusal.{Refusal}
 use Rattle.rpki_ca.specs.declared.refusals.Refusal.TheVariants as refusals
-use Rattle.rpki_ca.specs.Acceptance.{text_of}
-use Rattle.rpki_ca.specs.Creation.{IsReceivable, IsSigned, IsFirstToRefuse}
+use Rattle.rpki_ca.specs.Acceptance.{accepted_text}
+use Rattle.rpki_ca.specs.Creation.{IsReceivable, IsSigningAnswer, IsFirstToRefuse}
 use Rattle.rpki_ca.specs.Seen.{Seen, SignerSeen}
 
 -- ---- the message
@@ -46,13 +46,13 @@ abbrev pub uri_at : ℕ → List ℕ
 uri_at place = codes "rsync://localhost/ca/f" ++ decimal place ++ codes ".txt"
 
 -- the digest of the object at a place, as a tag
-abbrev pub tag_at : ℕ → ℕ → List ℕ
-tag_at seed place = encode_lower (sha256 (object_at seed place))
+abbrev pub change_tag_at : ℕ → ℕ → List ℕ
+change_tag_at seed place = encode_lower (sha256 (object_at seed place))
 
 -- the object is published
 abbrev pub publish_at : ℕ → ℕ → PublishFields
 publish_at seed place = record {
-  tag = Some (tag_at seed place);
+  tag = Some (change_tag_at seed place);
   uri = uri_at place;
   content = object_at seed place;
 }
@@ -60,7 +60,7 @@ publish_at seed place = record {
 -- the object at a place is published in the place of one whose octets were these and a 0
 abbrev pub update_at : ℕ → ℕ → UpdateFields
 update_at seed place = record {
-  tag = Some (tag_at seed place);
+  tag = Some (change_tag_at seed place);
   uri = uri_at place;
   content = object_at seed place;
   hash = sha256 (object_at seed place ++ 0 ∷ []);
@@ -69,7 +69,7 @@ update_at seed place = record {
 -- the object at a place is withdrawn
 abbrev pub withdraw_at : ℕ → ℕ → WithdrawFields
 withdraw_at seed place = record {
-  tag = Some (tag_at seed place);
+  tag = Some (change_tag_at seed place);
   uri = uri_at place;
   hash = sha256 (object_at seed place);
 }
@@ -127,7 +127,7 @@ summary elements octets =
 pub record IsSummed {Id : Type 0} (scheme : Relation) (count seed : ℕ) (signer : SignerSeen Id)
     (text : List ℕ) : Type 0 where
   pub issuing : KeyFields
-  pub holds : Holds signer.before.keyring signer.id issuing
+  pub holds : HoldsKey signer.before.keyring signer.id issuing
   pub format : issuing.format ≡ format_of RsaSha256
   pub other : signer.after.drawn ≢ Some issuing
   pub octets : List ℕ
@@ -141,7 +141,7 @@ pub record FailsToGiveKey {Id : Type 0} (scheme : Relation) (text : List ℕ) (w
     (signer : SignerSeen Id) (refusal : Refusal) : Type 0 where
   pub between : SignerState Id
   pub signed : MessageFields
-  pub created : IsCreated scheme text when signer.id signer.before between signed
+  pub created : IsMessageCreated scheme text when signer.id signer.before between signed
   pub stays : Stays between signer.after
   pub is : refusal ≡ refusals.Signer
   pub told : Rose between.faults signer.after.faults
@@ -157,8 +157,8 @@ abbrev pub IsMakeAnswer : {Id : Type 0} → Relation → ℕ → ℕ → SignerS
     → Result (List ℕ) Refusal → Type 0
 IsMakeAnswer scheme count seed signer (Ok text) = IsSummed scheme count seed signer text
 IsMakeAnswer scheme count seed signer (Err refusal) =
-    IsSigned scheme kinds.Publication (made_message seed count) made_at signer (Err refusal)
-    × IsFirstOfMake scheme (text_of (made_message seed count)) signer refusal
+    IsSigningAnswer scheme kinds.Publication (made_message seed count) made_at signer (Err refusal)
+    × IsFirstOfMake scheme (accepted_text (made_message seed count)) signer refusal
 
 -- ---- at the end of a call
 

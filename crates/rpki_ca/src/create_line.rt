@@ -7,7 +7,7 @@ ghost use Rattle.rpki_signer.specs.Limits.{Keeps};
 ghost use Rattle.rpki_sigmsg.specs.FirstRefusals.{IsFirstRefusal};
 ghost use Rattle.rpki_sigmsg.specs.Making.{HasWindow, CreateFails};
 ghost use Rattle.rpki_sigmsg.specs.declared.create_error.CreateError.TheVariants as create;
-ghost use Rattle.rpki_ca.specs.Acceptance.{ReadsAs, IsWritable, protocol_of, text_of, refusal_of};
+ghost use Rattle.rpki_ca.specs.Acceptance.{ReadsAs, IsWritable, protocol_of, accepted_text, refusal_of};
 ghost use Rattle.rpki_ca.specs.Answer.{IsLineOf};
 ghost use Rattle.rpki_ca.specs.Creation.{AreCreated, IsCreateAnswer, IsCreateRefusal, RefusesInput};
 ghost use Rattle.rpki_ca.specs.Creation.{refusal_of_create};
@@ -73,7 +73,7 @@ fn message_of(alloc: Global, kind: Kind, input: Vec<u8>) -> Result<Received, Rec
 
 // The octets of the message's text. The message is gone then.
 fn text_of(alloc: Global, message: Received) -> Result<Bytes, OutOfMemory>
-    ensures { IfOk result (λ text. text ≡ text_of message) }
+    ensures { IfOk result (λ text. text ≡ accepted_text message) }
 {
     match &message {
         Received::Publication(message) => message.text_bytes(alloc),
@@ -93,15 +93,15 @@ pub(crate) fn signed_octets<P: Scheme, S: Signer<P>>(
     ensures created { MatchResult result
         (AreCreated P.checks (protocol_of message) message when
         (seen_signer key.now (S.state signer.old) (S.state signer.new)))
-        (CreateFails (text_of message) when key.now
+        (CreateFails (accepted_text message) when key.now
         (S.state signer.old) (S.state signer.new)) }
-    ensures too_long { HasWindow when → most_content < length (text_of message)
+    ensures too_long { HasWindow when → most_content < length (accepted_text message)
         → IsErrOf result create.TooLong ⊎ IsErrOf result create.OutOfMemory }
-    ensures unasked { (HasWindow when → ⊥) ⊎ (most_content < length (text_of message))
+    ensures unasked { (HasWindow when → ⊥) ⊎ (most_content < length (accepted_text message))
         → signer.new ≡ signer.old }
     // Memory may run out behind all of the signer's calls.
     ensures first_refusal { IfErr result (λ e. e ≢ create.OutOfMemory
-        → IsFirstRefusal P.checks (text_of message) when key.now
+        → IsFirstRefusal P.checks (accepted_text message) when key.now
         (S.state signer.old) (S.state signer.new) e) }
     ensures keeps { Keeps (S.state signer.old) (S.state signer.new) }
 {

@@ -3,9 +3,9 @@
 ghost use Rattle.std.specs.Prelude.{◌≡◌, ◌≢◌, ◌↔◌, ◌++◌, ℕ, ℤ, List, Option, Result, Some, Err};
 ghost use Rattle.rpki_base.specs.PublicKey.{KeyFields};
 ghost use Rattle.rpki_sigmsg.specs.Checks.{SameAnswersUnder, AreAmong, IsInSpan};
-ghost use Rattle.rpki_sigmsg.specs.Making.{IsCreated};
+ghost use Rattle.rpki_sigmsg.specs.Making.{IsMessageCreated};
 ghost use Rattle.rpki_sigmsg.specs.Message.{MessageFields};
-ghost use Rattle.rpki_sigmsg.specs.Spelling.{rewritten, CanBeSpelled};
+ghost use Rattle.rpki_sigmsg.specs.Spelling.{rewritten, CanSpellMessage};
 ghost use Rattle.rpki_sigmsg.specs.Beginning.{BeginsSigned};
 ghost use Rattle.rpki_ca.specs.declared.command.Command.{Command};
 ghost use Rattle.rpki_ca.specs.declared.receiving.Kind.{Kind};
@@ -14,7 +14,7 @@ ghost use Rattle.rpki_ca.specs.declared.receiving.ReceiveError.{ReceiveError};
 ghost use Rattle.rpki_ca.specs.declared.receiving.ReceiveError.TheVariants as errors;
 ghost use Rattle.rpki_ca.specs.declared.refusals.Refusal.{Refusal};
 ghost use Rattle.rpki_ca.specs.Answer.{AnswersSpelled, IsAnswer};
-ghost use Rattle.rpki_ca.specs.Acceptance.{Accepted, IsReceived, IsReceivedUnder, IsWritable, protocol_of, text_of};
+ghost use Rattle.rpki_ca.specs.Acceptance.{Accepted, IsReceived, IsReceivedUnder, IsWritable, protocol_of, accepted_text};
 ghost use Rattle.rpki_ca.specs.Creation.{IsReceivable};
 ghost use Rattle.rpki_ca.specs.Hexadecimal.{IsSpelling, hexadecimal};
 ghost use Rattle.rpki_ca.specs.Lines.{AreLines, lines_of};
@@ -69,7 +69,7 @@ pub fn receipts_ask_three_questions<P: Scheme, Q: Scheme>()
 pub fn rewritten_is_received_alike<P: Scheme>()
     ensures { (kind : Kind) (octets rest : List ℕ) (m : MessageFields) (keys : List KeyFields)
         (when : ℤ) (answer : Result (Received × ℕ) ReceiveError)
-        → BeginsSigned octets m → CanBeSpelled m
+        → BeginsSigned octets m → CanSpellMessage m
         → (IsReceivedUnder P.checks kind octets keys when answer
         ↔ IsReceivedUnder P.checks kind (rewritten m ++ rest) keys when answer) }
 {}
@@ -111,7 +111,7 @@ pub fn accepted_moments_are_one_span<P: Scheme>()
 pub fn created_is_received<P: Scheme, S: Signer<P>>()
     ensures { (message : Received) (when : ℤ) (signer : SignerSeen S.KeyId) (m : MessageFields)
         → IsWritable message
-        → IsCreated P.checks (text_of message) when signer.id signer.before signer.after m
-        → CanBeSpelled m
+        → IsMessageCreated P.checks (accepted_text message) when signer.id signer.before signer.after m
+        → CanSpellMessage m
         → IsReceivable P.checks (protocol_of message) (rewritten m) message when signer }
 {}

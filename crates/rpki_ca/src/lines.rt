@@ -6,7 +6,7 @@ ghost use Rattle.std.specs.Result.{result_ok};
 ghost use Rattle.hex.specs.Hex.{decode_of};
 ghost use Rattle.rpki_ca.specs.Lines.{EndsStopped, lines_of, pieces_of, words_of};
 ghost use Rattle.rpki_ca.specs.Seen.{seen};
-ghost use Rattle.rpki_ca.specs.Words.{key_of};
+ghost use Rattle.rpki_ca.specs.Words.{key_of_word};
 ghost use Rattle.rpki_ca.specs.declared.refusals.Refusal.TheVariants as refusals;
 ghost use Rattle.rpki_ca.specs.declared.lines.Stop.TheVariants as stops;
 
@@ -96,7 +96,7 @@ pub fn spelled_octets(alloc: Global, word: &[u8]) -> Result<Option<Vec<u8>>, Out
 /// The public key whose DER a word spells, two hexadecimal digits of either case an octet. None exactly
 /// where the word spells no octets so, or its octets are no key, or one with something behind it.
 pub fn spelled_key(alloc: Global, word: &[u8]) -> Result<Option<PublicKey>, OutOfMemory>
-    ensures { IfOk result (λ key. key ≡ key_of word.now) }
+    ensures { IfOk result (λ key. key ≡ key_of_word word.now) }
 {
     let Some(octets) = spelled_octets(alloc, word)? else {
         return Ok(None);

@@ -3,7 +3,7 @@
 ghost use Rattle.std.specs.Prelude.{◌≡◌, ◌≢◌, ◌++◌, ◌∷◌, ◌≤◌, [], List, ℕ, Ok, Err, IfOk, IfErr, length};
 ghost use Rattle.rpki_common.specs.Limits.{most_keys};
 ghost use Rattle.rpki_ca.specs.Answer.{IsReceiveAnswer, IsTextAccepted, IsLineOf};
-ghost use Rattle.rpki_ca.specs.Acceptance.{RefusesReceipt, text_of, refusal_of};
+ghost use Rattle.rpki_ca.specs.Acceptance.{RefusesReceipt, accepted_text, refusal_of};
 
 use crate::line::line_of;
 use crate::receiving::{Kind, ReceiveError, Received};
@@ -18,7 +18,7 @@ use std::alloc::Global;
 impl Received {
     /// The octets of the message, a document of XML.
     pub fn to_xml_vec(&self, alloc: Global) -> Result<Vec<u8>, OutOfMemory>
-        ensures { IfOk result (λ octets. octets.items ≡ text_of self.now) }
+        ensures { IfOk result (λ octets. octets.items ≡ accepted_text self.now) }
     {
         match self {
             Received::Publication(message) => message.text_vec(alloc),
@@ -28,7 +28,7 @@ impl Received {
 
     /// The octets of the message, a document of XML, to be shared.
     pub fn to_xml_bytes(&self, alloc: Global) -> Result<Bytes, OutOfMemory>
-        ensures { IfOk result (λ octets. octets ≡ text_of self.now) }
+        ensures { IfOk result (λ octets. octets ≡ accepted_text self.now) }
     {
         match self {
             Received::Publication(message) => message.text_bytes(alloc),

@@ -18,7 +18,7 @@ ghost use Rattle.rpki_ca.specs.declared.setup_message.SetupKind.{SetupKind};
 ghost use Rattle.rpki_ca.specs.Creation.{Creates, CanCreate, CanSign};
 ghost use Rattle.rpki_ca.specs.Seen.{seen, seen_signer, HasFailed, IsSteady};
 ghost use Rattle.rpki_ca.specs.Answer.{AnswersSpelled, octets_in, Performs, IsAnswer, IsGiven, IsShown, IsAdmitted, IsUnread};
-ghost use Rattle.rpki_ca.specs.Answer.{IsLineOf, Ends, EndsAs, ReadsAll, Delivers, Holds, Succeeds};
+ghost use Rattle.rpki_ca.specs.Answer.{IsLineOf, Ends, EndsAs, ReadsAll, Delivers, BringsAccepted, Succeeds};
 ghost use Rattle.rpki_signer.specs.Limits.{Keeps};
 
 use crate::command::Command;
@@ -217,7 +217,7 @@ pub fn run<P: Scheme, I: Source, O: Sink, V: Verifier<P>, S: Signer<P>>(
     // source and sink.
     ensures accepted { (kind : Kind) (when : ℤ) (keys : List KeyFields)
         → IsReceive words.now kind when keys
-        → IfSome (I.rest input.old) (λ rest. Holds P.checks kind keys when rest → Succeeds result.0
+        → IfSome (I.rest input.old) (λ rest. BringsAccepted P.checks kind keys when rest → Succeeds result.0
         (seen I.rest I.faults input.old input.new)
         (seen O.written O.faults output.old output.new)) }
 

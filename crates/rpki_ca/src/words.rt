@@ -2,7 +2,7 @@
 
 ghost use Rattle.std.specs.Prelude.{◌≡◌, ◌++◌, ◌∷◌, [], ◌↔◌, ◌<◌, ℕ, ℤ, length, OnOk, OnErr, IfOk, IfSome, IsSome, IsNone, IsTrue, slice_get, Some, None};
 ghost use Rattle.rpki_base.specs.PublicKey.{KeyFields};
-ghost use Rattle.rpki_ca.specs.Words.{IsMoment, IsMomentAt, IsNumber, IsNumberAt, key_at};
+ghost use Rattle.rpki_ca.specs.Words.{SpellsMoment, IsMomentAt, IsNumber, IsNumberAt, key_at};
 
 use crate::lines::spelled_key;
 use itoa::Buffer;
@@ -111,8 +111,8 @@ impl Words {
 
 // The moment that a word names.
 fn moment_of(word: &str) -> Option<Time>
-    ensures some { IfSome result (λ when. IsMoment word.now when) }
-    ensures none { IsNone result → (when : ℤ) → IsMoment word.now when → ⊥ }
+    ensures some { IfSome result (λ when. SpellsMoment word.now when) }
+    ensures none { IsNone result → (when : ℤ) → SpellsMoment word.now when → ⊥ }
 {
     let Ok(seconds) = word.parse::<i64>() else {
         return None;

@@ -12,7 +12,7 @@ use Rattle.rpki_der.specs.Grammar.{first, optional, every, done, so, primitive, 
 use Rattle.rpki_der.specs.Identifier.{IsTag}
 use Rattle.rpki_der.specs.InDer.{in_der}
 use Rattle.rpki_der.specs.Integer.{integer_is}
-use Rattle.rpki_der.specs.OctetString.{joined, octets_under, octet_string}
+use Rattle.rpki_der.specs.OctetString.{joined_pieces, octets_under, octet_string}
 use Rattle.rpki_der.specs.Oid.{oid, oid_is}
 use Rattle.rpki_der.specs.Tags.{sequence, set, context, oid_tag, boolean_tag, integer_tag, bit_string_tag, octet_string_tag}
 use Rattle.rpki_der.specs.Value.{Value, Values, End, ◌▸◌}
@@ -21,7 +21,7 @@ use Rattle.rpki_der.proofs.Written.{spells_followed, spells_primitive}
 use Rattle.rpki_base.specs.ObjectIdentifiers.{basic_constraints as basic_name}
 use Rattle.rpki_base.specs.Extension.{ExtensionFields, extension}
 use Rattle.rpki_base.specs.Name.{name}
-use Rattle.rpki_base.specs.PublicKey.{KeyFields, public_key, spelled_key, CanBeSpelled as KeyCanBeSpelled}
+use Rattle.rpki_base.specs.PublicKey.{KeyFields, public_key, spelled_key, CanSpellKey as KeyCanBeSpelled}
 use Rattle.rpki_base.specs.WritingLaws.{is_sequence, is_oid}
 use Rattle.rpki_text.specs.Uri.{Kind, rsync, https, fault_of}
 use Rattle.rpki_idcert.specs.Making.{name_of_key}
@@ -61,7 +61,7 @@ flagged_size : (identifier value : List ℕ) → length (der_primitive oid_tag i
 flagged_size identifier value = omega (arith, length-append (der_primitive oid_tag identifier) (der_primitive boolean_tag (0 ∷ []) ++ der_primitive octet_string_tag value), length-append (der_primitive boolean_tag (0 ∷ [])) (der_primitive octet_string_tag value), primitive_size oid_tag identifier, primitive_size octet_string_tag value)
 
 octets_read : (mode : Mode) (value : List ℕ) (more : Values) → first (octet_string mode) (primitive_value octet_string_tag value ▸ more) ≡ Some (value, more)
-unfolding first octets_under joined ◌>>=◌
+unfolding first octets_under joined_pieces ◌>>=◌
 octets_read Ber value more = refl
 octets_read Der value more = refl
 

@@ -16,13 +16,13 @@ use Rattle.rpki_der.specs.Whole.{whole_of}
 use Rattle.rpki_der.specs.Writing.{der_constructed}
 use Rattle.rpki_base.specs.declared.algorithm.SigningAlgorithm.TheVariants.{RsaSha256}
 use Rattle.rpki_base.specs.Bits.{spelled_bits}
-use Rattle.rpki_base.specs.PublicKey.{KeyFields, spelled_key, spelled_parts, CanBeSpelled as KeyCanBeSpelled}
+use Rattle.rpki_base.specs.PublicKey.{KeyFields, spelled_key, spelled_parts, CanSpellKey as KeyCanBeSpelled}
 use Rattle.rpki_base.specs.RpkiSignatureAlgorithm.{RpkiAlgorithm, x509_algorithm, spelled_x509}
 use Rattle.rpki_base.specs.Scheme.{Relation}
 use Rattle.rpki_base.specs.Signature.{SignatureParts}
-use Rattle.rpki_base.specs.SignedData.{SignedParts, spelled_data, CanBeSpelled}
+use Rattle.rpki_base.specs.SignedData.{SignedParts, spelled_data, CanSpellSigned}
 use Rattle.rpki_signer.specs.Limits.{MakeFails, IsShortKey, IsShortSignature, RefusesKey, RefusesSignature, default_algorithm}
-use Rattle.rpki_signer.specs.Signer.{SignerState, Holds, AreDistinct, Stays}
+use Rattle.rpki_signer.specs.Signer.{SignerState, HoldsKey, AreDistinct, Stays}
 use Rattle.rpki_signer.proofs.Keyrings.{one_key}
 use Rattle.rpki_signer.proofs.States.{stays_then, stays_keeps, fails_before, key_refused}
 use Rattle.rpki_idcert.specs.Making.{name_of_key}
@@ -33,7 +33,7 @@ use Rattle.rpki_cert.specs.declared.construct.CsrError.{CsrError}
 use Rattle.rpki_cert.specs.declared.construct.CsrError.TheVariants as csr
 use Rattle.rpki_cert.specs.Csr.{request_info, certification_request}
 use Rattle.rpki_cert.specs.CsrAttributes.{ca_attributes}
-use Rattle.rpki_cert.specs.Making.{Places, IsLawfulIfThere, AreLawful, asked_of, spelled_version, spelled_attribute, spelled_info, request_signed, CaRequest, IsRequestMade, IsSignedFor, SigningOnly, ConstructFails, IsFirstRefusal, IsKeyFound, slashed, csr_error_of, csr_error_of_uri}
+use Rattle.rpki_cert.specs.Making.{Places, IsLawfulIfThere, AreLawful, asked_of, spelled_version, spelled_attribute, spelled_info, request_signed, CaRequest, IsRequestMade, IsSignedFor, SigningOnly, ConstructFails, IsFirstRequestRefusal, IsKeyFound, slashed, csr_error_of, csr_error_of_uri}
 use Rattle.rpki_cert.proofs.Asking.{IsUri, IsUriIfThere, AreUris, info_piece}
 
 abbrev request_of : KeyFields → Places → List ℕ → CaRequest
@@ -43,7 +43,7 @@ abbrev parts : KeyFields → Places → List ℕ
 parts key p = spelled_version ++ (name_of_key key ++ (spelled_key key ++ der_constructed (context 0) (spelled_attribute p)))
 
 -- what is signed is no longer than all
-parts_within : (key : KeyFields) (p : Places) (value : List ℕ) → CanBeSpelled spelled_x509 (request_signed key p value) → length (parts key p) < 4294967296
+parts_within : (key : KeyFields) (p : Places) (value : List ℕ) → CanSpellSigned spelled_x509 (request_signed key p value) → length (parts key p) < 4294967296
 unfolding spelled_info
 parts_within key p value h = omega (arith, h, content_within sequence (parts key p), length-append (der_constructed sequence (parts key p)) (spelled_x509 default_algorithm ++ spelled_bits value))
 
@@ -61,7 +61,7 @@ key_within key p h =
 begins_with : {X : Type 0} (grammar : Value → Option X) (octets : List ℕ) (x : X) → Piece Der grammar octets x → (rest : List ℕ) → BeginsAs grammar Der (octets ++ rest) x
 begins_with grammar octets x p rest = record { value = p.value; rest = rest; begins = begins_as Der grammar octets x p rest; reads = p.reads }
 
-request_piece : (key : KeyFields) (p : Places) (value : List ℕ) → AreUris p → CanBeSpelled spelled_x509 (request_signed key p value) → Piece Der (certification_request ca_attributes (whole_of x509_algorithm) Der) (spelled_data spelled_x509 (request_signed key p value)) (request_of key p value)
+request_piece : (key : KeyFields) (p : Places) (value : List ℕ) → AreUris p → CanSpellSigned spelled_x509 (request_signed key p value) → Piece Der (certification_request ca_attributes (whole_of x509_algorithm) Der) (spelled_data spelled_x509 (request_signed key p value)) (request_of key p value)
 unfolding certification_request
 request_piece key p value u h =
     let l = parts_within key p value h in
@@ -69,7 +69,7 @@ request_piece key p value u h =
 
 pub request_made : {I : Type 0} (scheme : Relation) (id : I) (places : Places) (a b c : SignerState I) (key : KeyFields) (octets : List ℕ) → AreUris places → AreDistinct b.keyring → IsShortKey id a b key → IsSignedFor scheme id key places b c octets → IsRequestMade scheme id places a c octets
 request_made scheme id places a b c key octets u d k s =
-    let holds : Holds b.keyring id key = subst (λ r. Holds r id key) (sym k.is.stays.keyring) k.is.holds in
+    let holds : HoldsKey b.keyring id key = subst (λ r. HoldsKey r id key) (sym k.is.stays.keyring) k.is.holds in
     let piece = request_piece key places s.value u s.spelled in
     record {
       key = key;
@@ -126,12 +126,12 @@ uri_refused id repository a b key uri.OutOfMemory e k is f = rw is (k.is.stays, 
 
 -- ---- which refusal was the first
 
-pub first_key : {I E : Type 0} (scheme : Relation) (id : I) (repository : List ℕ) (a b : SignerState I) (m : MakeError E) (e : CsrError E) → e ≡ csr_error_of m → RefusesKey id a b m → IsFirstRefusal scheme id repository a b e
+pub first_key : {I E : Type 0} (scheme : Relation) (id : I) (repository : List ℕ) (a b : SignerState I) (m : MakeError E) (e : CsrError E) → e ≡ csr_error_of m → RefusesKey id a b m → IsFirstRequestRefusal scheme id repository a b e
 first_key scheme id repository a b make.TooLong e is s = rw is (inl s)
 first_key scheme id repository a b (make.Signing x) e is s = rw is (inl s)
 first_key scheme id repository a b make.OutOfMemory e is s = rw is s.no_fault
 
-pub first_uri : {I E : Type 0} (scheme : Relation) (id : I) (repository : List ℕ) (a b : SignerState I) (key : KeyFields) (x : Error) (e : CsrError E) → IsShortKey id a b key → e ≡ csr_error_of_uri x → IsFirstRefusal scheme id repository a b e
+pub first_uri : {I E : Type 0} (scheme : Relation) (id : I) (repository : List ℕ) (a b : SignerState I) (key : KeyFields) (x : Error) (e : CsrError E) → IsShortKey id a b key → e ≡ csr_error_of_uri x → IsFirstRequestRefusal scheme id repository a b e
 first_uri scheme id repository a b key uri.TooLong e k is = rw is (found id a b key k)
 first_uri scheme id repository a b key uri.BadCharacter e k is = rw is (found id a b key k)
 first_uri scheme id repository a b key uri.BadScheme e k is = rw is (found id a b key k)
@@ -139,14 +139,14 @@ first_uri scheme id repository a b key uri.BadUri e k is = rw is (found id a b k
 first_uri scheme id repository a b key uri.DotSegments e k is = rw is (found id a b key k)
 first_uri scheme id repository a b key uri.OutOfMemory e k is = rw is k.is.no_fault
 
-first_signing : {I E : Type 0} (scheme : Relation) (id : I) (repository : List ℕ) (a b c : SignerState I) (key : KeyFields) (e : CsrError E) → fault_of rsync (slashed repository) ≡ None → IsShortKey id a b key → SigningOnly scheme id b c e → IsFirstRefusal scheme id repository a c e
+first_signing : {I E : Type 0} (scheme : Relation) (id : I) (repository : List ℕ) (a b c : SignerState I) (key : KeyFields) (e : CsrError E) → fault_of rsync (slashed repository) ≡ None → IsShortKey id a b key → SigningOnly scheme id b c e → IsFirstRequestRefusal scheme id repository a c e
 first_signing scheme id repository a b c key (csr.Uri x) n k s = absurd s
 first_signing scheme id repository a b c key csr.TooLong n k s = inr (n, record { between = b; key = key; given = k; refuses = s })
 first_signing scheme id repository a b c key (csr.Signing x) n k s = inr (n, record { between = b; key = key; given = k; refuses = s })
 first_signing scheme id repository a b c key csr.OutOfMemory n k s = s.1 ∙ k.is.no_fault
 
 pub first_result : {T I E : Type 0} (scheme : Relation) (id : I) (repository : List ℕ) (a b c : SignerState I) (key : KeyFields) (ok : T → Type 0) (r : Result T (CsrError E)) → fault_of rsync (slashed repository) ≡ None → IsShortKey id a b key → MatchResult r ok (SigningOnly scheme id b c)
-    → IfErr r (IsFirstRefusal scheme id repository a c)
+    → IfErr r (IsFirstRequestRefusal scheme id repository a c)
 first_result scheme id repository a b c key ok (Ok x) n k m = tt
 first_result scheme id repository a b c key ok (Err e) n k m = first_signing scheme id repository a b c key e n k m
 
@@ -174,12 +174,12 @@ parts_same i j s a e f = rw (← e) (ap (λ (x : RpkiAlgorithm). record { slice 
 
 pub signed_for : {I : Type 0} (scheme : Relation) (id : I) (key : KeyFields) (places : Places) (a b : SignerState I) (info message captured start out : List ℕ) (signature : SignatureParts RpkiAlgorithm) (signed : SignedParts RpkiAlgorithm)
     → info ≡ spelled_info key places → message ≡ info → IsShortSignature scheme RsaSha256 id message a b signature.value → signature.algorithm ≡ default_algorithm → signed ≡ record { slice = info; signature = signature }
-    → start ≡ [] → out ≡ start ++ spelled_data spelled_x509 signed → CanBeSpelled spelled_x509 signed → captured ≡ out → IsSignedFor scheme id key places a b captured
+    → start ≡ [] → out ≡ start ++ spelled_data spelled_x509 signed → CanSpellSigned spelled_x509 signed → captured ≡ out → IsSignedFor scheme id key places a b captured
 signed_for scheme id key places a b info message captured start out signature signed e f s g h k l m n =
     let same : signed ≡ request_signed key places signature.value = h ∙ parts_same info (spelled_info key places) signature default_algorithm e g in
     record {
       value = signature.value;
       is = n ∙ l ∙ ap (λ o. o ++ spelled_data spelled_x509 signed) k ∙ ap (λ (d : SignedParts RpkiAlgorithm). spelled_data spelled_x509 d) same;
-      spelled = subst (λ (d : SignedParts RpkiAlgorithm). CanBeSpelled spelled_x509 d) same m;
+      spelled = subst (λ (d : SignedParts RpkiAlgorithm). CanSpellSigned spelled_x509 d) same m;
       signed = subst (λ o. IsShortSignature scheme RsaSha256 id o a b signature.value) (f ∙ e) s;
     }

@@ -24,7 +24,7 @@ use Rattle.rpki_der.specs.Takes.{BeginsAs}
 use Rattle.rpki_der.specs.Ticks.{CountedOne, CountedRefuses, CountedBegins, DecodesCounted}
 use Rattle.rpki_der.specs.Value.{Value, Primitive, Constructed, Values, lengths_of, end_mark, spelling, spellings}
 use Rattle.rpki_der.specs.Whole.{whole_of}
-use Rattle.rpki_der.specs.Writing.{octets_of, der_length, with_bit_6, der_primitive, der_constructed}
+use Rattle.rpki_der.specs.Writing.{octets_of_number, der_length, with_bit_6, der_primitive, der_constructed}
 use Rattle.rpki_der.proofs.Counting.{takes_err}
 use Rattle.rpki_der.proofs.Decoding.{decoded_ok, value_at-sound}
 use Rattle.rpki_der.proofs.Firsts.{first_is, done_is}
@@ -54,9 +54,9 @@ all_bytes (x ∷ l) h =
     let p = both (nat_lt x 256) (list_all (λ c. nat_lt c 256) l) h in
     byte_first x l (ltb-true x 256 p.0) (all_bytes l p.1)
 
-number_bytes : (k n : ℕ) → IsBytes (octets_of k n)
+number_bytes : (k n : ℕ) → IsBytes (octets_of_number k n)
 number_bytes zero n = no_bytes
-number_bytes (suc k) n = both_bytes (octets_of k (n / 256)) (n % 256 ∷ []) (number_bytes k (n / 256)) (byte_first (n % 256) [] (omega arith) no_bytes)
+number_bytes (suc k) n = both_bytes (octets_of_number k (n / 256)) (n % 256 ∷ []) (number_bytes k (n / 256)) (byte_first (n % 256) [] (omega arith) no_bytes)
 
 either_bytes : (b : Bool) (x y : List ℕ) → (b ≡ true → IsBytes x) → IsBytes y → IsBytes (if b then x else y)
 either_bytes true x y f g = f refl
@@ -68,10 +68,10 @@ small n e = let h = ltb-true n 128 e in omega (arith, h)
 length_bytes : (n : ℕ) → IsBytes (der_length n)
 length_bytes n =
     either_bytes (nat_lt n 128) (n ∷ []) _ (λ t. byte_first n [] (small n t) no_bytes)
-    (either_bytes (nat_lt n 256) (129 ∷ octets_of 1 n) _ (λ t. byte_first 129 (octets_of 1 n) (omega arith) (number_bytes 1 n))
-    (either_bytes (nat_lt n 65536) (130 ∷ octets_of 2 n) _ (λ t. byte_first 130 (octets_of 2 n) (omega arith) (number_bytes 2 n))
-    (either_bytes (nat_lt n 16777216) (131 ∷ octets_of 3 n) _ (λ t. byte_first 131 (octets_of 3 n) (omega arith) (number_bytes 3 n))
-    (byte_first 132 (octets_of 4 n) (omega arith) (number_bytes 4 n)))))
+    (either_bytes (nat_lt n 256) (129 ∷ octets_of_number 1 n) _ (λ t. byte_first 129 (octets_of_number 1 n) (omega arith) (number_bytes 1 n))
+    (either_bytes (nat_lt n 65536) (130 ∷ octets_of_number 2 n) _ (λ t. byte_first 130 (octets_of_number 2 n) (omega arith) (number_bytes 2 n))
+    (either_bytes (nat_lt n 16777216) (131 ∷ octets_of_number 3 n) _ (λ t. byte_first 131 (octets_of_number 3 n) (omega arith) (number_bytes 3 n))
+    (byte_first 132 (octets_of_number 4 n) (omega arith) (number_bytes 4 n)))))
 
 primitive_bytes : (tag content : List ℕ) → IsBytes tag → IsBytes content → IsBytes (der_primitive tag content)
 primitive_bytes tag content t c = both_bytes tag (der_length (length content) ++ content) t (both_bytes (der_length (length content)) content (length_bytes (length content)) c)

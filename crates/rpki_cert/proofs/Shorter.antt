@@ -29,7 +29,7 @@ use Rattle.rpki_base.specs.Bits.{spelled_bits}
 use Rattle.rpki_base.specs.ObjectIdentifiers.{sha256_with_rsa}
 use Rattle.rpki_base.specs.RpkiSignatureAlgorithm.{RpkiAlgorithm, x509_meaning, x509_algorithm, spelled_x509}
 use Rattle.rpki_base.specs.Signature.{SignatureParts}
-use Rattle.rpki_base.specs.SignedData.{SignedParts, Signed, algorithm_in, signature_in, signed_as, signed_fields, signed_value, spelled_parts, spelled_data, CanBeSpelled}
+use Rattle.rpki_base.specs.SignedData.{SignedParts, Signed, algorithm_in, signature_in, signed_as, signed_fields, signed_value, spelled_parts, spelled_data, CanSpellSigned}
 use Rattle.rpki_base.specs.WritingLaws.{length-der_length}
 use Rattle.rpki_cert.specs.Csr.{request_info, certification_request}
 use Rattle.rpki_cert.specs.CsrAttributes.{ca_attributes}
@@ -309,7 +309,7 @@ parts_within {A} {T} tbs reads spelled vs c short p h e =
 -- what is written of signed data is no longer than this, and can be written
 pub record IsNoLonger {A : Type 0} (spelled : A → List ℕ) (d : SignedParts A) (n : ℕ) : Type 0 where
   pub count : length (spelled_data spelled d) ≤ n
-  pub can : CanBeSpelled spelled d
+  pub can : CanSpellSigned spelled d
 
 pub signed_no_longer : {A T : Type 0} (tbs : Mode → Value → Option T) (reads : Mode → List ℕ → Option A) (spelled : A → List ℕ) (v : Value) (c : Signed A T) → AreShort reads spelled → IsValue Der v
     → IsBytes (spelling v) → signed_value tbs reads Der v ≡ Some c → IsNoLonger spelled c.signed (length (spelling v))
@@ -335,5 +335,5 @@ pub request_length : (octets : List ℕ) (r : CaRequest) → IsBytes octets → 
 request_length octets r h b = (request_no_longer octets r h b).count
 
 pub request_spelled : (octets : List ℕ) (r : CaRequest) → IsBytes octets → BeginsAs (certification_request ca_attributes (whole_of x509_algorithm) Der) Der octets r
-    → CanBeSpelled spelled_x509 r.signed
+    → CanSpellSigned spelled_x509 r.signed
 request_spelled octets r h b = (request_no_longer octets r h b).can

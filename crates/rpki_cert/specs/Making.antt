@@ -11,7 +11,7 @@ use Rattle.rpki_base.specs.ObjectIdentifiers.{basic_constraints as basic_constra
 use Rattle.rpki_base.specs.PublicKey.{KeyFields, spelled_key}
 use Rattle.rpki_base.specs.RpkiSignatureAlgorithm.{RpkiAlgorithm, x509_algorithm, spelled_x509}
 use Rattle.rpki_base.specs.Scheme.{Relation}
-use Rattle.rpki_base.specs.SignedData.{SignedParts, Signed, spelled_data, CanBeSpelled}
+use Rattle.rpki_base.specs.SignedData.{SignedParts, Signed, spelled_data, CanSpellSigned}
 use Rattle.rpki_text.specs.Uri.{rsync, https, fault_of, path_of, names_directory, joined}
 use Rattle.rpki_text.specs.declared.uri.Error.{Error}
 use Rattle.rpki_text.specs.declared.uri.Error.TheVariants as uri
@@ -20,7 +20,7 @@ use Rattle.rpki_signer.specs.declared.errors.MakeError.TheVariants as make
 use Rattle.rpki_signer.specs.declared.errors.SigningError.TheVariants as signing
 use Rattle.rpki_signer.specs.Errors.{signing_text}
 use Rattle.rpki_signer.specs.Limits.{IsShort, IsShortSignature, RefusesKey, RefusesSignature, StopsBehindKey, default_algorithm}
-use Rattle.rpki_signer.specs.Signer.{SignerState, Holds, Stays, SigningFails}
+use Rattle.rpki_signer.specs.Signer.{SignerState, HoldsKey, Stays, SigningFails}
 use Rattle.rpki_idcert.specs.Making.{name_of_key}
 use Rattle.rpki_cert.specs.declared.construct.CsrError.{CsrError}
 use Rattle.rpki_cert.specs.declared.construct.CsrError.TheVariants as csr
@@ -161,7 +161,7 @@ CaRequest = Signed RpkiAlgorithm (RequestFields CaAttributes)
 pub record IsRequestMade {Id : Type 0} (scheme : Relation) (id : Id) (places : Places)
     (before after : SignerState Id) (octets : List ℕ) : Type 0 where
   pub key : KeyFields
-  pub holds : Holds before.keyring id key
+  pub holds : HoldsKey before.keyring id key
   pub short : IsShort key.bits
   pub request : CaRequest
   pub tbs : request.tbs ≡ asked_of key places
@@ -182,7 +182,7 @@ pub record IsSignedFor {Id : Type 0} (scheme : Relation) (id : Id) (key : KeyFie
     (places : Places) (before after : SignerState Id) (octets : List ℕ) : Type 0 where
   pub value : List ℕ
   pub is : octets ≡ spelled_data spelled_x509 (request_signed key places value)
-  pub spelled : CanBeSpelled spelled_x509 (request_signed key places value)
+  pub spelled : CanSpellSigned spelled_x509 (request_signed key places value)
   pub signed : IsShortSignature scheme RsaSha256 id (spelled_info key places) before after value
 
 -- the signature was refused, or memory ran out and the signer didn't fail
@@ -199,7 +199,7 @@ SigningOnly scheme id before after csr.OutOfMemory =
 -- the signer held a key for the identifier, which was not too long
 pub record IsKeyFound {Id : Type 0} (id : Id) (before : SignerState Id) : Type 0 where
   pub key : KeyFields
-  pub holds : Holds before.keyring id key
+  pub holds : HoldsKey before.keyring id key
   pub short : IsShort key.bits
 
 -- Why no request was made: first the signer was asked for the key, then the URI of the repository
@@ -224,14 +224,14 @@ RefusesInTurn scheme id repository before after error =
     ⊎ ((fault_of rsync (slashed repository) ≡ None) × StopsBehindKey scheme id before after error)
 
 -- where memory ran out, the signer didn't fail
-abbrev pub IsFirstRefusal : {Id E : Type 0} → Relation → Id → List ℕ → SignerState Id
+abbrev pub IsFirstRequestRefusal : {Id E : Type 0} → Relation → Id → List ℕ → SignerState Id
     → SignerState Id → CsrError E → Type 0
-IsFirstRefusal scheme id repository before after (csr.Uri error) = IsKeyFound id before
-IsFirstRefusal {E = E} scheme id repository before after csr.TooLong =
+IsFirstRequestRefusal scheme id repository before after (csr.Uri error) = IsKeyFound id before
+IsFirstRequestRefusal {E = E} scheme id repository before after csr.TooLong =
     RefusesInTurn {E = E} scheme id repository before after make.TooLong
-IsFirstRefusal scheme id repository before after (csr.Signing error) =
+IsFirstRequestRefusal scheme id repository before after (csr.Signing error) =
     RefusesInTurn scheme id repository before after (make.Signing error)
-IsFirstRefusal scheme id repository before after csr.OutOfMemory = after.faults ≡ before.faults
+IsFirstRequestRefusal scheme id repository before after csr.OutOfMemory = after.faults ≡ before.faults
 
 -- ---- errors that become others
 

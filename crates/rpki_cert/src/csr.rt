@@ -6,7 +6,7 @@ ghost use Rattle.rpki_der.specs.declared.mode.Mode.TheVariants.{Der};
 ghost use Rattle.rpki_der.specs.Held.{with_octets};
 ghost use Rattle.rpki_der.specs.Takes.{Decodes};
 ghost use Rattle.rpki_der.specs.Ticks.{TakesCounted, DecodesCounted};
-ghost use Rattle.rpki_base.specs.SignedData.{spelled_data, CanBeSpelled};
+ghost use Rattle.rpki_base.specs.SignedData.{spelled_data, CanSpellSigned};
 ghost use Rattle.rpki_cert.specs.Csr.{request_info, certification_request};
 ghost use Rattle.rpki_cert.specs.ReadInDer.{IsReadInDer};
 
@@ -292,7 +292,7 @@ impl<Alg: SignatureAlgorithm, Attributes: CsrAttributes> Csr<Alg, Attributes> {
     /// is longer than length octets can say is refused as want of memory.
     pub fn encode_ref(&self, out: &mut Writer) -> Result<(), OutOfMemory>
         ensures ok { OnOk result (out.new ≡ out.old ++ spelled_data Alg.spelled self.now.signed) }
-        ensures spelled { OnOk result (CanBeSpelled Alg.spelled self.now.signed) }
+        ensures spelled { OnOk result (CanSpellSigned Alg.spelled self.now.signed) }
         ensures err { OnErr result (out.new ≡ out.old) }
     {
         self.signed.encode_ref(out)
@@ -301,7 +301,7 @@ impl<Alg: SignatureAlgorithm, Attributes: CsrAttributes> Csr<Alg, Attributes> {
     /// What `encode_ref` appends, by itself.
     pub fn to_captured(&self, alloc: Global) -> Result<Captured, OutOfMemory>
         ensures octets { IfOk result (λ c. c ≡ spelled_data Alg.spelled self.now.signed) }
-        ensures spelled { OnOk result (CanBeSpelled Alg.spelled self.now.signed) }
+        ensures spelled { OnOk result (CanSpellSigned Alg.spelled self.now.signed) }
     {
         let mut out = Writer::new(alloc);
         self.encode_ref(&mut out)?;

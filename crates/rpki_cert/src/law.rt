@@ -7,7 +7,7 @@ ghost use Rattle.rpki_der.specs.declared.mode.Mode.TheVariants.{Der};
 ghost use Rattle.rpki_der.specs.Takes.{BeginsAs};
 ghost use Rattle.rpki_der.specs.Whole.{whole_of};
 ghost use Rattle.rpki_base.specs.RpkiSignatureAlgorithm.{x509_algorithm, spelled_x509};
-ghost use Rattle.rpki_base.specs.SignedData.{Signed, spelled_data, CanBeSpelled};
+ghost use Rattle.rpki_base.specs.SignedData.{Signed, spelled_data, CanSpellSigned};
 ghost use Rattle.rpki_cert.specs.Cert.{CertFields, certificate};
 ghost use Rattle.rpki_cert.specs.Csr.{RequestFields, certification_request};
 ghost use Rattle.rpki_cert.specs.CsrAttributes.{ca_attributes};
@@ -22,7 +22,7 @@ use rpki_base::SignatureAlgorithm;
 pub fn written_requests_are_read<Alg: SignatureAlgorithm, Attributes: CsrAttributes>()
     ensures { (mode : Mode) (octets rest : List ℕ) (r : Signed Alg (RequestFields Attributes)) →
         BeginsAs (certification_request Attributes.reads Alg.reads mode) mode octets r →
-        CanBeSpelled Alg.spelled r.signed →
+        CanSpellSigned Alg.spelled r.signed →
         BeginsAs (certification_request Attributes.reads Alg.reads mode) mode
         (spelled_data Alg.spelled r.signed ++ rest) r }
 {}
@@ -60,5 +60,5 @@ pub fn written_requests_are_no_longer()
         → length (spelled_data spelled_x509 r.signed) ≤ length octets }
     ensures spelled { (octets : List ℕ) (r : CaRequest) → IsBytes octets
         → BeginsAs (certification_request ca_attributes (whole_of x509_algorithm) Der) Der octets r
-        → CanBeSpelled spelled_x509 r.signed }
+        → CanSpellSigned spelled_x509 r.signed }
 {}

@@ -9,11 +9,11 @@ use Rattle.rpki_der.specs.declared.mode.Mode.{Mode}
 use Rattle.rpki_der.specs.Identifier.{IsIdentifier}
 use Rattle.rpki_der.specs.Lengths.{IsLength}
 use Rattle.rpki_der.specs.Value.{Definite, Indefinite, Value, Primitive, Constructed, Values, End, ◌▸◌, spelling, Begins}
-use Rattle.rpki_der.specs.Level.{Level, Sized, Marked, behind_level, Ends, Opens, Holds}
+use Rattle.rpki_der.specs.Level.{Level, Sized, Marked, behind_level, EndsLevel, Opens, LevelHolds}
 use Rattle.rpki_der.specs.Position.{Position, top, AtEnd, Leaves}
 use Rattle.rpki_common.specs.Chaining.{◌>>=◌}
 use Rattle.rpki_der.specs.Grammar.{any, so, within, first, done, every, optional, gather}
-use Rattle.rpki_der.specs.Takes.{TakesOne, Refuses, Takes, Goes, RefusesToEnter, RefusesToLeave, RefusesOctets, Reads, Stops}
+use Rattle.rpki_der.specs.Takes.{TakesOne, Refuses, Takes, Goes, RefusesToEnter, RefusesToLeave, RefusesOctets, ReadsFields, Stops}
 use Rattle.rpki_der.specs.Ticks.{nodes, behind, left, marks, CountedOne, CountedRefuses, TakesCounted, CountedFields, CountedRefusesFields, TakesPartCounted, DecodesCounted, CountedReads, CountedStops}
 use Rattle.rpki_der.specs.Reader.{decoded}
 use Rattle.rpki_der.proofs.Walks.{opens_back, holds_cons, holds_end, smaller_over}
@@ -71,7 +71,7 @@ begins_left mode here (Constructed i Indefinite vs) rest b = omega (arith, some_
 pub value_left : (p q : Position) (v : Value) → Begins p.mode p.here v q.here → q.levels ≡ p.levels → left q + 2 ≤ left p
 value_left p q v b e = rw e (omega (arith, begins_left p.mode p.here v q.here b))
 
-pub ends_left : (levels : List Level) (here next : List ℕ) → Ends (top levels) here next → length next + behind (drop 1 levels) + 2 * marks (top levels) ≤ length here + behind levels
+pub ends_left : (levels : List Level) (here next : List ℕ) → EndsLevel (top levels) here next → length next + behind (drop 1 levels) + 2 * marks (top levels) ≤ length here + behind levels
 ends_left [] here next e = let a = ap length e.1 in omega (arith, a)
 ends_left (Sized after ∷ levels) here next e = let a = ap length e.1 in omega (arith, a)
 ends_left (Marked ∷ levels) here next e = let a = ap length e in omega (arith, a)
@@ -79,12 +79,12 @@ ends_left (Marked ∷ levels) here next e = let a = ap length e in omega (arith,
 pub leaves_left : (p q : Position) → Leaves p q → left q + 2 * marks (top p.levels) ≤ left p
 leaves_left p q l = rw l.levels (ends_left p.levels p.here q.here l.ends)
 
-holds_left : (mode : Mode) (levels : List Level) (here : List ℕ) (vs : Values) (rest : List ℕ) → Holds mode (top levels) here vs rest → length rest + behind (drop 1 levels) ≤ length here + behind levels
+holds_left : (mode : Mode) (levels : List Level) (here : List ℕ) (vs : Values) (rest : List ℕ) → LevelHolds mode (top levels) here vs rest → length rest + behind (drop 1 levels) ≤ length here + behind levels
 holds_left mode [] here vs rest h = let a = ap length h.2 in omega (arith, a)
 holds_left mode (Sized after ∷ levels) here vs rest h = let a = ap length h.2 in omega (arith, a)
 holds_left mode (Marked ∷ levels) here vs rest h = let a = simp length-append at (ap length h.1) in omega (arith, a)
 
-pub reads_left : {Y : Type 0} (fields : Values → Option Y) (p q : Position) (y : Y) → Reads fields p q y → left q ≤ left p
+pub reads_left : {Y : Type 0} (fields : Values → Option Y) (p q : Position) (y : Y) → ReadsFields fields p q y → left q ≤ left p
 reads_left fields p q y r = rw r.levels (holds_left p.mode p.levels p.here r.values q.here r.holds)
 
 -- ---- one value

@@ -5,7 +5,7 @@ use Rattle.rpki_der.specs.declared.header.Length.{Length}
 use Rattle.rpki_der.specs.declared.header.Length.TheVariants as length_is
 use Rattle.rpki_der.specs.declared.mode.Mode.{Mode}
 use Rattle.rpki_der.specs.Value.{Value, Primitive, Constructed, spelling, Begins}
-use Rattle.rpki_der.specs.Level.{Level, Sized, Marked, Ends, Opens}
+use Rattle.rpki_der.specs.Level.{Level, Sized, Marked, EndsLevel, Opens}
 use Rattle.rpki_der.specs.Header.{HeaderFirst}
 use Rattle.rpki_der.specs.Part.{NoValue, NoPart}
 use Rattle.rpki_der.specs.Position.{Position, top}
@@ -89,6 +89,6 @@ none_any p n v rest b = absurd (n v rest b)
 
 -- ---- the end of a level
 
-pub none_ends : (opened : List Level) (level : Level) (here : List ℕ) (r : Option (Bor (List ℕ))) → opened ≡ level ∷ drop 1 opened → IfNone r ((rest : List ℕ) → Ends level here rest → ⊥) → IfNone r ((rest : List ℕ) × Ends (top opened) here rest → ⊥)
-none_ends opened level here None e n = λ p. n p.0 (subst (λ (l : Level). Ends l here p.0) (ap top e) p.1)
+pub none_ends : (opened : List Level) (level : Level) (here : List ℕ) (r : Option (Bor (List ℕ))) → opened ≡ level ∷ drop 1 opened → IfNone r ((rest : List ℕ) → EndsLevel level here rest → ⊥) → IfNone r ((rest : List ℕ) × EndsLevel (top opened) here rest → ⊥)
+none_ends opened level here None e n = λ p. n p.0 (subst (λ (l : Level). EndsLevel l here p.0) (ap top e) p.1)
 none_ends opened level here (Some r) e n = tt

@@ -10,7 +10,7 @@ use Rattle.rpki_der.specs.Identifier.{IsIdentifier, is_constructed}
 use Rattle.rpki_der.specs.HeaderAt.{identifier_size}
 use Rattle.rpki_der.specs.Lengths.{IsLength}
 use Rattle.rpki_der.specs.HeaderAt.{length_at}
-use Rattle.rpki_der.specs.Header.{Says}
+use Rattle.rpki_der.specs.Header.{SaysLength}
 use Rattle.rpki_der.specs.Value.{Form, Definite, Indefinite, Value, Primitive, Constructed, Values, End, ◌▸◌, lengths_of, end_mark, spelling, spellings, IsForm, IsValue, AreValues, Begins}
 use Rattle.rpki_common.specs.Chaining.{◌>>=◌}
 use Rattle.rpki_der.specs.Takes.{BeginsAs, RefusesOctets}
@@ -40,7 +40,7 @@ enough false o x e = (refl, e)
 
 record Heads (mode : Mode) (octets : List ℕ) (h : Headed) : Type 0 where
   is_identifier : IsIdentifier h.identifier
-  says : Says mode h.lengths h.length'
+  says : SaysLength mode h.lengths h.length'
   parts : octets ≡ h.identifier ++ (h.lengths ++ h.rest)
 
 head_sound : (mode : Mode) (octets : List ℕ) (h : Headed) → head_at mode octets ≡ Some h → Heads mode octets h
@@ -55,7 +55,7 @@ head_sound mode octets h e =
       parts = sym (take-append-drop a.0 octets) ∙ ap (λ r. take a.0 octets ++ r) (sym (take-append-drop b.0.1 (drop a.0 octets)));
     })
 
-head_complete : (mode : Mode) (octets i l rest : List ℕ) (length' : Length) → IsIdentifier i → Says mode l length' → octets ≡ i ++ (l ++ rest) → head_at mode octets ≡ Some (record { identifier = i; lengths = l; length' = length'; rest = rest })
+head_complete : (mode : Mode) (octets i l rest : List ℕ) (length' : Length) → IsIdentifier i → SaysLength mode l length' → octets ≡ i ++ (l ++ rest) → head_at mode octets ≡ Some (record { identifier = i; lengths = l; length' = length'; rest = rest })
 unfolding head_at ◌>>=◌
 head_complete mode octets i l rest length' p s e =
     rw (e, identifier_spelled i (l ++ rest) p, drop_at i (l ++ rest) (length i) refl, take_at i (l ++ rest) (length i) refl, length_spelled mode l rest length' s, drop_at l rest (length l) refl, take_at l rest (length l) refl) refl
@@ -75,7 +75,7 @@ begins_as mode octets v w r s e b = let p = is_pair v w r s e in subst (Begins m
 
 primitive_sound : (mode : Mode) (octets : List ℕ) (h : Headed) (k : ℕ) → Heads mode octets h → h.length' ≡ length_is.Definite k → is_constructed h.identifier ≡ false → k ≤ length h.rest → Begins mode octets (Primitive h.identifier h.lengths (take k h.rest)) (drop k h.rest)
 primitive_sound mode octets h k p l c le =
-    let says : IsLength mode h.lengths k = subst (Says mode h.lengths) l p.says in
+    let says : IsLength mode h.lengths k = subst (SaysLength mode h.lengths) l p.says in
     record {
       lawful = (p.is_identifier, c, subst (IsLength mode h.lengths) (sym (length-take-le k h.rest le)) says);
       parts = p.parts ∙ ap (λ r. h.identifier ++ (h.lengths ++ r)) (sym (take-append-drop k h.rest)) ∙ sym (three_parts h.identifier h.lengths (take k h.rest) (drop k h.rest));
@@ -84,7 +84,7 @@ primitive_sound mode octets h k p l c le =
 sized_sound : (mode : Mode) (octets : List ℕ) (h : Headed) (k : ℕ) (vs : Values) (r : List ℕ) (v : Value) (s : List ℕ) → Heads mode octets h → h.length' ≡ length_is.Definite k → is_constructed h.identifier ≡ true → k ≤ length h.rest → ReadsTo mode (take k h.rest) vs r → sized_of h k (vs, r) ≡ Some (v, s) → Begins mode octets v s
 sized_sound mode octets h k vs (a ∷ r) v s p l c le i e = absurd (none_some (v, s) e)
 sized_sound mode octets h k vs [] v s p l c le i e =
-    let says : IsLength mode h.lengths k = subst (Says mode h.lengths) l p.says in
+    let says : IsLength mode h.lengths k = subst (SaysLength mode h.lengths) l p.says in
     let inner : take k h.rest ≡ spellings vs = i.parts ∙ append-nil (spellings vs) in
     begins_as mode octets (Constructed h.identifier (Definite h.lengths) vs) v (drop k h.rest) s e (record {
       lawful = (p.is_identifier, c, subst (IsLength mode h.lengths) (sym (length-take-le k h.rest le) ∙ ap length inner) says, i.lawful);
@@ -97,9 +97,9 @@ marked_sound mode octets h vs (suc a ∷ r) v s p l c i e = absurd (none_some (v
 marked_sound mode octets h vs (zero ∷ []) v s p l c i e = absurd (none_some (v, s) e)
 marked_sound mode octets h vs (zero ∷ suc a ∷ r) v s p l c i e = absurd (none_some (v, s) e)
 marked_sound Der octets h vs (zero ∷ zero ∷ r) v s p l c i e =
-    let says : Says Der h.lengths length_is.Indefinite = subst (Says Der h.lengths) l p.says in let no' : Der ≡ Ber = says.0 in absurd cc
+    let says : SaysLength Der h.lengths length_is.Indefinite = subst (SaysLength Der h.lengths) l p.says in let no' : Der ≡ Ber = says.0 in absurd cc
 marked_sound Ber octets h vs (zero ∷ zero ∷ r) v s p l c i e =
-    let says : Says Ber h.lengths length_is.Indefinite = subst (Says Ber h.lengths) l p.says in
+    let says : SaysLength Ber h.lengths length_is.Indefinite = subst (SaysLength Ber h.lengths) l p.says in
     begins_as Ber octets (Constructed h.identifier Indefinite vs) v r s e (record {
       lawful = (p.is_identifier, c, tt, i.lawful);
       parts = p.parts ∙ ap (λ t. h.identifier ++ (t ++ h.rest)) says.1 ∙ ap (λ t. h.identifier ++ (128 ∷ t)) i.parts ∙ sym (four_parts h.identifier (128 ∷ []) (spellings vs) (0 ∷ 0 ∷ []) r);

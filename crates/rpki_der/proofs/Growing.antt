@@ -8,13 +8,13 @@ use Rattle.rpki_der.specs.declared.tree.Entry.{Entry}
 use Rattle.rpki_der.specs.declared.index.Inside.{Inside}
 use Rattle.rpki_der.specs.Identifier.{tag_of}
 use Rattle.rpki_der.specs.Value.{Form, Value, Primitive, Constructed, Values, End, ◌▸◌, lengths_of, end_mark, spelling, spellings, Begins}
-use Rattle.rpki_der.specs.Level.{Level, Sized, Marked, mark_of, behind_level, Holds, Ends, Opens}
+use Rattle.rpki_der.specs.Level.{Level, Sized, Marked, mark_of, behind_level, LevelHolds, EndsLevel, Opens}
 use Rattle.rpki_der.specs.Part.{level_of, NoValue}
 use Rattle.rpki_der.specs.Ticks.{all_nodes}
 use Rattle.rpki_der.specs.declared.mode.Mode.TheVariants.{Ber}
 use Rattle.rpki_der.specs.Tree.{value_in}
 use Rattle.rpki_der.specs.Entries.{entries_of, all_entries_of, IsTree}
-use Rattle.rpki_der.specs.Growth.{closed, inner_first, CompletesTree, OneFirstTree, Stepped, DescendsTree, left_at}
+use Rattle.rpki_der.specs.Growth.{entries_closed, inner_first, CompletesTree, OneFirstTree, Stepped, DescendsTree, left_at}
 use Rattle.rpki_der.proofs.Uniqueness.{three_parts}
 use Rattle.rpki_der.proofs.Parts.{at_most_one}
 use Rattle.rpki_der.proofs.Walks.{holds_cons, holds_more, holds_end, end_holds, at_end, ends_no_value, opens_back, opens_forth, smaller_end}
@@ -39,11 +39,11 @@ stepped_over mode here i l c rest levels entries header size b s h =
 
 -- ---- into a constructed value
 
-closed_behind : (entries : List Entry) (e : Entry) (more : List Entry) (n : ℕ) → closed ((entries ++ e ∷ []) ++ more) (length entries) n ≡ entries ++ record e { size = n; count = length more } ∷ more
+closed_behind : (entries : List Entry) (e : Entry) (more : List Entry) (n : ℕ) → entries_closed ((entries ++ e ∷ []) ++ more) (length entries) n ≡ entries ++ record e { size = n; count = length more } ∷ more
 closed_behind [] e more n = refl
 closed_behind (d ∷ entries) e more n = ap (λ es. d ∷ es) (closed_behind entries e more n)
 
-header_size : (mode : Mode) (here i : List ℕ) (level : Level) (inner : List ℕ) (form : Form) (vs : Values) (next : List ℕ) → Begins mode here (Constructed i form vs) next → end_mark form ≡ mark_of level → Holds mode level inner vs next → length i + length (lengths_of form) ≡ (length here - behind_level level) - length inner
+header_size : (mode : Mode) (here i : List ℕ) (level : Level) (inner : List ℕ) (form : Form) (vs : Values) (next : List ℕ) → Begins mode here (Constructed i form vs) next → end_mark form ≡ mark_of level → LevelHolds mode level inner vs next → length i + length (lengths_of form) ≡ (length here - behind_level level) - length inner
 header_size mode here i (Sized after) inner form vs next b f h =
     let whole : length here ≡ length i + length (lengths_of form) + length (spellings vs) + length (end_mark form) + length next = omega (arith, simp length-append at (ap length b.parts)) in
     let mark : length (end_mark form) ≡ 0 = ap length f in
@@ -62,8 +62,8 @@ abbrev opening : List ℕ → ℕ → Level → ℕ → Entry
 opening i header level size = record { tag = tag_of i; constructed = true; header = header; mark = length (mark_of level); size = size; count = 0 }
 
 -- the list that is left when the level ends
-into_list : (mode : Mode) (here i : List ℕ) (level : Level) (inner : List ℕ) (form : Form) (vs : Values) (next : List ℕ) (entries : List Entry) (header size : ℕ) → Begins mode here (Constructed i form vs) next → end_mark form ≡ mark_of level → Holds mode level inner vs next → header ≡ (length here - behind_level level) - length inner
-    → closed ((entries ++ opening i header level size ∷ []) ++ all_entries_of vs) (length entries) (length here - length next) ≡ entries ++ entries_of (Constructed i form vs)
+into_list : (mode : Mode) (here i : List ℕ) (level : Level) (inner : List ℕ) (form : Form) (vs : Values) (next : List ℕ) (entries : List Entry) (header size : ℕ) → Begins mode here (Constructed i form vs) next → end_mark form ≡ mark_of level → LevelHolds mode level inner vs next → header ≡ (length here - behind_level level) - length inner
+    → entries_closed ((entries ++ opening i header level size ∷ []) ++ all_entries_of vs) (length entries) (length here - length next) ≡ entries ++ entries_of (Constructed i form vs)
 into_list mode here i level inner form vs next entries header size b f h e =
     let header-is : header ≡ length i + length (lengths_of form) = e ∙ sym (header_size mode here i level inner form vs next b f h) in
     let size-is : length here - length next ≡ length (spelling (Constructed i form vs)) = sym (value_size mode here (Constructed i form vs) next b) in
@@ -104,20 +104,20 @@ into_ok mode here i inner levels levels' level entries entries' tag header mark 
 grouped : (entries : List Entry) (v : Value) (vs : Values) → entries ++ all_entries_of (v ▸ vs) ≡ (entries ++ entries_of v) ++ all_entries_of vs
 grouped entries v vs = sym (append_assoc entries (entries_of v) (all_entries_of vs))
 
-regroup : (mode : Mode) (next : List ℕ) (level : Inside) (levels : List Inside) (entries : List Entry) (v : Value) (vs : Values) (final : List ℕ) (total : List Entry) → CompletesTree mode next levels (closed (entries ++ all_entries_of (v ▸ vs)) level.entry (length level.before.now - length next)) final total → CompletesTree mode next levels (closed ((entries ++ entries_of v) ++ all_entries_of vs) level.entry (length level.before.now - length next)) final total
-regroup mode next level levels entries v vs final total k = subst (λ (es : List Entry). CompletesTree mode next levels (closed es level.entry (length level.before.now - length next)) final total) (grouped entries v vs) k
+regroup : (mode : Mode) (next : List ℕ) (level : Inside) (levels : List Inside) (entries : List Entry) (v : Value) (vs : Values) (final : List ℕ) (total : List Entry) → CompletesTree mode next levels (entries_closed (entries ++ all_entries_of (v ▸ vs)) level.entry (length level.before.now - length next)) final total → CompletesTree mode next levels (entries_closed ((entries ++ entries_of v) ++ all_entries_of vs) level.entry (length level.before.now - length next)) final total
+regroup mode next level levels entries v vs final total k = subst (λ (es : List Entry). CompletesTree mode next levels (entries_closed es level.entry (length level.before.now - length next)) final total) (grouped entries v vs) k
 
-regroup_back : (mode : Mode) (next : List ℕ) (level : Inside) (levels : List Inside) (entries : List Entry) (v : Value) (vs : Values) (final : List ℕ) (total : List Entry) → CompletesTree mode next levels (closed ((entries ++ entries_of v) ++ all_entries_of vs) level.entry (length level.before.now - length next)) final total → CompletesTree mode next levels (closed (entries ++ all_entries_of (v ▸ vs)) level.entry (length level.before.now - length next)) final total
-regroup_back mode next level levels entries v vs final total k = subst (λ (es : List Entry). CompletesTree mode next levels (closed es level.entry (length level.before.now - length next)) final total) (sym (grouped entries v vs)) k
+regroup_back : (mode : Mode) (next : List ℕ) (level : Inside) (levels : List Inside) (entries : List Entry) (v : Value) (vs : Values) (final : List ℕ) (total : List Entry) → CompletesTree mode next levels (entries_closed ((entries ++ entries_of v) ++ all_entries_of vs) level.entry (length level.before.now - length next)) final total → CompletesTree mode next levels (entries_closed (entries ++ all_entries_of (v ▸ vs)) level.entry (length level.before.now - length next)) final total
+regroup_back mode next level levels entries v vs final total k = subst (λ (es : List Entry). CompletesTree mode next levels (entries_closed es level.entry (length level.before.now - length next)) final total) (sym (grouped entries v vs)) k
 
-ended_forth : (mode : Mode) (here rest : List ℕ) (level : Inside) (levels : List Inside) (entries : List Entry) (final : List ℕ) (total : List Entry) → Ends (level_of level.extent) here rest → CompletesTree mode here (level ∷ levels) entries final total → CompletesTree mode rest levels (closed entries level.entry (length level.before.now - length rest)) final total
+ended_forth : (mode : Mode) (here rest : List ℕ) (level : Inside) (levels : List Inside) (entries : List Entry) (final : List ℕ) (total : List Entry) → EndsLevel (level_of level.extent) here rest → CompletesTree mode here (level ∷ levels) entries final total → CompletesTree mode rest levels (entries_closed entries level.entry (length level.before.now - length rest)) final total
 ended_forth mode here rest level levels entries final total e (End, next, h, k) =
     let same : rest ≡ next = at_end mode (level_of level.extent) here rest End next e h in rw same (rw append-nil at k)
 ended_forth mode here rest level levels entries final total e (v ▸ vs, next, h, k) =
     let m = holds_more mode (level_of level.extent) here v vs next h in absurd (ends_no_value mode (level_of level.extent) here rest e v m.here' m.begins)
 
 -- elsewhere a first value stands
-first_tree : (mode : Mode) (here : List ℕ) (level : Inside) (levels : List Inside) (entries : List Entry) (final : List ℕ) (total : List Entry) → ((rest : List ℕ) → Ends (level_of level.extent) here rest → ⊥) → CompletesTree mode here (level ∷ levels) entries final total → OneFirstTree mode here (level ∷ levels) entries final total
+first_tree : (mode : Mode) (here : List ℕ) (level : Inside) (levels : List Inside) (entries : List Entry) (final : List ℕ) (total : List Entry) → ((rest : List ℕ) → EndsLevel (level_of level.extent) here rest → ⊥) → CompletesTree mode here (level ∷ levels) entries final total → OneFirstTree mode here (level ∷ levels) entries final total
 first_tree mode here level levels entries final total none (End, next, h, k) = absurd (none next (end_holds mode (level_of level.extent) here next h))
 first_tree mode here level levels entries final total none (v ▸ vs, next, h, k) =
     let m = holds_more mode (level_of level.extent) here v vs next h in
@@ -127,19 +127,19 @@ rest_tree : (mode : Mode) (here : List ℕ) (level : Inside) (levels : List Insi
 rest_tree mode here level levels entries final total (v, here', b, (vs, next, h, k)) =
     (v ▸ vs, next, holds_cons mode (level_of level.extent) here here' v vs next b h, regroup_back mode next level levels entries v vs final total k)
 
-pub stepped_end : (mode : Mode) (octets here rest : List ℕ) (level : Inside) (levels : List Inside) (entries : List Entry) → Stepped mode octets [] [] here (level ∷ levels) entries → Ends (level_of level.extent) here rest → Stepped mode octets [] [] rest levels (closed entries level.entry (length level.before.now - length rest))
+pub stepped_end : (mode : Mode) (octets here rest : List ℕ) (level : Inside) (levels : List Inside) (entries : List Entry) → Stepped mode octets [] [] here (level ∷ levels) entries → EndsLevel (level_of level.extent) here rest → Stepped mode octets [] [] rest levels (entries_closed entries level.entry (length level.before.now - length rest))
 stepped_end mode octets here rest level levels entries d e = record {
   forth = λ final total p. ended_forth mode here rest level levels entries final total e (d.forth final total p);
   back = λ final total p. d.back final total (End, rest, holds_end mode (level_of level.extent) here rest e, rw append-nil p);
 }
 
-pub stepped_on : (mode : Mode) (octets here here' : List ℕ) (level : Inside) (levels levels' : List Inside) (entries entries' : List Entry) → Stepped mode octets [] [] here (level ∷ levels) entries → ((rest : List ℕ) → Ends (level_of level.extent) here rest → ⊥) → Stepped mode here (level ∷ levels) entries here' levels' entries' → Stepped mode octets [] [] here' levels' entries'
+pub stepped_on : (mode : Mode) (octets here here' : List ℕ) (level : Inside) (levels levels' : List Inside) (entries entries' : List Entry) → Stepped mode octets [] [] here (level ∷ levels) entries → ((rest : List ℕ) → EndsLevel (level_of level.extent) here rest → ⊥) → Stepped mode here (level ∷ levels) entries here' levels' entries' → Stepped mode octets [] [] here' levels' entries'
 stepped_on mode octets here here' level levels levels' entries entries' d none g = record {
   forth = λ final total p. g.forth final total (first_tree mode here level levels entries final total none (d.forth final total p));
   back = λ final total p. let o = g.back final total p in d.back final total (rest_tree mode here level levels entries final total o);
 }
 
-pub stepped_refused : (mode : Mode) (octets here : List ℕ) (level : Inside) (levels : List Inside) (entries : List Entry) → Stepped mode octets [] [] here (level ∷ levels) entries → ((rest : List ℕ) → Ends (level_of level.extent) here rest → ⊥) → NoValue mode here → NoValue mode octets
+pub stepped_refused : (mode : Mode) (octets here : List ℕ) (level : Inside) (levels : List Inside) (entries : List Entry) → Stepped mode octets [] [] here (level ∷ levels) entries → ((rest : List ℕ) → EndsLevel (level_of level.extent) here rest → ⊥) → NoValue mode here → NoValue mode octets
 stepped_refused mode octets here level levels entries d none empty v rest b =
     let o = first_tree mode here level levels entries rest (entries_of v) none (d.forth rest (entries_of v) (v, rest, b, (refl, refl))) in empty o.0 o.1 o.2
 
@@ -155,16 +155,16 @@ inner_first-last levels level e =
     let front : take (n + 1) levels ≡ take n levels ++ level ∷ [] = take_more levels n level lt ∙ ap (λ (o : Inside). take n levels ++ o ∷ []) (get_or_from_slice_get levels n level level e) in
     ap inner_first (sym whole ∙ front) ∙ inner_first-push (take n levels) level
 
-pub end_last : (mode : Mode) (octets here rest : List ℕ) (levels : List Inside) (level : Inside) (entries entries' : List Entry) (size : ℕ) → slice_get levels (length levels - 1) ≡ Some level → DescendsTree mode octets [] [] here levels entries → Ends (level_of level.extent) here rest → size ≡ length level.before.now - length rest → entries' ≡ closed entries level.entry size → DescendsTree mode octets [] [] rest (take (length levels - 1) levels) entries'
+pub end_last : (mode : Mode) (octets here rest : List ℕ) (levels : List Inside) (level : Inside) (entries entries' : List Entry) (size : ℕ) → slice_get levels (length levels - 1) ≡ Some level → DescendsTree mode octets [] [] here levels entries → EndsLevel (level_of level.extent) here rest → size ≡ length level.before.now - length rest → entries' ≡ entries_closed entries level.entry size → DescendsTree mode octets [] [] rest (take (length levels - 1) levels) entries'
 end_last mode octets here rest levels level entries entries' size e d h s f =
     rw (f, s) (stepped_end mode octets here rest level (inner_first (take (length levels - 1) levels)) entries (subst (λ (ls : List Inside). Stepped mode octets [] [] here ls entries) (inner_first-last levels level e) d) h)
 
-pub on_last : (mode : Mode) (octets here here' : List ℕ) (levels levels' : List Inside) (level : Inside) (entries entries' : List Entry) → slice_get levels (length levels - 1) ≡ Some level → DescendsTree mode octets [] [] here levels entries → ((rest : List ℕ) → Ends (level_of level.extent) here rest → ⊥) → DescendsTree mode here levels entries here' levels' entries' → DescendsTree mode octets [] [] here' levels' entries'
+pub on_last : (mode : Mode) (octets here here' : List ℕ) (levels levels' : List Inside) (level : Inside) (entries entries' : List Entry) → slice_get levels (length levels - 1) ≡ Some level → DescendsTree mode octets [] [] here levels entries → ((rest : List ℕ) → EndsLevel (level_of level.extent) here rest → ⊥) → DescendsTree mode here levels entries here' levels' entries' → DescendsTree mode octets [] [] here' levels' entries'
 on_last mode octets here here' levels levels' level entries entries' e d none g =
     let is = inner_first-last levels level e in
     stepped_on mode octets here here' level (inner_first (take (length levels - 1) levels)) (inner_first levels') entries entries' (subst (λ (ls : List Inside). Stepped mode octets [] [] here ls entries) is d) none (subst (λ (ls : List Inside). Stepped mode here ls entries here' (inner_first levels') entries') is g)
 
-pub refused_last : (mode : Mode) (octets here : List ℕ) (levels : List Inside) (level : Inside) (entries : List Entry) → slice_get levels (length levels - 1) ≡ Some level → DescendsTree mode octets [] [] here levels entries → ((rest : List ℕ) → Ends (level_of level.extent) here rest → ⊥) → NoValue mode here → NoValue mode octets
+pub refused_last : (mode : Mode) (octets here : List ℕ) (levels : List Inside) (level : Inside) (entries : List Entry) → slice_get levels (length levels - 1) ≡ Some level → DescendsTree mode octets [] [] here levels entries → ((rest : List ℕ) → EndsLevel (level_of level.extent) here rest → ⊥) → NoValue mode here → NoValue mode octets
 refused_last mode octets here levels level entries e d none empty =
     stepped_refused mode octets here level (inner_first (take (length levels - 1) levels)) entries (subst (λ (ls : List Inside). Stepped mode octets [] [] here ls entries) (inner_first-last levels level e) d) none empty
 
@@ -172,19 +172,19 @@ pub done_last : (mode : Mode) (octets here : List ℕ) (levels : List Inside) (e
 done_last mode octets here [] entries le d = stepped_done mode octets here entries d
 done_last mode octets here (level ∷ levels) entries le d = absurd (omega arith)
 
-pub smaller_last : (levels : List Inside) (level : Inside) (here rest : List ℕ) → slice_get levels (length levels - 1) ≡ Some level → Ends (level_of level.extent) here rest → length rest + left_at (take (length levels - 1) levels) < length here + left_at levels
+pub smaller_last : (levels : List Inside) (level : Inside) (here rest : List ℕ) → slice_get levels (length levels - 1) ≡ Some level → EndsLevel (level_of level.extent) here rest → length rest + left_at (take (length levels - 1) levels) < length here + left_at levels
 smaller_last levels level here rest e h = rw (inner_first-last levels level e) (smaller_end (level_of level.extent) (map (λ l. level_of l.extent) (inner_first (take (length levels - 1) levels))) here rest h)
 
 -- ---- `close`
 
-pub closed_set : (entries : List Entry) (k size n : ℕ) (e : Entry) → k < length entries → e ≡ get_or entries k e → n ≡ length entries - k - 1 → set entries k (record { tag = e.tag; constructed = e.constructed; header = e.header; mark = e.mark; size = size; count = n }) ≡ closed entries k size
+pub closed_set : (entries : List Entry) (k size n : ℕ) (e : Entry) → k < length entries → e ≡ get_or entries k e → n ≡ length entries - k - 1 → set entries k (record { tag = e.tag; constructed = e.constructed; header = e.header; mark = e.mark; size = size; count = n }) ≡ entries_closed entries k size
 closed_set [] k size n e lt is t = absurd (omega arith)
 closed_set (d ∷ entries) zero size n e lt is t =
     let m : n ≡ length entries = omega (arith, t) in
     ap (λ (f : Entry). record { tag = f.tag; constructed = f.constructed; header = f.header; mark = f.mark; size = size; count = n } ∷ entries) is ∙ ap (λ k. record { tag = d.tag; constructed = d.constructed; header = d.header; mark = d.mark; size = size; count = k } ∷ entries) m
 closed_set (d ∷ entries) (suc k) size n e lt is t = ap (λ (es : List Entry). d ∷ es) (closed_set entries k size n e (omega arith) is (omega (arith, t)))
 
-pub closed_past : (entries : List Entry) (k size : ℕ) → length entries ≤ k → entries ≡ closed entries k size
+pub closed_past : (entries : List Entry) (k size : ℕ) → length entries ≤ k → entries ≡ entries_closed entries k size
 closed_past [] k size le = refl
 closed_past (d ∷ entries) zero size le = absurd (omega arith)
 closed_past (d ∷ entries) (suc k) size le = ap (λ (es : List Entry). d ∷ es) (closed_past entries k size (omega arith))

@@ -13,7 +13,7 @@ use Rattle.rpki_der.specs.Identifier.{IsFurther, IsIdentifier}
 use Rattle.rpki_der.specs.HeaderAt.{further_size, identifier_size}
 use Rattle.rpki_der.specs.Lengths.{number, IsShortest, IsLength}
 use Rattle.rpki_der.specs.HeaderAt.{is_overlong, long_length, indefinite_length, length_at}
-use Rattle.rpki_der.specs.Header.{Says, IdentifierFirst, NoIdentifier, HeaderFirst, NoHeader}
+use Rattle.rpki_der.specs.Header.{SaysLength, IdentifierFirst, NoIdentifier, HeaderFirst, NoHeader}
 use Rattle.rpki_der.proofs.Uniqueness.{same_identifier}
 
 pub chosen : {A : Type 0} (b : Bool) (x y z : A) → cond b x y ≡ z → ((b ≡ true) × (x ≡ z)) ⊎ ((b ≡ false) × (y ≡ z))
@@ -90,7 +90,7 @@ long_is mode a (b ∷ w) e z h o = (omega arith, omega arith, refl, shortest mod
 same_pair : (x y : Length) (k m : ℕ) → ◌≡◌ {A = Option (Length × ℕ)} (Some (x, k)) (Some (y, m)) → (x ≡ y) × (k ≡ m)
 same_pair x y k m e = some_pair_parts x y k m e
 
-long_found : (mode : Mode) (a : ℕ) (more : List ℕ) (length' : Length) (k : ℕ) → 128 < a → a ≤ 132 → long_length mode (a - 128) more ≡ Some (length', k) → Says mode (take k (a ∷ more)) length'
+long_found : (mode : Mode) (a : ℕ) (more : List ℕ) (length' : Length) (k : ℕ) → 128 < a → a ≤ 132 → long_length mode (a - 128) more ≡ Some (length', k) → SaysLength mode (take k (a ∷ more)) length'
 long_found mode a more length' k low high e =
     elim (chosen (ltb (length more) (a - 128)) None (cond (is_overlong mode (take (a - 128) more)) None (Some (length_is.Definite (number (take (a - 128) more)), a - 128 + 1))) (Some (length', k)) e) [
       | inl h ↦ let no = h.1 in absurd cc
@@ -102,26 +102,26 @@ long_found mode a more length' k low high e =
                 let enough : a - 128 ≤ length more = ltb-false _ _ h.0 in
                 let len : length (take (a - 128) more) ≡ a - 128 = omega (arith, length-take (a - 128) more) in
                 let k-is : suc (a - 128) ≡ k = omega (arith, s.1) in
-                subst (λ n. Says mode (take n (a ∷ more)) length') k-is (subst (Says mode (a ∷ take (a - 128) more)) s.0 (long_is mode a (take (a - 128) more) (omega arith) (omega arith) (omega arith) g.0))
+                subst (λ n. SaysLength mode (take n (a ∷ more)) length') k-is (subst (SaysLength mode (a ∷ take (a - 128) more)) s.0 (long_is mode a (take (a - 128) more) (omega arith) (omega arith) (omega arith) g.0))
           ]
     ]
 
-indefinite_found : (mode : Mode) (more : List ℕ) (length' : Length) (k : ℕ) → indefinite_length mode ≡ Some (length', k) → Says mode (take k (128 ∷ more)) length'
+indefinite_found : (mode : Mode) (more : List ℕ) (length' : Length) (k : ℕ) → indefinite_length mode ≡ Some (length', k) → SaysLength mode (take k (128 ∷ more)) length'
 indefinite_found Ber more length' k e =
     let s = same_pair length_is.Indefinite length' 1 k e in
-    subst (λ n. Says Ber (take n (128 ∷ more)) length') s.1 (subst (Says Ber (128 ∷ [])) s.0 (refl, refl))
+    subst (λ n. SaysLength Ber (take n (128 ∷ more)) length') s.1 (subst (SaysLength Ber (128 ∷ [])) s.0 (refl, refl))
 indefinite_found Der more length' k e = absurd cc
 
-pub length_found : (mode : Mode) (octets : List ℕ) (length' : Length) (k : ℕ) → length_at mode octets ≡ Some (length', k) → Says mode (take k octets) length'
+pub length_found : (mode : Mode) (octets : List ℕ) (length' : Length) (k : ℕ) → length_at mode octets ≡ Some (length', k) → SaysLength mode (take k octets) length'
 length_found mode [] length' k e = absurd cc
 length_found mode (a ∷ more) length' k e =
     elim (chosen (ltb a 128) (Some (length_is.Definite a, 1)) (cond (eqb a 128) (indefinite_length mode) (cond (ltb 132 a) None (long_length mode (a - 128) more))) (Some (length', k)) e) [
       | inl h ↦
           let s = same_pair (length_is.Definite a) length' 1 k h.1 in
-          subst (λ n. Says mode (take n (a ∷ more)) length') s.1 (subst (Says mode (a ∷ [])) s.0 (ltb-true a 128 h.0, refl))
+          subst (λ n. SaysLength mode (take n (a ∷ more)) length') s.1 (subst (SaysLength mode (a ∷ [])) s.0 (ltb-true a 128 h.0, refl))
       | inr h ↦
           elim (chosen (eqb a 128) (indefinite_length mode) (cond (ltb 132 a) None (long_length mode (a - 128) more)) (Some (length', k)) h.1) [
-            | inl g ↦ subst (λ n. Says mode (take k (n ∷ more)) length') (sym (eqb-true a 128 g.0)) (indefinite_found mode more length' k g.1)
+            | inl g ↦ subst (λ n. SaysLength mode (take k (n ∷ more)) length') (sym (eqb-true a 128 g.0)) (indefinite_found mode more length' k g.1)
             | inr g ↦
                 elim (chosen (ltb 132 a) None (long_length mode (a - 128) more) (Some (length', k)) g.1) [
                   | inl f ↦ let no = f.1 in absurd cc
@@ -145,7 +145,7 @@ definite_spelled mode (a ∷ b ∷ w) rest n p =
     let size : suc (length w) + 1 ≡ suc (suc (length w)) = omega arith in
     rw (le-ltb a 128 (omega arith), ne_eqb a 128 (λ (e : a ≡ 128). omega arith), le-ltb 132 a (omega arith), count, enough, whole, not_overlong mode (b ∷ w) p.3, size, p.2) refl
 
-pub length_spelled : (mode : Mode) (l rest : List ℕ) (length' : Length) → Says mode l length' → length_at mode (l ++ rest) ≡ Some (length', length l)
+pub length_spelled : (mode : Mode) (l rest : List ℕ) (length' : Length) → SaysLength mode l length' → length_at mode (l ++ rest) ≡ Some (length', length l)
 length_spelled mode l rest (length_is.Definite n) p = definite_spelled mode l rest n p
 length_spelled mode l rest length_is.Indefinite p = rw (p.0, p.1) refl
 

@@ -7,7 +7,7 @@ use Rattle.rpki_der.specs.declared.error.DecodeError.{DecodeError}
 use Rattle.rpki_der.specs.declared.error.DecodeError.TheVariants.{Malformed, OutOfMemory}
 use Rattle.rpki_der.specs.declared.mode.Mode.{Mode}
 use Rattle.rpki_der.specs.Value.{Value, spelling, Values, spellings}
-use Rattle.rpki_der.specs.Level.{Level, Sized, Marked, Ends, Holds}
+use Rattle.rpki_der.specs.Level.{Level, Sized, Marked, EndsLevel, LevelHolds}
 use Rattle.rpki_der.specs.Position.{Position, top, AtEnd, Leaves}
 use Rattle.rpki_der.specs.Grammar.{any, every, anything}
 use Rattle.rpki_der.specs.Takes.{Refuses, RefusesToLeave, Stops}
@@ -18,7 +18,7 @@ use Rattle.rpki_der.proofs.Leftovers.{passed_over}
 use Rattle.rpki_common.proofs.Truths.{some_none}
 
 -- where the level is at its end, what stands before it are the octets of its values
-pub contents_are : (mode : Mode) (level : Level) (here : List ℕ) (vs : Values) (rest end' : List ℕ) → Holds mode level here vs rest → Ends level end' rest → up_to here end' ≡ spellings vs
+pub contents_are : (mode : Mode) (level : Level) (here : List ℕ) (vs : Values) (rest end' : List ℕ) → LevelHolds mode level here vs rest → EndsLevel level end' rest → up_to here end' ≡ spellings vs
 contents_are mode (Sized after) here vs rest end' h e =
     let size : length here - length end' ≡ length (spellings vs) = rw (e.0, h.1) (omega arith) in
     rw (size, h.1) (take_all (length (spellings vs)) (spellings vs) (omega arith))

@@ -13,7 +13,7 @@ use Rattle.rpki_der.specs.Identifier.{has_tag}
 use Rattle.rpki_der.specs.Value.{Value, Primitive, Constructed, Values, End, ◌▸◌, lengths_of, end_mark, spelling, spellings}
 use Rattle.rpki_der.specs.Position.{Position}
 use Rattle.rpki_der.specs.Grammar.{so, primitive}
-use Rattle.rpki_der.specs.OctetString.{joined, joined_all, octets_under}
+use Rattle.rpki_der.specs.OctetString.{joined_pieces, joined_all, octets_under}
 use Rattle.rpki_der.specs.Tags.{octet_string_tag}
 use Rattle.rpki_der.specs.Takes.{Refuses, RefusesOctets, Gives, Lacks}
 use Rattle.rpki_der.specs.Ticks.{left, CountedOne, TakesCounted, DecodesCounted}
@@ -106,9 +106,9 @@ inner_within : (i l c m : List ℕ) (n : ℕ) → n ≤ length c → n ≤ lengt
 inner_within i l c m n h = omega (arith, length-append i (l ++ (c ++ m)), length-append l (c ++ m), length-append c m)
 
 mutual
-  unfolding joined
+  unfolding joined_pieces
 
-  joined_within : (tag : List ℕ) (v : Value) (octets : List ℕ) → joined tag v ≡ Some octets → length octets ≤ length (spelling v)
+  joined_within : (tag : List ℕ) (v : Value) (octets : List ℕ) → joined_pieces tag v ≡ Some octets → length octets ≤ length (spelling v)
   joined_within tag (Primitive i l c) octets e =
       let is = same_some c octets (chosen (has_tag tag i) (Some c) octets e) in subst (λ o. length o ≤ length (i ++ (l ++ c))) is (contents_within i l c)
   joined_within tag (Constructed i f vs) octets e =
@@ -117,7 +117,7 @@ mutual
   all_within : (vs : Values) (octets : List ℕ) → joined_all vs ≡ Some octets → length octets ≤ length (spellings vs)
   all_within End octets e = let is = same_some [] octets e in subst (λ (o : List ℕ). length o ≤ 0) is (omega arith)
   all_within (v ▸ vs) octets e =
-      let a = bound (joined octet_string_tag v) _ octets e in
+      let a = bound (joined_pieces octet_string_tag v) _ octets e in
       let w = bound (joined_all vs) _ octets a.then' in
       let is = same_some (a.x ++ w.x) octets w.then' in
       subst (λ o. length o ≤ length (spelling v ++ spellings vs)) is (omega (arith, length-append a.x w.x, length-append (spelling v) (spellings vs), joined_within octet_string_tag v a.x a.found, all_within vs w.x w.found))
@@ -135,5 +135,5 @@ primitive_octets c tag p q b m octets t = value_within c (primitive tag) p q b m
 
 pub string_octets : (c : ℕ) (tag : List ℕ) (mode : Mode) (p q : Position) (b m : ℕ) (octets : List ℕ) → CountedOne c (octets_under tag mode) p q b m octets → length octets + left q ≤ left p
 unfolding octets_under
-string_octets c tag Ber p q b m octets t = value_within c (joined tag) p q b m octets t (joined_within tag t.takes.value octets t.takes.reads)
+string_octets c tag Ber p q b m octets t = value_within c (joined_pieces tag) p q b m octets t (joined_within tag t.takes.value octets t.takes.reads)
 string_octets c tag Der p q b m octets t = value_within c (primitive tag) p q b m octets t (primitive_within tag t.takes.value octets t.takes.reads)

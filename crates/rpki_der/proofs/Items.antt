@@ -8,7 +8,7 @@ use Rattle.rpki_der.specs.declared.mode.Mode.{Mode}
 use Rattle.rpki_der.specs.Identifier.{tag_of, has_tag}
 use Rattle.rpki_der.specs.Header.{IdentifierFirst, NoIdentifier}
 use Rattle.rpki_der.specs.Value.{Definite, Indefinite, lengths_of, end_mark, Value, Primitive, Constructed, Values, End, ◌▸◌, spelling, spellings, IsValue, AreValues, Begins}
-use Rattle.rpki_der.specs.Level.{Level, Sized, Marked, Holds, Opens}
+use Rattle.rpki_der.specs.Level.{Level, Sized, Marked, LevelHolds, Opens}
 use Rattle.rpki_der.specs.Part.{NoValue}
 use Rattle.rpki_der.specs.Walk.{Completes}
 use Rattle.rpki_der.specs.ExactWalk.{CompletesExactly}
@@ -40,7 +40,7 @@ none_constructed mode here i inner level levels e o none v rest b =
     let w = opens_forth mode here i level inner v rest o b in
     none rest (subst (λ (ls : List Level). Completes mode inner ls rest) (sym e) (w.values, rest, w.holds, refl))
 
-content_whole : (mode : Mode) (level : Level) (inner : List ℕ) (vs : Values) (rest : List ℕ) → Holds mode level inner vs rest → content_in level inner rest ≡ spellings vs
+content_whole : (mode : Mode) (level : Level) (inner : List ℕ) (vs : Values) (rest : List ℕ) → LevelHolds mode level inner vs rest → content_in level inner rest ≡ spellings vs
 content_whole mode (Sized after) inner vs rest h = h.1
 content_whole mode Marked inner vs rest h =
     let size : length inner - length rest - 2 ≡ length (spellings vs) = omega (arith, simp length-append at (ap length h.1)) in
@@ -53,7 +53,7 @@ pub whole_constructed : (mode : Mode) (here i inner rest content slice : List �
 whole_constructed mode here i inner rest content slice level levels b a e o w is s =
     let k = subst (λ (ls : List Level). CompletesExactly mode inner ls rest w.0) e w.1 in
     let vs = k.0 in
-    let h : Holds mode level inner vs rest = subst (Holds mode level inner vs) k.4.0 k.3 in
+    let h : LevelHolds mode level inner vs rest = subst (LevelHolds mode level inner vs) k.4.0 k.3 in
     let r = opens_back mode here i level inner vs rest o h in
     let v : Value = Constructed i r.form vs in
     let same = same_marks r.form level r.fits in
@@ -62,7 +62,7 @@ whole_constructed mode here i inner rest content slice level levels b a e o w is
 pub passed_constructed : (mode : Mode) (here i inner rest : List ℕ) (level : Level) (levels : List Level) (b a : ℕ) → levels ≡ level ∷ [] → Opens mode here i level inner → (n : ℕ) × CompletesExactly mode inner levels rest n × (a ≡ b + n) → length rest ≤ length here
 passed_constructed mode here i inner rest level levels b a e o w =
     let k = subst (λ (ls : List Level). CompletesExactly mode inner ls rest w.0) e w.1 in
-    let h : Holds mode level inner k.0 rest = subst (Holds mode level inner k.0) k.4.0 k.3 in
+    let h : LevelHolds mode level inner k.0 rest = subst (LevelHolds mode level inner k.0) k.4.0 k.3 in
     let r = opens_back mode here i level inner k.0 rest o h in
     omega (arith, begins_left mode here (Constructed i r.form k.0) rest r.begins)
 
@@ -253,7 +253,7 @@ refuses_converted c tag field convert p q b a y is t e =
       most = let w : a + c * left q ≤ b + c * left p = t.most in omega (arith, w);
     })
 
-refused_all : {X : Type 0} (tag : List ℕ) (field : Value → Option X) (p : Position) → (AtEnd p → ⊥) → NoValue p.mode p.here → (all : Values) (rest : List ℕ) → Holds p.mode (top p.levels) p.here all rest → optional tag field all ≡ None
+refused_all : {X : Type 0} (tag : List ℕ) (field : Value → Option X) (p : Position) → (AtEnd p → ⊥) → NoValue p.mode p.here → (all : Values) (rest : List ℕ) → LevelHolds p.mode (top p.levels) p.here all rest → optional tag field all ≡ None
 refused_all tag field p more none End rest h = absurd (more (rest, end_holds p.mode (top p.levels) p.here rest h))
 refused_all tag field p more none (v ▸ vs) rest h = let m = holds_more p.mode (top p.levels) p.here v vs rest h in absurd (none v m.here' m.begins)
 

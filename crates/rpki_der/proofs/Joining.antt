@@ -4,7 +4,7 @@ use Rattle.std.proofs.lemmas.List.{append-nil, length-drop}
 use Rattle.rpki_der.specs.declared.error.DecodeError.{DecodeError}
 use Rattle.rpki_der.specs.declared.error.DecodeError.TheVariants.{Malformed, OutOfMemory}
 use Rattle.rpki_der.specs.Value.{Form, Value, Primitive, Constructed, Values, End, ◌▸◌, Begins}
-use Rattle.rpki_der.specs.Level.{Level, Holds, Ends}
+use Rattle.rpki_der.specs.Level.{Level, LevelHolds, EndsLevel}
 use Rattle.rpki_der.specs.Position.{Position, top, AtEnd, Leaves}
 use Rattle.rpki_common.specs.Chaining.{◌>>=◌}
 use Rattle.rpki_der.specs.Grammar.{primitive}
@@ -12,7 +12,7 @@ use Rattle.rpki_der.specs.Takes.{TakesOne, NoneStands, Refuses, Goes, NoneOpens}
 use Rattle.rpki_der.specs.Identifier.{has_tag}
 use Rattle.rpki_der.specs.Walk.{left_in}
 use Rattle.rpki_der.specs.Tags.{octet_string_tag}
-use Rattle.rpki_der.specs.OctetString.{joined, joined_all, octets_under}
+use Rattle.rpki_der.specs.OctetString.{joined_pieces, joined_all, octets_under}
 use Rattle.rpki_der.specs.Ticks.{TakesCounted}
 use Rattle.rpki_der.specs.Segments.{JoinsUp, OneJoin, Segments, Segment, Joins}
 use Rattle.rpki_der.proofs.Reading.{value_opens}
@@ -41,7 +41,7 @@ joined_end : joined_all End ≡ Some []
 unfolding joined_all
 joined_end = refl
 
-left_at_end : (n : ℕ) (p p' : Position) (front : List ℕ) (q : Position) (all : List ℕ) → Leaves p p' → (vs : Values) (next w : List ℕ) → Holds p.mode (top p.levels) p.here vs next → joined_all vs ≡ Some w → JoinsUp n (record { mode = p.mode; here = next; levels = drop 1 p.levels }) (front ++ w) q all → JoinsUp n p' front q all
+left_at_end : (n : ℕ) (p p' : Position) (front : List ℕ) (q : Position) (all : List ℕ) → Leaves p p' → (vs : Values) (next w : List ℕ) → LevelHolds p.mode (top p.levels) p.here vs next → joined_all vs ≡ Some w → JoinsUp n (record { mode = p.mode; here = next; levels = drop 1 p.levels }) (front ++ w) q all → JoinsUp n p' front q all
 left_at_end n p p' front q all l End next w h e k =
     let same : p'.here ≡ next = at_end p.mode (top p.levels) p.here p'.here End next l.ends h in
     let nothing : w ≡ [] = some_of w [] (sym e ∙ joined_end) in
@@ -58,11 +58,11 @@ parts_of None r w e = absurd cc
 parts_of (Some a) None w e = absurd cc
 parts_of (Some a) (Some b) w e = (a, b, refl, refl, cc)
 
-joined_more : (v : Value) (vs : Values) (w : List ℕ) → joined_all (v ▸ vs) ≡ Some w → (a : List ℕ) × (b : List ℕ) × (joined octet_string_tag v ≡ Some a) × (joined_all vs ≡ Some b) × (a ++ b ≡ w)
+joined_more : (v : Value) (vs : Values) (w : List ℕ) → joined_all (v ▸ vs) ≡ Some w → (a : List ℕ) × (b : List ℕ) × (joined_pieces octet_string_tag v ≡ Some a) × (joined_all vs ≡ Some b) × (a ++ b ≡ w)
 unfolding joined_all ◌>>=◌
-joined_more v vs w e = parts_of (joined octet_string_tag v) (joined_all vs) w e
+joined_more v vs w e = parts_of (joined_pieces octet_string_tag v) (joined_all vs) w e
 
-joined_cons : (v : Value) (vs : Values) (a b : List ℕ) → joined octet_string_tag v ≡ Some a → joined_all vs ≡ Some b → joined_all (v ▸ vs) ≡ Some (a ++ b)
+joined_cons : (v : Value) (vs : Values) (a b : List ℕ) → joined_pieces octet_string_tag v ≡ Some a → joined_all vs ≡ Some b → joined_all (v ▸ vs) ≡ Some (a ++ b)
 unfolding joined_all ◌>>=◌
 joined_cons v vs a b e f = rw (e, f) refl
 
@@ -80,8 +80,8 @@ rest_segments n p front q all (v, here', a, b, e, (vs, next, w, h, f, k)) =
 
 -- ---- a primitive segment
 
-joined_primitive : (tag : List ℕ) (v : Value) (c : List ℕ) → primitive tag v ≡ Some c → joined tag v ≡ Some c
-unfolding joined
+joined_primitive : (tag : List ℕ) (v : Value) (c : List ℕ) → primitive tag v ≡ Some c → joined_pieces tag v ≡ Some c
+unfolding joined_pieces
 joined_primitive tag (Primitive i l d) c e = e
 joined_primitive tag (Constructed i f vs) c e = absurd cc
 
@@ -92,7 +92,7 @@ segment_primitive tag p p' front c t = (
     deeper = let e = ap length t.levels in omega arith;
     forth = λ n q all o.
         let s = at_most_one p.mode p.here o.0 t.value o.1 p'.here o.3 t.begins in
-        let w : o.2 ≡ c = some_of o.2 c (sym o.4 ∙ ap (joined tag) s.value ∙ joined_primitive tag t.value c t.reads) in
+        let w : o.2 ≡ c = some_of o.2 c (sym o.4 ∙ ap (joined_pieces tag) s.value ∙ joined_primitive tag t.value c t.reads) in
         let same : n + 0 ≡ n = omega arith in
         rw same (moved n (record { mode = p.mode; here = o.1; levels = p.levels }) p' (front ++ o.2) (front ++ c) q all (same_place p p' o.1 s.rest t.mode t.levels) (ap (λ x. front ++ x) w) o.5);
     back = λ n q all k.
@@ -103,8 +103,8 @@ segment_primitive tag p p' front c t = (
 
 -- ---- into a constructed one
 
-joined_constructed : (tag i : List ℕ) (f : Form) (vs : Values) → has_tag tag i ≡ true → joined tag (Constructed i f vs) ≡ joined_all vs
-unfolding joined
+joined_constructed : (tag i : List ℕ) (f : Form) (vs : Values) → has_tag tag i ≡ true → joined_pieces tag (Constructed i f vs) ≡ joined_all vs
+unfolding joined_pieces
 joined_constructed tag i f vs t = rw t refl
 
 entered : (tag : List ℕ) (n : ℕ) (p p' : Position) (front : List ℕ) (q : Position) (all : List ℕ) → Goes tag p p' → JoinsUp (suc n) p' front q all → OneJoin tag n p front q all
@@ -119,7 +119,7 @@ segment_enter tag p p' front g = (
     deeper = let e = ap length g.levels in omega arith;
     forth = λ n q all o.
         let w = opens_forth p.mode p.here g.identifier g.level p'.here o.0 o.1 g.opens o.3 in
-        let read : joined_all w.values ≡ Some o.2 = sym (joined_constructed tag g.identifier w.form w.values g.tagged) ∙ ap (joined tag) (sym w.is) ∙ o.4 in
+        let read : joined_all w.values ≡ Some o.2 = sym (joined_constructed tag g.identifier w.form w.values g.tagged) ∙ ap (joined_pieces tag) (sym w.is) ∙ o.4 in
         let same : n + 1 ≡ suc n = omega arith in
         rw same (w.values, o.1, o.2, rw (g.mode, g.levels) w.holds, read, rw (g.mode, g.levels) o.5);
     back = λ n q all k.
@@ -146,7 +146,7 @@ joins_segment tag start n p p' front front' k j more s = record {
 
 -- ---- the answers
 
-pub joins_done : (tag : List ℕ) (start p : Position) (front : List ℕ) → Joins tag start 0 p front → TakesOne (joined tag) start p front
+pub joins_done : (tag : List ℕ) (start p : Position) (front : List ℕ) → Joins tag start 0 p front → TakesOne (joined_pieces tag) start p front
 joins_done tag start p front j =
     let o = j.back p front (refl, refl) in
     record {
@@ -161,8 +161,8 @@ no_joined : (o : Option (List ℕ)) → ((w : List ℕ) → o ≡ Some w → ⊥
 no_joined None h = refl
 no_joined (Some w) h = absurd (h w refl)
 
-pub joins_refused : (tag : List ℕ) (start : Position) (n : ℕ) (p : Position) (front : List ℕ) → Joins tag start (suc n) p front → (AtEnd p → ⊥) → NoneStands (joined octet_string_tag) p → NoneStands (joined tag) start
-joins_refused tag start n p front j more none v rest b = no_joined (joined tag v) (λ w e.
+pub joins_refused : (tag : List ℕ) (start : Position) (n : ℕ) (p : Position) (front : List ℕ) → Joins tag start (suc n) p front → (AtEnd p → ⊥) → NoneStands (joined_pieces octet_string_tag) p → NoneStands (joined_pieces tag) start
+joins_refused tag start n p front j more none v rest b = no_joined (joined_pieces tag v) (λ w e.
     let q : Position = record { mode = start.mode; here = rest; levels = start.levels } in
     let o = first_segment n p front q w more (j.forth q w (v, rest, w, b, e, (refl, refl))) in
     let no' : None ≡ Some o.2 = sym (none o.0 o.1 o.3) ∙ o.4 in cc)
@@ -175,7 +175,7 @@ smaller_goes tag p p' g = rw g.levels (smaller_into p.mode p.here g.identifier g
 pub smaller_takes : (tag : List ℕ) (p p' : Position) (c : List ℕ) → TakesOne (primitive tag) p p' c → length p'.here + left_in p'.levels < length p.here + left_in p.levels
 smaller_takes tag p p' c t = let less = smaller_over p.mode p.here t.value p'.here t.begins in rw t.levels (omega arith)
 
-smaller_out : (levels : List Level) (here next : List ℕ) → (levels ≡ [] → ⊥) → Ends (top levels) here next → length next + left_in (drop 1 levels) < length here + left_in levels
+smaller_out : (levels : List Level) (here next : List ℕ) → (levels ≡ [] → ⊥) → EndsLevel (top levels) here next → length next + left_in (drop 1 levels) < length here + left_in levels
 smaller_out [] here next n e = absurd (n refl)
 smaller_out (level ∷ levels) here next n e = smaller_end level levels here next e
 
@@ -184,12 +184,12 @@ smaller_leaves p p' n l = rw l.levels (smaller_out p.levels p.here p'.here n l.e
 
 -- ---- both refusals of a segment
 
-joined_both : (tag : List ℕ) (v : Value) → primitive tag v ≡ None → ((i : List ℕ) (f : Form) (vs : Values) → v ≡ Constructed i f vs → has_tag tag i ≡ false) → joined tag v ≡ None
-unfolding joined
+joined_both : (tag : List ℕ) (v : Value) → primitive tag v ≡ None → ((i : List ℕ) (f : Form) (vs : Values) → v ≡ Constructed i f vs → has_tag tag i ≡ false) → joined_pieces tag v ≡ None
+unfolding joined_pieces
 joined_both tag (Primitive i l c) e n = e
 joined_both tag (Constructed i f vs) e n = rw (n i f vs refl) refl
 
-pub segment_refused : (tag : List ℕ) (p : Position) → NoneOpens tag p → NoneStands (primitive tag) p → NoneStands (joined tag) p
+pub segment_refused : (tag : List ℕ) (p : Position) → NoneOpens tag p → NoneStands (primitive tag) p → NoneStands (joined_pieces tag) p
 segment_refused tag p n m v rest b = joined_both tag v (m v rest b) (λ i f vs e.
     let o = value_opens p.mode p.here i f vs rest (subst (λ (w : Value). Begins p.mode p.here w rest) e b) in n i o.level o.inner o.opens)
 
@@ -230,25 +230,25 @@ loop_on tag start p p' front front' base lt j more s =
     let m : suc (length p.levels - base - 1) + s.0 ≡ length p'.levels - base = omega arith in
     joins_at tag start p' front' (suc (length p.levels - base - 1) + s.0) (length p'.levels - base) m (joins_segment tag start (length p.levels - base - 1) p p' front front' s.0 (joins_at tag start p front (length p.levels - base) (suc (length p.levels - base - 1)) n j) more s.1)
 
-pub loop_done : (tag : List ℕ) (start p : Position) (front : List ℕ) (base : ℕ) → length p.levels ≤ base → Joins tag start (length p.levels - base) p front → TakesOne (joined tag) start p front
+pub loop_done : (tag : List ℕ) (start p : Position) (front : List ℕ) (base : ℕ) → length p.levels ≤ base → Joins tag start (length p.levels - base) p front → TakesOne (joined_pieces tag) start p front
 loop_done tag start p front base le j =
     let n : length p.levels - base ≡ 0 = omega arith in joins_done tag start p front (joins_at tag start p front (length p.levels - base) 0 n j)
 
-pub loop_refused : (tag : List ℕ) (start p : Position) (front : List ℕ) (base : ℕ) (e : DecodeError) → base < length p.levels → Joins tag start (length p.levels - base) p front → (AtEnd p → ⊥) → Refuses (joined octet_string_tag) p e → Refuses (joined tag) start e
+pub loop_refused : (tag : List ℕ) (start p : Position) (front : List ℕ) (base : ℕ) (e : DecodeError) → base < length p.levels → Joins tag start (length p.levels - base) p front → (AtEnd p → ⊥) → Refuses (joined_pieces octet_string_tag) p e → Refuses (joined_pieces tag) start e
 unfolding Refuses
 loop_refused tag start p front base Malformed lt j more r =
     let n : length p.levels - base ≡ suc (length p.levels - base - 1) = omega arith in
     joins_refused tag start (length p.levels - base - 1) p front (joins_at tag start p front (length p.levels - base) (suc (length p.levels - base - 1)) n j) more r
 loop_refused tag start p front base OutOfMemory lt j more r = tt
 
-pub refused_both : (tag : List ℕ) (p : Position) (e : DecodeError) → NoneOpens tag p → Refuses (primitive tag) p e → Refuses (joined tag) p e
+pub refused_both : (tag : List ℕ) (p : Position) (e : DecodeError) → NoneOpens tag p → Refuses (primitive tag) p e → Refuses (joined_pieces tag) p e
 unfolding Refuses
 refused_both tag p Malformed n m = segment_refused tag p n m
 refused_both tag p OutOfMemory n m = tt
 
 -- ---- by the mode
 
-pub octets_in_ber : {Y : Type 0} (tag : List ℕ) (mode : Mode) (view : Y → List ℕ) (p q : Position) (b a : ℕ) (r : Result Y DecodeError) → mode ≡ Ber → TakesCounted 1 (joined tag) view p q b a r → TakesCounted 1 (octets_under tag mode) view p q b a r
+pub octets_in_ber : {Y : Type 0} (tag : List ℕ) (mode : Mode) (view : Y → List ℕ) (p q : Position) (b a : ℕ) (r : Result Y DecodeError) → mode ≡ Ber → TakesCounted 1 (joined_pieces tag) view p q b a r → TakesCounted 1 (octets_under tag mode) view p q b a r
 unfolding octets_under
 octets_in_ber tag mode view p q b a r e t = subst (λ (m : Mode). TakesCounted 1 (octets_under tag m) view p q b a r) (sym e) t
 

@@ -2,7 +2,7 @@
 use Rattle.std.proofs.Common.{◌≡◌, ℕ, ◌+◌, ◌<◌, ◌≤◌, Option, List, [], ◌∷◌, ◌++◌, length, drop, refl, sym, ap, subst, ◌∙◌, arith, length-append}
 use Rattle.rpki_der.specs.declared.mode.Mode.{Mode}
 use Rattle.rpki_der.specs.Value.{Value}
-use Rattle.rpki_der.specs.Level.{Level, Ends}
+use Rattle.rpki_der.specs.Level.{Level, EndsLevel}
 use Rattle.rpki_der.specs.Position.{Position, top, Leaves}
 use Rattle.rpki_der.specs.Takes.{Goes, TakesOne}
 use Rattle.rpki_der.specs.Ticks.{nodes, left, marks, CountedOne}
@@ -46,7 +46,7 @@ below_leave_of : (old : Position) (before : ℕ) (p q : Position) (m a : ℕ) (w
 below_leave_of old before p q m a w [] e lt l t = let len : length p.levels ≡ length old.levels = ap length (rw e at w.levels) in absurd (omega arith)
 below_leave_of old before p q m a w (level ∷ inner) e lt l t =
     let is : p.levels ≡ level ∷ (inner ++ old.levels) = rw e at w.levels in
-    let ends : Ends level p.here q.here = rw is at l.ends in
+    let ends : EndsLevel level p.here q.here = rw is at l.ends in
     let back : CountedBack old.mode old.here [] before p.here (level ∷ inner) m = rw e at w.back in
     record {
       inner = inner;

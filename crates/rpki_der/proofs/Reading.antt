@@ -6,11 +6,11 @@ use Rattle.rpki_der.specs.declared.error.DecodeError.TheVariants.{Malformed, Out
 use Rattle.rpki_der.specs.declared.mode.Mode.{Mode}
 use Rattle.rpki_der.specs.declared.mode.Mode.TheVariants.{Ber, Der}
 use Rattle.rpki_der.specs.Value.{Form, Definite, Indefinite, Value, Primitive, Constructed, Values, End, ◌▸◌, spellings, IsForm, Begins}
-use Rattle.rpki_der.specs.Level.{Ends, Level, Sized, Marked, Holds, Opens}
+use Rattle.rpki_der.specs.Level.{EndsLevel, Level, Sized, Marked, LevelHolds, Opens}
 use Rattle.rpki_der.specs.Position.{Position, top, AtEnd, Leaves}
 use Rattle.rpki_common.specs.Chaining.{◌>>=◌}
 use Rattle.rpki_der.specs.Grammar.{identifier_of, so, within, first, done, every, optional, gather}
-use Rattle.rpki_der.specs.Takes.{TakesOne, TakesFields, RefusesFields, TakesPart, RefusesOctets, Decodes, NoneStands, Refuses, Takes, Goes, NoneOpens, RefusesToEnter, RefusesToLeave, Reads, ReadsNone, Stops}
+use Rattle.rpki_der.specs.Takes.{TakesOne, TakesFields, RefusesFields, TakesPart, RefusesOctets, Decodes, NoneStands, Refuses, Takes, Goes, NoneOpens, RefusesToEnter, RefusesToLeave, ReadsFields, ReadsNone, Stops}
 use Rattle.rpki_der.specs.Identifier.{has_tag}
 use Rattle.rpki_der.proofs.Uniqueness.{four_parts}
 use Rattle.rpki_der.proofs.Parts.{at_most_one}
@@ -28,7 +28,7 @@ refuses_memory grammar old = tt
 
 -- ---- a constructed value
 
-pub takes_within : {Y : Type 0} (tag : List ℕ) (fields : Values → Option Y) (s p q : Position) (y : Y) → Goes tag s p → Reads fields p q y → TakesOne (within tag fields) s q y
+pub takes_within : {Y : Type 0} (tag : List ℕ) (fields : Values → Option Y) (s p q : Position) (y : Y) → Goes tag s p → ReadsFields fields p q y → TakesOne (within tag fields) s q y
 unfolding within
 takes_within tag fields s p q y g r =
     let w = opens_back s.mode s.here g.identifier g.level p.here r.values q.here g.opens (rw (g.mode, g.levels) at r.holds) in
@@ -86,7 +86,7 @@ refuses_within tag fields s OutOfMemory n = tt
 
 -- ---- a field
 
-pub reads_first : {X Y : Type 0} (field : Value → Option X) (next : X × Values → Option Y) (p p' q : Position) (x : X) (y : Y) → TakesOne field p p' x → Reads (λ vs. next (x, vs)) p' q y → Reads (λ vs. first field vs >>= next) p q y
+pub reads_first : {X Y : Type 0} (field : Value → Option X) (next : X × Values → Option Y) (p p' q : Position) (x : X) (y : Y) → TakesOne field p p' x → ReadsFields (λ vs. next (x, vs)) p' q y → ReadsFields (λ vs. first field vs >>= next) p q y
 unfolding first ◌>>=◌
 reads_first field next p p' q x y t r = record {
   values = t.value ▸ r.values;
@@ -96,14 +96,14 @@ reads_first field next p p' q x y t r = record {
   mode = r.mode ∙ t.mode;
 }
 
-first_none : {X Y : Type 0} (field : Value → Option X) (next : X × Values → Option Y) (p p' : Position) (x : X) → TakesOne field p p' x → ReadsNone (λ vs. next (x, vs)) p' → (vs : Values) (rest : List ℕ) → Holds p.mode (top p.levels) p.here vs rest → (first field vs >>= next) ≡ None
+first_none : {X Y : Type 0} (field : Value → Option X) (next : X × Values → Option Y) (p p' : Position) (x : X) → TakesOne field p p' x → ReadsNone (λ vs. next (x, vs)) p' → (vs : Values) (rest : List ℕ) → LevelHolds p.mode (top p.levels) p.here vs rest → (first field vs >>= next) ≡ None
 unfolding first ◌>>=◌
 first_none field next p p' x t n End rest h = refl
 first_none field next p p' x t n (v ▸ vs) rest h =
     let m = holds_more p.mode (top p.levels) p.here v vs rest h in
     let s = at_most_one p.mode p.here v t.value m.here' p'.here m.begins t.begins in
     let read : field v ≡ Some x = ap field s.value ∙ t.reads in
-    let holds : Holds p.mode (top p.levels) p'.here vs rest = subst (λ (r : List ℕ). Holds p.mode (top p.levels) r vs rest) s.rest m.holds in
+    let holds : LevelHolds p.mode (top p.levels) p'.here vs rest = subst (λ (r : List ℕ). LevelHolds p.mode (top p.levels) r vs rest) s.rest m.holds in
     rw read (n.none vs rest (rw (t.mode, t.levels) holds))
 
 pub stops_later : {X Y : Type 0} (field : Value → Option X) (next : X × Values → Option Y) (p p' : Position) (x : X) (e : DecodeError) → TakesOne field p p' x → Stops (λ vs. next (x, vs)) p' e → Stops (λ vs. first field vs >>= next) p e
@@ -111,7 +111,7 @@ unfolding Stops
 stops_later field next p p' x Malformed t n = record { none = first_none field next p p' x t n }
 stops_later field next p p' x OutOfMemory t n = tt
 
-first_refused : {X Y : Type 0} (field : Value → Option X) (next : X × Values → Option Y) (p : Position) → NoneStands field p → (vs : Values) (rest : List ℕ) → Holds p.mode (top p.levels) p.here vs rest → (first field vs >>= next) ≡ None
+first_refused : {X Y : Type 0} (field : Value → Option X) (next : X × Values → Option Y) (p : Position) → NoneStands field p → (vs : Values) (rest : List ℕ) → LevelHolds p.mode (top p.levels) p.here vs rest → (first field vs >>= next) ≡ None
 unfolding first ◌>>=◌
 first_refused field next p n End rest h = refl
 first_refused field next p n (v ▸ vs) rest h =
@@ -125,13 +125,13 @@ stops_first field next p OutOfMemory n = tt
 
 -- ---- fields of another kind than one value
 
-pub reads_part : {X Y : Type 0} (fields : Values → Option (X × Values)) (next : X × Values → Option Y) (p p' q : Position) (x : X) (y : Y) → TakesFields fields p p' x → Reads (λ vs. next (x, vs)) p' q y → Reads (λ vs. fields vs >>= next) p q y
+pub reads_part : {X Y : Type 0} (fields : Values → Option (X × Values)) (next : X × Values → Option Y) (p p' q : Position) (x : X) (y : Y) → TakesFields fields p p' x → ReadsFields (λ vs. next (x, vs)) p' q y → ReadsFields (λ vs. fields vs >>= next) p q y
 unfolding ◌>>=◌
 reads_part fields next p p' q x y t r =
     let w = t.reads r.values q.here r.holds in
     record { values = w.0; holds = w.1; reads = rw w.2 r.reads; levels = r.levels ∙ ap (drop 1) t.levels; mode = r.mode ∙ t.mode }
 
-part_none : {X Y : Type 0} (fields : Values → Option (X × Values)) (next : X × Values → Option Y) (p p' : Position) (x : X) → TakesFields fields p p' x → ReadsNone (λ vs. next (x, vs)) p' → (vs : Values) (rest : List ℕ) → Holds p.mode (top p.levels) p.here vs rest → (fields vs >>= next) ≡ None
+part_none : {X Y : Type 0} (fields : Values → Option (X × Values)) (next : X × Values → Option Y) (p p' : Position) (x : X) → TakesFields fields p p' x → ReadsNone (λ vs. next (x, vs)) p' → (vs : Values) (rest : List ℕ) → LevelHolds p.mode (top p.levels) p.here vs rest → (fields vs >>= next) ≡ None
 unfolding ◌>>=◌
 part_none fields next p p' x t n vs rest h = let w = t.only vs rest h in rw w.2 (n.none w.0 rest w.1)
 
@@ -155,14 +155,14 @@ takes_part_err f view old new error (Err e) h n = subst (RefusesFields f old) (s
 abbrev pub Next : List ℕ → Position → Bool → Type 0
 Next tag p found = (v : Value) (rest : List ℕ) → Begins p.mode p.here v rest → has_tag tag (identifier_of v) ≡ found
 
-optional_some_only : {X : Type 0} (tag : List ℕ) (field : Value → Option X) (p q : Position) (x : X) → Next tag p true → TakesOne field p q x → (all : Values) (rest : List ℕ) → Holds p.mode (top p.levels) p.here all rest → (vs : Values) × Holds p.mode (top p.levels) q.here vs rest × (optional tag field all ≡ Some (Some x, vs))
+optional_some_only : {X : Type 0} (tag : List ℕ) (field : Value → Option X) (p q : Position) (x : X) → Next tag p true → TakesOne field p q x → (all : Values) (rest : List ℕ) → LevelHolds p.mode (top p.levels) p.here all rest → (vs : Values) × LevelHolds p.mode (top p.levels) q.here vs rest × (optional tag field all ≡ Some (Some x, vs))
 unfolding optional ◌>>=◌
 optional_some_only tag field p q x n t End rest h = absurd (ends_no_value p.mode (top p.levels) p.here rest (end_holds p.mode (top p.levels) p.here rest h) t.value q.here t.begins)
 optional_some_only tag field p q x n t (v ▸ vs) rest h =
     let m = holds_more p.mode (top p.levels) p.here v vs rest h in
     let s = at_most_one p.mode p.here v t.value m.here' q.here m.begins t.begins in
     let read : field v ≡ Some x = ap field s.value ∙ t.reads in
-    (vs, subst (λ (r : List ℕ). Holds p.mode (top p.levels) r vs rest) s.rest m.holds, rw (n v m.here' m.begins, read) refl)
+    (vs, subst (λ (r : List ℕ). LevelHolds p.mode (top p.levels) r vs rest) s.rest m.holds, rw (n v m.here' m.begins, read) refl)
 
 pub optional_some_reads : {X : Type 0} (tag : List ℕ) (field : Value → Option X) (v : Value) (vs : Values) (x : X) → has_tag tag (identifier_of v) ≡ true → field v ≡ Some x → optional tag field (v ▸ vs) ≡ Some (Some x, vs)
 unfolding optional ◌>>=◌
@@ -176,7 +176,7 @@ takes_optional tag field p q x n t = record {
   mode = t.mode;
 }
 
-pub optional_none_reads : {X : Type 0} (tag : List ℕ) (field : Value → Option X) (p : Position) → Next tag p false → (vs : Values) (rest : List ℕ) → Holds p.mode (top p.levels) p.here vs rest → optional tag field vs ≡ Some (None, vs)
+pub optional_none_reads : {X : Type 0} (tag : List ℕ) (field : Value → Option X) (p : Position) → Next tag p false → (vs : Values) (rest : List ℕ) → LevelHolds p.mode (top p.levels) p.here vs rest → optional tag field vs ≡ Some (None, vs)
 unfolding optional
 optional_none_reads tag field p n End rest h = refl
 optional_none_reads tag field p n (v ▸ vs) rest h = let m = holds_more p.mode (top p.levels) p.here v vs rest h in rw (n v m.here' m.begins) refl
@@ -189,7 +189,7 @@ takes_optional_none tag field p n = record {
   mode = refl;
 }
 
-optional_refused : {X : Type 0} (tag : List ℕ) (field : Value → Option X) (p : Position) → Next tag p true → (AtEnd p → ⊥) → NoneStands field p → (all : Values) (rest : List ℕ) → Holds p.mode (top p.levels) p.here all rest → optional tag field all ≡ None
+optional_refused : {X : Type 0} (tag : List ℕ) (field : Value → Option X) (p : Position) → Next tag p true → (AtEnd p → ⊥) → NoneStands field p → (all : Values) (rest : List ℕ) → LevelHolds p.mode (top p.levels) p.here all rest → optional tag field all ≡ None
 unfolding optional ◌>>=◌
 optional_refused tag field p n more none End rest h = absurd (more (rest, end_holds p.mode (top p.levels) p.here rest h))
 optional_refused tag field p n more none (v ▸ vs) rest h =
@@ -202,11 +202,11 @@ refuses_optional tag field p OutOfMemory n more none = tt
 
 -- ---- the end of the fields
 
-pub reads_done : {Y : Type 0} (p q : Position) (y : Y) → Leaves p q → Reads (λ vs. done y vs) p q y
+pub reads_done : {Y : Type 0} (p q : Position) (y : Y) → Leaves p q → ReadsFields (λ vs. done y vs) p q y
 unfolding done
 reads_done p q y l = record { values = End; holds = holds_end p.mode (top p.levels) p.here q.here l.ends; reads = refl; levels = l.levels; mode = l.mode }
 
-done_none : {Y : Type 0} (p : Position) (y : Y) → (AtEnd p → ⊥) → (vs : Values) (rest : List ℕ) → Holds p.mode (top p.levels) p.here vs rest → done y vs ≡ None
+done_none : {Y : Type 0} (p : Position) (y : Y) → (AtEnd p → ⊥) → (vs : Values) (rest : List ℕ) → LevelHolds p.mode (top p.levels) p.here vs rest → done y vs ≡ None
 unfolding done
 done_none p y n End rest h = absurd (n (rest, end_holds p.mode (top p.levels) p.here rest h))
 done_none p y n (v ▸ vs) rest h = refl
@@ -220,7 +220,7 @@ stops_done p y OutOfMemory n = tt
 
 -- Reading on at p', by fields', is reading on at p, by fields.
 pub record Continues {Y : Type 0} (fields : Values → Option Y) (p : Position) (fields' : Values → Option Y) (p' : Position) : Type 0 where
-  pub reads : (q : Position) (y : Y) → Reads fields' p' q y → Reads fields p q y
+  pub reads : (q : Position) (y : Y) → ReadsFields fields' p' q y → ReadsFields fields p q y
   pub stops : (e : DecodeError) → Stops fields' p' e → Stops fields p e
   pub levels : p'.levels ≡ p.levels
 
@@ -239,7 +239,7 @@ item_is field next v vs x e = rw e (bind_front (every field vs) x next)
 pub item_reads : {X Y : Type 0} (field : Value → Option X) (next : List X → Option Y) (v : Value) (vs : Values) (x : X) (y : Y) → field v ≡ Some x → (every field vs >>= λ xs. next (x ∷ xs)) ≡ Some y → (every field (v ▸ vs) >>= next) ≡ Some y
 item_reads field next v vs x y e r = item_is field next v vs x e ∙ r
 
-reads_item : {X Y : Type 0} (field : Value → Option X) (next : List X → Option Y) (p p' q : Position) (x : X) (y : Y) → TakesOne field p p' x → Reads (λ vs. every field vs >>= λ xs. next (x ∷ xs)) p' q y → Reads (λ vs. every field vs >>= next) p q y
+reads_item : {X Y : Type 0} (field : Value → Option X) (next : List X → Option Y) (p p' q : Position) (x : X) (y : Y) → TakesOne field p p' x → ReadsFields (λ vs. every field vs >>= λ xs. next (x ∷ xs)) p' q y → ReadsFields (λ vs. every field vs >>= next) p q y
 unfolding every
 reads_item field next p p' q x y t r = record {
   values = t.value ▸ r.values;
@@ -249,13 +249,13 @@ reads_item field next p p' q x y t r = record {
   mode = r.mode ∙ t.mode;
 }
 
-item_none : {X Y : Type 0} (field : Value → Option X) (next : List X → Option Y) (p p' : Position) (x : X) → TakesOne field p p' x → ReadsNone (λ vs. every field vs >>= λ xs. next (x ∷ xs)) p' → (vs : Values) (rest : List ℕ) → Holds p.mode (top p.levels) p.here vs rest → (every field vs >>= next) ≡ None
+item_none : {X Y : Type 0} (field : Value → Option X) (next : List X → Option Y) (p p' : Position) (x : X) → TakesOne field p p' x → ReadsNone (λ vs. every field vs >>= λ xs. next (x ∷ xs)) p' → (vs : Values) (rest : List ℕ) → LevelHolds p.mode (top p.levels) p.here vs rest → (every field vs >>= next) ≡ None
 item_none field next p p' x t n End rest h = absurd (ends_no_value p.mode (top p.levels) p.here rest (end_holds p.mode (top p.levels) p.here rest h) t.value p'.here t.begins)
 item_none field next p p' x t n (v ▸ vs) rest h =
     let m = holds_more p.mode (top p.levels) p.here v vs rest h in
     let s = at_most_one p.mode p.here v t.value m.here' p'.here m.begins t.begins in
     let read : field v ≡ Some x = ap field s.value ∙ t.reads in
-    let holds : Holds p.mode (top p.levels) p'.here vs rest = subst (λ (r : List ℕ). Holds p.mode (top p.levels) r vs rest) s.rest m.holds in
+    let holds : LevelHolds p.mode (top p.levels) p'.here vs rest = subst (λ (r : List ℕ). LevelHolds p.mode (top p.levels) r vs rest) s.rest m.holds in
     item_is field next v vs x read ∙ n.none vs rest (rw (t.mode, t.levels) holds)
 
 pub stops_after : {X Y : Type 0} (field : Value → Option X) (next : List X → Option Y) (p p' : Position) (x : X) (e : DecodeError) → TakesOne field p p' x → Stops (λ vs. every field vs >>= λ xs. next (x ∷ xs)) p' e → Stops (λ vs. every field vs >>= next) p e
@@ -271,11 +271,11 @@ continues_item fields p field next p' p'' x c t = record {
 }
 
 -- no value is left
-pub reads_end : {X Y : Type 0} (field : Value → Option X) (next : List X → Option Y) (p q : Position) (y : Y) → Leaves p q → next [] ≡ Some y → Reads (λ vs. every field vs >>= next) p q y
+pub reads_end : {X Y : Type 0} (field : Value → Option X) (next : List X → Option Y) (p q : Position) (y : Y) → Leaves p q → next [] ≡ Some y → ReadsFields (λ vs. every field vs >>= next) p q y
 unfolding every ◌>>=◌
 reads_end field next p q y l e = record { values = End; holds = holds_end p.mode (top p.levels) p.here q.here l.ends; reads = e; levels = l.levels; mode = l.mode }
 
-item_refused : {X Y : Type 0} (field : Value → Option X) (next : List X → Option Y) (p : Position) → (AtEnd p → ⊥) → NoneStands field p → (vs : Values) (rest : List ℕ) → Holds p.mode (top p.levels) p.here vs rest → (every field vs >>= next) ≡ None
+item_refused : {X Y : Type 0} (field : Value → Option X) (next : List X → Option Y) (p : Position) → (AtEnd p → ⊥) → NoneStands field p → (vs : Values) (rest : List ℕ) → LevelHolds p.mode (top p.levels) p.here vs rest → (every field vs >>= next) ≡ None
 unfolding every ◌>>=◌
 item_refused field next p more n End rest h = absurd (more (rest, end_holds p.mode (top p.levels) p.here rest h))
 item_refused field next p more n (v ▸ vs) rest h =
@@ -289,7 +289,7 @@ stops_item field next p OutOfMemory more n = tt
 
 -- ---- what each value in turn changes
 
-reads_step : {S Y : Type 0} (step : S → Value → Option S) (next : S → Option Y) (s t : S) (p p' q : Position) (y : Y) → TakesOne (step s) p p' t → Reads (λ vs. gather step t vs >>= next) p' q y → Reads (λ vs. gather step s vs >>= next) p q y
+reads_step : {S Y : Type 0} (step : S → Value → Option S) (next : S → Option Y) (s t : S) (p p' q : Position) (y : Y) → TakesOne (step s) p p' t → ReadsFields (λ vs. gather step t vs >>= next) p' q y → ReadsFields (λ vs. gather step s vs >>= next) p q y
 unfolding gather ◌>>=◌
 reads_step step next s t p p' q y k r = record {
   values = k.value ▸ r.values;
@@ -299,14 +299,14 @@ reads_step step next s t p p' q y k r = record {
   mode = r.mode ∙ k.mode;
 }
 
-step_none : {S Y : Type 0} (step : S → Value → Option S) (next : S → Option Y) (s t : S) (p p' : Position) → TakesOne (step s) p p' t → ReadsNone (λ vs. gather step t vs >>= next) p' → (vs : Values) (rest : List ℕ) → Holds p.mode (top p.levels) p.here vs rest → (gather step s vs >>= next) ≡ None
+step_none : {S Y : Type 0} (step : S → Value → Option S) (next : S → Option Y) (s t : S) (p p' : Position) → TakesOne (step s) p p' t → ReadsNone (λ vs. gather step t vs >>= next) p' → (vs : Values) (rest : List ℕ) → LevelHolds p.mode (top p.levels) p.here vs rest → (gather step s vs >>= next) ≡ None
 unfolding gather ◌>>=◌
 step_none step next s t p p' k n End rest h = absurd (ends_no_value p.mode (top p.levels) p.here rest (end_holds p.mode (top p.levels) p.here rest h) k.value p'.here k.begins)
 step_none step next s t p p' k n (v ▸ vs) rest h =
     let m = holds_more p.mode (top p.levels) p.here v vs rest h in
     let w = at_most_one p.mode p.here v k.value m.here' p'.here m.begins k.begins in
     let read : step s v ≡ Some t = ap (step s) w.value ∙ k.reads in
-    let holds : Holds p.mode (top p.levels) p'.here vs rest = subst (λ (r : List ℕ). Holds p.mode (top p.levels) r vs rest) w.rest m.holds in
+    let holds : LevelHolds p.mode (top p.levels) p'.here vs rest = subst (λ (r : List ℕ). LevelHolds p.mode (top p.levels) r vs rest) w.rest m.holds in
     rw read (n.none vs rest (rw (k.mode, k.levels) holds))
 
 pub stops_step_on : {S Y : Type 0} (step : S → Value → Option S) (next : S → Option Y) (s t : S) (p p' : Position) (e : DecodeError) → TakesOne (step s) p p' t → Stops (λ vs. gather step t vs >>= next) p' e → Stops (λ vs. gather step s vs >>= next) p e
@@ -321,11 +321,11 @@ continues_step fields p step next s t p' p'' c k = record {
   levels = k.levels ∙ c.levels;
 }
 
-pub reads_gathered : {S Y : Type 0} (step : S → Value → Option S) (next : S → Option Y) (s : S) (p q : Position) (y : Y) → Leaves p q → next s ≡ Some y → Reads (λ vs. gather step s vs >>= next) p q y
+pub reads_gathered : {S Y : Type 0} (step : S → Value → Option S) (next : S → Option Y) (s : S) (p q : Position) (y : Y) → Leaves p q → next s ≡ Some y → ReadsFields (λ vs. gather step s vs >>= next) p q y
 unfolding gather ◌>>=◌
 reads_gathered step next s p q y l e = record { values = End; holds = holds_end p.mode (top p.levels) p.here q.here l.ends; reads = e; levels = l.levels; mode = l.mode }
 
-step_refused : {S Y : Type 0} (step : S → Value → Option S) (next : S → Option Y) (s : S) (p : Position) → (AtEnd p → ⊥) → NoneStands (step s) p → (vs : Values) (rest : List ℕ) → Holds p.mode (top p.levels) p.here vs rest → (gather step s vs >>= next) ≡ None
+step_refused : {S Y : Type 0} (step : S → Value → Option S) (next : S → Option Y) (s : S) (p : Position) → (AtEnd p → ⊥) → NoneStands (step s) p → (vs : Values) (rest : List ℕ) → LevelHolds p.mode (top p.levels) p.here vs rest → (gather step s vs >>= next) ≡ None
 unfolding gather ◌>>=◌
 step_refused step next s p more n End rest h = absurd (more (rest, end_holds p.mode (top p.levels) p.here rest h))
 step_refused step next s p more n (v ▸ vs) rest h =
@@ -337,7 +337,7 @@ stops_step step next s p Malformed more n = record { none = step_refused step ne
 stops_step step next s p OutOfMemory more n = tt
 
 -- what was gathered is refused in the end
-gathered_none : {S Y : Type 0} (step : S → Value → Option S) (next : S → Option Y) (s : S) (p : Position) (rest' : List ℕ) → Ends (top p.levels) p.here rest' → next s ≡ None → (vs : Values) (rest : List ℕ) → Holds p.mode (top p.levels) p.here vs rest → (gather step s vs >>= next) ≡ None
+gathered_none : {S Y : Type 0} (step : S → Value → Option S) (next : S → Option Y) (s : S) (p : Position) (rest' : List ℕ) → EndsLevel (top p.levels) p.here rest' → next s ≡ None → (vs : Values) (rest : List ℕ) → LevelHolds p.mode (top p.levels) p.here vs rest → (gather step s vs >>= next) ≡ None
 unfolding gather ◌>>=◌
 gathered_none step next s p rest' a e End rest h = e
 gathered_none step next s p rest' a e (v ▸ vs) rest h =

@@ -2,7 +2,7 @@
 use Rattle.std.proofs.Common.{◌≡◌, ℕ, ◌+◌, ◌<◌, ◌^◌, List, [], ◌∷◌, length, drop, sym, subst, arith}
 use Rattle.rpki_der.specs.declared.mode.Mode.{Mode}
 use Rattle.rpki_der.specs.Value.{Value, Begins}
-use Rattle.rpki_der.specs.Level.{Level, Ends, Opens}
+use Rattle.rpki_der.specs.Level.{Level, EndsLevel, Opens}
 use Rattle.rpki_der.specs.Levels.{HasRoom}
 use Rattle.rpki_der.specs.Position.{top}
 use Rattle.rpki_der.proofs.Counting.{opens_left, begins_left, ends_left}
@@ -22,11 +22,11 @@ room_first mode here i level inner levels o e h =
 pub room_over : (mode : Mode) (here : List ℕ) (v : Value) (rest : List ℕ) (levels : List Level) → Begins mode here v rest → HasRoom here levels → HasRoom rest levels
 room_over mode here v rest levels b h = omega (arith, begins_left mode here v rest b, h)
 
-pub room_out : (here rest : List ℕ) (levels levels' : List Level) → levels' ≡ drop 1 levels → Ends (top levels) here rest → HasRoom here levels → HasRoom rest levels'
+pub room_out : (here rest : List ℕ) (levels levels' : List Level) → levels' ≡ drop 1 levels → EndsLevel (top levels) here rest → HasRoom here levels → HasRoom rest levels'
 room_out here rest [] levels' e ends h = subst (HasRoom rest) (sym e) (omega (arith, ends_left [] here rest ends, h))
 room_out here rest (level ∷ levels) levels' e ends h = subst (HasRoom rest) (sym e) (omega (arith, ends_left (level ∷ levels) here rest ends, h))
 
-pub room_out_last : (here rest : List ℕ) (levels : List Level) (level : Level) → levels ≡ level ∷ drop 1 levels → Ends level here rest → HasRoom here levels → HasRoom rest (drop 1 levels)
+pub room_out_last : (here rest : List ℕ) (levels : List Level) (level : Level) → levels ≡ level ∷ drop 1 levels → EndsLevel level here rest → HasRoom here levels → HasRoom rest (drop 1 levels)
 room_out_last here rest levels level e ends h =
     let k : HasRoom here (level ∷ drop 1 levels) = subst (HasRoom here) e h in
     omega (arith, ends_left (level ∷ drop 1 levels) here rest ends, k)

@@ -3,7 +3,7 @@ use Rattle.std.proofs.Common.{◌≡◌, ℕ, ◌+◌, ◌≤◌, Result, Ok, Er
 use Rattle.std.specs.Prelude.{OnErr}
 use Rattle.rpki_der.specs.declared.mode.Mode.{Mode}
 use Rattle.rpki_der.specs.Value.{Primitive, Begins}
-use Rattle.rpki_der.specs.Level.{Level, Ends, Opens}
+use Rattle.rpki_der.specs.Level.{Level, EndsLevel, Opens}
 use Rattle.rpki_der.specs.Ticks.{marks}
 use Rattle.rpki_der.specs.Stopping.{Headers, Nothing, Over, Into, Out, StopsIn}
 
@@ -43,7 +43,7 @@ passed_one mode start outer b here levels m here' levels' a p h t = record {
   ticks = omega (arith, p.ticks, t);
 }
 
-pub passed_out : (mode : Mode) (start : List ℕ) (outer : List Level) (b : ℕ) (here : List ℕ) (levels : List Level) (m : ℕ) (level : Level) (rest : List ℕ) (a : ℕ) → levels ≡ level ∷ drop 1 levels → Passed mode start outer b here levels m → Ends level here rest → a ≡ m + marks level → Passed mode start outer b rest (drop 1 levels) a
+pub passed_out : (mode : Mode) (start : List ℕ) (outer : List Level) (b : ℕ) (here : List ℕ) (levels : List Level) (m : ℕ) (level : Level) (rest : List ℕ) (a : ℕ) → levels ≡ level ∷ drop 1 levels → Passed mode start outer b here levels m → EndsLevel level here rest → a ≡ m + marks level → Passed mode start outer b rest (drop 1 levels) a
 passed_out mode start outer b here levels m level rest a e p ends t = record {
   count = p.count + marks level;
   headers = Out p.count here (drop 1 levels) level rest (subst (λ (ls : List Level). Headers mode start outer p.count here ls) e p.headers) ends;

@@ -5,7 +5,7 @@ use Rattle.rpki_der.specs.declared.mode.Mode.TheVariants.{Ber, Der}
 use Rattle.rpki_der.specs.Identifier.{IsIdentifier}
 use Rattle.rpki_der.specs.Lengths.{IsLength}
 use Rattle.rpki_der.specs.Value.{Form, Definite, Indefinite, Value, Primitive, Constructed, Values, End, ◌▸◌, end_mark, spelling, spellings, Begins}
-use Rattle.rpki_der.specs.Level.{mark_of, Level, Sized, Marked, Holds, Ends, Opens}
+use Rattle.rpki_der.specs.Level.{mark_of, Level, Sized, Marked, LevelHolds, EndsLevel, Opens}
 use Rattle.rpki_der.specs.Part.{NoValue}
 use Rattle.rpki_der.specs.Walk.{Completes, OneFirst, Descends, left_in}
 use Rattle.rpki_der.proofs.Uniqueness.{same_cut, same_identifier, same_length, not_indefinite, three_parts, four_parts, begins_no_end, mixed, IsEnd, tail_of}
@@ -13,7 +13,7 @@ use Rattle.rpki_der.proofs.Parts.{at_most_one}
 
 -- ---- one level
 
-pub holds_cons : (mode : Mode) (level : Level) (here here' : List ℕ) (v : Value) (vs : Values) (next : List ℕ) → Begins mode here v here' → Holds mode level here' vs next → Holds mode level here (v ▸ vs) next
+pub holds_cons : (mode : Mode) (level : Level) (here here' : List ℕ) (v : Value) (vs : Values) (next : List ℕ) → Begins mode here v here' → LevelHolds mode level here' vs next → LevelHolds mode level here (v ▸ vs) next
 holds_cons mode (Sized after) here here' v vs next b h = ((b.lawful, h.0), b.parts ∙ ap (λ r. spelling v ++ r) h.1, h.2)
 holds_cons mode Marked here here' v vs next b h =
     ((b.lawful, h.0), b.parts ∙ ap (λ r. spelling v ++ r) h.1 ∙ sym (append_assoc (spelling v) (spellings vs) (0 ∷ 0 ∷ next)))
@@ -21,9 +21,9 @@ holds_cons mode Marked here here' v vs next b h =
 pub record HoldsMore (mode : Mode) (level : Level) (here : List ℕ) (v : Value) (vs : Values) (next : List ℕ) : Type 0 where
   pub here' : List ℕ
   pub begins : Begins mode here v here'
-  pub holds : Holds mode level here' vs next
+  pub holds : LevelHolds mode level here' vs next
 
-pub holds_more : (mode : Mode) (level : Level) (here : List ℕ) (v : Value) (vs : Values) (next : List ℕ) → Holds mode level here (v ▸ vs) next → HoldsMore mode level here v vs next
+pub holds_more : (mode : Mode) (level : Level) (here : List ℕ) (v : Value) (vs : Values) (next : List ℕ) → LevelHolds mode level here (v ▸ vs) next → HoldsMore mode level here v vs next
 holds_more mode (Sized after) here v vs next h = record {
   here' = spellings vs;
   begins = record { lawful = h.0.0; parts = h.1 };
@@ -35,22 +35,22 @@ holds_more mode Marked here v vs next h = record {
   holds = (h.0.1, refl);
 }
 
-pub holds_end : (mode : Mode) (level : Level) (here next : List ℕ) → Ends level here next → Holds mode level here End next
+pub holds_end : (mode : Mode) (level : Level) (here next : List ℕ) → EndsLevel level here next → LevelHolds mode level here End next
 holds_end mode (Sized after) here next e = (tt, e.0, e.1)
 holds_end mode Marked here next e = (tt, e)
 
-pub end_holds : (mode : Mode) (level : Level) (here next : List ℕ) → Holds mode level here End next → Ends level here next
+pub end_holds : (mode : Mode) (level : Level) (here next : List ℕ) → LevelHolds mode level here End next → EndsLevel level here next
 end_holds mode (Sized after) here next h = (h.1, h.2)
 end_holds mode Marked here next h = h.1
 
-pub ends_is_end : (level : Level) (here next : List ℕ) → Ends level here next → IsEnd here
+pub ends_is_end : (level : Level) (here next : List ℕ) → EndsLevel level here next → IsEnd here
 ends_is_end (Sized after) here next e = rw e.0 tt
 ends_is_end Marked here next e = rw e refl
 
-pub ends_no_value : (mode : Mode) (level : Level) (here next : List ℕ) → Ends level here next → NoValue mode here
+pub ends_no_value : (mode : Mode) (level : Level) (here next : List ℕ) → EndsLevel level here next → NoValue mode here
 ends_no_value mode level here next e v rest b = begins_no_end mode v rest b.lawful (subst IsEnd b.parts (ends_is_end level here next e))
 
-pub ends_once : (level : Level) (here x y : List ℕ) → Ends level here x → Ends level here y → x ≡ y
+pub ends_once : (level : Level) (here x y : List ℕ) → EndsLevel level here x → EndsLevel level here y → x ≡ y
 ends_once (Sized after) here x y p q = sym p.1 ∙ q.1
 ends_once Marked here x y p q = tail_of 0 0 x y (tail_of 0 0 _ _ (sym p ∙ q))
 
@@ -61,7 +61,7 @@ pub record Back (mode : Mode) (here identifier : List ℕ) (level : Level) (vs :
   pub fits : end_mark form ≡ mark_of level
   pub begins : Begins mode here (Constructed identifier form vs) next
 
-pub opens_back : (mode : Mode) (here i : List ℕ) (level : Level) (inner : List ℕ) (vs : Values) (next : List ℕ) → Opens mode here i level inner → Holds mode level inner vs next → Back mode here i level vs next
+pub opens_back : (mode : Mode) (here i : List ℕ) (level : Level) (inner : List ℕ) (vs : Values) (next : List ℕ) → Opens mode here i level inner → LevelHolds mode level inner vs next → Back mode here i level vs next
 opens_back mode here i (Sized after) inner vs next o h = record {
   form = Definite o.2;
   fits = refl;
@@ -86,7 +86,7 @@ pub record Inside (mode : Mode) (level : Level) (inner identifier : List ℕ) (v
   pub fits : end_mark form ≡ mark_of level
   pub values : Values
   pub is : v ≡ Constructed identifier form values
-  pub holds : Holds mode level inner values next
+  pub holds : LevelHolds mode level inner values next
 
 pub opens_forth : (mode : Mode) (here i : List ℕ) (level : Level) (inner : List ℕ) (v : Value) (next : List ℕ) → Opens mode here i level inner → Begins mode here v next → Inside mode level inner i v next
 opens_forth mode here i (Sized after) inner (Primitive j m d) next o b = absurd (mixed j i _ _ b.lawful.0 o.0 b.lawful.1 o.1 (sym (b.parts ∙ three_parts j m d next) ∙ o.4))
@@ -145,12 +145,12 @@ smaller_push mode here i inner opened opened' level o e =
     subst (λ (ls : List Level). length inner + left_in ls < length here + left_in opened) (sym e) (smaller_into mode here i level inner opened o)
 
 -- where the level ends, it holds no value
-pub at_end : (mode : Mode) (level : Level) (here rest : List ℕ) (vs : Values) (next : List ℕ) → Ends level here rest → Holds mode level here vs next → rest ≡ next
+pub at_end : (mode : Mode) (level : Level) (here rest : List ℕ) (vs : Values) (next : List ℕ) → EndsLevel level here rest → LevelHolds mode level here vs next → rest ≡ next
 at_end mode level here rest End next e h = ends_once level here rest next e (end_holds mode level here next h)
 at_end mode level here rest (v ▸ vs) next e h = let m = holds_more mode level here v vs next h in absurd (ends_no_value mode level here rest e v m.here' m.begins)
 
 -- elsewhere it holds a first value
-pub first_of : (mode : Mode) (level : Level) (levels : List Level) (here : List ℕ) (final : List ℕ) → ((rest : List ℕ) → Ends level here rest → ⊥) → Completes mode here (level ∷ levels) final → OneFirst mode here (level ∷ levels) final
+pub first_of : (mode : Mode) (level : Level) (levels : List Level) (here : List ℕ) (final : List ℕ) → ((rest : List ℕ) → EndsLevel level here rest → ⊥) → Completes mode here (level ∷ levels) final → OneFirst mode here (level ∷ levels) final
 first_of mode level levels here final none (End, next, h, k) = absurd (none next (end_holds mode level here next h))
 first_of mode level levels here final none (v ▸ vs, next, h, k) = let m = holds_more mode level here v vs next h in (v, m.here', m.begins, (vs, next, m.holds, k))
 
@@ -158,38 +158,38 @@ first_of mode level levels here final none (v ▸ vs, next, h, k) = let m = hold
 abbrev pub LeadsTo : Mode → List ℕ → List Level → List ℕ → List Level → Type 0
 LeadsTo mode octets base here levels = (final : List ℕ) → Completes mode octets base final → Completes mode here levels final
 
-pub ended : (mode : Mode) (octets : List ℕ) (base : List Level) (level : Level) (levels : List Level) (here rest : List ℕ) → LeadsTo mode octets base here (level ∷ levels) → Ends level here rest → LeadsTo mode octets base rest levels
+pub ended : (mode : Mode) (octets : List ℕ) (base : List Level) (level : Level) (levels : List Level) (here rest : List ℕ) → LeadsTo mode octets base here (level ∷ levels) → EndsLevel level here rest → LeadsTo mode octets base rest levels
 ended mode octets base level levels here rest d e = λ final p.
     let k = d final p in subst (λ (r : List ℕ). Completes mode r levels final) (sym (at_end mode level here rest k.0 k.1 e k.2)) k.3
 
-pub went_on : (mode : Mode) (octets : List ℕ) (base : List Level) (level : Level) (levels : List Level) (here new : List ℕ) (news : List Level) → LeadsTo mode octets base here (level ∷ levels) → ((rest : List ℕ) → Ends level here rest → ⊥) → Descends mode here (level ∷ levels) new news → LeadsTo mode octets base new news
+pub went_on : (mode : Mode) (octets : List ℕ) (base : List Level) (level : Level) (levels : List Level) (here new : List ℕ) (news : List Level) → LeadsTo mode octets base here (level ∷ levels) → ((rest : List ℕ) → EndsLevel level here rest → ⊥) → Descends mode here (level ∷ levels) new news → LeadsTo mode octets base new news
 went_on mode octets base level levels here new news d none g = λ final p. g.forth final (first_of mode level levels here final none (d final p))
 
-pub refused : (mode : Mode) (octets : List ℕ) (base : List Level) (level : Level) (levels : List Level) (here : List ℕ) → LeadsTo mode octets base here (level ∷ levels) → ((rest : List ℕ) → Ends level here rest → ⊥) → NoValue mode here → (final : List ℕ) → Completes mode octets base final → ⊥
+pub refused : (mode : Mode) (octets : List ℕ) (base : List Level) (level : Level) (levels : List Level) (here : List ℕ) → LeadsTo mode octets base here (level ∷ levels) → ((rest : List ℕ) → EndsLevel level here rest → ⊥) → NoValue mode here → (final : List ℕ) → Completes mode octets base final → ⊥
 refused mode octets base level levels here d none empty final p = let o = first_of mode level levels here final none (d final p) in empty o.0 o.1 o.2
 
 -- where the levels behind the first header can't be completed, no value stands
 pub none_first : (mode : Mode) (octets here : List ℕ) (levels : List Level) → Descends mode octets [] here levels → ((final : List ℕ) → Completes mode here levels final → ⊥) → NoValue mode octets
 none_first mode octets here levels d none v rest b = none rest (d.forth rest (v, rest, b, refl))
 
-pub smaller_end : (level : Level) (levels : List Level) (here rest : List ℕ) → Ends level here rest → length rest + left_in levels < length here + left_in (level ∷ levels)
+pub smaller_end : (level : Level) (levels : List Level) (here rest : List ℕ) → EndsLevel level here rest → length rest + left_in levels < length here + left_in (level ∷ levels)
 smaller_end (Sized after) levels here rest e = let a = ap length e.0 in let b = ap length e.1 in omega arith
 smaller_end Marked levels here rest e = let a = ap length e in omega arith
 
 -- ---- walks on the levels of the code
 
-pub ended_last : (mode : Mode) (octets : List ℕ) (base opened : List Level) (level : Level) (here rest : List ℕ) → opened ≡ level ∷ drop 1 opened → LeadsTo mode octets base here opened → Ends level here rest → LeadsTo mode octets base rest (drop 1 opened)
+pub ended_last : (mode : Mode) (octets : List ℕ) (base opened : List Level) (level : Level) (here rest : List ℕ) → opened ≡ level ∷ drop 1 opened → LeadsTo mode octets base here opened → EndsLevel level here rest → LeadsTo mode octets base rest (drop 1 opened)
 ended_last mode octets base opened level here rest e d h =
     ended mode octets base level (drop 1 opened) here rest (subst (λ (ls : List Level). LeadsTo mode octets base here ls) e d) h
 
-pub smaller_end_last : (opened : List Level) (level : Level) (here rest : List ℕ) → opened ≡ level ∷ drop 1 opened → Ends level here rest → length rest + left_in (drop 1 opened) < length here + left_in opened
+pub smaller_end_last : (opened : List Level) (level : Level) (here rest : List ℕ) → opened ≡ level ∷ drop 1 opened → EndsLevel level here rest → length rest + left_in (drop 1 opened) < length here + left_in opened
 smaller_end_last opened level here rest e h =
     subst (λ (ls : List Level). length rest + left_in (drop 1 opened) < length here + left_in ls) (sym e) (smaller_end level (drop 1 opened) here rest h)
 
-pub went_on_last : (mode : Mode) (octets : List ℕ) (base opened : List Level) (level : Level) (here new : List ℕ) (news : List Level) → opened ≡ level ∷ drop 1 opened → LeadsTo mode octets base here opened → ((rest : List ℕ) → Ends level here rest → ⊥) → Descends mode here opened new news → LeadsTo mode octets base new news
+pub went_on_last : (mode : Mode) (octets : List ℕ) (base opened : List Level) (level : Level) (here new : List ℕ) (news : List Level) → opened ≡ level ∷ drop 1 opened → LeadsTo mode octets base here opened → ((rest : List ℕ) → EndsLevel level here rest → ⊥) → Descends mode here opened new news → LeadsTo mode octets base new news
 went_on_last mode octets base opened level here new news e d none g =
     went_on mode octets base level (drop 1 opened) here new news (subst (λ (ls : List Level). LeadsTo mode octets base here ls) e d) none (subst (λ (ls : List Level). Descends mode here ls new news) e g)
 
-pub refused_last : (mode : Mode) (octets : List ℕ) (base opened : List Level) (level : Level) (here : List ℕ) → opened ≡ level ∷ drop 1 opened → LeadsTo mode octets base here opened → ((rest : List ℕ) → Ends level here rest → ⊥) → NoValue mode here → (final : List ℕ) → Completes mode octets base final → ⊥
+pub refused_last : (mode : Mode) (octets : List ℕ) (base opened : List Level) (level : Level) (here : List ℕ) → opened ≡ level ∷ drop 1 opened → LeadsTo mode octets base here opened → ((rest : List ℕ) → EndsLevel level here rest → ⊥) → NoValue mode here → (final : List ℕ) → Completes mode octets base final → ⊥
 refused_last mode octets base opened level here e d none empty =
     refused mode octets base level (drop 1 opened) here (subst (λ (ls : List Level). LeadsTo mode octets base here ls) e d) none empty

@@ -5,7 +5,7 @@ use Rattle.rpki_der.specs.Value.{Value, Constructed, Values, spelling, Begins}
 use Rattle.rpki_der.specs.Identifier.{has_tag}
 use Rattle.rpki_der.specs.Grammar.{any, identifier_of}
 use Rattle.rpki_der.specs.Item.{ItemFields, item, any_item}
-use Rattle.rpki_der.specs.Level.{Holds}
+use Rattle.rpki_der.specs.Level.{LevelHolds}
 use Rattle.rpki_der.specs.Position.{Position, top}
 use Rattle.rpki_der.specs.Reader.{value_at}
 use Rattle.rpki_der.specs.Takes.{TakesOne, Goes}
@@ -30,12 +30,12 @@ item_is p q i v rest t b = let s = at_most_one p.mode p.here t.value v q.here re
 pub octets_are : (p q : Position) (octets : List ℕ) (v : Value) (rest : List ℕ) → TakesOne any p q octets → Begins p.mode p.here v rest → (octets ≡ spelling v) × (q.here ≡ rest)
 octets_are p q octets v rest t b = let s = at_most_one p.mode p.here t.value v q.here rest t.begins b in (some_octets (spelling t.value) octets t.reads ∙ ap spelling s.value, s.rest)
 
-pub parts_of : (tag : List ℕ) (p q : Position) (v : Value) (rest : List ℕ) → Goes tag p q → Begins p.mode p.here v rest → Holds q.mode (top q.levels) q.here (inside v) rest
+pub parts_of : (tag : List ℕ) (p q : Position) (v : Value) (rest : List ℕ) → Goes tag p q → Begins p.mode p.here v rest → LevelHolds q.mode (top q.levels) q.here (inside v) rest
 parts_of tag p q v rest g b =
     let w = opens_forth p.mode p.here g.identifier g.level q.here v rest g.opens b in
-    rw (g.mode, g.levels) (subst (λ (vs : Values). Holds p.mode g.level q.here vs rest) (sym (ap inside w.is)) w.holds)
+    rw (g.mode, g.levels) (subst (λ (vs : Values). LevelHolds p.mode g.level q.here vs rest) (sym (ap inside w.is)) w.holds)
 
-pub whole_around : (tag : List ℕ) (p q : Position) (vs : Values) (rest : List ℕ) → Goes tag p q → Holds q.mode (top q.levels) q.here vs rest → (v : Value) × Begins p.mode p.here v rest × (inside v ≡ vs) × (has_tag tag (identifier_of v) ≡ true)
+pub whole_around : (tag : List ℕ) (p q : Position) (vs : Values) (rest : List ℕ) → Goes tag p q → LevelHolds q.mode (top q.levels) q.here vs rest → (v : Value) × Begins p.mode p.here v rest × (inside v ≡ vs) × (has_tag tag (identifier_of v) ≡ true)
 whole_around tag p q vs rest g h =
     let w = opens_back p.mode p.here g.identifier g.level q.here vs rest g.opens (rw (g.mode, g.levels) at h) in
     (Constructed g.identifier w.form vs, w.begins, refl, g.tagged)

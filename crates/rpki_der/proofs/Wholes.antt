@@ -5,7 +5,7 @@ use Rattle.rpki_der.specs.declared.error.DecodeError.{DecodeError}
 use Rattle.rpki_der.specs.declared.error.DecodeError.TheVariants.{Malformed, OutOfMemory}
 use Rattle.rpki_der.specs.declared.mode.Mode.{Mode}
 use Rattle.rpki_der.specs.Value.{Value, Begins}
-use Rattle.rpki_der.specs.Level.{Level, Sized, Ends}
+use Rattle.rpki_der.specs.Level.{Level, Sized, EndsLevel}
 use Rattle.rpki_der.specs.Position.{Position, top, AtEnd}
 use Rattle.rpki_der.specs.Takes.{TakesOne, Refuses}
 use Rattle.rpki_der.specs.Whole.{IsWhole, RefusesWhole, HoldsOne}
@@ -26,14 +26,14 @@ no_levels mode octets p q e l = ap top (l ∙ ap (λ (r : Position). r.levels) e
 
 pub whole_ok : {X : Type 0} (grammar : Value → Option X) (mode : Mode) (octets : List ℕ) (p q : Position) (x : X) → Fresh mode octets p → TakesOne grammar p q x → AtEnd q → IsWhole grammar mode octets x
 whole_ok grammar mode octets p q x e t a =
-    let ends : Ends (Sized []) q.here a.0 = subst (λ (l : Level). Ends l q.here a.0) (no_levels mode octets p q e t.levels) a.1 in
+    let ends : EndsLevel (Sized []) q.here a.0 = subst (λ (l : Level). EndsLevel l q.here a.0) (no_levels mode octets p q e t.levels) a.1 in
     record { value = t.value; begins = subst (Begins mode octets t.value) ends.0 (begins_in mode octets p t.value q.here e t.begins); reads = t.reads }
 
 pub whole_more : {X : Type 0} (grammar : Value → Option X) (mode : Mode) (octets : List ℕ) (p q : Position) (x : X) → Fresh mode octets p → TakesOne grammar p q x → (AtEnd q → ⊥) → RefusesWhole grammar mode octets Malformed
 unfolding RefusesWhole
 whole_more grammar mode octets p q x e t more v b =
     let s = at_most_one mode octets t.value v q.here [] (begins_in mode octets p t.value q.here e t.begins) b in
-    absurd (more ([], subst (λ (l : Level). Ends l q.here []) (sym (no_levels mode octets p q e t.levels)) (s.rest, refl)))
+    absurd (more ([], subst (λ (l : Level). EndsLevel l q.here []) (sym (no_levels mode octets p q e t.levels)) (s.rest, refl)))
 
 pub whole_none : {X : Type 0} (grammar : Value → Option X) (mode : Mode) (octets : List ℕ) (p : Position) (error : DecodeError) → Fresh mode octets p → Refuses grammar p error → RefusesWhole grammar mode octets error
 unfolding RefusesWhole Refuses

@@ -9,18 +9,18 @@ use Rattle.rpki_der.specs.Identifier.{IsIdentifier, IsTag, is_constructed, witho
 use Rattle.rpki_der.specs.Lengths.{number, IsLength}
 use Rattle.rpki_der.specs.Value.{Value, Values, End, ◌▸◌, spelling, spellings, IsValue, AreValues, Begins}
 use Rattle.rpki_der.specs.Item.{ItemFields, item}
-use Rattle.rpki_der.specs.Writing.{octets_of, der_length, with_bit_6, primitive_value, der_primitive, constructed_value, der_constructed, Spells, followed}
+use Rattle.rpki_der.specs.Writing.{octets_of_number, der_length, with_bit_6, primitive_value, der_primitive, constructed_value, der_constructed, Spells, followed}
 use Rattle.rpki_der.proofs.Strict.{loose_length}
 
 -- ---- length octets
 
-two_octets : (n : ℕ) → n < 65536 → n ≡ number (octets_of 2 n)
+two_octets : (n : ℕ) → n < 65536 → n ≡ number (octets_of_number 2 n)
 two_octets n h = omega arith
 
-three_octets : (n : ℕ) → n < 16777216 → n ≡ number (octets_of 3 n)
+three_octets : (n : ℕ) → n < 16777216 → n ≡ number (octets_of_number 3 n)
 three_octets n h = omega arith
 
-four_octets : (n : ℕ) → n < 4294967296 → n ≡ number (octets_of 4 n)
+four_octets : (n : ℕ) → n < 4294967296 → n ≡ number (octets_of_number 4 n)
 four_octets n h = omega arith
 
 by_size : (b : Bool) (x y : List ℕ) (n : ℕ) → (b ≡ true → IsLength Der x n) → (b ≡ false → IsLength Der y n) → IsLength Der (if b then x else y) n
@@ -30,16 +30,16 @@ by_size false x y n f g = g refl
 not_zero : (a : ℕ) → 0 < a → a ≢ 0
 not_zero a h e = omega (arith, e)
 
-one_is : (n : ℕ) → 128 ≤ n → n < 256 → IsLength Der (129 ∷ octets_of 1 n) n
+one_is : (n : ℕ) → 128 ≤ n → n < 256 → IsLength Der (129 ∷ octets_of_number 1 n) n
 one_is n l h = let e : n % 256 ≡ n = omega arith in (refl, omega arith, omega (arith, e), (not_zero (n % 256) (omega (arith, e)), omega (arith, e)))
 
-two_is : (n : ℕ) → 256 ≤ n → n < 65536 → IsLength Der (130 ∷ octets_of 2 n) n
+two_is : (n : ℕ) → 256 ≤ n → n < 65536 → IsLength Der (130 ∷ octets_of_number 2 n) n
 two_is n l h = let e = two_octets n h in (refl, omega arith, e, (not_zero (n / 256 % 256) (omega arith), omega (arith, e)))
 
-three_is : (n : ℕ) → 65536 ≤ n → n < 16777216 → IsLength Der (131 ∷ octets_of 3 n) n
+three_is : (n : ℕ) → 65536 ≤ n → n < 16777216 → IsLength Der (131 ∷ octets_of_number 3 n) n
 three_is n l h = let e = three_octets n h in (refl, omega arith, e, (not_zero (n / 256 / 256 % 256) (omega arith), omega (arith, e)))
 
-four_is : (n : ℕ) → 16777216 ≤ n → n < 4294967296 → IsLength Der (132 ∷ octets_of 4 n) n
+four_is : (n : ℕ) → 16777216 ≤ n → n < 4294967296 → IsLength Der (132 ∷ octets_of_number 4 n) n
 four_is n l h = let e = four_octets n h in (refl, omega arith, e, (not_zero (n / 256 / 256 / 256 % 256) (omega arith), omega (arith, e)))
 
 pub length_is : (n : ℕ) → n < 4294967296 → IsLength Der (der_length n) n

@@ -4,16 +4,16 @@ use Rattle.rpki_der.specs.declared.mode.Mode.{Mode}
 use Rattle.rpki_der.specs.declared.tree.Entry.{Entry}
 use Rattle.rpki_der.specs.declared.index.Inside.{Inside}
 use Rattle.rpki_der.specs.Value.{Value, Values, Begins}
-use Rattle.rpki_der.specs.Level.{Holds}
+use Rattle.rpki_der.specs.Level.{LevelHolds}
 use Rattle.rpki_der.specs.Part.{level_of}
 use Rattle.rpki_der.specs.Walk.{left_in}
 use Rattle.rpki_der.specs.Entries.{entries_of, all_entries_of}
 
 -- the entry at this place gets this size; all entries behind it are those of the values inside it
-abbrev pub closed : List Entry → ℕ → ℕ → List Entry
-closed [] k size = []
-closed (e ∷ es) zero size = record e { size = size; count = length es } ∷ es
-closed (e ∷ es) (suc k) size = e ∷ closed es k size
+abbrev pub entries_closed : List Entry → ℕ → ℕ → List Entry
+entries_closed [] k size = []
+entries_closed (e ∷ es) zero size = record e { size = size; count = length es } ∷ es
+entries_closed (e ∷ es) (suc k) size = e ∷ entries_closed es k size
 
 -- the innermost level first
 abbrev pub inner_first : List Inside → List Inside
@@ -23,8 +23,8 @@ inner_first levels = reverse levels
 abbrev pub CompletesTree : Mode → List ℕ → List Inside → List Entry → List ℕ → List Entry → Type 0
 CompletesTree mode here [] entries final total = (here ≡ final) × (entries ≡ total)
 CompletesTree mode here (level ∷ levels) entries final total =
-    (vs : Values) × (next : List ℕ) × Holds mode (level_of level.extent) here vs next
-    × CompletesTree mode next levels (closed (entries ++ all_entries_of vs) level.entry
+    (vs : Values) × (next : List ℕ) × LevelHolds mode (level_of level.extent) here vs next
+    × CompletesTree mode next levels (entries_closed (entries ++ all_entries_of vs) level.entry
     (length level.before.now - length next)) final total
 
 -- one value stands first, and then what is read on

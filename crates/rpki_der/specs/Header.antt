@@ -8,9 +8,9 @@ use Rattle.rpki_der.specs.Identifier.{IsIdentifier}
 use Rattle.rpki_der.specs.Lengths.{IsLength}
 
 -- the length octets say so
-abbrev pub Says : Mode → List ℕ → Length → Type 0
-Says mode lengths (length_is.Definite n) = IsLength mode lengths n
-Says mode lengths length_is.Indefinite = (mode ≡ Ber) × (lengths ≡ 128 ∷ [])
+abbrev pub SaysLength : Mode → List ℕ → Length → Type 0
+SaysLength mode lengths (length_is.Definite n) = IsLength mode lengths n
+SaysLength mode lengths length_is.Indefinite = (mode ≡ Ber) × (lengths ≡ 128 ∷ [])
 
 -- an identifier stands at the beginning of the octets, and rest behind it
 pub record IdentifierFirst (octets identifier rest : List ℕ) : Type 0 where
@@ -27,7 +27,7 @@ pub record HeaderFirst (mode : Mode) (octets identifier : List ℕ) (length : Le
     (rest : List ℕ) : Type 0 where
   pub lengths : List ℕ
   pub is_identifier : IsIdentifier identifier
-  pub says : Says mode lengths length
+  pub says : SaysLength mode lengths length
   pub parts : octets ≡ identifier ++ (lengths ++ rest)
 
 -- no identifier with lawful length octets behind it stands at the beginning of the octets

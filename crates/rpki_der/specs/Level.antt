@@ -27,14 +27,14 @@ behind_level (Sized after) = length after
 behind_level Marked = 0
 
 -- the level's octets from here on are these values, and rest stands behind the level
-abbrev pub Holds : Mode → Level → List ℕ → Values → List ℕ → Type 0
-Holds mode (Sized after) here vs rest = AreValues mode vs × (here ≡ spellings vs) × (after ≡ rest)
-Holds mode Marked here vs rest = AreValues mode vs × (here ≡ spellings vs ++ 0 ∷ 0 ∷ rest)
+abbrev pub LevelHolds : Mode → Level → List ℕ → Values → List ℕ → Type 0
+LevelHolds mode (Sized after) here vs rest = AreValues mode vs × (here ≡ spellings vs) × (after ≡ rest)
+LevelHolds mode Marked here vs rest = AreValues mode vs × (here ≡ spellings vs ++ 0 ∷ 0 ∷ rest)
 
 -- the level ends here, and rest stands behind it
-abbrev pub Ends : Level → List ℕ → List ℕ → Type 0
-Ends (Sized after) here rest = (here ≡ []) × (after ≡ rest)
-Ends Marked here rest = here ≡ 0 ∷ 0 ∷ rest
+abbrev pub EndsLevel : Level → List ℕ → List ℕ → Type 0
+EndsLevel (Sized after) here rest = (here ≡ []) × (after ≡ rest)
+EndsLevel Marked here rest = here ≡ 0 ∷ 0 ∷ rest
 
 -- a constructed value with this identifier stands at the beginning of the octets, by its header;
 -- inner are the octets from its contents on

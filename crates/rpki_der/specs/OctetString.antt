@@ -12,19 +12,19 @@ use Rattle.rpki_der.specs.Grammar.{primitive}
 -- the octets of a value with this tag: its contents, or those of the octet strings inside it,
 -- joined in their order
 unfoldable mutual
-  pub joined : List ℕ → Value → Option (List ℕ)
-  joined tag (Primitive identifier lengths contents) =
+  pub joined_pieces : List ℕ → Value → Option (List ℕ)
+  joined_pieces tag (Primitive identifier lengths contents) =
       if has_tag tag identifier then Some contents else None
-  joined tag (Constructed identifier form inner) =
+  joined_pieces tag (Constructed identifier form inner) =
       if has_tag tag identifier then joined_all inner else None
 
   pub joined_all : Values → Option (List ℕ)
   joined_all End = Some []
-  joined_all (v ▸ vs) = joined octet_string_tag v >>= λ a. joined_all vs >>= λ b. Some (a ++ b)
+  joined_all (v ▸ vs) = joined_pieces octet_string_tag v >>= λ a. joined_all vs >>= λ b. Some (a ++ b)
 
 -- an octet string under this tag; in DER it is primitive (X.690, 10.2)
 unfoldable pub octets_under : List ℕ → Mode → Value → Option (List ℕ)
-octets_under tag Ber = joined tag
+octets_under tag Ber = joined_pieces tag
 octets_under tag Der = primitive tag
 
 -- an OCTET STRING under its universal tag, of either form in BER and primitive in DER (X.690, 8.7

@@ -1,17 +1,17 @@
 -- Reading the segments of an octet string one after the other: a means for the loop, tied to
--- `joined` by proofs/Joining.antt.
+-- `joined_pieces` by proofs/Joining.antt.
 use Rattle.std.specs.Prelude.{◌≡◌, ℕ, zero, suc, ◌+◌, Some, List, [], ◌++◌, length, drop}
 use Rattle.rpki_der.specs.Value.{Value, Values, Begins}
-use Rattle.rpki_der.specs.Level.{Holds}
+use Rattle.rpki_der.specs.Level.{LevelHolds}
 use Rattle.rpki_der.specs.Position.{Position, top}
-use Rattle.rpki_der.specs.OctetString.{joined, joined_all}
+use Rattle.rpki_der.specs.OctetString.{joined_pieces, joined_all}
 
 -- octet strings stand at n levels from p on; behind them is q, and all is front with what they join
 -- to
 abbrev pub JoinsUp : ℕ → Position → List ℕ → Position → List ℕ → Type 0
 JoinsUp zero p front q all = (p ≡ q) × (front ≡ all)
 JoinsUp (suc n) p front q all =
-    (vs : Values) × (next : List ℕ) × (w : List ℕ) × Holds p.mode (top p.levels) p.here vs next
+    (vs : Values) × (next : List ℕ) × (w : List ℕ) × LevelHolds p.mode (top p.levels) p.here vs next
     × (joined_all vs ≡ Some w)
     × JoinsUp n (record { mode = p.mode; here = next; levels = drop 1 p.levels }) (front ++ w) q all
 
@@ -19,7 +19,7 @@ JoinsUp (suc n) p front q all =
 abbrev pub OneJoin : List ℕ → ℕ → Position → List ℕ → Position → List ℕ → Type 0
 OneJoin tag n p front q all =
     (v : Value) × (next : List ℕ) × (w : List ℕ) × Begins p.mode p.here v next
-    × (joined tag v ≡ Some w)
+    × (joined_pieces tag v ≡ Some w)
     × JoinsUp n (record { mode = p.mode; here = next; levels = p.levels }) (front ++ w) q all
 
 -- reading an octet string at p is reading on at p', k levels deeper

@@ -3,7 +3,7 @@
 use Rattle.std.specs.Prelude.{ℕ, ◌+◌, ◌≤◌, List, [], ◌∷◌}
 use Rattle.rpki_der.specs.declared.mode.Mode.{Mode}
 use Rattle.rpki_der.specs.Value.{Primitive, Begins}
-use Rattle.rpki_der.specs.Level.{Level, Ends, Opens}
+use Rattle.rpki_der.specs.Level.{Level, EndsLevel, Opens}
 use Rattle.rpki_der.specs.Ticks.{marks}
 
 -- From start on, inside the levels outer, n headers and end marks stand one behind the other;
@@ -23,7 +23,7 @@ pub data Headers (mode : Mode) (start : List ℕ) (outer : List Level) : ℕ →
       → Headers mode start outer (n + 1) inner (level ∷ levels)
   -- the end of a level, by an end mark or not
   Out : (n : ℕ) (here : List ℕ) (levels : List Level) (level : Level) (rest : List ℕ)
-      → Headers mode start outer n here (level ∷ levels) → Ends level here rest
+      → Headers mode start outer n here (level ∷ levels) → EndsLevel level here rest
       → Headers mode start outer (n + marks level) rest levels
 
 -- From start on, inside the levels outer, there were at most as many ticks as headers and end marks

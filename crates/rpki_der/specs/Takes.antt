@@ -6,7 +6,7 @@ use Rattle.rpki_der.specs.declared.error.DecodeError.TheVariants.{Malformed, Out
 use Rattle.rpki_der.specs.declared.mode.Mode.{Mode}
 use Rattle.rpki_der.specs.Identifier.{has_tag}
 use Rattle.rpki_der.specs.Value.{Value, Values, Begins}
-use Rattle.rpki_der.specs.Level.{Level, Sized, Opens, Holds}
+use Rattle.rpki_der.specs.Level.{Level, Sized, Opens, LevelHolds}
 use Rattle.rpki_der.specs.Position.{Position, top, AtEnd, Leaves}
 
 -- ---- one value
@@ -89,11 +89,11 @@ GoesOut old new result = MatchResult result (λ _. Leaves old new) (RefusesToLea
 -- Fields that stand next at this level are read as x, and the cursor stands behind them afterwards.
 pub record TakesFields {X : Type 0} (fields : Values → Option (X × Values)) (old new : Position)
     (x : X) : Type 0 where
-  pub reads : (vs : Values) (rest : List ℕ) → Holds new.mode (top new.levels) new.here vs rest
-      → (all : Values) × Holds old.mode (top old.levels) old.here all rest
+  pub reads : (vs : Values) (rest : List ℕ) → LevelHolds new.mode (top new.levels) new.here vs rest
+      → (all : Values) × LevelHolds old.mode (top old.levels) old.here all rest
       × (fields all ≡ Some (x, vs))
-  pub only : (all : Values) (rest : List ℕ) → Holds old.mode (top old.levels) old.here all rest
-      → (vs : Values) × Holds new.mode (top new.levels) new.here vs rest
+  pub only : (all : Values) (rest : List ℕ) → LevelHolds old.mode (top old.levels) old.here all rest
+      → (vs : Values) × LevelHolds new.mode (top new.levels) new.here vs rest
       × (fields all ≡ Some (x, vs))
   pub levels : new.levels ≡ old.levels
   pub mode : new.mode ≡ old.mode
@@ -102,7 +102,7 @@ pub record TakesFields {X : Type 0} (fields : Values → Option (X × Values)) (
 unfoldable pub RefusesFields : {X : Type 0} → (Values → Option (X × Values)) → Position
     → DecodeError → Type 0
 RefusesFields fields old Malformed =
-    (all : Values) (rest : List ℕ) → Holds old.mode (top old.levels) old.here all rest
+    (all : Values) (rest : List ℕ) → LevelHolds old.mode (top old.levels) old.here all rest
     → fields all ≡ None
 RefusesFields fields old OutOfMemory = ⊤
 
@@ -142,16 +142,16 @@ Decodes grammar view mode octets result =
 -- ---- what is left of a level, up to its end
 
 -- What is left of the level at p, fields reads as y, and q is behind the level.
-pub record Reads {Y : Type 0} (fields : Values → Option Y) (p q : Position) (y : Y) : Type 0 where
+pub record ReadsFields {Y : Type 0} (fields : Values → Option Y) (p q : Position) (y : Y) : Type 0 where
   pub values : Values
-  pub holds : Holds p.mode (top p.levels) p.here values q.here
+  pub holds : LevelHolds p.mode (top p.levels) p.here values q.here
   pub reads : fields values ≡ Some y
   pub levels : q.levels ≡ drop 1 p.levels
   pub mode : q.mode ≡ p.mode
 
 -- What is left of the level at p is nothing that fields reads.
 pub record ReadsNone {Y : Type 0} (fields : Values → Option Y) (p : Position) : Type 0 where
-  pub none : (vs : Values) (rest : List ℕ) → Holds p.mode (top p.levels) p.here vs rest
+  pub none : (vs : Values) (rest : List ℕ) → LevelHolds p.mode (top p.levels) p.here vs rest
       → fields vs ≡ None
 
 -- what an error of a call on the rest of a level says: Malformed, that nothing that fields reads is
@@ -165,7 +165,7 @@ Stops fields p OutOfMemory = ⊤
 abbrev pub TakesRest : {X Y : Type 0} → (Values → Option X) → (Y → X) → Position → Position
     → Result Y DecodeError → Type 0
 TakesRest fields view old new result =
-    MatchResult result (λ y. Reads fields old new (view y)) (Stops fields old)
+    MatchResult result (λ y. ReadsFields fields old new (view y)) (Stops fields old)
 
 -- ---- what is calculated of octets
 

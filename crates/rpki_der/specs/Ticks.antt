@@ -2,9 +2,9 @@
 use Rattle.std.specs.Prelude.{ℕ, ◌+◌, ◌*◌, ◌≤◌, Option, Result, List, [], ◌∷◌, length, MatchResult}
 use Rattle.rpki_der.specs.declared.error.DecodeError.{DecodeError}
 use Rattle.rpki_der.specs.Value.{Form, Definite, Indefinite, Value, Primitive, Constructed, Values, End, ◌▸◌}
-use Rattle.rpki_der.specs.Level.{Level, Sized, Marked, behind_level, Holds}
+use Rattle.rpki_der.specs.Level.{Level, Sized, Marked, behind_level, LevelHolds}
 use Rattle.rpki_der.specs.Position.{Position, top}
-use Rattle.rpki_der.specs.Takes.{TakesOne, Refuses, TakesFields, RefusesFields, BeginsAs, RefusesOctets, Reads, Stops}
+use Rattle.rpki_der.specs.Takes.{TakesOne, Refuses, TakesFields, RefusesFields, BeginsAs, RefusesOctets, ReadsFields, Stops}
 use Rattle.rpki_der.specs.declared.mode.Mode.{Mode}
 
 -- how many values a value is, itself and those inside it
@@ -75,7 +75,7 @@ TakesCounted c grammar view old new before after result =
 pub record CountedFields {X : Type 0} (c k : ℕ) (fields : Values → Option (X × Values))
     (old new : Position) (before after : ℕ) (x : X) : Type 0 where
   pub takes : TakesFields fields old new x
-  pub least : (vs : Values) (rest : List ℕ) (h : Holds new.mode (top new.levels) new.here vs rest)
+  pub least : (vs : Values) (rest : List ℕ) (h : LevelHolds new.mode (top new.levels) new.here vs rest)
       → before + all_nodes (takes.reads vs rest h).0 ≤ after + all_nodes vs
   pub later : before ≤ after
   pub on : left new ≤ left old
@@ -125,7 +125,7 @@ DecodesCounted c grammar view mode octets before after result =
 -- the header in front.
 pub record CountedReads {Y : Type 0} (c k : ℕ) (fields : Values → Option Y) (p q : Position)
     (before after : ℕ) (y : Y) : Type 0 where
-  pub reads : Reads fields p q y
+  pub reads : ReadsFields fields p q y
   pub least : before + all_nodes reads.values ≤ after
   pub most : after + c * left q ≤ before + c * left p + k
 

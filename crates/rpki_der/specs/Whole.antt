@@ -33,13 +33,13 @@ HoldsOne grammar view mode octets result =
 -- ---- the one value that octets are as a function, for the calls that take no memory
 
 -- the value, where no octets stand behind it
-abbrev pub only : Value × List ℕ → Option Value
-only (v, []) = Some v
-only (v, a ∷ more) = None
+abbrev pub whole_alone : Value × List ℕ → Option Value
+whole_alone (v, []) = Some v
+whole_alone (v, a ∷ more) = None
 
 -- the one value that the octets are, with nothing behind it
 unfoldable pub alone : Mode → List ℕ → Option Value
-alone mode octets = value_at mode octets >>= only
+alone mode octets = value_at mode octets >>= whole_alone
 
 -- what the grammar reads of it
 unfoldable pub whole_of : {X : Type 0} → (Value → Option X) → Mode → List ℕ → Option X

@@ -4,19 +4,19 @@ use Rattle.rpki_der.specs.declared.mode.Mode.{Mode}
 use Rattle.rpki_der.specs.Value.{Definite, Value, Primitive, Constructed, Values, End, ◌▸◌, spellings, AreValues}
 
 -- the number in this many octets, the most significant first
-abbrev pub octets_of : ℕ → ℕ → List ℕ
-octets_of zero n = []
-octets_of (suc k) n = octets_of k (n / 256) ++ (n % 256) ∷ []
+abbrev pub octets_of_number : ℕ → ℕ → List ℕ
+octets_of_number zero n = []
+octets_of_number (suc k) n = octets_of_number k (n / 256) ++ (n % 256) ∷ []
 
 -- the length octets of n, for an n below 2^32: n itself below 80, and otherwise 81 to 84 and n in
 -- the fewest octets
 abbrev pub der_length : ℕ → List ℕ
 der_length n =
     if nat_lt n 128 then n ∷ []
-    else if nat_lt n 256 then 129 ∷ octets_of 1 n
-    else if nat_lt n 65536 then 130 ∷ octets_of 2 n
-    else if nat_lt n 16777216 then 131 ∷ octets_of 3 n
-    else 132 ∷ octets_of 4 n
+    else if nat_lt n 256 then 129 ∷ octets_of_number 1 n
+    else if nat_lt n 65536 then 130 ∷ octets_of_number 2 n
+    else if nat_lt n 16777216 then 131 ∷ octets_of_number 3 n
+    else 132 ∷ octets_of_number 4 n
 
 -- the identifier of a constructed value with this tag: bit 6 of its first octet is set
 abbrev pub with_bit_6 : List ℕ → List ℕ

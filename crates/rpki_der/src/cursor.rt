@@ -2,7 +2,7 @@
 
 ghost use Rattle.std.specs.Prelude.{◌≡◌, ◌≢◌, ◌<◌, ◌≤◌, ◌+◌, ◌↔◌, [], ◌∷◌, length, IsTrue, IfSome, IfNone, OnOk, OnErr};
 ghost use Rattle.rpki_der.specs.Value.{Value, Begins};
-ghost use Rattle.rpki_der.specs.Level.{Ends};
+ghost use Rattle.rpki_der.specs.Level.{EndsLevel};
 ghost use Rattle.rpki_der.specs.Position.{Position, top, AtEnd};
 ghost use Rattle.rpki_der.specs.Takes.{Takes, Enters, GoesOut};
 ghost use Rattle.rpki_der.specs.Grammar.{primitive, any};
@@ -184,7 +184,7 @@ impl<'a> Cursor<'a> {
     }
 
     fn level_end(&self) -> Option<&'a [u8]>
-        ensures found { IfSome result (λ r. Ends (top self.now.levels) self.now.here r.now) }
+        ensures found { IfSome result (λ r. EndsLevel (top self.now.levels) self.now.here r.now) }
         ensures none { IfNone result (AtEnd self.now → ⊥) }
     {
         match self.opened.last() {

@@ -6,7 +6,7 @@ ghost use Rattle.rpki_der.specs.Identifier.{IsIdentifier, tag_of};
 ghost use Rattle.rpki_der.specs.Part.{NoValue, level_of};
 ghost use Rattle.rpki_der.specs.Level.{behind_level, mark_of};
 ghost use Rattle.rpki_der.specs.Entries.{entries_of};
-ghost use Rattle.rpki_der.specs.Growth.{closed, DescendsTree, left_at};
+ghost use Rattle.rpki_der.specs.Growth.{entries_closed, DescendsTree, left_at};
 
 use crate::error::DecodeError;
 use crate::mode::Mode;
@@ -139,7 +139,7 @@ fn descend<'a>(
 
 // Notes the size of the value whose last octet was read.
 fn close(entries: &mut Vec<Entry>, entry: usize, size: usize)
-    ensures { entries.new.items ≡ closed entries.old.items entry size }
+    ensures { entries.new.items ≡ entries_closed entries.old.items entry size }
 {
     if entry < entries.len() {
         let count = entries.len() - entry - 1;

@@ -4,7 +4,7 @@ ghost use Rattle.std.specs.Prelude.{◌≡◌, ◌+◌, ◌<◌, ◌≤◌, leng
 ghost use Rattle.rpki_der.specs.Takes.{Takes, Refuses};
 ghost use Rattle.rpki_der.specs.Grammar.{primitive};
 ghost use Rattle.rpki_der.specs.Walk.{left_in};
-ghost use Rattle.rpki_der.specs.OctetString.{joined, octets_under};
+ghost use Rattle.rpki_der.specs.OctetString.{joined_pieces, octets_under};
 ghost use Rattle.rpki_der.specs.Segments.{Segment};
 ghost use Rattle.rpki_der.specs.Ticks.{TakesCounted, left};
 ghost use Rattle.rpki_der.specs.CountedWalk.{Onward};
@@ -26,7 +26,7 @@ fn segment<L: Ledger>(
     steps: &mut Steps<L>,
 ) -> Result<(), DecodeError>
     ensures place { MatchResult result (λ _. Segment tag cursor.old octets.old.items cursor.new
-        octets.new.items) (Refuses (joined tag) cursor.old) }
+        octets.new.items) (Refuses (joined_pieces tag) cursor.old) }
     ensures smaller { OnOk result (length cursor.new.here + left_in cursor.new.levels < length
         cursor.old.here + left_in cursor.old.levels) }
     ensures counted { OnOk result (Onward cursor.old steps.old cursor.new steps.new) }
@@ -52,7 +52,7 @@ fn take_joined_counted<L: Ledger>(
     tag: Tag,
     steps: &mut Steps<L>,
 ) -> Result<Vec<u8>, DecodeError>
-    ensures { TakesCounted 1 (joined tag) (λ x. x.items)
+    ensures { TakesCounted 1 (joined_pieces tag) (λ x. x.items)
         cursor.old cursor.new steps.old steps.new result }
 {
     let mut octets: Vec<u8> = Vec::new(alloc);

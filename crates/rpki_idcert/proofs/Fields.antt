@@ -12,7 +12,7 @@ use Rattle.rpki_der.specs.Number.{integer, u64}
 use Rattle.rpki_der.specs.OctetString.{octets_under}
 use Rattle.rpki_der.specs.Tags.{context, integer_tag}
 use Rattle.rpki_der.specs.Value.{Value, Primitive, Constructed, Values, End, ◌▸◌}
-use Rattle.rpki_der.specs.Level.{Holds}
+use Rattle.rpki_der.specs.Level.{LevelHolds}
 use Rattle.rpki_der.specs.Position.{Position, top, AtEnd}
 use Rattle.rpki_der.specs.Takes.{GoesOut, Stops}
 use Rattle.rpki_der.specs.Ticks.{marks, CountedOne, CountedRefuses, CountedReads, CountedStops, TakesRestCounted}
@@ -78,7 +78,7 @@ none_left : (p : Position) (e : DecodeError) → (AtEnd p → ⊥) → Stops num
 unfolding Stops
 none_left p Malformed more n = record { none = none }
   where
-    none : (vs : Values) (rest : List ℕ) → Holds p.mode (top p.levels) p.here vs rest → path_length vs ≡ None
+    none : (vs : Values) (rest : List ℕ) → LevelHolds p.mode (top p.levels) p.here vs rest → path_length vs ≡ None
     none End rest h = absurd (more (rest, end_holds p.mode (top p.levels) p.here rest h))
     none (v ▸ vs) rest h = at_tag v vs (has_tag integer_tag (identifier_of v)) refl ∙ n.none (v ▸ vs) rest h
 none_left p OutOfMemory more n = tt

@@ -19,7 +19,7 @@ use Rattle.rpki_signer.specs.declared.errors.MakeError.{MakeError}
 use Rattle.rpki_signer.specs.Errors.{make_error_of, signing_error_of}
 use Rattle.rpki_signer.specs.Limits.{IsShortKey, Keeps, MakeFails, RefusesSignature, StopsInTurn}
 use Rattle.rpki_signer.specs.Serials.{IsSerialDrawn, without_first_bit}
-use Rattle.rpki_signer.specs.Signer.{SignerState, Holds, AreDistinct, Stays, CallFails}
+use Rattle.rpki_signer.specs.Signer.{SignerState, HoldsKey, AreDistinct, Stays, CallFails}
 use Rattle.rpki_signer.proofs.Keyrings.{one_key}
 use Rattle.rpki_signer.proofs.States.{stays_then, stays_keeps, keeps_then, fails_before, call_fails, signature_refused, in_turn_fails}
 use Rattle.rpki_idcert.specs.Checks.{has_own_identifier, is_true, is_within, ta_checks, names_itself, IsTaBelieved}
@@ -33,7 +33,7 @@ use Rattle.rpki_idcert.specs.Spelling.{spelled_tbs}
 use Rattle.rpki_idcert.specs.TbsIdCert.{TbsFields}
 
 -- what was signed under the identifier's key is issued under that key
-issued_by : {I : Type 0} (scheme : Relation) (t : TbsFields) (id : I) (key : KeyFields) (a b : SignerState I) (c : CertificateFields) → AreDistinct a.keyring → Holds a.keyring id key → IsSignedAs scheme t id a b c → IsIssued scheme key c
+issued_by : {I : Type 0} (scheme : Relation) (t : TbsFields) (id : I) (key : KeyFields) (a b : SignerState I) (c : CertificateFields) → AreDistinct a.keyring → HoldsKey a.keyring id key → IsSignedAs scheme t id a b c → IsIssued scheme key c
 issued_by scheme t id key a b c d h s = record {
   slice = s.slice ∙ ap spelled_tbs (sym s.tbs);
   algorithm = s.algorithm;
@@ -48,7 +48,7 @@ own_is_true false key d = absurd (not_from_Decides false d refl refl)
 pub anchor_made : {I : Type 0} (scheme : Relation) (id : I) (validity : ValidityFields) (a b c : SignerState I) (key : KeyFields) (t : TbsFields) (cert : CertificateFields) → AreDistinct b.keyring → IsShortKey id a b key
     → IsMadeFor key key (serial_of 1) validity t → IsSignedAs scheme t id b c cert → IsAnchorMade scheme id validity a c cert
 anchor_made scheme id validity a b c key t cert d k m s =
-    let holds : Holds b.keyring id key = subst (λ r. Holds r id key) (sym k.is.stays.keyring) k.is.holds in
+    let holds : HoldsKey b.keyring id key = subst (λ r. HoldsKey r id key) (sym k.is.stays.keyring) k.is.holds in
     let stays = stays_then a b c k.is.stays s.signed.is.stays in
     record {
       key = key;
@@ -64,7 +64,7 @@ anchor_made scheme id validity a b c key t cert d k m s =
 pub issued_to : {I : Type 0} (scheme : Relation) (key : KeyFields) (serial : List ℕ) (id : I) (validity : ValidityFields) (b c e : SignerState I) (issuing : KeyFields) (t : TbsFields) (cert : CertificateFields) → AreDistinct c.keyring
     → IsShortKey id b c issuing → IsMadeFor issuing key serial validity t → IsSignedAs scheme t id c e cert → IsIssuedTo scheme key serial id validity b e cert
 issued_to scheme key serial id validity b c e issuing t cert d k m s =
-    let holds : Holds c.keyring id issuing = subst (λ r. Holds r id issuing) (sym k.is.stays.keyring) k.is.holds in
+    let holds : HoldsKey c.keyring id issuing = subst (λ r. HoldsKey r id issuing) (sym k.is.stays.keyring) k.is.holds in
     record {
       issuing = issuing;
       holds = k.is.holds;
@@ -82,7 +82,7 @@ end_entity_made scheme key id validity a b e serial cert n m =
     let drawn' : serial ≡ without_first_bit e.random = n.is ∙ ap without_first_bit (sym (m.stays.random ∙ n.drawn.random)) in
     record {
       issuing = m.issuing;
-      holds = subst (λ r. Holds r id m.issuing) n.drawn.keyring m.holds;
+      holds = subst (λ r. HoldsKey r id m.issuing) n.drawn.keyring m.holds;
       short = m.short;
       twenty = subst (λ o. length o ≡ 20) (sym (m.stays.random ∙ n.drawn.random)) n.twenty;
       fields = subst (λ o. IsMadeFor m.issuing key o validity cert.tbs) drawn' m.fields;

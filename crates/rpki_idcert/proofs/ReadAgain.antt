@@ -11,7 +11,7 @@ use Rattle.rpki_der.specs.Grammar.{first, optional, every, done, so, anything, w
 use Rattle.rpki_der.specs.Identifier.{IsTag}
 use Rattle.rpki_der.specs.InDer.{in_der}
 use Rattle.rpki_der.specs.Integer.{integer_is}
-use Rattle.rpki_der.specs.OctetString.{joined, octets_under, octet_string}
+use Rattle.rpki_der.specs.OctetString.{joined_pieces, octets_under, octet_string}
 use Rattle.rpki_der.specs.Oid.{oid}
 use Rattle.rpki_der.specs.Tags.{sequence, context, oid_tag, boolean_tag, integer_tag, octet_string_tag}
 use Rattle.rpki_der.specs.Value.{Value, Values, End, ◌▸◌}
@@ -30,7 +30,7 @@ use Rattle.rpki_base.specs.declared.rpki_algorithm.RsaIdentifier.TheVariants.{Rs
 use Rattle.rpki_base.specs.AlgorithmLaws.{x509_value, x509_again}
 use Rattle.rpki_base.specs.Civil.{IsMoment}
 use Rattle.rpki_base.specs.Name.{name}
-use Rattle.rpki_base.specs.PublicKey.{KeyFields, public_key, spelled_parts, spelled_key, CanBeSpelled as KeyCanBeSpelled}
+use Rattle.rpki_base.specs.PublicKey.{KeyFields, public_key, spelled_parts, spelled_key, CanSpellKey as KeyCanBeSpelled}
 use Rattle.rpki_base.specs.RpkiSignatureAlgorithm.{RpkiAlgorithm, x509_algorithm, algorithm, spelled_x509}
 use Rattle.rpki_base.specs.Serial.{serial, serial_value, der_serial}
 use Rattle.rpki_base.specs.Time.{time}
@@ -47,13 +47,13 @@ use Rattle.hex.specs.Hex.{encode_upper, encode_with, upper_digits}
 use Rattle.sha1.specs.Sha1.{sha1, digest_bytes}
 use Rattle.rpki_base.specs.Bits.{spelled_bits}
 use Rattle.rpki_base.specs.Signature.{SignatureParts}
-use Rattle.rpki_base.specs.SignedData.{Signed, signature_in, signed_as, signed_fields, signed_value, spelled_data, spelled_parts as spelled_signed, CanBeSpelled as DataCanBeSpelled}
+use Rattle.rpki_base.specs.SignedData.{Signed, signature_in, signed_as, signed_fields, signed_value, spelled_data, spelled_parts as spelled_signed, CanSpellSigned as DataCanBeSpelled}
 use Rattle.rpki_base.proofs.Keys.{bits_value, bits_spell, bits_within}
 use Rattle.rpki_base.proofs.MadeNames.{made_name}
 use Rattle.rpki_signer.specs.Limits.{default_algorithm}
 use Rattle.rpki_idcert.specs.IdCert.{CertificateFields, identity_certificate}
-use Rattle.rpki_idcert.specs.Making.{name_of_key, issuer_of_other, made_fields, IsReadAgain}
-use Rattle.rpki_idcert.specs.Spelling.{spelled_validity, spelled_version, spelled_algorithm, spelled_fields, spelled_tbs, CanBeSpelled, AreTwenty, AreReadable}
+use Rattle.rpki_idcert.specs.Making.{name_of_key, made_authority_key_id, made_fields, IsReadAgain}
+use Rattle.rpki_idcert.specs.Spelling.{spelled_validity, spelled_version, spelled_algorithm, spelled_fields, spelled_tbs, CanSpellCertificate, AreTwenty, AreReadable}
 use Rattle.rpki_idcert.specs.TbsIdCert.{TbsFields, version, tbs_fields, tbs_certificate}
 use Rattle.rpki_idcert.proofs.Pieces.{Piece, is_whole, begins_as, with_its_octets, of_whole, of_begins, constructed, wrapping, as_octets, inside_is}
 use Rattle.rpki_idcert.proofs.Sizes.{primitive_size, constructed_size, content_within, times_size}
@@ -96,7 +96,7 @@ extension_size identifier true value = omega (arith, length-append (der_primitiv
 extension_size identifier false value = omega (arith, length-append (der_primitive oid_tag identifier) (critical_flag false ++ der_primitive octet_string_tag value), primitive_size oid_tag identifier, primitive_size octet_string_tag value)
 
 octets_read : (mode : Mode) (value : List ℕ) (more : Values) → first (octet_string mode) (primitive_value octet_string_tag value ▸ more) ≡ Some (value, more)
-unfolding first octets_under joined ◌>>=◌
+unfolding first octets_under joined_pieces ◌>>=◌
 octets_read Ber value more = refl
 octets_read Der value more = refl
 
@@ -315,7 +315,7 @@ unfolding first done ◌>>=◌
 tbs_reads mode t a v1 v2 v3 v4 v5 v6 v7 v8 e1 e2 e3 e4 e5 e6 e7 e8 = rw (e1, e2, e3, e4, e5, e6, e7, e8) refl
 
 -- the parts of the fields are no longer than all of them
-extensions_within : (t : TbsFields) → CanBeSpelled t → length (der_constructed sequence (spelled_extensions t)) < 4294967296
+extensions_within : (t : TbsFields) → CanSpellCertificate t → length (der_constructed sequence (spelled_extensions t)) < 4294967296
 extensions_within t h =
     omega (
       arith,
@@ -330,7 +330,7 @@ extensions_within t h =
       content_within (context 3) (der_constructed sequence (spelled_extensions t)),
     )
 
-key_within : (t : TbsFields) → CanBeSpelled t → KeyCanBeSpelled t.key
+key_within : (t : TbsFields) → CanSpellCertificate t → KeyCanBeSpelled t.key
 key_within t h =
     omega (
       arith,
@@ -345,7 +345,7 @@ key_within t h =
       content_within sequence (spelled_parts t.key),
     )
 
-pub tbs_piece : (mode : Mode) (t : TbsFields) → AreReadable mode t → CanBeSpelled t → Piece mode (tbs_certificate mode) (spelled_tbs t) t
+pub tbs_piece : (mode : Mode) (t : TbsFields) → AreReadable mode t → CanSpellCertificate t → Piece mode (tbs_certificate mode) (spelled_tbs t) t
 unfolding tbs_certificate spelled_tbs
 tbs_piece mode t l h =
     let p1 = version_piece mode in
@@ -413,7 +413,7 @@ name_is_read mode key =
     let m = made_name mode (encode_upper (sha1 key.bits)) [] forty in
     is_whole mode name (name_of_key key) (name_of_key key) (of_begins mode name (name_of_key key) (name_of_key key) m.0 m.1 m.2)
 
-issuer_twenty : (own : Bool) (issuing : KeyFields) → AreTwenty (issuer_of_other own issuing)
+issuer_twenty : (own : Bool) (issuing : KeyFields) → AreTwenty (made_authority_key_id own issuing)
 issuer_twenty true issuing = tt
 issuer_twenty false issuing = sha1_twenty issuing.bits
 
@@ -429,12 +429,12 @@ made_readable mode own issuing key serial' v l p q = record {
 }
 
 -- a certificate whose slice is that of its fields
-pub issued_piece : (mode : Mode) (c : CertificateFields) → AreReadable mode c.tbs → CanBeSpelled c.tbs → c.signed.slice ≡ spelled_tbs c.tbs → c.signed.signature.algorithm ≡ default_algorithm → DataCanBeSpelled spelled_x509 c.signed → Piece mode (identity_certificate mode) (spelled_data spelled_x509 c.signed) c
+pub issued_piece : (mode : Mode) (c : CertificateFields) → AreReadable mode c.tbs → CanSpellCertificate c.tbs → c.signed.slice ≡ spelled_tbs c.tbs → c.signed.signature.algorithm ≡ default_algorithm → DataCanBeSpelled spelled_x509 c.signed → Piece mode (identity_certificate mode) (spelled_data spelled_x509 c.signed) c
 issued_piece mode c r s e a h =
     certificate_piece mode c (subst (λ o. Piece mode (tbs_certificate mode) o c.tbs) (sym e) (tbs_piece mode c.tbs r s)) (ap (λ (x : RpkiAlgorithm). x.identifier) a) h
 
 -- the fields are no longer than their signed spelling
-fields_within : (c : CertificateFields) → c.signed.slice ≡ spelled_tbs c.tbs → DataCanBeSpelled spelled_x509 c.signed → CanBeSpelled c.tbs
+fields_within : (c : CertificateFields) → c.signed.slice ≡ spelled_tbs c.tbs → DataCanBeSpelled spelled_x509 c.signed → CanSpellCertificate c.tbs
 unfolding spelled_tbs
 fields_within c e h =
     let whole : length c.signed.slice ≡ length (der_constructed sequence (spelled_fields c.tbs)) = ap (λ (o : List ℕ). length o) e in

@@ -16,7 +16,7 @@ use Rattle.rpki_der.specs.Writing.{constructed_value, Spells}
 use Rattle.rpki_der.proofs.Firsts.{first_is, done_is}
 use Rattle.rpki_der.proofs.Flats.{alone_only}
 use Rattle.rpki_der.proofs.Written.{spells_followed, spells_one, begins_constructed}
-use Rattle.rpki_base.specs.SignedData.{SignedParts, Signed, algorithm_in, signature_in, signed_as, signed_value, spelled_data, CanBeSpelled}
+use Rattle.rpki_base.specs.SignedData.{SignedParts, Signed, algorithm_in, signature_in, signed_as, signed_value, spelled_data, CanSpellSigned}
 use Rattle.rpki_base.specs.Signature.{SignatureParts}
 use Rattle.rpki_base.specs.WritingLaws.{is_sequence}
 use Rattle.rpki_base.proofs.Determined.{determined}
@@ -63,7 +63,7 @@ unfolding signed_value signed_as with_octets signature_in within first done so b
 value_reads tbs reads mode slice algorithm [] a t v w p f q e = rw (p, f, (ap (reads mode) (sym q) ∙ e)) refl
 value_reads tbs reads mode slice algorithm (b ∷ value) a t v w p f q e = rw (p, f, (ap (reads mode) (sym q) ∙ e)) refl
 
-short_bits : {A : Type 0} (spelled : A → List ℕ) (d : SignedParts A) → CanBeSpelled spelled d → length d.signature.value + 1 < 4294967296
+short_bits : {A : Type 0} (spelled : A → List ℕ) (d : SignedParts A) → CanSpellSigned spelled d → length d.signature.value + 1 < 4294967296
 short_bits spelled d h =
     omega (arith, bits_within d.signature.value, length-append d.slice (spelled d.signature.algorithm ++ spelled_bits d.signature.value), length-append (spelled d.signature.algorithm) (spelled_bits d.signature.value), h)
 
@@ -79,7 +79,7 @@ held grammar mode octets t e =
     let b = bound (alone mode octets) grammar t e in
     record { value = b.x; begins = alone_only mode octets b.x b.found; reads = b.then' }
 
-pub written_again : {A T : Type 0} (tbs : Mode → Value → Option T) (reads : Mode → List ℕ → Option A) (spelled : A → List ℕ) (mode : Mode) (v : Value) (c : Signed A T) (rest : List ℕ) → IsValue mode v → signed_value tbs reads mode v ≡ Some c → CanBeSpelled spelled c.signed
+pub written_again : {A T : Type 0} (tbs : Mode → Value → Option T) (reads : Mode → List ℕ → Option A) (spelled : A → List ℕ) (mode : Mode) (v : Value) (c : Signed A T) (rest : List ℕ) → IsValue mode v → signed_value tbs reads mode v ≡ Some c → CanSpellSigned spelled c.signed
     → ((o : List ℕ) (a : A) → reads mode o ≡ Some a → reads mode (spelled a) ≡ Some a) → ((a : A) → (w : Value) × Begins mode (spelled a ++ []) w [])
     → (w : Value) × Begins mode (spelled_data spelled c.signed ++ rest) w rest × (signed_value tbs reads mode w ≡ Some c)
 written_again tbs reads spelled mode v c rest l e h again one =

@@ -15,7 +15,7 @@ use Rattle.rpki_base.specs.PublicKey.{KeyFields}
 use Rattle.rpki_base.specs.RpkiSignatureAlgorithm.{spelled_x509}
 use Rattle.rpki_base.specs.Scheme.{Relation}
 use Rattle.rpki_base.specs.Serial.{serial_of}
-use Rattle.rpki_base.specs.SignedData.{spelled_data, CanBeSpelled}
+use Rattle.rpki_base.specs.SignedData.{spelled_data, CanSpellSigned}
 use Rattle.rpki_base.specs.Validity.{ValidityFields}
 use Rattle.rpki_common.specs.Causes.{Rose}
 use Rattle.rpki_signer.specs.declared.errors.MakeError.{MakeError}
@@ -23,7 +23,7 @@ use Rattle.rpki_signer.specs.declared.errors.MakeError.TheVariants as make
 use Rattle.rpki_signer.specs.declared.errors.SigningError.TheVariants as signing
 use Rattle.rpki_signer.specs.Limits.{IsShort, IsShortSignature, Keeps, StopsInTurn, default_algorithm}
 use Rattle.rpki_signer.specs.Serials.{IsSerialDrawn, without_first_bit}
-use Rattle.rpki_signer.specs.Signer.{SignerState, Holds, Stays}
+use Rattle.rpki_signer.specs.Signer.{SignerState, HoldsKey, Stays}
 use Rattle.rpki_idcert.specs.TbsIdCert.{TbsFields}
 use Rattle.rpki_idcert.specs.IdCert.{CertificateFields, identity_certificate}
 use Rattle.rpki_idcert.specs.Spelling.{spelled_tbs}
@@ -36,15 +36,15 @@ abbrev pub name_of_key : KeyFields → List ℕ
 name_of_key key = name_of_text (encode_upper (sha1 key.bits))
 
 -- the issuing key's own certificate is an authority's (4.2.1.9)
-abbrev pub authority_of_own : Bool → Option Bool
-authority_of_own true = Some true
-authority_of_own false = None
+abbrev pub made_basic_ca : Bool → Option Bool
+made_basic_ca true = Some true
+made_basic_ca false = None
 
 -- the key identifier of the issuing key, in every certificate but that of the issuing key itself
 -- (4.2.1.1)
-abbrev pub issuer_of_other : Bool → KeyFields → Option (List ℕ)
-issuer_of_other true issuing = None
-issuer_of_other false issuing = Some (sha1 issuing.bits)
+abbrev pub made_authority_key_id : Bool → KeyFields → Option (List ℕ)
+made_authority_key_id true issuing = None
+made_authority_key_id false issuing = Some (sha1 issuing.bits)
 
 -- what is said of a key, where own says whether it is the issuing key itself
 abbrev pub made_fields : Bool → KeyFields → KeyFields → List ℕ → ValidityFields → TbsFields
@@ -54,9 +54,9 @@ made_fields own issuing key serial validity = record {
   validity = validity;
   subject = name_of_key key;
   key = key;
-  basic_ca = authority_of_own own;
+  basic_ca = made_basic_ca own;
   subject_key_id = sha1 key.bits;
-  authority_key_id = issuer_of_other own issuing;
+  authority_key_id = made_authority_key_id own issuing;
 }
 
 -- the fields are those of a certificate for the key under the issuing key, which may be one
@@ -88,7 +88,7 @@ pub record IsSignedAs {Id : Type 0} (scheme : Relation) (t : TbsFields) (id : Id
 pub record IsAnchorMade {Id : Type 0} (scheme : Relation) (id : Id) (validity : ValidityFields)
     (before after : SignerState Id) (c : CertificateFields) : Type 0 where
   pub key : KeyFields
-  pub holds : Holds before.keyring id key
+  pub holds : HoldsKey before.keyring id key
   pub short : IsShort key.bits
   pub fields : c.tbs ≡ made_fields true key key (serial_of 1) validity
   pub issued : IsIssued scheme key c
@@ -101,7 +101,7 @@ pub record IsIssuedTo {Id : Type 0} (scheme : Relation) (key : KeyFields) (seria
     (id : Id) (validity : ValidityFields) (before after : SignerState Id) (c : CertificateFields)
     : Type 0 where
   pub issuing : KeyFields
-  pub holds : Holds before.keyring id issuing
+  pub holds : HoldsKey before.keyring id issuing
   pub short : IsShort issuing.bits
   pub fields : IsMadeFor issuing key serial validity c.tbs
   pub issued : IsIssued scheme issuing c
@@ -113,7 +113,7 @@ pub record IsEndEntityMade {Id : Type 0} (scheme : Relation) (key : KeyFields) (
     (validity : ValidityFields) (before after : SignerState Id) (c : CertificateFields) : Type 0
   where
     pub issuing : KeyFields
-    pub holds : Holds before.keyring id issuing
+    pub holds : HoldsKey before.keyring id issuing
     pub short : IsShort issuing.bits
     pub twenty : length after.random ≡ 20
     pub fields : IsMadeFor issuing key (without_first_bit after.random) validity c.tbs
@@ -150,5 +150,5 @@ StopsAtEndEntity scheme id before after error =
 
 -- a certificate's octets begin with it, whatever stands behind them
 abbrev pub IsReadAgain : Mode → CertificateFields → Type 0
-IsReadAgain mode c = (rest : List ℕ) → CanBeSpelled spelled_x509 c.signed
+IsReadAgain mode c = (rest : List ℕ) → CanSpellSigned spelled_x509 c.signed
     → BeginsAs (identity_certificate mode) mode (spelled_data spelled_x509 c.signed ++ rest) c

@@ -82,8 +82,8 @@ unfoldable pub spelled_tbs : TbsFields → List ℕ
 spelled_tbs t = der_constructed sequence (spelled_fields t)
 
 -- the fields have a spelling: four length octets can say how long they are (X.690, 8.1.3)
-abbrev pub CanBeSpelled : TbsFields → Type 0
-CanBeSpelled t = length (spelled_fields t) < 2 ^ 32
+abbrev pub CanSpellCertificate : TbsFields → Type 0
+CanSpellCertificate t = length (spelled_fields t) < 2 ^ 32
 
 -- ---- fields that are read again where they are written
 

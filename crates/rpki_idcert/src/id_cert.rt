@@ -7,7 +7,7 @@ ghost use Rattle.rpki_der.specs.Ticks.{TakesCounted};
 ghost use Rattle.rpki_der.specs.declared.mode.Mode.{Mode};
 ghost use Rattle.rpki_der.specs.Value.{Value, IsValue};
 ghost use Rattle.rpki_der.specs.Whole.{HoldsOne, whole_of};
-ghost use Rattle.rpki_base.specs.SignedData.{spelled_data, CanBeSpelled};
+ghost use Rattle.rpki_base.specs.SignedData.{spelled_data, CanSpellSigned};
 ghost use Rattle.rpki_base.specs.RpkiSignatureAlgorithm.{spelled_x509};
 ghost use Rattle.rpki_idcert.specs.IdCert.{CertificateFields, identity_certificate};
 ghost use Rattle.rpki_idcert.specs.TbsIdCert.{tbs_certificate};
@@ -163,7 +163,7 @@ impl IdCert {
     /// certificate that is longer than length octets can say is refused as want of memory.
     pub fn encode_ref(&self, out: &mut Writer) -> Result<(), OutOfMemory>
         ensures ok { OnOk result (out.new ≡ out.old ++ spelled_data spelled_x509 self.now.signed) }
-        ensures spelled { OnOk result (CanBeSpelled spelled_x509 self.now.signed) }
+        ensures spelled { OnOk result (CanSpellSigned spelled_x509 self.now.signed) }
         ensures err { OnErr result (out.new ≡ out.old) }
     {
         self.signed.encode_ref(out)
@@ -172,7 +172,7 @@ impl IdCert {
     /// What `encode_ref` appends, by itself.
     pub fn to_captured(&self, alloc: Global) -> Result<Captured, OutOfMemory>
         ensures octets { IfOk result (λ c. c ≡ spelled_data spelled_x509 self.now.signed) }
-        ensures spelled { OnOk result (CanBeSpelled spelled_x509 self.now.signed) }
+        ensures spelled { OnOk result (CanSpellSigned spelled_x509 self.now.signed) }
     {
         let mut out = Writer::new(alloc);
         self.encode_ref(&mut out)?;
@@ -182,7 +182,7 @@ impl IdCert {
     /// What `encode_ref` appends, by itself, as shared octets.
     pub fn to_bytes(&self, alloc: Global) -> Result<Bytes, OutOfMemory>
         ensures octets { IfOk result (λ b. b ≡ spelled_data spelled_x509 self.now.signed) }
-        ensures spelled { OnOk result (CanBeSpelled spelled_x509 self.now.signed) }
+        ensures spelled { OnOk result (CanSpellSigned spelled_x509 self.now.signed) }
     {
         Ok(self.to_captured(alloc)?.into_bytes())
     }

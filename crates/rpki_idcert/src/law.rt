@@ -8,12 +8,12 @@ ghost use Rattle.rpki_base.specs.PublicKey.{KeyFields};
 ghost use Rattle.rpki_base.specs.Validity.{ValidityFields};
 ghost use Rattle.rpki_idcert.specs.Making.{IsMadeFor};
 ghost use Rattle.rpki_idcert.specs.TbsIdCert.{TbsFields, tbs_certificate};
-ghost use Rattle.rpki_idcert.specs.Spelling.{spelled_tbs, AreReadable, CanBeSpelled};
+ghost use Rattle.rpki_idcert.specs.Spelling.{spelled_tbs, AreReadable, CanSpellCertificate};
 
 /// What `TbsIdCert::encode_ref` writes of fields that can be read is read as these fields, in the mode in which the names are
 /// read.
 pub fn written_fields_are_read()
-    ensures { (mode : Mode) (t : TbsFields) → AreReadable mode t → CanBeSpelled t
+    ensures { (mode : Mode) (t : TbsFields) → AreReadable mode t → CanSpellCertificate t
         → IsWhole (tbs_certificate mode) mode (spelled_tbs t) t }
 {}
 

@@ -148,7 +148,7 @@ impl TbsIdCert {
     #[tactic(auto, unfolding(crate::specs::Spelling::spelled_tbs))]
     pub fn encode_ref(&self, out: &mut Writer) -> Result<(), OutOfMemory>
         ensures ok { OnOk result (out.new ≡ out.old ++ spec.spelled_tbs self.now) }
-        ensures spelled { OnOk result (spec.CanBeSpelled self.now) }
+        ensures spelled { OnOk result (spec.CanSpellCertificate self.now) }
         ensures err { OnErr result (out.new ≡ out.old) }
     {
         let mut fields = out.inner();

@@ -5,7 +5,7 @@ ghost use Rattle.rpki_der.specs.Takes.{Takes};
 ghost use Rattle.rpki_der.specs.Held.{with_octets};
 ghost use Rattle.rpki_der.specs.Ticks.{TakesCounted};
 ghost use Rattle.rpki_idcert.specs.IdCert.{CertificateFields};
-ghost use Rattle.rpki_idcert.specs.Making.{authority_of_own, issuer_of_other, IsMadeFor};
+ghost use Rattle.rpki_idcert.specs.Making.{made_basic_ca, made_authority_key_id, IsMadeFor};
 ghost use Rattle.rpki_idcert.specs.TbsIdCert.{TbsFields, version, tbs_certificate};
 
 use crate::extensions::take_extensions;
@@ -93,14 +93,14 @@ fn is_same(a: &PublicKey, b: &PublicKey) -> bool
 
 // That the subject is an authority, where the key is the issuing one.
 fn authority_of_own(own: bool) -> Option<bool>
-    ensures { result ≡ authority_of_own own }
+    ensures { result ≡ made_basic_ca own }
 {
     if own { Some(true) } else { None }
 }
 
 // The key identifier of the issuing key, where the key is another.
 fn issuer_of_other(own: bool, issuing_key: &PublicKey) -> Option<KeyIdentifier>
-    ensures { result ≡ issuer_of_other own issuing_key.now }
+    ensures { result ≡ made_authority_key_id own issuing_key.now }
 {
     if own {
         None

@@ -5,8 +5,8 @@ use Rattle.base64.specs.GeneralPurpose.{IsBytes}
 use Rattle.rpki_base.proofs.Offsets.{rfc3339_again}
 use Rattle.rpki_common.specs.Chaining.{◌>>=◌}
 use Rattle.rpki_common.specs.Items as items
-use Rattle.rpki_message.specs.Parts.{required_by}
-use Rattle.rpki_message.proofs.Uris.{uri_is}
+use Rattle.rpki_xmltext.specs.Parts.{required_by}
+use Rattle.rpki_xmltext.proofs.Uris.{uri_is}
 use Rattle.rpki_sets.specs.declared.run.Run.{Run}
 use Rattle.rpki_sets.specs.Runs.{IsSet}
 use Rattle.rpki_sets.specs.Texts.{read_all}
@@ -21,13 +21,13 @@ use Rattle.rpki_updown.specs.KeyElement.{KeyElementFields}
 use Rattle.rpki_updown.specs.PayloadType.{payload_type_text}
 use Rattle.rpki_updown.specs.declared.payload_type.PayloadType.{PayloadType}
 use Rattle.rpki_updown.proofs.Again.{kind_again}
-use Rattle.rpki_xml.specs.Element.{Elements, alone, joined, listed, elements_of}
-use Rattle.rpki_xml.specs.Tables.{only, optional, optional_by, required, given_or_absent, each_of}
+use Rattle.rpki_xml.specs.Element.{Elements, alone, joined_elements, listed, elements_of}
+use Rattle.rpki_xml.specs.Tables.{only_listed, optional, optional_by, required, given_or_absent, each_of}
 use Rattle.rpki_provisioning.specs.declared.payload.Payload.{Payload}
 use Rattle.rpki_provisioning.specs.declared.payload.Payload.TheVariants as payload
 use Rattle.rpki_provisioning.specs.Class.{certificate_element, certificate_in, issuer_element, issuer_in, class_element, class_in, class_start_in, class_of_issuance, is_certificate, is_issuer, is_inside, certificates_in, issuance_of_class, issuance_in}
 use Rattle.rpki_provisioning.specs.Limit.{limit_in, set_in, resources_in}
-use Rattle.rpki_provisioning.specs.Message.{shape_type, payload_elements, payload_in, root_element, root_in, shape_element, shape_in, element_of, message_of}
+use Rattle.rpki_provisioning.specs.Message.{shape_type, payload_elements, payload_in, root_element, message_root_in, shape_element, shape_in, element_of, message_of}
 use Rattle.rpki_provisioning.specs.NotPerformed.{status_in, description_in, not_performed_elements, not_performed_in}
 use Rattle.rpki_provisioning.specs.Request.{request_element, request_in, key_element, key_in}
 use Rattle.rpki_provisioning.specs.Shape.{MessageFields, shape_of, certificate_octets, certificate_of, request_octets, request_of, payload_shape, issued_by, signing_by, class_by, issuance_by, asked_by, payload_of_shape, message_of_shape}
@@ -38,7 +38,7 @@ use Rattle.rpki_provisioning.proofs.Statuses.{decimal_read}
 
 certificate_read : (n o : List ℕ) (asn ipv4 ipv6 : Option (List Run)) → fault_of rsync n ≡ None → IfSome asn (IsSet 32) → IfSome ipv4 (IsSet 32) → IfSome ipv6 (IsSet 128) → IsBytes o
     → certificate_in (certificate_element (record { uri = n; req_limit = record { asn = asn; ipv4 = ipv4; ipv6 = ipv6 }; cert = o })) ≡ Some (record { uri = n; req_limit = record { asn = asn; ipv4 = ipv4; ipv6 = ipv6 }; cert = o })
-unfolding certificate_in optional_by required required_by only items.only items.at_most_one items.the_one optional limit_in ◌>>=◌
+unfolding certificate_in optional_by required required_by only_listed items.only items.at_most_one items.the_one optional limit_in ◌>>=◌
 certificate_read n o None None None h i j k b = rw (uri_is rsync n h, base64_content-encode o b) refl
 certificate_read n o None None (Some z) h i j k b = rw (uri_is rsync n h, ipv6_read_again z k, base64_content-encode o b) refl
 certificate_read n o None (Some y) None h i j k b = rw (uri_is rsync n h, ipv4_read_again y j, base64_content-encode o b) refl
@@ -53,7 +53,7 @@ certificate_again c h = certificate_read c.uri (certificate_octets c.cert) c.req
 
 request_read : (n o : List ℕ) (asn ipv4 ipv6 : Option (List Run)) → IfSome asn (IsSet 32) → IfSome ipv4 (IsSet 32) → IfSome ipv6 (IsSet 128) → IsBytes o
     → request_in (request_element (record { class_name = n; limit = record { asn = asn; ipv4 = ipv4; ipv6 = ipv6 }; csr = o })) ≡ Some (record { class_name = n; limit = record { asn = asn; ipv4 = ipv4; ipv6 = ipv6 }; csr = o })
-unfolding request_in optional_by required required_by only items.only items.at_most_one items.the_one optional limit_in ◌>>=◌
+unfolding request_in optional_by required required_by only_listed items.only items.at_most_one items.the_one optional limit_in ◌>>=◌
 request_read n o None None None i j k b = rw (base64_content-encode o b) refl
 request_read n o None None (Some z) i j k b = rw (ipv6_read_again z k, base64_content-encode o b) refl
 request_read n o None (Some y) None i j k b = rw (ipv4_read_again y j, base64_content-encode o b) refl
@@ -67,14 +67,14 @@ request_again : (a : IssuanceRequestFields) → IsWritableRequest a → request_
 request_again a h = request_read a.class_name (request_octets a.csr) a.limit.asn a.limit.ipv4 a.limit.ipv6 h.limit.asn h.limit.ipv4 h.limit.ipv6 h.csr.octets
 
 key_again : (k : KeyElementFields) → IsWritableKey k → key_in (key_element k) ≡ Some k
-unfolding key_in only items.only required required_by items.the_one ◌>>=◌
+unfolding key_in only_listed items.only required required_by items.the_one ◌>>=◌
 key_again k h = rw (key_identifier-plain k.key h.octets h.count) refl
 
 -- ---- classes
 
 -- what stands in a class
 abbrev inside : List IssuedFields → List ℕ → Elements
-inside list o = joined (elements_of certificate_element (map (issued_with certificate_octets) list)) (alone (issuer_element o))
+inside list o = joined_elements (elements_of certificate_element (map (issued_with certificate_octets) list)) (alone (issuer_element o))
 
 only_inside : (list : List IssuedFields) (o : List ℕ) → items.only is_inside (listed (inside list o)) ≡ Some tt
 unfolding items.only
@@ -98,7 +98,7 @@ unfolding certificates_in ◌>>=◌
 inside_again list o h b = rw (only_inside list o, certificates_again list o h, issuer_again list o b) refl
 
 class_again : (c : ClassFields) → IsWritableClass c → class_in (class_element (class_with certificate_octets c)) ≡ Some (class_with certificate_octets c)
-unfolding class_in class_start_in only items.only optional optional_by required required_by items.at_most_one items.the_one resources_in set_in ◌>>=◌
+unfolding class_in class_start_in only_listed items.only optional optional_by required required_by items.at_most_one items.the_one resources_in set_in ◌>>=◌
 class_again c h =
     rw (
       uri_is rsync c.signing_cert.url h.signing_cert.url,
@@ -146,8 +146,8 @@ inside_shape (payload.RevokeResponse response) h = rw (key_again response h) ref
 inside_shape (payload.ErrorResponse response) h = rw (not_performed_of response.status response.description h.status) refl
 
 root_again : (s r : List ℕ) (t : PayloadType) (children : Elements) → IsHandle s → IsHandle r
-    → root_in (root_element s r (payload_type_text t) children) ≡ Some (record { sender = s; recipient = r; payload = t })
-unfolding root_in only items.only optional required required_by given_or_absent items.at_most_one items.the_one ◌>>=◌
+    → message_root_in (root_element s r (payload_type_text t) children) ≡ Some (record { sender = s; recipient = r; payload = t })
+unfolding message_root_in only_listed items.only optional required required_by given_or_absent items.at_most_one items.the_one ◌>>=◌
 root_again s r t children h i = rw (handle_of_text-some s h, handle_of_text-some r i, kind_again t) refl
 
 shape_again : (m : MessageFields) → IsWritable m → shape_in (shape_element (shape_of m)) ≡ Some (shape_of m)

@@ -21,12 +21,12 @@ use Rattle.rpki_common.specs.Items as items
 use Rattle.rpki_common.proofs.Truths.{none_some, same_some}
 use Rattle.rpki_der.specs.declared.mode.Mode.TheVariants.{Der}
 use Rattle.rpki_der.specs.Whole.{whole_of}
-use Rattle.rpki_message.specs.Parts.{required_by}
-use Rattle.rpki_message.specs.UriText.{uri_of_text}
-use Rattle.rpki_message.proofs.Attributes.{then_some, required_lettered}
-use Rattle.rpki_message.proofs.Bounds.{named_size, required_size, content_size, whole, IsPart, found_part}
-use Rattle.rpki_message.proofs.Sizes.{values, weight, size, document_size}
-use Rattle.rpki_message.proofs.Spelt.{content_bytes}
+use Rattle.rpki_xmltext.specs.Parts.{required_by}
+use Rattle.rpki_xmltext.specs.UriText.{uri_of_text}
+use Rattle.rpki_xmltext.proofs.Attributes.{then_some, required_lettered}
+use Rattle.rpki_xmltext.proofs.Bounds.{named_size, required_size, content_size, whole, IsPart, found_part}
+use Rattle.rpki_xmltext.proofs.Sizes.{values, weight, size, document_size}
+use Rattle.rpki_xmltext.proofs.Spelt.{content_bytes}
 use Rattle.rpki_sets.specs.Texts.{read_all}
 use Rattle.rpki_sets.proofs.Fitting.{decimal_below-below}
 use Rattle.rpki_text.specs.Base64.{base64_content}
@@ -51,7 +51,7 @@ use Rattle.rpki_provisioning.specs.declared.shape.PayloadShape.{PayloadShape}
 use Rattle.rpki_provisioning.specs.declared.shape.PayloadShape.TheVariants as shape
 use Rattle.rpki_provisioning.specs.Class.{certificate_in, issuer_in, is_certificate, is_issuer, Certificates, certificates_in, ClassStart, class_start_in, class_in, class_of_issuance, issuance_of_class, issuance_in}
 use Rattle.rpki_provisioning.specs.Limit.{limit_in, resources_in}
-use Rattle.rpki_provisioning.specs.Message.{shape_type, payload_elements, root_element, shape_element, payload_in, root_in, shape_in, text_of, message_of, Reads}
+use Rattle.rpki_provisioning.specs.Message.{shape_type, payload_elements, root_element, shape_element, payload_in, message_root_in, shape_in, text_of, message_of, Reads}
 use Rattle.rpki_provisioning.specs.NotPerformed.{status_in, description_in, description_where_there, not_performed_in}
 use Rattle.rpki_provisioning.specs.Request.{request_in, key_in}
 use Rattle.rpki_provisioning.specs.Shape.{MessageOf, MessageFields, MessageShape, certificate_octets, request_octets, certificate_of, request_of, issued_by, signing_by, class_by, issuance_by, asked_by, payload_shape, payload_of_shape, message_of_shape}
@@ -482,8 +482,8 @@ record IsRoot (n : ℕ) (r : MessageOf PayloadType) : Type 0 where
   sender' : length r.sender ≤ n
   recipient' : length r.recipient ≤ n
 
-root_read : (e : Element) (r : MessageOf PayloadType) → root_in e ≡ Some r → IsRoot (values e.head.attributes) r
-unfolding root_in
+root_read : (e : Element) (r : MessageOf PayloadType) → message_root_in e ≡ Some r → IsRoot (values e.head.attributes) r
+unfolding message_root_in
 root_read e r is =
     let p = then_some _ _ r is in
     let q = then_some _ _ r p.2 in
@@ -503,7 +503,7 @@ record IsShort (v n : ℕ) (s : MessageShape) : Type 0 where
 shape_read : (e : Element) (s : MessageShape) → AreLettered e.children → shape_in e ≡ Some s → IsShort (values e.head.attributes) (size e.children) s
 unfolding shape_in
 shape_read e s l is =
-    let r = then_some (root_in e) _ s is in
+    let r = then_some (message_root_in e) _ s is in
     let p = then_some (payload_in r.0.payload e.children) _ s r.2 in
     let a = root_read e r.0 r.1 in
     subst (IsShort (values e.head.attributes) (size e.children)) (same_some (record { sender = r.0.sender; recipient = r.0.recipient; payload = p.0 }) s p.2)

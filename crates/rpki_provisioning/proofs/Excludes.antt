@@ -3,8 +3,8 @@ use Rattle.std.proofs.Common.{◌≡◌, ℕ, zero, suc, List, [], ◌∷◌, �
 use Rattle.std.proofs.lemmas.List.Concat.{flat_map-cons}
 use Rattle.std.specs.List.{AllByRecursion, flat_map}
 use Rattle.rpki_common.proofs.Truths.{none_some}
-use Rattle.rpki_message.proofs.Attributes.{then_some}
-use Rattle.rpki_message.proofs.Read.{one_message}
+use Rattle.rpki_xmltext.proofs.Attributes.{then_some}
+use Rattle.rpki_xmltext.proofs.Read.{one_message}
 use Rattle.rpki_sets.specs.Texts.{read_all}
 use Rattle.rpki_updown.specs.Entitlements.{IssuedOf, SigningOf, ClassOf, IssuanceOf, AskedOf}
 use Rattle.rpki_provisioning.specs.declared.payload.Payload.{Payload}

@@ -10,7 +10,7 @@ use Rattle.rpki_text.specs.KeyIdentifier.{twenty, key_identifier_of_text}
 use Rattle.rpki_text.proofs.Base64Laws.{decode_of-told}
 use Rattle.rpki_text.proofs.KeyIdentifierLaws.{twenty-told}
 use Rattle.rpki_xml.specs.Lettered.{AreOctets}
-use Rattle.rpki_message.proofs.Symbols.{alike, front_octets, octet_byte, same_ok}
+use Rattle.rpki_xmltext.proofs.Symbols.{alike, front_octets, octet_byte, same_ok}
 
 plain_bytes : (text k : List ℕ) → AreOctets text → twenty (decoded_of url_safe_no_pad text) ≡ Some k → IsBytes k
 plain_bytes text k h e =

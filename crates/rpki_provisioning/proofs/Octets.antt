@@ -18,8 +18,8 @@ use Rattle.rpki_base.specs.Civil.{IsMoment, civil_at}
 use Rattle.rpki_base.specs.TimeText.{two, FitsDigits, rfc3339_text}
 use Rattle.rpki_base.proofs.Civils.{civil_at_is}
 use Rattle.rpki_base.proofs.Times.{fits_digits}
-use Rattle.rpki_message.proofs.Base64s.{is_black, black_trimmed, symbols-octets}
-use Rattle.rpki_message.proofs.Uris.{all_weaker}
+use Rattle.rpki_xmltext.proofs.Base64s.{is_black, black_trimmed, symbols-octets}
+use Rattle.rpki_xmltext.proofs.Uris.{all_weaker}
 use Rattle.rpki_sets.specs.declared.run.Run.{Run}
 use Rattle.rpki_sets.specs.AsNumbers.{as_text}
 use Rattle.rpki_sets.specs.Ipv4Addresses.{ipv4_blocks_text}

@@ -9,10 +9,10 @@ use Rattle.base64.specs.Engines.{standard, url_safe_no_pad}
 use Rattle.base64.specs.GeneralPurpose.{encode_of, IsBytes}
 use Rattle.rpki_base.specs.Civil.{civil_at}
 use Rattle.rpki_base.specs.TimeText.{rfc3339_text}
-use Rattle.rpki_message.specs.Parts.{attribute}
-use Rattle.rpki_message.proofs.Base64s.{encode-trimmed, encode-octets}
-use Rattle.rpki_message.proofs.Plain.{attribute_plain, uri_plain, leaf_plain}
-use Rattle.rpki_message.proofs.Uris.{handle_octets}
+use Rattle.rpki_xmltext.specs.Parts.{attribute}
+use Rattle.rpki_xmltext.proofs.Base64s.{encode-trimmed, encode-octets}
+use Rattle.rpki_xmltext.proofs.Plain.{attribute_plain, uri_plain, leaf_plain}
+use Rattle.rpki_xmltext.proofs.Uris.{handle_octets}
 use Rattle.rpki_sets.specs.declared.run.Run.{Run}
 use Rattle.rpki_sets.specs.AsNumbers.{as_text}
 use Rattle.rpki_sets.specs.Ipv4Addresses.{ipv4_blocks_text}
@@ -29,7 +29,7 @@ use Rattle.rpki_updown.specs.declared.payload_type.PayloadType.{PayloadType}
 use Rattle.rpki_updown.specs.declared.payload_type.PayloadType.TheVariants as kind
 use Rattle.rpki_xml.specs.Content.{is_declaration, is_distinct, trimmed}
 use Rattle.rpki_xml.specs.Draft.{optional_attribute}
-use Rattle.rpki_xml.specs.Element.{Attribute, Elements, none, first, alone, joined, elements_of}
+use Rattle.rpki_xml.specs.Element.{Attribute, Elements, none, first, alone, joined_elements, elements_of}
 use Rattle.rpki_xml.specs.Lettered.{AreOctets}
 use Rattle.rpki_xml.specs.Name.{behind_colon, is_name, is_name_octet}
 use Rattle.rpki_xml.specs.PlainElement.{IsPlainName, IsPlainAttribute, IsPlainHead, ArePlain}
@@ -96,7 +96,7 @@ issuer_plain : (o : List ℕ) → IsBytes o → IsPlainHead (issuer_element o).h
 issuer_plain o b = leaf_plain (codes "issuer") [] (encode_of standard o) (named _ refl refl refl) tt refl (encode-trimmed o) (encode-octets o b)
 
 inside_plain : (list : List IssuedFields) (o : List ℕ) → AllByRecursion IsWritableIssued list → IsBytes o
-    → ArePlain (joined (elements_of certificate_element (map (issued_with certificate_octets) list)) (alone (issuer_element o)))
+    → ArePlain (joined_elements (elements_of certificate_element (map (issued_with certificate_octets) list)) (alone (issuer_element o)))
 inside_plain [] o h b = (issuer_plain o b, ((λ e. absurd cc), (tt, tt)))
 inside_plain (c ∷ list) o h b = (certificate_plain c h.0, ((λ e. absurd cc), (tt, inside_plain list o h.1 b)))
 

@@ -6,10 +6,10 @@ use Rattle.rpki_common.proofs.Truths.{none_some, some_none}
 use Rattle.rpki_updown.specs.declared.error.Error.{Error}
 use Rattle.rpki_updown.specs.declared.error.Error.TheVariants as errors
 use Rattle.rpki_updown.specs.Answers.{of_xml, cause_of}
-use Rattle.rpki_message.proofs.Transfers.{Blames}
+use Rattle.rpki_xmltext.proofs.Transfers.{Blames}
 use Rattle.rpki_xml.specs.declared.error.XmlError.{XmlError}
 use Rattle.rpki_xml.specs.declared.error.XmlError.TheVariants as xml
-use Rattle.rpki_xml.specs.Answers.{IsRefused, Fails}
+use Rattle.rpki_xml.specs.Answers.{IsDocumentRefused, Fails}
 use Rattle.rpki_xml.specs.Element.{Element}
 use Rattle.rpki_xml.specs.Lexing.{IsDocument}
 use Rattle.rpki_xml.proofs.Documents.{one_document}
@@ -21,7 +21,7 @@ use Rattle.rpki_provisioning.specs.Message.{shape_in, message_of, HasShape, Read
 use Rattle.rpki_provisioning.specs.Shape.{MessageFields, MessageShape, payload_of_shape, message_of_shape}
 use Rattle.rpki_provisioning.proofs.Unread.{none_of_some, list_unread, response_unread, issue_unread}
 
-pub no_document : (e : XmlError) (b : List ℕ) → IsRefused e b → RefusesMessage b (of_xml e)
+pub no_document : (e : XmlError) (b : List ℕ) → IsDocumentRefused e b → RefusesMessage b (of_xml e)
 no_document xml.OutOfMemory b refused = tt
 no_document xml.Malformed b refused = (refl, λ s r. refused r.element r.document)
 

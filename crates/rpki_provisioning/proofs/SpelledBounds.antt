@@ -14,16 +14,16 @@ use Rattle.base64.specs.GeneralPurpose.{encode_of}
 use Rattle.rpki_base.specs.Civil.{civil_at}
 use Rattle.rpki_base.specs.TimeText.{rfc3339_text}
 use Rattle.rpki_common.proofs.Truths.{same_some, same_octets, both}
-use Rattle.rpki_message.specs.Parts.{required_by}
-use Rattle.rpki_message.specs.UriText.{uri_of_text}
-use Rattle.rpki_message.proofs.Attributes.{then_some}
-use Rattle.rpki_message.proofs.Bounds.{AtMost, attribute_size, leaf_size, one_value, the_value, uri_same}
-use Rattle.rpki_message.proofs.Sizes.{values}
+use Rattle.rpki_xmltext.specs.Parts.{required_by}
+use Rattle.rpki_xmltext.specs.UriText.{uri_of_text}
+use Rattle.rpki_xmltext.proofs.Attributes.{then_some}
+use Rattle.rpki_xmltext.proofs.Bounds.{AtMost, attribute_size, leaf_size, one_value, the_value, uri_same}
+use Rattle.rpki_xmltext.proofs.Sizes.{values}
 use Rattle.rpki_sets.specs.declared.run.Run.{Run}
 use Rattle.rpki_sets.specs.AsNumbers.{as_blocks, as_text}
 use Rattle.rpki_sets.specs.Ipv4Addresses.{ipv4_blocks, ipv4_blocks_text}
 use Rattle.rpki_sets.specs.Ipv6Addresses.{ipv6_blocks, ipv6_blocks_text}
-use Rattle.rpki_sets.specs.Kinds.{is_set_octet, text_of as printed}
+use Rattle.rpki_sets.specs.Kinds.{is_set_octet, printed}
 use Rattle.rpki_sets.specs.Resources.{Resources}
 use Rattle.rpki_sets.proofs.Lengths.{as_set_short, ipv4_set_short, ipv6_set_short}
 use Rattle.rpki_sets.proofs.Printed.{as_set_read, ipv4_set_read, ipv6_set_read, as_set_octets, ipv4_set_octets, ipv6_set_octets}
@@ -36,7 +36,7 @@ use Rattle.rpki_updown.specs.RequestResourceLimit.{LimitFields}
 use Rattle.rpki_updown.specs.declared.payload_type.PayloadType.{PayloadType}
 use Rattle.rpki_updown.specs.declared.payload_type.PayloadType.TheVariants as kind
 use Rattle.rpki_xml.specs.Draft.{optional_attribute}
-use Rattle.rpki_xml.specs.Element.{Attribute, Head, Elements, none, first, alone, joined, elements_of, is_none, is_nil}
+use Rattle.rpki_xml.specs.Element.{Attribute, Head, Elements, none, first, alone, joined_elements, elements_of, is_none, is_nil}
 use Rattle.rpki_xml.specs.Name.{local_name}
 use Rattle.rpki_xml.specs.Spelling.{value_character, spelled, spelled_all, spelled_attribute, spelled_attributes, spelled_namespace, spelled_start, spelled_inside, spelled_value, spelled_text, spelled_end}
 use Rattle.rpki_xml.specs.Tables.{is_called, required, optional, optional_by, where_there}
@@ -150,12 +150,12 @@ all_first x children rest =
     let g = length-append one [] in
     omega (arith, e, g)
 
-all_joined : (a b : Elements) → length (spelled_all (joined a b)) ≡ length (spelled_all a) + length (spelled_all b)
+all_joined : (a b : Elements) → length (spelled_all (joined_elements a b)) ≡ length (spelled_all a) + length (spelled_all b)
 all_joined none b = omega arith
 all_joined (first x children rest) b =
     let k = all_joined rest b in
     let e = all_first x children rest in
-    let g = all_first x children (joined rest b) in
+    let g = all_first x children (joined_elements rest b) in
     omega (arith, k, e, g)
 
 -- an element without a text

@@ -7,9 +7,9 @@ use Rattle.base64.specs.GeneralPurpose.{encode_of}
 use Rattle.rpki_common.specs.Chaining.{◌>>=◌}
 use Rattle.rpki_common.specs.Items as items
 use Rattle.rpki_common.proofs.Truths.{none_some, same_some, same_octets}
-use Rattle.rpki_message.proofs.Attributes.{then_some}
-use Rattle.rpki_message.proofs.Bounds.{whole, content_size}
-use Rattle.rpki_message.proofs.Sizes.{weight, size, document_size}
+use Rattle.rpki_xmltext.proofs.Attributes.{then_some}
+use Rattle.rpki_xmltext.proofs.Bounds.{whole, content_size}
+use Rattle.rpki_xmltext.proofs.Sizes.{weight, size, document_size}
 use Rattle.rpki_sets.specs.Texts.{read_all}
 use Rattle.rpki_text.specs.Base64.{base64_content}
 use Rattle.rpki_text.proofs.Base64Laws.{length-encode, size_low}
@@ -26,7 +26,7 @@ use Rattle.rpki_provisioning.specs.declared.shape.PayloadShape.{PayloadShape}
 use Rattle.rpki_provisioning.specs.declared.shape.PayloadShape.TheVariants as shape
 use Rattle.rpki_provisioning.specs.Class.{certificate_in, issuer_in, is_certificate, is_issuer, certificates_in, Certificates, class_start_in, class_in, issuance_of_class, issuance_in}
 use Rattle.rpki_provisioning.specs.Filling.{issued_size, class_size, issuance_size, payload_size}
-use Rattle.rpki_provisioning.specs.Message.{payload_in, root_in, shape_in}
+use Rattle.rpki_provisioning.specs.Message.{payload_in, message_root_in, shape_in}
 use Rattle.rpki_provisioning.specs.Request.{request_in}
 use Rattle.rpki_provisioning.specs.Shape.{MessageShape}
 
@@ -238,7 +238,7 @@ payload_tally kind.ErrorResponse children p l is =
 pub shape_tally : (b : List ℕ) (d : Element) (s : MessageShape) → IsDocument b d → shape_in d ≡ Some s → payload_size s.payload ≤ length b
 unfolding shape_in
 shape_tally b d s document is =
-    let root = then_some (root_in d) _ s is in
+    let root = then_some (message_root_in d) _ s is in
     let p = then_some (payload_in root.0.payload d.children) _ s root.2 in
     let lettered = document_lettered b d document in
     let all = document_size b d document in

@@ -8,12 +8,12 @@ use Rattle.rpki_base.specs.Civil.{IsMoment}
 use Rattle.rpki_base.specs.Rfc3339.{in_range, rfc3339_time}
 use Rattle.rpki_common.specs.Items as items
 use Rattle.rpki_common.proofs.Truths.{none_some, same_some}
-use Rattle.rpki_message.specs.Parts.{required_by}
-use Rattle.rpki_message.specs.UriText.{uri_of_text}
-use Rattle.rpki_message.proofs.Attributes.{then_some, required_lettered, child_holds, found_holds}
-use Rattle.rpki_message.proofs.Lawful.{IsLawful, AreLawful, lawful, some_lawful, each_writable}
-use Rattle.rpki_message.proofs.Spelt.{content_bytes}
-use Rattle.rpki_message.proofs.Uris.{uri_lawful}
+use Rattle.rpki_xmltext.specs.Parts.{required_by}
+use Rattle.rpki_xmltext.specs.UriText.{uri_of_text}
+use Rattle.rpki_xmltext.proofs.Attributes.{then_some, required_lettered, child_holds, found_holds}
+use Rattle.rpki_xmltext.proofs.Lawful.{IsLawful, AreLawful, lawful, some_lawful, each_writable}
+use Rattle.rpki_xmltext.proofs.Spelt.{content_bytes}
+use Rattle.rpki_xmltext.proofs.Uris.{uri_lawful}
 use Rattle.rpki_sets.specs.declared.run.Run.{Run}
 use Rattle.rpki_sets.specs.AsNumbers.{as_blocks}
 use Rattle.rpki_sets.specs.Ipv4Addresses.{ipv4_blocks}
@@ -48,7 +48,7 @@ use Rattle.rpki_provisioning.specs.declared.shape.PayloadShape.{PayloadShape}
 use Rattle.rpki_provisioning.specs.declared.shape.PayloadShape.TheVariants as shape
 use Rattle.rpki_provisioning.specs.Class.{certificate_in, issuer_in, is_certificate, is_issuer, Certificates, certificates_in, ClassStart, class_start_in, class_in, issuance_of_class, issuance_in}
 use Rattle.rpki_provisioning.specs.Limit.{limit_in, set_or_empty, set_in, resources_in}
-use Rattle.rpki_provisioning.specs.Message.{payload_in, root_in, shape_in, message_of, Reads}
+use Rattle.rpki_provisioning.specs.Message.{payload_in, message_root_in, shape_in, message_of, Reads}
 use Rattle.rpki_provisioning.specs.NotPerformed.{status_in, description_in, description_where_there, not_performed_in}
 use Rattle.rpki_provisioning.specs.Request.{request_in, key_in}
 use Rattle.rpki_provisioning.specs.Shape.{MessageOf, MessageFields, MessageShape, certificate_of, request_of, issued_by, signing_by, class_by, issuance_by, asked_by, payload_of_shape, message_of_shape}
@@ -394,8 +394,8 @@ record IsFitRoot (r : MessageOf PayloadType) : Type 0 where
   sender' : IsHandle r.sender
   recipient' : IsHandle r.recipient
 
-root_read : (e : Element) (r : MessageOf PayloadType) → IsLetteredHead e.head → root_in e ≡ Some r → IsFitRoot r
-unfolding root_in
+root_read : (e : Element) (r : MessageOf PayloadType) → IsLetteredHead e.head → message_root_in e ≡ Some r → IsFitRoot r
+unfolding message_root_in
 root_read e r l is =
     let p = then_some _ _ r is in
     let q = then_some _ _ r p.2 in
@@ -418,7 +418,7 @@ record IsFitShape (s : MessageShape) : Type 0 where
 shape_read : (e : Element) (s : MessageShape) → IsLetteredHead e.head → AreLettered e.children → AreTrimmed e.children → shape_in e ≡ Some s → IsFitShape s
 unfolding shape_in
 shape_read e s h l t is =
-    let r = then_some (root_in e) _ s is in
+    let r = then_some (message_root_in e) _ s is in
     let p = then_some (payload_in r.0.payload e.children) _ s r.2 in
     let a = root_read e r.0 h r.1 in
     subst IsFitShape (same_some (record { sender = r.0.sender; recipient = r.0.recipient; payload = p.0 }) s p.2)

@@ -8,15 +8,15 @@ use Rattle.rpki_base.specs.Rfc3339.{rfc3339_time}
 use Rattle.rpki_base.specs.TimeText.{rfc3339_text}
 use Rattle.rpki_common.specs.Chaining.{◌>>=◌}
 use Rattle.rpki_common.specs.Items as items
-use Rattle.rpki_message.specs.Parts.{attribute, leaf, required_by}
-use Rattle.rpki_message.specs.UriText.{uri_of_text}
+use Rattle.rpki_xmltext.specs.Parts.{attribute, leaf, required_by}
+use Rattle.rpki_xmltext.specs.UriText.{uri_of_text}
 use Rattle.rpki_sets.specs.Resources.{Resources}
 use Rattle.rpki_sets.specs.Texts.{read_all}
 use Rattle.rpki_text.specs.Base64.{base64_content}
 use Rattle.rpki_text.specs.Uri.{rsync}
 use Rattle.rpki_updown.specs.Entitlements.{IssuedOf, ClassOf, IssuanceOf}
-use Rattle.rpki_xml.specs.Element.{Head, Element, Elements, joined, alone, elements_of, listed, is_none, is_nil}
-use Rattle.rpki_xml.specs.Tables.{require, is_named, only, optional, required}
+use Rattle.rpki_xml.specs.Element.{Head, Element, Elements, joined_elements, alone, elements_of, listed, is_none, is_nil}
+use Rattle.rpki_xml.specs.Tables.{require, is_named, only_listed, optional, required}
 use Rattle.rpki_provisioning.specs.Limit.{limit_attributes, limit_in, set_attributes, resources_in}
 
 -- ---- certificates that were issued
@@ -41,7 +41,7 @@ unfoldable pub certificate_in : Element → Option (IssuedOf (List ℕ))
 certificate_in e = do
   _ ← require (is_named (codes "certificate") e.head)
   _ ← require (is_none e.children)
-  _ ← only certificate_attributes e.head
+  _ ← only_listed certificate_attributes e.head
   uri ← required_by (uri_of_text rsync) (codes "cert_url") e.head
   limit ← limit_in e.head
   octets ← base64_content e.head.text
@@ -65,7 +65,7 @@ issuer_in e = do
 -- the issuing key's certificate stands last
 abbrev pub class_children : ClassOf (List ℕ) → Elements
 class_children c =
-    joined (elements_of certificate_element c.issued_certs)
+    joined_elements (elements_of certificate_element c.issued_certs)
     (alone (issuer_element c.signing_cert.cert))
 
 -- the `class` that is written: name, URI of the issuing key's certificate, the three sets and the
@@ -132,7 +132,7 @@ pub record ClassStart : Type 0 where
 -- a name, a URI, sets and a time; `suggested_sia_head` is passed over
 unfoldable pub class_start_in : Head → Option ClassStart
 class_start_in h = do
-  _ ← only class_attributes h
+  _ ← only_listed class_attributes h
   _ ← optional (codes "suggested_sia_head") h
   name ← required (codes "class_name") h
   url ← required_by (uri_of_text rsync) (codes "cert_url") h

@@ -3,7 +3,7 @@
 use Rattle.std.specs.Prelude.{ℕ, List, [], ◌∷◌, ◌++◌, Option, Some, codes, unwrap_or}
 use Rattle.std.specs.Option.{option_map}
 use Rattle.rpki_common.specs.Chaining.{◌>>=◌}
-use Rattle.rpki_message.specs.Parts.{attribute}
+use Rattle.rpki_xmltext.specs.Parts.{attribute}
 use Rattle.rpki_sets.specs.declared.run.Run.{Run}
 use Rattle.rpki_sets.specs.AsNumbers.{as_blocks, as_text}
 use Rattle.rpki_sets.specs.Ipv4Addresses.{ipv4_blocks, ipv4_blocks_text}

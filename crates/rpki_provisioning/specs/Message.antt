@@ -2,15 +2,15 @@
 -- their local parts, and the root's namespace is not looked at.
 use Rattle.std.specs.Prelude.{ℕ, List, [], ◌∷◌, Option, Some, codes}
 use Rattle.rpki_common.specs.Chaining.{◌>>=◌}
-use Rattle.rpki_message.specs.Parts.{attribute, required_by}
-use Rattle.rpki_message.specs.Reading as reading
+use Rattle.rpki_xmltext.specs.Parts.{attribute, required_by}
+use Rattle.rpki_xmltext.specs.Reading as reading
 use Rattle.rpki_text.specs.Handle.{handle_of_text}
 use Rattle.rpki_updown.specs.PayloadType.{payload_type_text, payload_type_of_text}
 use Rattle.rpki_updown.specs.declared.payload_type.PayloadType.{PayloadType}
 use Rattle.rpki_updown.specs.declared.payload_type.PayloadType.TheVariants as kind
 use Rattle.rpki_xml.specs.Element.{Elements, none, Element, alone, elements_of, is_nil}
 use Rattle.rpki_xml.specs.Spelling.{spelled}
-use Rattle.rpki_xml.specs.Tables.{require, is_named, only, given_or_absent, no_child, the_child, each_of}
+use Rattle.rpki_xml.specs.Tables.{require, is_named, only_listed, given_or_absent, no_child, the_child, each_of}
 use Rattle.rpki_provisioning.specs.declared.shape.PayloadShape.{PayloadShape}
 use Rattle.rpki_provisioning.specs.declared.shape.PayloadShape.TheVariants as shape
 use Rattle.rpki_provisioning.specs.Class.{class_element, class_in, class_of_issuance, issuance_in}
@@ -108,11 +108,11 @@ payload_in kind.ErrorResponse children = do
 
 -- what a root gives: an element `message` without text, with sender, recipient and type, with
 -- version 1 where it has a version, and without other attributes
-unfoldable pub root_in : Element → Option (MessageOf PayloadType)
-root_in e = do
+unfoldable pub message_root_in : Element → Option (MessageOf PayloadType)
+message_root_in e = do
   _ ← require (is_named (codes "message") e.head)
   _ ← require (is_nil e.head.text)
-  _ ← only (codes "version" ∷ codes "sender" ∷ codes "recipient" ∷ codes "type" ∷ []) e.head
+  _ ← only_listed (codes "version" ∷ codes "sender" ∷ codes "recipient" ∷ codes "type" ∷ []) e.head
   _ ← given_or_absent (codes "version") (codes "1") e.head
   sender ← required_by handle_of_text (codes "sender") e.head
   recipient ← required_by handle_of_text (codes "recipient") e.head
@@ -122,7 +122,7 @@ root_in e = do
 -- the shape that an element is read as
 unfoldable pub shape_in : Element → Option MessageShape
 shape_in e = do
-  root ← root_in e
+  root ← message_root_in e
   payload ← payload_in root.payload e.children
   Some (record { sender = root.sender; recipient = root.recipient; payload = payload })
 

@@ -4,7 +4,7 @@ use Rattle.std.specs.Prelude.{ℕ, ◌^◌, List, [], Option, None, Some, codes}
 use Rattle.std.specs.Fmt.{decimal}
 use Rattle.std.specs.Str.Parse.{without_leading_plus}
 use Rattle.rpki_common.specs.Chaining.{◌>>=◌}
-use Rattle.rpki_message.specs.Parts.{leaf}
+use Rattle.rpki_xmltext.specs.Parts.{leaf}
 use Rattle.rpki_sets.specs.Texts.{decimal_below}
 use Rattle.rpki_updown.specs.NotPerformedResponse.{NotPerformedFields}
 use Rattle.rpki_xml.specs.Element.{Element, Elements, none, first, alone, is_none}

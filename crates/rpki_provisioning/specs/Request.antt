@@ -4,13 +4,13 @@ use Rattle.std.specs.Prelude.{ℕ, List, [], ◌∷◌, Option, Some, codes}
 use Rattle.base64.specs.Engines.{standard, url_safe_no_pad}
 use Rattle.base64.specs.GeneralPurpose.{encode_of}
 use Rattle.rpki_common.specs.Chaining.{◌>>=◌}
-use Rattle.rpki_message.specs.Parts.{attribute, leaf, required_by}
+use Rattle.rpki_xmltext.specs.Parts.{attribute, leaf, required_by}
 use Rattle.rpki_text.specs.Base64.{base64_content}
 use Rattle.rpki_text.specs.KeyIdentifier.{key_identifier_of_text}
 use Rattle.rpki_updown.specs.Entitlements.{AskedOf}
 use Rattle.rpki_updown.specs.KeyElement.{KeyElementFields}
 use Rattle.rpki_xml.specs.Element.{Element, is_none}
-use Rattle.rpki_xml.specs.Tables.{require, is_named, is_empty, only, required}
+use Rattle.rpki_xml.specs.Tables.{require, is_named, is_empty, only_listed, required}
 use Rattle.rpki_provisioning.specs.Limit.{limit_attributes, limit_in}
 
 -- ---- requests
@@ -37,7 +37,7 @@ unfoldable pub request_in : Element → Option (AskedOf (List ℕ))
 request_in e = do
   _ ← require (is_named (codes "request") e.head)
   _ ← require (is_none e.children)
-  _ ← only request_attributes e.head
+  _ ← only_listed request_attributes e.head
   name ← required (codes "class_name") e.head
   limit ← limit_in e.head
   octets ← base64_content e.head.text
@@ -59,7 +59,7 @@ unfoldable pub key_in : Element → Option KeyElementFields
 key_in e = do
   _ ← require (is_named (codes "key") e.head)
   _ ← require (is_empty e)
-  _ ← only (codes "class_name" ∷ codes "ski" ∷ []) e.head
+  _ ← only_listed (codes "class_name" ∷ codes "ski" ∷ []) e.head
   name ← required (codes "class_name") e.head
   key ← required_by key_identifier_of_text (codes "ski") e.head
   Some (record { class_name = name; key = key })

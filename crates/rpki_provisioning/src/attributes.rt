@@ -2,8 +2,8 @@
 
 ghost use Rattle.std.specs.Prelude.{◌≡◌, codes};
 ghost use Rattle.rpki_base.specs.Rfc3339.{rfc3339_time};
-ghost use Rattle.rpki_message.specs.Parts.{required_by};
-ghost use Rattle.rpki_message.specs.UriText.{uri_of_text};
+ghost use Rattle.rpki_xmltext.specs.Parts.{required_by};
+ghost use Rattle.rpki_xmltext.specs.UriText.{uri_of_text};
 ghost use Rattle.rpki_provisioning.specs.Limit.{limit_in, set_in, resources_in};
 ghost use Rattle.rpki_sets.specs.Kinds.{blocks_of};
 ghost use Rattle.rpki_text.specs.Handle.{handle_of_text};
@@ -14,11 +14,11 @@ ghost use Rattle.rpki_xml.specs.Answers.{Gives, Matches};
 ghost use Rattle.rpki_xml.specs.Tables.{optional_by, required};
 
 use rpki_base::{KeyIdentifier, Time};
-use rpki_message::{handle_of, uri_of};
 use rpki_sets::{AsBlocks, Blocks, BlocksError, Ipv4Blocks, Ipv6Blocks, Numbers, ResourceSet};
 use rpki_text::{Handle, read_key_identifier, uri};
 use rpki_updown::{Error, PayloadType, RequestResourceLimit, ResourceClassName};
 use rpki_xml::{ElementRef, Mismatch, XmlError};
+use rpki_xmltext::{handle_of, uri_of};
 use std::alloc::Global;
 
 // ---- sets of numbers

@@ -6,12 +6,12 @@ ghost use Rattle.rpki_common.specs.Limits.{most_content, most_keys};
 ghost use Rattle.rpki_base.specs.Checks.{first_failure, failing};
 ghost use Rattle.rpki_base.specs.PublicKey.{KeyFields};
 ghost use Rattle.rpki_signer.specs.Limits.{Keeps};
-ghost use Rattle.rpki_signer.specs.Signer.{Holds};
+ghost use Rattle.rpki_signer.specs.Signer.{HoldsKey};
 ghost use Rattle.rpki_sigmsg.specs.Checks as checks;
 ghost use Rattle.rpki_sigmsg.specs.FirstRefusals.{IsFirstRefusal};
 ghost use Rattle.rpki_sigmsg.specs.Making as making;
 ghost use Rattle.rpki_sigmsg.specs.Message.{signed_message};
-ghost use Rattle.rpki_sigmsg.specs.Spelling.{rewritten, CanBeSpelled};
+ghost use Rattle.rpki_sigmsg.specs.Spelling.{rewritten, CanSpellMessage};
 ghost use Rattle.rpki_sigmsg.specs.declared.create_error.CreateError.TheVariants as create;
 ghost use Rattle.rpki_der.specs.declared.mode.Mode.{Mode};
 ghost use Rattle.rpki_der.specs.declared.mode.Mode.TheVariants.{Ber};
@@ -237,7 +237,7 @@ impl ProvisioningCms {
     ) -> Result<ProvisioningCms, CreateError<S::Error>>
         // What is created of the message's text, and why nothing is.
         ensures created { MatchResult result
-            (λ c. making.IsCreated P.checks (text_of message) when issuing_key_id.now
+            (λ c. making.IsMessageCreated P.checks (text_of message) when issuing_key_id.now
             (S.state signer.old) (S.state signer.new) c.signed)
             (making.CreateFails (text_of message) when issuing_key_id.now
             (S.state signer.old) (S.state signer.new)) }
@@ -245,13 +245,13 @@ impl ProvisioningCms {
 
         // The message is believed under the issuing key at each second of the window.
         ensures believed { IfOk result (λ c. (key : KeyFields)
-            → Holds (S.state signer.old).keyring issuing_key_id.now key
+            → HoldsKey (S.state signer.old).keyring issuing_key_id.now key
             → (at : ℤ) → (making.window when).not_before ≤ℤ at
             → at ≤ℤ (making.window when).not_after
             → checks.IsBelieved P.checks c.signed key at) }
 
         // What is written of the message is read again, in both modes, whatever stands behind it.
-        ensures again { IfOk result (λ c. (mode : Mode) (rest : List ℕ) → CanBeSpelled c.signed
+        ensures again { IfOk result (λ c. (mode : Mode) (rest : List ℕ) → CanSpellMessage c.signed
             → BeginsAs (signed_message mode) mode (rewritten c.signed ++ rest) c.signed) }
 
         // Moment and a text that is too long are told, but for want of memory.
@@ -283,7 +283,7 @@ impl ProvisioningCms {
     /// or made, so in BER where it was read so. One that is longer than length octets can say is refused as want of memory.
     pub fn to_bytes(&self, alloc: Global) -> Result<Bytes, OutOfMemory>
         ensures octets { IfOk result (λ octets. octets ≡ rewritten self.now.signed) }
-        ensures spelled { OnOk result (CanBeSpelled self.now.signed) }
+        ensures spelled { OnOk result (CanSpellMessage self.now.signed) }
     {
         Ok(self.signed.to_captured(alloc)?.into_bytes())
     }

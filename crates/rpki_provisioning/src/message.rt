@@ -2,7 +2,7 @@
 
 ghost use Rattle.std.specs.Prelude.{◌≡◌, ◌↔◌, ◌≤◌, ◌+◌, ◌*◌, ◌<◌, length, IfOk, IfErr, OnOk, IsTrue, MatchResult, string_bytes};
 ghost use Rattle.rpki_common.specs.Limits.{most_content};
-ghost use Rattle.rpki_message.specs.Answers.{Parses, WritesText};
+ghost use Rattle.rpki_xmltext.specs.Answers.{Parses, WritesText};
 ghost use Rattle.rpki_provisioning.specs.Answers.{RefusesMessage, RefusesText};
 ghost use Rattle.rpki_provisioning.specs.Message.{Reads, text_of};
 ghost use Rattle.rpki_provisioning.specs.Shape.{payload_type_of, shape_of};
@@ -18,13 +18,13 @@ use crate::writing::message_text;
 use bytes::Bytes;
 use rpki_common::OutOfMemory;
 use rpki_der::Steps;
-use rpki_message::{MOST_OCTETS, write_octets};
 use rpki_text::{RecipientHandle, SenderHandle, Sink, Source, read_all};
 use rpki_updown::{
     Error, IssuanceRequest, IssuanceResponse, NotPerformedResponse, ResourceClassListResponse,
     RevocationRequest, RevocationResponse,
 };
 use rpki_xml::read_document;
+use rpki_xmltext::{MOST_OCTETS, write_octets};
 use std::alloc::Global;
 use std::marker::{Brand, Model};
 use std::sync::ledger::{Blank, Ledger};

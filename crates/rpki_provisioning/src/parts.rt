@@ -10,17 +10,17 @@ ghost use Rattle.rpki_provisioning.specs.Request.{request_attributes, request_in
 ghost use Rattle.rpki_sets.specs.Texts.{read_all};
 ghost use Rattle.rpki_xml.specs.Answers.{Gives, Matches};
 ghost use Rattle.rpki_xml.specs.Element.{listed};
-ghost use Rattle.rpki_xml.specs.Tables.{only};
+ghost use Rattle.rpki_xml.specs.Tables.{only_listed};
 
 use crate::attributes::{cert_url_in, class_name_in, limit_in, not_after_in, resources_in, ski_in};
 use crate::shape::{ClassShape, IssuanceShape, IssuedShape, RequestShape, SigningShape};
 use rpki_base::{KeyIdentifier, Time};
 use rpki_common::{Sequence, Text};
-use rpki_message::{base64_of, handed_out};
 use rpki_sets::ResourceSet;
 use rpki_text::{Base64, uri};
 use rpki_updown::{NotPerformedResponse, ResourceClassName};
 use rpki_xml::{Children, ElementRef, Mismatch, XmlError, require};
+use rpki_xmltext::{base64_of, handed_out};
 use std::alloc::Global;
 use std::marker::Model;
 
@@ -182,7 +182,7 @@ impl Model for ClassStart {
 
 // No attributes but those of a class.
 fn only_of_class(e: &ElementRef<'_>) -> Result<(), Mismatch>
-    ensures { Matches (only class_attributes e.now.head) (λ _. tt) result }
+    ensures { Matches (only_listed class_attributes e.now.head) (λ _. tt) result }
 {
     e.only(&[
         "class_name",
@@ -272,7 +272,7 @@ pub(crate) fn issuance_in(alloc: Global, e: &ElementRef<'_>) -> Result<IssuanceS
 
 // No attributes but those of a request.
 fn only_of_request(e: &ElementRef<'_>) -> Result<(), Mismatch>
-    ensures { Matches (only request_attributes e.now.head) (λ _. tt) result }
+    ensures { Matches (only_listed request_attributes e.now.head) (λ _. tt) result }
 {
     e.only(&[
         "class_name",

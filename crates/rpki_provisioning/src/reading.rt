@@ -2,7 +2,7 @@
 
 ghost use Rattle.std.specs.Prelude.{◌≡◌, Some};
 ghost use Rattle.rpki_provisioning.specs.Class.{class_in};
-ghost use Rattle.rpki_provisioning.specs.Message.{payload_in, root_in, shape_in};
+ghost use Rattle.rpki_provisioning.specs.Message.{payload_in, message_root_in, shape_in};
 ghost use Rattle.rpki_xml.specs.Answers.{Gives};
 ghost use Rattle.rpki_xml.specs.Tables.{each_of};
 
@@ -94,7 +94,7 @@ impl Model for Root {
 }
 
 fn root_in(alloc: Global, root: &ElementRef<'_>) -> Result<Root, XmlError>
-    ensures { Gives (root_in root.now) (λ r. r) result }
+    ensures { Gives (message_root_in root.now) (λ r. r) result }
 {
     require(root.is_named("message"))?;
     require(root.is_textless())?;

@@ -6,13 +6,13 @@ ghost use Rattle.base64.specs.GeneralPurpose.{IsBytes};
 ghost use Rattle.rpki_provisioning.specs.Writable.{IsWritableClass, IsWritableIssuance, IsWritableIssued, IsWritableKey, IsWritableLimit, IsWritableNotPerformed, IsWritableRequest, IsWritableSet, IsWritableSigning};
 
 use rpki_cert::requests_are_read_again;
-use rpki_message::is_plain;
 use rpki_sets::ResourceSet;
 use rpki_updown::{
     IssuanceRequest, IssuanceResponse, IssuedCert, KeyElement, NotPerformedResponse,
     RequestResourceLimit, ResourceClassEntitlements, SigningCert,
 };
 use rpki_xml::is_trimmed;
+use rpki_xmltext::is_plain;
 
 // ---- what holds of parts by their types: these run nothing that counts, and hand out what the types promise, for the proofs
 

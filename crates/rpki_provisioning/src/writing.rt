@@ -10,7 +10,7 @@ ghost use Rattle.rpki_provisioning.specs.Message.{payload_elements, element_of, 
 ghost use Rattle.rpki_provisioning.specs.NotPerformed.{not_performed_elements};
 ghost use Rattle.rpki_provisioning.specs.Request.{request_element, key_element};
 ghost use Rattle.rpki_provisioning.specs.Shape.{certificate_octets, request_octets, payload_shape};
-ghost use Rattle.rpki_sets.specs.Kinds.{text_of as blocks_text};
+ghost use Rattle.rpki_sets.specs.Kinds.{printed as blocks_text};
 ghost use Rattle.rpki_updown.specs.Entitlements.{issued_with, class_with, issuance_with, asked_with};
 ghost use Rattle.rpki_xml.specs.Draft.{with_attributes, with_element, with_elements};
 ghost use Rattle.rpki_xml.specs.Element.{elements_of};

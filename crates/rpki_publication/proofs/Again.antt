@@ -4,12 +4,12 @@ use Rattle.std.specs.Prelude.{codes}
 use Rattle.std.specs.List.{AllByRecursion}
 use Rattle.rpki_common.specs.Chaining.{◌>>=◌}
 use Rattle.rpki_common.specs.Items as items
-use Rattle.rpki_message.proofs.Uris.{uri_is}
+use Rattle.rpki_xmltext.proofs.Uris.{uri_is}
 use Rattle.rpki_text.specs.Uri.{rsync}
 use Rattle.rpki_text.proofs.Base64Laws.{base64_content-encode}
 use Rattle.rpki_text.proofs.HashLaws.{digest_of_text-again}
 use Rattle.rpki_xml.specs.Element.{elements_of}
-use Rattle.rpki_xml.specs.Tables.{is_named, only, optional, optional_by, required, given_or_absent, each_of}
+use Rattle.rpki_xml.specs.Tables.{is_named, only_listed, optional, optional_by, required, given_or_absent, each_of}
 use Rattle.rpki_publication.specs.declared.message.Message.{Message}
 use Rattle.rpki_publication.specs.declared.message.Message.TheVariants as message
 use Rattle.rpki_publication.specs.declared.publish_delta_element.PublishDeltaElement.{PublishDeltaElement}
@@ -42,7 +42,7 @@ code_again code.OtherError = refl
 -- ---- elements of a query
 
 change_again : (c : PublishDeltaElement) → IsWritableChange c → change_in (change_element c) ≡ Some (normal_change c)
-unfolding change_in publish_in withdraw_in change_element normal_change query_attributes_in only items.only optional optional_by items.at_most_one ◌>>=◌
+unfolding change_in publish_in withdraw_in change_element normal_change query_attributes_in only_listed items.only optional optional_by items.at_most_one ◌>>=◌
 change_again (change.Publish p) h = rw (uri_is rsync p.uri h.uri, base64_content-encode p.content h.content) refl
 change_again (change.Update u) h = rw (uri_is rsync u.uri h.uri, digest_of_text-again u.hash h.hash.0 h.hash.1, base64_content-encode u.content h.content) refl
 change_again (change.Withdraw w) h = rw (uri_is rsync w.uri h.uri, digest_of_text-again w.hash h.hash.0 h.hash.1) refl
@@ -60,14 +60,14 @@ no_list (change.Update u) = refl
 no_list (change.Withdraw w) = refl
 
 pdu_again : (pdu : QueryPdu) → IsWritablePdu pdu → query_pdu_in (query_pdu_element pdu) ≡ Some (normal_pdu pdu)
-unfolding query_pdu_in query_pdu_element normal_pdu list_query_in query_attributes_in only items.only optional optional_by items.at_most_one ◌>>=◌
+unfolding query_pdu_in query_pdu_element normal_pdu list_query_in query_attributes_in only_listed items.only optional optional_by items.at_most_one ◌>>=◌
 pdu_again pdus.List h = refl
 pdu_again (pdus.PublishDeltaElement c) h = rw (no_list c, change_again c h) refl
 
 -- ---- elements of a reply
 
 object_again : (x : ListElementFields) → IsWritableListElement x → list_element_in (list_element x) ≡ Some x
-unfolding list_element_in reply_attributes_in only items.only optional optional_by items.at_most_one ◌>>=◌
+unfolding list_element_in reply_attributes_in only_listed items.only optional optional_by items.at_most_one ◌>>=◌
 object_again x h = rw (uri_is rsync x.uri h.uri, digest_of_text-again x.hash h.hash.0 h.hash.1) refl
 
 objects_again : (list : List ListElementFields) → AllByRecursion IsWritableListElement list → each_of list_element_in (elements_of list_element list) ≡ Some list
@@ -77,7 +77,7 @@ objects_again (x ∷ list) h = rw (object_again x h.0, objects_again list h.1) r
 
 error_again_of : (c : ReportErrorCode) (tag text : Option (List ℕ)) (pdu : Option QueryPdu) → IfSome pdu IsWritablePdu
     → report_error_in (report_error_element (record { error_code = c; tag = tag; error_text = text; failed_pdu = pdu })) ≡ Some (normal_error (record { error_code = c; tag = tag; error_text = text; failed_pdu = pdu }))
-unfolding report_error_in report_error_element normal_error details_in error_text_in failed_pdu_in items.the_last reply_attributes_in only items.only optional optional_by items.at_most_one ◌>>=◌
+unfolding report_error_in report_error_element normal_error details_in error_text_in failed_pdu_in items.the_last reply_attributes_in only_listed items.only optional optional_by items.at_most_one ◌>>=◌
 error_again_of c None text None h = rw (code_again c) refl
 error_again_of c (Some t) text None h = rw (code_again c) refl
 error_again_of c None text (Some pdu) h = rw (code_again c, pdu_again pdu h) refl
@@ -102,7 +102,7 @@ is_report r = refl
 -- ---- messages
 
 pub message_again : (m : Message) → IsWritable m → message_of (element_of m) ≡ Some (normal_form m)
-unfolding message_of element_of normal_form type_in body_in query_in list_query_in query_attributes_in reply_in success_in reply_attributes_in only optional optional_by required given_or_absent items.only items.at_most_one items.the_one each_of ◌>>=◌
+unfolding message_of element_of normal_form type_in body_in query_in list_query_in query_attributes_in reply_in success_in reply_attributes_in only_listed optional optional_by required given_or_absent items.only items.at_most_one items.the_one each_of ◌>>=◌
 message_again (message.Query query.List) h = refl
 message_again (message.Query (query.Delta [])) h = refl
 message_again (message.Query (query.Delta (c ∷ list))) h = rw (no_list c, changes_again (c ∷ list) h) refl

@@ -10,13 +10,13 @@ use Rattle.hex.proofs.HexLemmas.{length-encode_with}
 use Rattle.rpki_common.specs.Chaining.{◌>>=◌}
 use Rattle.rpki_common.specs.Items as items
 use Rattle.rpki_common.proofs.Truths.{none_some, same_some}
-use Rattle.rpki_message.specs.Inside.{text_inside}
-use Rattle.rpki_message.specs.Parts.{attribute}
-use Rattle.rpki_message.specs.UriText.{uri_of_text}
-use Rattle.rpki_message.proofs.Attributes.{then_some}
-use Rattle.rpki_message.proofs.Bounds.{AtMost, attribute_size, end_size, inside_size, optional_attribute_size, leaf_size, named_size, optional_size, uri_size, there_size, content_size, whole, IsPart, parts, some_parts, last_part, found_part, each_size}
-use Rattle.rpki_message.proofs.Lawful.{IsLawful, there}
-use Rattle.rpki_message.proofs.Sizes.{values, weight, size, document_size}
+use Rattle.rpki_xmltext.specs.Inside.{text_inside}
+use Rattle.rpki_xmltext.specs.Parts.{attribute}
+use Rattle.rpki_xmltext.specs.UriText.{uri_of_text}
+use Rattle.rpki_xmltext.proofs.Attributes.{then_some}
+use Rattle.rpki_xmltext.proofs.Bounds.{AtMost, attribute_size, end_size, inside_size, optional_attribute_size, leaf_size, named_size, optional_size, uri_size, there_size, content_size, whole, IsPart, parts, some_parts, last_part, found_part, each_size}
+use Rattle.rpki_xmltext.proofs.Lawful.{IsLawful, there}
+use Rattle.rpki_xmltext.proofs.Sizes.{values, weight, size, document_size}
 use Rattle.rpki_text.specs.Base64.{base64_content}
 use Rattle.rpki_text.specs.Hash.{digest_of_text}
 use Rattle.rpki_text.specs.Uri.{rsync}

@@ -1,8 +1,8 @@
 -- The causes of errors that are passed on.
 use Rattle.std.proofs.Common.{◌≡◌, Some, refl}
-use Rattle.rpki_message.specs.declared.cause.Cause.{Cause}
-use Rattle.rpki_message.specs.declared.cause.Cause.TheVariants as causes
-use Rattle.rpki_message.proofs.Read.{of_xml as cause_of_xml}
+use Rattle.rpki_xmltext.specs.declared.cause.Cause.{Cause}
+use Rattle.rpki_xmltext.specs.declared.cause.Cause.TheVariants as causes
+use Rattle.rpki_xmltext.proofs.Read.{of_xml as cause_of_xml}
 use Rattle.rpki_xml.specs.declared.error.XmlError.{XmlError}
 use Rattle.rpki_xml.specs.declared.error.XmlError.TheVariants as xml
 use Rattle.rpki_publication.specs.Answers.{of_xml, of_cause, cause_of}

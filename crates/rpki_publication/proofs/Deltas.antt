@@ -4,9 +4,9 @@ use Rattle.std.specs.Prelude.{codes}
 use Rattle.std.specs.List.{AllByRecursion}
 use Rattle.std.proofs.lemmas.List.{append-nil}
 use Rattle.hex.specs.Hex.{encode_lower}
-use Rattle.rpki_message.specs.Parts.{attribute}
-use Rattle.rpki_message.proofs.Bounds.{leaf_size}
-use Rattle.rpki_message.proofs.Elements.{whole_text}
+use Rattle.rpki_xmltext.specs.Parts.{attribute}
+use Rattle.rpki_xmltext.proofs.Bounds.{leaf_size}
+use Rattle.rpki_xmltext.proofs.Elements.{whole_text}
 use Rattle.rpki_xml.specs.Element.{Element, Elements, elements_of, first}
 use Rattle.rpki_xml.specs.Spelling.{spelled, spelled_all}
 use Rattle.rpki_publication.specs.declared.message.Message.TheVariants as message

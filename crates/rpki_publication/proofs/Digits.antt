@@ -11,7 +11,7 @@ use Rattle.hex.proofs.HexLemmas.{decode_of-ok}
 use Rattle.sha2.specs.Sha256.{sha256, digest_bytes}
 use Rattle.sha2.proofs.Facts256.{length-sha256}
 use Rattle.rpki_common.proofs.Truths.{both, none_some, same_some}
-use Rattle.rpki_message.proofs.Base64s.{symbol, member}
+use Rattle.rpki_xmltext.proofs.Base64s.{symbol, member}
 use Rattle.rpki_text.proofs.Bytes.{both_bytes, byte_first, no_bytes}
 use Rattle.rpki_text.specs.Hash.{digest_of_text}
 use Rattle.rpki_xml.specs.Lettered.{AreOctets}

@@ -4,9 +4,9 @@ use Rattle.std.specs.Prelude.{codes}
 use Rattle.std.specs.List.{AllByRecursion}
 use Rattle.base64.specs.Engines.{standard}
 use Rattle.base64.specs.GeneralPurpose.{encode_of}
-use Rattle.rpki_message.proofs.Base64s.{encode-trimmed, encode-octets}
-use Rattle.rpki_message.proofs.Plain.{attribute_plain, uri_plain, leaf_plain}
-use Rattle.rpki_message.specs.Parts.{attribute, leaf}
+use Rattle.rpki_xmltext.proofs.Base64s.{encode-trimmed, encode-octets}
+use Rattle.rpki_xmltext.proofs.Plain.{attribute_plain, uri_plain, leaf_plain}
+use Rattle.rpki_xmltext.specs.Parts.{attribute, leaf}
 use Rattle.rpki_text.specs.Uri.{rsync, fault_of}
 use Rattle.rpki_xml.specs.Content.{is_declaration, trimmed}
 use Rattle.rpki_xml.specs.Element.{Elements, none, first, alone, elements_of}

@@ -5,8 +5,8 @@ use Rattle.std.specs.Prelude.{codes}
 use Rattle.base64.specs.Engines.{standard}
 use Rattle.base64.specs.GeneralPurpose.{encode_of}
 use Rattle.hex.specs.Hex.{encode_lower}
-use Rattle.rpki_message.specs.Inside.{text_inside}
-use Rattle.rpki_message.proofs.Elements.{leaf_spelled, two, three}
+use Rattle.rpki_xmltext.specs.Inside.{text_inside}
+use Rattle.rpki_xmltext.proofs.Elements.{leaf_spelled, two, three}
 use Rattle.rpki_xml.specs.Draft.{optional_attribute}
 use Rattle.rpki_xml.specs.Element.{Elements, is_none}
 use Rattle.rpki_xml.specs.Spelling.{spelled, spelled_all, spelled_attribute, spelled_attributes, spelled_namespace, spelled_text, spelled_end}

@@ -6,10 +6,10 @@ use Rattle.base64.specs.GeneralPurpose.{IsBytes}
 use Rattle.rpki_common.specs.Chaining.{◌>>=◌}
 use Rattle.rpki_common.specs.Items as items
 use Rattle.rpki_common.proofs.Truths.{none_some, same_some}
-use Rattle.rpki_message.proofs.Attributes.{then_some, optional_lettered}
-use Rattle.rpki_message.proofs.Lawful.{IsLawful, lawful, some_lawful, each_writable, last_writable, child_lawful, there, uri_read}
-use Rattle.rpki_message.proofs.Spelt.{content_bytes}
-use Rattle.rpki_message.specs.UriText.{uri_of_text}
+use Rattle.rpki_xmltext.proofs.Attributes.{then_some, optional_lettered}
+use Rattle.rpki_xmltext.proofs.Lawful.{IsLawful, lawful, some_lawful, each_writable, last_writable, child_lawful, there, uri_read}
+use Rattle.rpki_xmltext.proofs.Spelt.{content_bytes}
+use Rattle.rpki_xmltext.specs.UriText.{uri_of_text}
 use Rattle.rpki_text.specs.Base64.{base64_content}
 use Rattle.rpki_text.specs.Hash.{digest_of_text}
 use Rattle.rpki_text.specs.Uri.{rsync, fault_of}

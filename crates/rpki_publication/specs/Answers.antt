@@ -4,9 +4,9 @@ use Rattle.rpki_common.specs.Limits.{most_content}
 use Rattle.rpki_base.specs.declared.validation.ValidationError.{ValidationError}
 use Rattle.rpki_der.specs.declared.error.DecodeError.{DecodeError}
 use Rattle.rpki_der.specs.declared.error.DecodeError.TheVariants as der
-use Rattle.rpki_message.specs.Answers as answers
-use Rattle.rpki_message.specs.declared.cause.Cause.{Cause}
-use Rattle.rpki_message.specs.declared.cause.Cause.TheVariants as causes
+use Rattle.rpki_xmltext.specs.Answers as answers
+use Rattle.rpki_xmltext.specs.declared.cause.Cause.{Cause}
+use Rattle.rpki_xmltext.specs.declared.cause.Cause.TheVariants as causes
 use Rattle.rpki_sigmsg.specs.Checks.{passed_on}
 use Rattle.rpki_text.specs.declared.reading.ReadAllError.{ReadAllError}
 use Rattle.rpki_text.specs.declared.reading.ReadAllError.TheVariants as read

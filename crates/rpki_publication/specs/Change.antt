@@ -5,7 +5,7 @@ use Rattle.base64.specs.Engines.{standard}
 use Rattle.base64.specs.GeneralPurpose.{encode_of, IsBytes}
 use Rattle.hex.specs.Hex as hex
 use Rattle.rpki_common.specs.Chaining.{◌>>=◌}
-use Rattle.rpki_message.specs.Parts.{attribute, leaf}
+use Rattle.rpki_xmltext.specs.Parts.{attribute, leaf}
 use Rattle.rpki_text.specs.Base64.{base64_content}
 use Rattle.rpki_text.specs.Uri.{rsync, fault_of}
 use Rattle.rpki_xml.specs.Element.{Element, is_none}

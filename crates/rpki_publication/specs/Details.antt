@@ -10,8 +10,8 @@ abbrev pub nothing_found : ErrorDetails
 nothing_found = record { error_text = None; failed_pdu = None }
 
 -- the text in this element takes the place of one found before; an unlawful element is refused
-abbrev pub with_text : ErrorDetails → Element → Option ErrorDetails
-with_text found e =
+abbrev pub details_with_text : ErrorDetails → Element → Option ErrorDetails
+details_with_text found e =
     error_text_in e >>= λ text. Some (record { error_text = text; failed_pdu = found.failed_pdu })
 
 -- the failed element in this one takes the place of one found before; an unlawful element is
@@ -23,5 +23,5 @@ with_pdu found e =
 -- what was found once one more element is looked at
 abbrev pub details_step : ErrorDetails → Element → Option ErrorDetails
 details_step found e =
-    if is_error_text e then with_text found e
+    if is_error_text e then details_with_text found e
     else (require (is_failed_pdu e) >>= λ _. with_pdu found e)

@@ -2,7 +2,7 @@
 use Rattle.std.specs.Prelude.{◌≡◌, [], ◌∷◌, Option, None, Some, codes}
 use Rattle.hex.specs.Hex.{encode_lower}
 use Rattle.rpki_common.specs.Chaining.{◌>>=◌}
-use Rattle.rpki_message.specs.Parts.{attribute, leaf}
+use Rattle.rpki_xmltext.specs.Parts.{attribute, leaf}
 use Rattle.rpki_text.specs.Uri.{rsync, fault_of}
 use Rattle.rpki_xml.specs.Element.{Element}
 use Rattle.rpki_xml.specs.Tables.{require, is_named, is_empty}

@@ -4,10 +4,10 @@ use Rattle.std.specs.Prelude.{◌≢◌, ℕ, List, [], ◌∷◌, Option, None,
 use Rattle.std.specs.List.{AllByRecursion}
 use Rattle.std.specs.Str.{bytes_eq}
 use Rattle.rpki_common.specs.Chaining.{◌>>=◌}
-use Rattle.rpki_message.specs.Reading as reading
-use Rattle.rpki_message.specs.Parts.{attribute, leaf}
+use Rattle.rpki_xmltext.specs.Reading as reading
+use Rattle.rpki_xmltext.specs.Parts.{attribute, leaf}
 use Rattle.rpki_xml.specs.Element.{Elements, Element, alone, elements_of, is_nil}
-use Rattle.rpki_xml.specs.Tables.{require, is_named, is_first_named, only, required, given_or_absent, is_empty, the_child, each_of}
+use Rattle.rpki_xml.specs.Tables.{require, is_named, is_first_named, only_listed, required, given_or_absent, is_empty, the_child, each_of}
 use Rattle.rpki_xml.specs.Spelling.{spelled}
 use Rattle.rpki_publication.specs.declared.message.Message.{Message}
 use Rattle.rpki_publication.specs.declared.message.Message.TheVariants as message
@@ -120,7 +120,7 @@ unfoldable pub type_in : Element → Option (List ℕ)
 type_in e = do
   _ ← require (is_named (codes "msg") e.head)
   _ ← require (is_nil e.head.text)
-  _ ← only (codes "version" ∷ codes "type" ∷ []) e.head
+  _ ← only_listed (codes "version" ∷ codes "type" ∷ []) e.head
   _ ← given_or_absent (codes "version") (codes "4") e.head
   required (codes "type") e.head
 

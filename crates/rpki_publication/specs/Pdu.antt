@@ -2,11 +2,11 @@
 -- compared by their local parts.
 use Rattle.std.specs.Prelude.{ℕ, List, [], ◌∷◌, Option, Some, codes}
 use Rattle.rpki_common.specs.Chaining.{◌>>=◌}
-use Rattle.rpki_message.specs.UriText.{uri_of_text}
+use Rattle.rpki_xmltext.specs.UriText.{uri_of_text}
 use Rattle.rpki_text.specs.Hash.{digest_of_text}
 use Rattle.rpki_text.specs.Uri.{rsync}
 use Rattle.rpki_xml.specs.Element.{Head}
-use Rattle.rpki_xml.specs.Tables.{only, optional, optional_by}
+use Rattle.rpki_xml.specs.Tables.{only_listed, optional, optional_by}
 use Rattle.rpki_publication.specs.ReportErrorCode.{code_of_text}
 use Rattle.rpki_publication.specs.declared.report_error_code.ReportErrorCode.{ReportErrorCode}
 
@@ -21,7 +21,7 @@ pub record QueryAttributes : Type 0 where
 -- others may be
 unfoldable pub query_attributes_in : Head → Option QueryAttributes
 query_attributes_in h = do
-  _ ← only (codes "tag" ∷ codes "uri" ∷ codes "hash" ∷ []) h
+  _ ← only_listed (codes "tag" ∷ codes "uri" ∷ codes "hash" ∷ []) h
   tag ← optional (codes "tag") h
   uri ← optional_by (uri_of_text rsync) (codes "uri") h
   hash ← optional_by digest_of_text (codes "hash") h
@@ -39,7 +39,7 @@ pub record ReplyAttributes : Type 0 where
 -- it is there; no others may be
 unfoldable pub reply_attributes_in : Head → Option ReplyAttributes
 reply_attributes_in h = do
-  _ ← only (codes "hash" ∷ codes "uri" ∷ codes "tag" ∷ codes "error_code" ∷ []) h
+  _ ← only_listed (codes "hash" ∷ codes "uri" ∷ codes "tag" ∷ codes "error_code" ∷ []) h
   hash ← optional_by digest_of_text (codes "hash") h
   uri ← optional_by (uri_of_text rsync) (codes "uri") h
   tag ← optional (codes "tag") h

@@ -2,7 +2,7 @@
 use Rattle.std.specs.Prelude.{◌≡◌, ℕ, List, [], ◌∷◌, Bool, ◌||◌, Option, None, Some, IfSome, filter, codes}
 use Rattle.rpki_common.specs.Chaining.{◌>>=◌}
 use Rattle.rpki_common.specs.Items as items
-use Rattle.rpki_message.specs.Parts.{attribute, leaf}
+use Rattle.rpki_xmltext.specs.Parts.{attribute, leaf}
 use Rattle.rpki_xml.specs.Content.{trimmed}
 use Rattle.rpki_xml.specs.Draft.{optional_attribute}
 use Rattle.rpki_xml.specs.Element.{Elements, none, Element, alone, first, listed, is_none, is_nil}

@@ -1,7 +1,7 @@
 //! The attributes of the elements inside a message are read, by the tables of specs/Pdu.antt.
 
 ghost use Rattle.std.specs.Prelude.{◌≡◌, codes};
-ghost use Rattle.rpki_message.specs.UriText.{uri_of_text};
+ghost use Rattle.rpki_xmltext.specs.UriText.{uri_of_text};
 ghost use Rattle.rpki_publication.specs.Pdu.{query_attributes_in, reply_attributes_in};
 ghost use Rattle.rpki_publication.specs.ReportErrorCode.{code_of_text};
 ghost use Rattle.rpki_text.specs.Hash.{digest_of_text};
@@ -12,9 +12,9 @@ ghost use Rattle.rpki_xml.specs.Tables.{optional, optional_by};
 use crate::empty_values::EmptyValues;
 use crate::report_error_code::{ReportErrorCode, code_of};
 use rpki_common::Text;
-use rpki_message::uri_of;
 use rpki_text::{Hash, uri};
 use rpki_xml::{ElementRef, Mismatch, XmlError};
+use rpki_xmltext::uri_of;
 use std::alloc::Global;
 use std::marker::Model;
 

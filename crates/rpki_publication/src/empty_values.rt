@@ -5,9 +5,9 @@ ghost use Rattle.rpki_text.specs.Base64.{base64_content};
 ghost use Rattle.rpki_xml.specs.Answers.{Gives};
 
 use rpki_common::{OutOfMemory, Text};
-use rpki_message::base64_of;
 use rpki_text::Base64;
 use rpki_xml::XmlError;
+use rpki_xmltext::base64_of;
 use std::alloc::Global;
 
 /// An empty text and an empty content. Each element that has such a one shares its octets, so that it takes no memory of its own.

@@ -9,9 +9,9 @@ ghost use Rattle.rpki_publication.specs.declared.error.Error.TheVariants as vari
 use rpki_common::{OutOfMemory, Text};
 use rpki_der::DecodeError;
 use rpki_idcert::ValidationError;
-use rpki_message::Cause;
 use rpki_text::ReadAllError;
 use rpki_xml::{Mismatch, XmlError};
+use rpki_xmltext::Cause;
 use std::alloc::{AllocError, AllocFailed};
 use std::fmt;
 

@@ -2,7 +2,7 @@
 
 ghost use Rattle.std.specs.Prelude.{◌≡◌, ◌↔◌, ◌≤◌, ◌^◌, length, Some, IfOk, IfErr, IsTrue, OnOk, MatchResult, string_bytes};
 ghost use Rattle.rpki_common.specs.Limits.{most_content};
-ghost use Rattle.rpki_message.specs.Answers.{Parses, WritesText};
+ghost use Rattle.rpki_xmltext.specs.Answers.{Parses, WritesText};
 ghost use Rattle.rpki_publication.specs.Answers.{cause_of, RefusesMessage, RefusesText, IsQueryResult, IsReplyResult};
 ghost use Rattle.rpki_publication.specs.Message.{Reads, text_of, IsWritable};
 ghost use Rattle.rpki_publication.specs.declared.message.Message.TheVariants as message;
@@ -19,9 +19,9 @@ use crate::reply::Reply;
 use crate::writing::write_message;
 use bytes::Bytes;
 use rpki_common::OutOfMemory;
-use rpki_message::{MOST_OCTETS, write_octets};
 use rpki_text::{Sink, Source, read_all};
 use rpki_xml::read_document;
+use rpki_xmltext::{MOST_OCTETS, write_octets};
 use std::alloc::Global;
 use std::fmt;
 

@@ -10,8 +10,8 @@ ghost use Rattle.rpki_publication.specs.Publish.{tag_text};
 
 use crate::hash_tag::{hash_tag, tag_text};
 use rpki_common::{OutOfMemory, Text};
-use rpki_message::{cloned, handed_out, is_plain_or_absent, shared, taken_in};
 use rpki_text::{Base64, uri};
+use rpki_xmltext::{cloned, handed_out, is_plain_or_absent, shared, taken_in};
 use std::alloc::Global;
 use std::marker::Model;
 use std::rc::RcStr;

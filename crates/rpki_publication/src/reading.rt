@@ -26,9 +26,9 @@ use crate::report_error::ReportError;
 use crate::update::Update;
 use crate::withdraw::Withdraw;
 use rpki_common::Text;
-use rpki_message::handed_out;
 use rpki_text::{Base64, Hash, uri};
 use rpki_xml::{Children, ElementRef, Mismatch, XmlError, require};
+use rpki_xmltext::handed_out;
 use std::alloc::Global;
 
 // What has to be there.

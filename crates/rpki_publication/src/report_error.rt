@@ -10,7 +10,7 @@ ghost use Rattle.rpki_publication.specs.ReportErrorCode.{default_text};
 use crate::query_pdu::QueryPdu;
 use crate::report_error_code::ReportErrorCode;
 use rpki_common::{OutOfMemory, Text};
-use rpki_message::{cloned, is_plain_or_absent, is_trimmed_or_absent, shared, taken_in};
+use rpki_xmltext::{cloned, is_plain_or_absent, is_trimmed_or_absent, shared, taken_in};
 use std::alloc::Global;
 use std::marker::Model;
 use std::rc::RcStr;

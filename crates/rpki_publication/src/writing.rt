@@ -23,8 +23,8 @@ use crate::reply::Reply;
 use crate::report_error::ReportError;
 use crate::update::Update;
 use crate::withdraw::Withdraw;
-use rpki_message::{lent, write_attribute, write_base64, write_end, write_inside, write_optional};
 use rpki_text::Hash;
+use rpki_xmltext::{lent, write_attribute, write_base64, write_end, write_inside, write_optional};
 use std::fmt;
 use std::fmt::Display;
 

@@ -17,7 +17,7 @@ use Rattle.rpki_ca.specs.Sending.{FailsToSign}
 use Rattle.rpki_pubserver.specs.declared.asking.Asked.{Asked}
 use Rattle.rpki_pubserver.specs.Asking.{IsWritableAsked, asked_by, reply_to_asked}
 use Rattle.rpki_pubserver.specs.Replies.{Reply}
-use Rattle.rpki_pubserver.specs.Server.{FailsReply, IsAnswered, IsReply, IsSigned, ServerFields, with_store}
+use Rattle.rpki_pubserver.specs.Server.{FailsReply, IsQueryAnswered, IsReply, IsSignedReply, ServerFields, with_store}
 use Rattle.rpki_pubserver.specs.Store.{Store}
 use Rattle.rpki_pubserver.proofs.Asked.{asked_writable, reply_asked}
 
@@ -38,12 +38,12 @@ writable_so scheme octets publisher when r a b received is same = subst IsWritab
 -- ---- what is answered
 
 module _ {I E : Type 0} (scheme : Relation) (server : ServerFields) (octets : List ℕ) (when : ℤ) (signer : SignerSeen I) (reply : Reply) where
-  pub answered_so : (r : Result CmsFields (CreateError E)) (message : Message) (next : ServerFields) → IsReply scheme server octets when reply → message ≡ reply.message → IfOk r (IsSigned scheme when signer message) → OnOk r (next ≡ with_store server reply.next)
-      → IfOk r (λ c. IsAnswered scheme server octets when signer c next)
+  pub answered_so : (r : Result CmsFields (CreateError E)) (message : Message) (next : ServerFields) → IsReply scheme server octets when reply → message ≡ reply.message → IfOk r (IsSignedReply scheme when signer message) → OnOk r (next ≡ with_store server reply.next)
+      → IfOk r (λ c. IsQueryAnswered scheme server octets when signer c next)
   answered_so (Ok c) message next is same signed behind = record {
     reply = reply;
     is = is;
-    signed = subst (λ (m : Message). IsSigned scheme when signer m c) same signed;
+    signed = subst (λ (m : Message). IsSignedReply scheme when signer m c) same signed;
     behind = behind;
   }
   answered_so (Err e) message next is same signed behind = tt
@@ -58,7 +58,7 @@ module _ {I E : Type 0} (scheme : Relation) (server : ServerFields) (octets : Li
   }
 
   -- what is answered where the objects stay
-  pub answered_only : (r : Result CmsFields (CreateError E)) (message : Message) → IsReply scheme server octets when reply → message ≡ reply.message → IfOk r (IsSigned scheme when signer message) → reply.next ≡ server.store → IfOk r (λ c. IsAnswered scheme server octets when signer c server)
+  pub answered_only : (r : Result CmsFields (CreateError E)) (message : Message) → IsReply scheme server octets when reply → message ≡ reply.message → IfOk r (IsSignedReply scheme when signer message) → reply.next ≡ server.store → IfOk r (λ c. IsQueryAnswered scheme server octets when signer c server)
   answered_only r message is same signed stays = answered_so r message server is same signed (always r)
     where
       always : (r : Result CmsFields (CreateError E)) → OnOk r (server ≡ with_store server reply.next)

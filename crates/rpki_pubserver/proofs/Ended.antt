@@ -13,8 +13,8 @@ use Rattle.rpki_ca.specs.declared.refusals.Refusal.TheVariants as refusals
 use Rattle.rpki_ca.proofs.Sending.{memory_unless, no_cause}
 use Rattle.rpki_ca.proofs.Serving.{steps_keep}
 use Rattle.rpki_ca.proofs.Ended.{lines_end, no_refusal, on_input, on_input_or_12, with_refusal, wrote_all}
-use Rattle.rpki_pubserver.specs.Ends.{CanServe, EndsForCause, HasLongLine, RepliesAll}
-use Rattle.rpki_pubserver.specs.Running.{EndsServed, EndsServing}
+use Rattle.rpki_pubserver.specs.Ends.{ServerCanServe, ServerEndsForCause, HasLongLine, RepliesAll}
+use Rattle.rpki_pubserver.specs.Running.{EndsServerServed, EndsServerRun}
 use Rattle.rpki_pubserver.specs.Server.{ServerFields}
 use Rattle.rpki_pubserver.specs.Serving.{AreAllReplied, AreFirstReplied, IsReplied, ServerAndSigner, StopsReplying, with_signer}
 
@@ -28,7 +28,7 @@ module _ {I : Type 0} (scheme : Relation) (when : ℤ) (signer : SignerSeen I) (
       no_cause when signer.id signer.before last.signer signer.after (received.Publication f.fails.reply.message) can w keeps
       (λ long. short (record { texts = texts; steps = stops.steps; octets = f.octets; stands = f.stands; long = record { reply = f.fails.reply; is = f.fails.is; long = long } })) r f.fails.cause)
 
-  served_end : (input : List ℕ) (status : ℕ) (sink : Seen) → CanServe scheme when signer server input → ¬ (HasFailed sink) → EndsServed scheme when signer server (lines_of input) status sink → EndsForCause when input status
+  served_end : (input : List ℕ) (status : ℕ) (sink : Seen) → ServerCanServe scheme when signer server input → ¬ (HasFailed sink) → EndsServerServed scheme when signer server (lines_of input) status sink → ServerEndsForCause when input status
   served_end input status sink can none (inl a) =
       inl (lines_end (AreAllReplied scheme when signer server a.messages) (AreFirstReplied scheme when signer server a.messages) (StopsReplying scheme when signer server a.messages) status sink
       (λ texts r stops. stops_for_memory a.messages texts r a.window_is can.signs (can.short a.messages a.are) stops) none a.ends)
@@ -36,21 +36,21 @@ module _ {I : Type 0} (scheme : Relation) (when : ℤ) (signer : SignerSeen I) (
   served_end input status sink can none (inr (inr (inl hex))) = inr (inl (with_refusal refusals.Hex status sink none hex.1, hex.0))
   served_end input status sink can none (inr (inr (inr memory))) = inl (inr (with_refusal refusals.OutOfMemory status sink none memory.0))
 
-  run_so : (status : ℕ) (source sink : Seen) → EndsServing scheme when signer server status source sink → EndsRun (λ octets. EndsServed scheme when signer server (lines_of octets) status sink) status source sink
+  run_so : (status : ℕ) (source sink : Seen) → EndsServerRun scheme when signer server status source sink → EndsRun (λ octets. EndsServerServed scheme when signer server (lines_of octets) status sink) status source sink
   run_so status source sink (inl unread) = inl unread.0
   run_so status source sink (inr read) = inr read
 
-  pub ends_so : (status : ℕ) (source sink : Seen) (input : List ℕ) → EndsServing scheme when signer server status source sink → source.before ≡ Some input → length input ≤ 2 ^ 26
-      → ¬ (HasFailed source) → ¬ (HasFailed sink) → CanServe scheme when signer server input → EndsForCause when input status
+  pub ends_so : (status : ℕ) (source sink : Seen) (input : List ℕ) → EndsServerRun scheme when signer server status source sink → source.before ≡ Some input → length input ≤ 2 ^ 26
+      → ¬ (HasFailed source) → ¬ (HasFailed sink) → ServerCanServe scheme when signer server input → ServerEndsForCause when input status
   ends_so status source sink input run e le sound whole can =
-      elim (on_input_or_12 (λ octets. EndsServed scheme when signer server (lines_of octets) status sink) status source sink input (run_so status source sink run) e le sound whole) [
+      elim (on_input_or_12 (λ octets. EndsServerServed scheme when signer server (lines_of octets) status sink) status source sink input (run_so status source sink run) e le sound whole) [
         | inl memory ↦ inl (inr memory)
         | inr ends ↦ served_end input status sink can whole ends
       ]
 
   -- ---- with 0
 
-  wrote_served : (input : List ℕ) (sink : Seen) → EndsServed scheme when signer server (lines_of input) 0 sink → RepliesAll scheme when signer server input sink
+  wrote_served : (input : List ℕ) (sink : Seen) → EndsServerServed scheme when signer server (lines_of input) 0 sink → RepliesAll scheme when signer server input sink
   wrote_served input sink (inl a) = record {
     messages = a.messages;
     are = a.are;
@@ -60,5 +60,5 @@ module _ {I : Type 0} (scheme : Relation) (when : ℤ) (signer : SignerSeen I) (
   wrote_served input sink (inr (inr (inl hex))) = absurd (no_refusal refusals.Hex sink hex.1)
   wrote_served input sink (inr (inr (inr memory))) = absurd (no_refusal refusals.OutOfMemory sink memory.0)
 
-  pub replies_all : (source sink : Seen) (input : List ℕ) → EndsServing scheme when signer server 0 source sink → source.before ≡ Some input → RepliesAll scheme when signer server input sink
-  replies_all source sink input run e = wrote_served input sink (on_input (λ octets. EndsServed scheme when signer server (lines_of octets) 0 sink) source sink input (run_so 0 source sink run) e)
+  pub replies_all : (source sink : Seen) (input : List ℕ) → EndsServerRun scheme when signer server 0 source sink → source.before ≡ Some input → RepliesAll scheme when signer server input sink
+  replies_all source sink input run e = wrote_served input sink (on_input (λ octets. EndsServerServed scheme when signer server (lines_of octets) 0 sink) source sink input (run_so 0 source sink run) e)

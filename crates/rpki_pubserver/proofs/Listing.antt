@@ -6,15 +6,15 @@ use Rattle.sha2.specs.Sha256.{sha256}
 use Rattle.rpki_publication.specs.ListElement.{ListElementFields}
 use Rattle.rpki_publication.specs.ListReply.{IsWritableListElement}
 use Rattle.rpki_pubserver.specs.Places.{live, placed}
-use Rattle.rpki_pubserver.specs.Store.{listed}
+use Rattle.rpki_pubserver.specs.Store.{listed_store}
 
 pub one_more_listed : {Z : Type 0} (items new all : List ListElementFields) (entries rest : List (String Z × Option (List ℕ))) (key : String Z) (octets : List ℕ) (e : ListElementFields)
-    → items ++ listed (live (placed entries)) ≡ all → entries ≡ (key, Some octets) ∷ rest → e ≡ record { uri = string_bytes key; hash = sha256 octets } → new ≡ items ++ e ∷ [] → new ++ listed (live (placed rest)) ≡ all
+    → items ++ listed_store (live (placed entries)) ≡ all → entries ≡ (key, Some octets) ∷ rest → e ≡ record { uri = string_bytes key; hash = sha256 octets } → new ≡ items ++ e ∷ [] → new ++ listed_store (live (placed rest)) ≡ all
 one_more_listed items new all entries rest key octets e h first is made =
-    ap (λ l. l ++ listed (live (placed rest))) made
-    ∙ append_assoc items (e ∷ []) (listed (live (placed rest)))
-    ∙ ap (λ x. items ++ x ∷ listed (live (placed rest))) is
-    ∙ ap (λ l. items ++ listed (live (placed l))) (sym first)
+    ap (λ l. l ++ listed_store (live (placed rest))) made
+    ∙ append_assoc items (e ∷ []) (listed_store (live (placed rest)))
+    ∙ ap (λ x. items ++ x ∷ listed_store (live (placed rest))) is
+    ∙ ap (λ l. items ++ listed_store (live (placed l))) (sym first)
     ∙ h
 
 pub one_writable_more : (items new : List ListElementFields) (e : ListElementFields) → AllByRecursion IsWritableListElement items → IsWritableListElement e → new ≡ items ++ e ∷ [] → AllByRecursion IsWritableListElement new

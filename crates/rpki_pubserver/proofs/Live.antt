@@ -16,7 +16,7 @@ use Rattle.rpki_publication.specs.declared.publish_delta_element.PublishDeltaEle
 use Rattle.rpki_publication.specs.declared.publish_delta_element.PublishDeltaElement.TheVariants as change
 use Rattle.rpki_pubserver.specs.Store.{Store, IsStore, octets_at, put, without}
 use Rattle.rpki_pubserver.specs.Changes.{changed, uri_of}
-use Rattle.rpki_pubserver.specs.Places.{HasPlace, Places, joined, live, object_of, with_object, with_octets}
+use Rattle.rpki_pubserver.specs.Places.{HasPlace, Places, flattened, live, object_of, with_object, with_octets}
 
 -- ---- texts in order
 
@@ -79,15 +79,15 @@ put_first uri octets ((key, Some there) ∷ places) behind = rw behind.0 refl
 
 -- ---- what is at a place
 
-pub octets_live : (uri : List ℕ) (places : Places) → AreSorted places → octets_at (live places) uri ≡ joined (lookup (bytes_eq uri) places)
+pub octets_live : (uri : List ℕ) (places : Places) → AreSorted places → octets_at (live places) uri ≡ flattened (lookup (bytes_eq uri) places)
 octets_live uri [] sorted = refl
 octets_live uri ((key, None) ∷ places) sorted =
-    elim (bytes_eq uri key) as (λ t. bytes_eq uri key ≡ t → octets_at (live places) uri ≡ joined (cond t (Some None) (lookup (bytes_eq uri) places))) [
+    elim (bytes_eq uri key) as (λ t. bytes_eq uri key ≡ t → octets_at (live places) uri ≡ flattened (cond t (Some None) (lookup (bytes_eq uri) places))) [
       | true ↦ λ same. none_among uri places (subst (λ (k : List ℕ). AreBehind k places) (sym ((bytes_eq-Decides uri key).0 same)) (sorted_head _ key (keys_of places) sorted))
       | false ↦ λ other. octets_live uri places (sorted_tail _ key (keys_of places) sorted)
     ] refl
 octets_live uri ((key, Some octets) ∷ places) sorted =
-    elim (bytes_eq uri key) as (λ t. bytes_eq uri key ≡ t → cond t (Some octets) (octets_at (live places) uri) ≡ joined (cond t (Some (Some octets)) (lookup (bytes_eq uri) places))) [
+    elim (bytes_eq uri key) as (λ t. bytes_eq uri key ≡ t → cond t (Some octets) (octets_at (live places) uri) ≡ flattened (cond t (Some (Some octets)) (lookup (bytes_eq uri) places))) [
       | true ↦ λ same. refl
       | false ↦ λ other. octets_live uri places (sorted_tail _ key (keys_of places) sorted)
     ] refl

@@ -13,7 +13,7 @@ use Rattle.rpki_publication.specs.declared.publish_delta_element.PublishDeltaEle
 use Rattle.rpki_publication.specs.declared.report_error_code.ReportErrorCode.TheVariants as code
 use Rattle.rpki_publication.specs.ListReply.{withdrawal_of}
 use Rattle.rpki_pubserver.specs.Changes.{Refused, after_all, after_element, changed, code_at, code_of, uri_of}
-use Rattle.rpki_pubserver.specs.Store.{LieUnder, Store, listed, octets_at, put, without}
+use Rattle.rpki_pubserver.specs.Store.{LieUnder, Store, listed_store, octets_at, put, without}
 use Rattle.rpki_common.proofs.Truths.{equal_octets}
 
 -- ---- one change
@@ -60,7 +60,7 @@ lie_made base store e none lie = lie_changed base store e (under_made base store
 first_taken : (base uri octets : List ℕ) (store : Store) → IsUnder base uri → after_element base ((uri, octets) ∷ store) (change.Withdraw (record { tag = Some (encode_lower (sha256 octets)); uri = uri; hash = sha256 octets })) ≡ Ok store
 first_taken base uri octets store under = rw under (rw (equal_octets uri) (rw (equal_octets (sha256 octets)) refl))
 
-pub none_left : (base : List ℕ) (store : Store) → LieUnder base store → after_all base (Ok store) (map (λ e. change.Withdraw (withdrawal_of e)) (listed store)) ≡ Ok []
+pub none_left : (base : List ℕ) (store : Store) → LieUnder base store → after_all base (Ok store) (map (λ e. change.Withdraw (withdrawal_of e)) (listed_store store)) ≡ Ok []
 none_left base [] lie = refl
 none_left base (pair ∷ store) lie =
-    ap (λ (r : Result Store Refused). after_all base r (map (λ e. change.Withdraw (withdrawal_of e)) (listed store))) (first_taken base pair.0 pair.1 store lie.0) ∙ none_left base store lie.1
+    ap (λ (r : Result Store Refused). after_all base r (map (λ e. change.Withdraw (withdrawal_of e)) (listed_store store))) (first_taken base pair.0 pair.1 store lie.0) ∙ none_left base store lie.1

@@ -6,7 +6,7 @@ use Rattle.rpki_signer.specs.Limits.{Keeps}
 use Rattle.rpki_signer.specs.Signer.{SignerState}
 use Rattle.rpki_sigmsg.specs.declared.create_error.CreateError.{CreateError}
 use Rattle.rpki_sigmsg.specs.declared.create_error.CreateError.TheVariants as create
-use Rattle.rpki_sigmsg.specs.Spelling.{rewritten, CanBeSpelled}
+use Rattle.rpki_sigmsg.specs.Spelling.{rewritten, CanSpellMessage}
 use Rattle.rpki_publication.specs.Cms.{CmsFields}
 use Rattle.rpki_publication.specs.Message.{text_of}
 use Rattle.rpki_ca.specs.declared.receiving.Kind.TheVariants as kinds
@@ -20,12 +20,12 @@ use Rattle.rpki_ca.proofs.Creating.{first_told}
 use Rattle.rpki_ca.proofs.Sending.{not_memory, signing_cause}
 use Rattle.rpki_ca.proofs.Serving.{stopped_at}
 use Rattle.rpki_ca.proofs.Stepping.{all_steps, first_steps}
-use Rattle.rpki_pubserver.specs.Server.{FailsReply, IsAnswered, ServerFields}
+use Rattle.rpki_pubserver.specs.Server.{FailsReply, IsQueryAnswered, ServerFields}
 use Rattle.rpki_pubserver.specs.Serving.{AreAllReplied, AreFirstReplied, FailsLine, IsReplied, ServerAndSigner, StopsReplying, with_signer}
 
 -- what is signed is written in hexadecimal
-pub replied_so : {I : Type 0} (scheme : Relation) (when : ℤ) (signer : SignerSeen I) (server : ServerFields) (octets : List ℕ) (c : CmsFields) (next : ServerFields) (signed : List ℕ) → IsAnswered scheme server octets when signer c next
-    → signed ≡ rewritten c.signed → CanBeSpelled c.signed → Keeps signer.before signer.after → IsReplied scheme when signer.id (with_signer server signer.before) octets (encode_lower signed) (with_signer next signer.after)
+pub replied_so : {I : Type 0} (scheme : Relation) (when : ℤ) (signer : SignerSeen I) (server : ServerFields) (octets : List ℕ) (c : CmsFields) (next : ServerFields) (signed : List ℕ) → IsQueryAnswered scheme server octets when signer c next
+    → signed ≡ rewritten c.signed → CanSpellMessage c.signed → Keeps signer.before signer.after → IsReplied scheme when signer.id (with_signer server signer.before) octets (encode_lower signed) (with_signer next signer.after)
 replied_so scheme when signer server octets c next signed answered are spelled keeps = record {
   reply = answered.reply;
   is = answered.is;

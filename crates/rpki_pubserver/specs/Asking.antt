@@ -12,7 +12,7 @@ use Rattle.rpki_ca.specs.declared.receiving.ReceiveError.TheVariants as errors
 use Rattle.rpki_pubserver.specs.declared.asking.Asked.{Asked}
 use Rattle.rpki_pubserver.specs.declared.asking.Asked.TheVariants as asked
 use Rattle.rpki_pubserver.specs.Messages.{error_alone, list_message}
-use Rattle.rpki_pubserver.specs.Replies.{Reply, only, reply_to_delta}
+use Rattle.rpki_pubserver.specs.Replies.{Reply, unchanged, reply_to_delta}
 use Rattle.rpki_pubserver.specs.Store.{Store}
 
 -- what is asked; of want of memory nothing is said
@@ -28,9 +28,9 @@ asked_by (Ok (received.Provisioning m)) = asked.Nothing code.XmlError
 
 -- the reply to it
 abbrev pub reply_to_asked : List ℕ → Store → Asked → Reply
-reply_to_asked base store asked.List = only (list_message store) store
+reply_to_asked base store asked.List = unchanged (list_message store) store
 reply_to_asked base store (asked.Changes elements) = reply_to_delta base store elements
-reply_to_asked base store (asked.Nothing code) = only (error_alone code) store
+reply_to_asked base store (asked.Nothing code) = unchanged (error_alone code) store
 
 -- the changes were read
 abbrev pub IsWritableAsked : Asked → Type 0

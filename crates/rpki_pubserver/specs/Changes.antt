@@ -17,10 +17,10 @@ uri_of (change.Update u) = u.uri
 uri_of (change.Withdraw w) = w.uri
 
 -- the tag of a change, if it has one (2.2)
-abbrev pub tag_of : PublishDeltaElement → Option (List ℕ)
-tag_of (change.Publish p) = p.tag
-tag_of (change.Update u) = u.tag
-tag_of (change.Withdraw w) = w.tag
+abbrev pub tag_of_change : PublishDeltaElement → Option (List ℕ)
+tag_of_change (change.Publish p) = p.tag
+tag_of_change (change.Update u) = u.tag
+tag_of_change (change.Withdraw w) = w.tag
 
 -- ---- one change
 

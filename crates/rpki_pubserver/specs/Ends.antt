@@ -29,14 +29,14 @@ pub record HasLongLine {Id : Type 0} (scheme : Relation) (when : ℤ) (signer : 
 
 -- The signer holds a fitting key, and it neither failed nor gave too many octets, nor that key for
 -- one use; and no reply has a text of more than 2^31 octets.
-pub record CanServe {Id : Type 0} (scheme : Relation) (when : ℤ) (signer : SignerSeen Id)
+pub record ServerCanServe {Id : Type 0} (scheme : Relation) (when : ℤ) (signer : SignerSeen Id)
     (server : ServerFields) (input : List ℕ) : Type 0 where
   pub signs : CanSign signer
   pub short : (messages : List (List ℕ)) → AreSent (lines_of input) messages
       → HasLongLine scheme when signer server messages → ⊥
 
 -- 0 or 12; or 3 where some line isn't hexadecimal, or 8 where the moment has no window
-abbrev pub EndsForCause : ℤ → List ℕ → ℕ → Type 0
-EndsForCause when input status =
+abbrev pub ServerEndsForCause : ℤ → List ℕ → ℕ → Type 0
+ServerEndsForCause when input status =
     ((status ≡ 0) ⊎ (status ≡ 12))
     ⊎ (((status ≡ 3) × AreNotSent (lines_of input)) ⊎ ((status ≡ 8) × (HasWindow when → ⊥)))

@@ -7,8 +7,8 @@ use Rattle.rpki_publication.specs.declared.reply.Reply.TheVariants as replies
 use Rattle.rpki_publication.specs.declared.report_error_code.ReportErrorCode.{ReportErrorCode}
 use Rattle.rpki_publication.specs.ReportError.{ReportErrorFields}
 use Rattle.rpki_publication.specs.ReportErrorCode.{default_text}
-use Rattle.rpki_pubserver.specs.Store.{Store, listed}
-use Rattle.rpki_pubserver.specs.Changes.{Refused, tag_of}
+use Rattle.rpki_pubserver.specs.Store.{Store, listed_store}
+use Rattle.rpki_pubserver.specs.Changes.{Refused, tag_of_change}
 
 -- a reply with one error
 abbrev pub error_message : ReportErrorFields → Message
@@ -24,14 +24,14 @@ error_alone code = error_message (record {
 })
 
 -- the error reply that is of a change: its code, the change's tag, the code's text, and the change
-abbrev pub error_of : Refused → Message
-error_of refused = error_message (record {
+abbrev pub error_about : Refused → Message
+error_about refused = error_message (record {
   error_code = refused.code;
-  tag = tag_of refused.element;
+  tag = tag_of_change refused.element;
   error_text = Some (default_text refused.code);
   failed_pdu = Some (pdu.PublishDeltaElement refused.element);
 })
 
 -- the list reply: URI and hash of each object in the store (2.3)
 abbrev pub list_message : Store → Message
-list_message store = messages.Reply (replies.List (listed store))
+list_message store = messages.Reply (replies.List (listed_store store))

@@ -23,9 +23,9 @@ live ((uri, None) ∷ places) = live places
 live ((uri, Some octets) ∷ places) = (uri, octets) ∷ live places
 
 -- what is at a place that may be missing
-abbrev pub joined : Option (Option (List ℕ)) → Option (List ℕ)
-joined None = None
-joined (Some there) = there
+abbrev pub flattened : Option (Option (List ℕ)) → Option (List ℕ)
+flattened None = None
+flattened (Some there) = there
 
 -- there is a place for a URI
 abbrev pub HasPlace : Places → List ℕ → Type 0

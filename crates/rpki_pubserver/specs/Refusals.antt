@@ -6,7 +6,7 @@ use Rattle.rpki_pubserver.specs.Changes.{after_all}
 use Rattle.rpki_pubserver.specs.Store.{Store}
 
 -- the change is the first that isn't made
-pub record IsRefused (base : List ℕ) (store : Store) (changes : List PublishDeltaElement)
+pub record IsChangeRefused (base : List ℕ) (store : Store) (changes : List PublishDeltaElement)
     (refused : held.Refused) : Type 0 where
   pub element : PublishDeltaElement
   pub stands : slice_get changes refused.place ≡ Some element

@@ -12,7 +12,7 @@ use Rattle.rpki_ca.specs.declared.receiving.ReceiveError.{ReceiveError}
 use Rattle.rpki_ca.specs.declared.receiving.ReceiveError.TheVariants as errors
 use Rattle.rpki_pubserver.specs.Store.{Store}
 use Rattle.rpki_pubserver.specs.Changes.{Refused, after_all}
-use Rattle.rpki_pubserver.specs.Messages.{error_alone, error_of, list_message}
+use Rattle.rpki_pubserver.specs.Messages.{error_alone, error_about, list_message}
 
 -- a reply, and the store behind it
 pub record Reply : Type 0 where
@@ -20,14 +20,14 @@ pub record Reply : Type 0 where
   pub next : Store
 
 -- a reply that leaves the store as it is
-abbrev pub only : Message → Store → Reply
-only message store = record { message = message; next = store }
+abbrev pub unchanged : Message → Store → Reply
+unchanged message store = record { message = message; next = store }
 
 -- to what becomes of changes: success, and the store behind them, where all are made; or the error
 -- of the first that isn't
 abbrev pub reply_to_changes : Store → Result Store Refused → Reply
 reply_to_changes store (Ok next) = record { message = messages.Reply replies.Success; next = next }
-reply_to_changes store (Err refused) = only (error_of refused) store
+reply_to_changes store (Err refused) = unchanged (error_about refused) store
 
 -- to changes, of which each is made behind those before it
 abbrev pub reply_to_delta : List ℕ → Store → List PublishDeltaElement → Reply
@@ -39,14 +39,14 @@ reply_to_delta base store elements =
 -- and to changes what becomes of them. That a certificate or a request can't be read is never told
 -- of this protocol, nor is a message of the other.
 abbrev pub reply_to : List ℕ → Store → Result Received ReceiveError → Reply
-reply_to base store (Err errors.CmsDecode) = only (error_alone code.BadCmsSignature) store
+reply_to base store (Err errors.CmsDecode) = unchanged (error_alone code.BadCmsSignature) store
 reply_to base store (Err (errors.Validation failed)) =
-    only (error_alone code.BadCmsSignature) store
-reply_to base store (Err other) = only (error_alone code.XmlError) store
+    unchanged (error_alone code.BadCmsSignature) store
+reply_to base store (Err other) = unchanged (error_alone code.XmlError) store
 reply_to base store (Ok (received.Publication (messages.Query queries.List))) =
-    only (list_message store) store
+    unchanged (list_message store) store
 reply_to base store (Ok (received.Publication (messages.Query (queries.Delta elements)))) =
     reply_to_delta base store elements
 reply_to base store (Ok (received.Publication (messages.Reply reply))) =
-    only (error_alone code.XmlError) store
-reply_to base store (Ok (received.Provisioning m)) = only (error_alone code.XmlError) store
+    unchanged (error_alone code.XmlError) store
+reply_to base store (Ok (received.Provisioning m)) = unchanged (error_alone code.XmlError) store

@@ -21,7 +21,7 @@ pub record IsBase (base : List ℕ) : Type 0 where
   pub directory : names_directory (path_of rsync base) ≡ true
 
 -- three words: a moment, such a URI, and the publisher's key
-pub record AreWords (words : List (List ℕ)) (when : ℤ) (base : List ℕ) (publisher : KeyFields)
+pub record AreServerWords (words : List (List ℕ)) (when : ℤ) (base : List ℕ) (publisher : KeyFields)
     : Type 0 where
   pub three : length words ≡ 3
   pub moment : IsMomentAt words 0 when
@@ -30,9 +30,9 @@ pub record AreWords (words : List (List ℕ)) (when : ℤ) (base : List ℕ) (pu
   pub key : key_at words 2 ≡ Some publisher
 
 -- the words are not a moment, a base URI and a publisher's key
-abbrev pub AreNoWords : List (List ℕ) → Type 0
-AreNoWords words =
-    (when : ℤ) (base : List ℕ) (publisher : KeyFields) → AreWords words when base publisher → ⊥
+abbrev pub AreNoServerWords : List (List ℕ) → Type 0
+AreNoServerWords words =
+    (when : ℤ) (base : List ℕ) (publisher : KeyFields) → AreServerWords words when base publisher → ⊥
 
 -- the server at first
 abbrev pub new_server : List ℕ → KeyFields → ServerFields
@@ -46,7 +46,7 @@ IsIdle signer = signer.after ≡ signer.before
 
 -- How it ends where each line is that of octets, and the moment has a window: they are answered one
 -- behind the other.
-pub record EndsAnswered {Id : Type 0} (scheme : Relation) (when : ℤ) (signer : SignerSeen Id)
+pub record EndsServerAnswered {Id : Type 0} (scheme : Relation) (when : ℤ) (signer : SignerSeen Id)
     (server : ServerFields) (lines : List (List ℕ)) (status : ℕ) (sink : Seen) : Type 0 where
   pub messages : List (List ℕ)
   pub are : AreSent lines messages
@@ -57,18 +57,18 @@ pub record EndsAnswered {Id : Type 0} (scheme : Relation) (when : ℤ) (signer :
 
 -- how it ends: with the answers to all lines; or the moment has no window; or some line is that of
 -- no octets; or memory ran out
-abbrev pub EndsServed : {Id : Type 0} → Relation → ℤ → SignerSeen Id → ServerFields
+abbrev pub EndsServerServed : {Id : Type 0} → Relation → ℤ → SignerSeen Id → ServerFields
     → List (List ℕ) → ℕ → Seen → Type 0
-EndsServed scheme when signer server lines status sink =
-    EndsAnswered scheme when signer server lines status sink
+EndsServerServed scheme when signer server lines status sink =
+    EndsServerAnswered scheme when signer server lines status sink
     ⊎ ((EndsMoment when lines status sink × IsIdle signer)
     ⊎ ((AreNotSent lines × Ends (Err Hex) status sink × IsIdle signer)
     ⊎ (Ends (Err OutOfMemory) status sink × IsIdle signer)))
 
 -- How it ends on a source: the input isn't read, and the signer did nothing; or it is, and its
 -- lines are answered.
-abbrev pub EndsServing : {Id : Type 0} → Relation → ℤ → SignerSeen Id → ServerFields → ℕ → Seen
+abbrev pub EndsServerRun : {Id : Type 0} → Relation → ℤ → SignerSeen Id → ServerFields → ℕ → Seen
     → Seen → Type 0
-EndsServing scheme when signer server status source sink =
+EndsServerRun scheme when signer server status source sink =
     (EndsUnread status source sink × IsIdle signer)
-    ⊎ EndsRead (λ input. EndsServed scheme when signer server (lines_of input) status sink) source
+    ⊎ EndsRead (λ input. EndsServerServed scheme when signer server (lines_of input) status sink) source

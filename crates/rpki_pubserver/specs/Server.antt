@@ -14,7 +14,7 @@ use Rattle.rpki_ca.specs.declared.receiving.ReceiveError.{ReceiveError}
 use Rattle.rpki_ca.specs.declared.receiving.ReceiveError.TheVariants as errors
 use Rattle.rpki_ca.specs.Acceptance.{IsReceived}
 use Rattle.rpki_ca.specs.Seen.{SignerSeen}
-use Rattle.rpki_ca.specs.Sending.{IsSignedAs, FailsToSign}
+use Rattle.rpki_ca.specs.Sending.{IsSentAs, FailsToSign}
 use Rattle.rpki_pubserver.specs.Store.{Store}
 use Rattle.rpki_pubserver.specs.Replies.{Reply, reply_to}
 
@@ -45,17 +45,17 @@ pub record IsReply (scheme : Relation) (server : ServerFields) (octets : List �
 -- ---- the reply is signed, or it isn't
 
 -- the signed message holds the message, and was created with it at the moment
-pub record IsSigned {Id : Type 0} (scheme : Relation) (when : ℤ) (signer : SignerSeen Id)
+pub record IsSignedReply {Id : Type 0} (scheme : Relation) (when : ℤ) (signer : SignerSeen Id)
     (message : Message) (c : CmsFields) : Type 0 where
   pub message_is : c.message ≡ message
-  pub signed : IsSignedAs scheme when signer (received.Publication message) c.signed
+  pub signed : IsSentAs scheme when signer (received.Publication message) c.signed
 
 -- the signed message holds the reply to octets, and the server has the objects behind it
-pub record IsAnswered {Id : Type 0} (scheme : Relation) (server : ServerFields) (octets : List ℕ)
+pub record IsQueryAnswered {Id : Type 0} (scheme : Relation) (server : ServerFields) (octets : List ℕ)
     (when : ℤ) (signer : SignerSeen Id) (c : CmsFields) (next : ServerFields) : Type 0 where
   pub reply : Reply
   pub is : IsReply scheme server octets when reply
-  pub signed : IsSigned scheme when signer reply.message c
+  pub signed : IsSignedReply scheme when signer reply.message c
   pub behind : next ≡ with_store server reply.next
 
 -- the reply to octets isn't signed for this cause

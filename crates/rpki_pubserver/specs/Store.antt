@@ -32,8 +32,8 @@ abbrev pub without : Store → List ℕ → Store
 without store uri = remove_entry (bytes_eq uri) store
 
 -- the list of all objects: each URI with the digest of the octets there (2.3)
-abbrev pub listed : Store → List ListElementFields
-listed store = map (λ pair. record { uri = pair.0; hash = sha256 pair.1 }) store
+abbrev pub listed_store : Store → List ListElementFields
+listed_store store = map (λ pair. record { uri = pair.0; hash = sha256 pair.1 }) store
 
 -- each URI begins with this text
 abbrev pub LieUnder : List ℕ → Store → Type 0

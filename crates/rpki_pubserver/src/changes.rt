@@ -5,7 +5,7 @@ ghost use Rattle.std.specs.Option.{option_map};
 ghost use Rattle.std.specs.Rc.{rc_str_bytes};
 ghost use Rattle.rpki_pubserver.specs.Changes as definitions;
 ghost use Rattle.rpki_pubserver.specs.Places.{HavePlaces, live, object_of, undone};
-ghost use Rattle.rpki_pubserver.specs.Refusals.{IsRefused};
+ghost use Rattle.rpki_pubserver.specs.Refusals.{IsChangeRefused};
 
 use crate::object::Object;
 use crate::objects::Objects;
@@ -28,7 +28,7 @@ pub(crate) fn uri_of(change: &PublishDeltaElement) -> &uri::Rsync
 
 /// The tag of a change.
 pub(crate) fn tag_of(change: &PublishDeltaElement) -> Option<&RcStr>
-    ensures { option_map (λ t. rc_str_bytes t.now) result ≡ definitions.tag_of change.now }
+    ensures { option_map (λ t. rc_str_bytes t.now) result ≡ definitions.tag_of_change change.now }
 {
     match change {
         PublishDeltaElement::Publish(publish) => publish.tag(),
@@ -138,7 +138,7 @@ pub(crate) fn change_all(
     ensures length { length next.new ≡ length changes.now }
 
     // An error tells the first one that isn't made, and all is as it was.
-    ensures refused { IfErr result (IsRefused base.now (live objects.old) changes.now) }
+    ensures refused { IfErr result (IsChangeRefused base.now (live objects.old) changes.now) }
     ensures unchanged { OnErr result (objects.new ≡ objects.old) }
 {
     let mut place = 0;

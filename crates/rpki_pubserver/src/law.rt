@@ -9,11 +9,11 @@ ghost use Rattle.rpki_ca.specs.Seen.{HasFailed, Seen, SignerSeen};
 ghost use Rattle.rpki_ca.specs.declared.receiving.Kind.TheVariants as kinds;
 ghost use Rattle.rpki_ca.specs.declared.receiving.Received.{Received as Message};
 ghost use Rattle.rpki_pubserver.specs.Changes.{after_all};
-ghost use Rattle.rpki_pubserver.specs.Ends.{CanServe, EndsForCause, RepliesAll};
+ghost use Rattle.rpki_pubserver.specs.Ends.{ServerCanServe, ServerEndsForCause, RepliesAll};
 ghost use Rattle.rpki_pubserver.specs.Replies.{Reply};
-ghost use Rattle.rpki_pubserver.specs.Running.{EndsServing};
+ghost use Rattle.rpki_pubserver.specs.Running.{EndsServerRun};
 ghost use Rattle.rpki_pubserver.specs.Server.{IsReply, ServerFields};
-ghost use Rattle.rpki_pubserver.specs.Store.{IsStore, LieUnder, Store, listed};
+ghost use Rattle.rpki_pubserver.specs.Store.{IsStore, LieUnder, Store, listed_store};
 
 use rpki_base::Scheme;
 use rpki_signer::Signer;
@@ -49,7 +49,7 @@ pub fn objects_stay_in_order<P: Scheme>()
 /// The changes that withdraw each listed object are all made, and leave none.
 pub fn withdrawn_list_leaves_none()
     ensures { (base : List ℕ) (store : Store) → LieUnder base store →
-        after_all base (Ok store) (map (λ e. change.Withdraw (withdrawal_of e)) (listed store))
+        after_all base (Ok store) (map (λ e. change.Withdraw (withdrawal_of e)) (listed_store store))
         ≡ Ok [] }
 {}
 
@@ -57,7 +57,7 @@ pub fn withdrawn_list_leaves_none()
 pub fn zero_replies_to_all<P: Scheme, S: Signer<P>>()
     ensures { (when : ℤ) (signer : SignerSeen S.KeyId) (server : ServerFields)
         (source sink : Seen) (input : List ℕ) →
-        EndsServing P.checks when signer server 0 source sink → source.before ≡ Some input →
+        EndsServerRun P.checks when signer server 0 source sink → source.before ≡ Some input →
         RepliesAll P.checks when signer server input sink }
 {}
 
@@ -66,8 +66,8 @@ pub fn zero_replies_to_all<P: Scheme, S: Signer<P>>()
 pub fn runs_end_for_cause<P: Scheme, S: Signer<P>>()
     ensures { (when : ℤ) (signer : SignerSeen S.KeyId) (server : ServerFields) (status : ℕ)
         (source sink : Seen) (input : List ℕ) →
-        EndsServing P.checks when signer server status source sink →
+        EndsServerRun P.checks when signer server status source sink →
         source.before ≡ Some input → length input ≤ most_input → ¬ (HasFailed source) →
-        ¬ (HasFailed sink) → CanServe P.checks when signer server input →
-        EndsForCause when input status }
+        ¬ (HasFailed sink) → ServerCanServe P.checks when signer server input →
+        ServerEndsForCause when input status }
 {}

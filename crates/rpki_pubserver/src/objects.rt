@@ -7,7 +7,7 @@ ghost use Rattle.std.specs.Map.{lookup};
 ghost use Rattle.std.specs.Str.{bytes_eq};
 ghost use Rattle.rpki_publication.specs.ListReply.{IsWritableListElement};
 ghost use Rattle.rpki_pubserver.specs.Places.{HasPlace, live, with_object, with_octets};
-ghost use Rattle.rpki_pubserver.specs.Store.{IsStore, listed, octets_at};
+ghost use Rattle.rpki_pubserver.specs.Store.{IsStore, listed_store, octets_at};
 
 use crate::object::Object;
 use rpki_common::OutOfMemory;
@@ -72,7 +72,7 @@ impl Objects {
     /// The list of all objects, by their URIs and digests. The keys are the texts of URIs, so memory
     /// alone is wanting where one isn't read.
     pub(crate) fn list(&self, alloc: Global) -> Result<ListReply, OutOfMemory>
-        ensures list { IfOk result (λ reply. reply ≡ listed (live self.now)) }
+        ensures list { IfOk result (λ reply. reply ≡ listed_store (live self.now)) }
         ensures writable { IfOk result (AllByRecursion IsWritableListElement) }
     {
         let mut elements = Vec::new(alloc);

@@ -1,7 +1,7 @@
 //! What the program's words ask for.
 
 ghost use Rattle.std.specs.Prelude.{◌≡◌, IfOk, IfSome, IsNone, List, Some, slice_get, ℕ};
-ghost use Rattle.rpki_pubserver.specs.Running.{AreNoWords, AreWords, IsBase};
+ghost use Rattle.rpki_pubserver.specs.Running.{AreNoServerWords, AreServerWords, IsBase};
 
 use rpki_base::{PublicKey, Time};
 use rpki_ca::Words;
@@ -42,8 +42,8 @@ fn base_at(alloc: Global, words: &Words, index: usize) -> Result<Option<uri::Rsy
 /// What the three words ask for; None exactly where they aren't of the form.
 pub(crate) fn terms_of(alloc: Global, words: &Words) -> Result<Option<Terms>, OutOfMemory>
     ensures some { IfOk result (λ o. IfSome o (λ terms.
-        AreWords words.now terms.when terms.base terms.publisher)) }
-    ensures none { IfOk result (λ o. IsNone o → AreNoWords words.now) }
+        AreServerWords words.now terms.when terms.base terms.publisher)) }
+    ensures none { IfOk result (λ o. IsNone o → AreNoServerWords words.now) }
 {
     if words.len() != 3 {
         return Ok(None);

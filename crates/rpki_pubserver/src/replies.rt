@@ -52,7 +52,7 @@ pub(crate) fn error_of(
 ) -> Result<Message, OutOfMemory>
     requires { IsWritableChange change.now }
     ensures message { IfOk result (λ m.
-        m ≡ definitions.error_of (record { element = change.now; code = code })) }
+        m ≡ definitions.error_about (record { element = change.now; code = code })) }
     ensures writable { IfOk result IsWritable }
 {
     let tag = copied(tag_of(change))?;

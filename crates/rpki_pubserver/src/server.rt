@@ -13,8 +13,8 @@ ghost use Rattle.rpki_ca.specs.Seen.{seen_signer};
 ghost use Rattle.rpki_ca.specs.Sending.{FailsToSign};
 ghost use Rattle.rpki_pubserver.specs.Replies.{reply_to_delta};
 ghost use Rattle.rpki_pubserver.specs.Running.{new_server};
-ghost use Rattle.rpki_pubserver.specs.Server.{FailsReply, IsAnswered, IsSigned, with_store};
-ghost use Rattle.rpki_pubserver.specs.Store.{IsStore, LieUnder, listed, octets_at};
+ghost use Rattle.rpki_pubserver.specs.Server.{FailsReply, IsQueryAnswered, IsSignedReply, with_store};
+ghost use Rattle.rpki_pubserver.specs.Store.{IsStore, LieUnder, listed_store, octets_at};
 
 use crate::asking::{Asked, asked_by};
 use crate::changes::{change_all, drop_places, prepare, undo};
@@ -112,7 +112,7 @@ impl Server {
 
     /// The list of all objects: their URIs, in the order of these, and digests (RFC 8181, 2.3).
     pub fn list_reply(&self, alloc: Global) -> Result<ListReply, OutOfMemory>
-        ensures list { IfOk result (λ reply. reply ≡ listed self.now.store) }
+        ensures list { IfOk result (λ reply. reply ≡ listed_store self.now.store) }
         ensures writable { IfOk result (AllByRecursion IsWritableListElement) }
     {
         self.objects.list(alloc)
@@ -143,7 +143,7 @@ impl Server {
         key: &S::KeyId,
     ) -> Result<PublicationCms, CreateError<S::Error>>
         // The reply is signed, and the objects are those behind it.
-        ensures answered { IfOk result (λ c. IsAnswered P.checks self.old octets.now when
+        ensures answered { IfOk result (λ c. IsQueryAnswered P.checks self.old octets.now when
             (seen_signer key.now (S.state signer.old) (S.state signer.new)) c self.new) }
 
         // Each refusal by its cause; it leaves the server.
@@ -184,7 +184,7 @@ impl Server {
         key: &S::KeyId,
     ) -> Result<PublicationCms, CreateError<S::Error>>
         requires { AllByRecursion IsWritableChange delta.now }
-        ensures signed { IfOk result (IsSigned P.checks when
+        ensures signed { IfOk result (IsSignedReply P.checks when
             (seen_signer key.now (S.state signer.old) (S.state signer.new))
             (reply_to_delta self.old.base self.old.store delta.now).message) }
         ensures fails { IfErr result (λ e. e ≢ create.OutOfMemory → FailsToSign P.checks when
@@ -210,7 +210,7 @@ impl Server {
         key: &S::KeyId,
     ) -> Result<PublicationCms, CreateError<S::Error>>
         requires { AllByRecursion IsWritableChange delta.now }
-        ensures signed { IfOk result (IsSigned P.checks when
+        ensures signed { IfOk result (IsSignedReply P.checks when
             (seen_signer key.now (S.state signer.old) (S.state signer.new))
             (reply_to_delta self.old.base self.old.store delta.now).message) }
         ensures fails { IfErr result (λ e. e ≢ create.OutOfMemory → FailsToSign P.checks when

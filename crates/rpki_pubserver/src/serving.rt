@@ -9,7 +9,7 @@ ghost use Rattle.rpki_ca.specs.Answer.{Ends};
 ghost use Rattle.rpki_ca.specs.Lines.{Answered};
 ghost use Rattle.rpki_ca.specs.Seen.{seen, seen_signer};
 ghost use Rattle.rpki_ca.specs.declared.refusals.Refusal.TheVariants as refusals;
-ghost use Rattle.rpki_pubserver.specs.Running.{AreNoWords, AreWords, EndsServed, EndsServing, new_server};
+ghost use Rattle.rpki_pubserver.specs.Running.{AreNoServerWords, AreServerWords, EndsServerServed, EndsServerRun, new_server};
 ghost use Rattle.rpki_pubserver.specs.Serving.{AreAllReplied, AreFirstReplied, FailsLine, IsReplied, StopsReplying, with_signer};
 
 use crate::preparing::{Terms, terms_of};
@@ -88,7 +88,7 @@ fn serve_lines<P: Scheme, O: Sink, V: Verifier<P>, S: Signer<P>>(
     signer: &mut S,
     key: &S::KeyId,
 ) -> Status
-    ensures ends { EndsServed P.checks when
+    ensures ends { EndsServerServed P.checks when
         (seen_signer key.now (S.state signer.old) (S.state signer.new)) server.old lines.entry
         result.0 (seen O.written O.faults output.old output.new) }
     ensures keeps { Keeps (S.state signer.old) (S.state signer.new) }
@@ -130,11 +130,11 @@ pub fn serve<P: Scheme, I: Source, O: Sink, V: Verifier<P>, S: Signer<P>>(
     key: &S::KeyId,
 ) -> Status
     // Other words are refused, the source is left unread, and the signer unasked.
-    ensures usage { AreNoWords words.now
+    ensures usage { AreNoServerWords words.now
         → Ends (Err refusals.Usage) result.0 (seen O.written O.faults output.old output.new)
         ⊎ Ends (Err refusals.OutOfMemory) result.0 (seen O.written O.faults output.old output.new) }
-    ensures unread { AreNoWords words.now → input.new ≡ input.old }
-    ensures unasked { AreNoWords words.now → signer.new ≡ signer.old }
+    ensures unread { AreNoServerWords words.now → input.new ≡ input.old }
+    ensures unasked { AreNoServerWords words.now → signer.new ≡ signer.old }
 
     // At most one octet more than the limit is taken of the source.
     ensures most { TakesAtMost (I.rest input.old) (I.rest input.new) (most_input + 1) }
@@ -142,8 +142,8 @@ pub fn serve<P: Scheme, I: Source, O: Sink, V: Verifier<P>, S: Signer<P>>(
     // Where the source isn't read whole, that is what is answered, and the signer did nothing; and
     // where it is, the queries are answered.
     ensures ends { (when : ℤ) (base : List ℕ) (publisher : KeyFields)
-        → AreWords words.now when base publisher
-        → EndsServing P.checks when
+        → AreServerWords words.now when base publisher
+        → EndsServerRun P.checks when
         (seen_signer key.now (S.state signer.old) (S.state signer.new)) (new_server base publisher)
         result.0 (seen I.rest I.faults input.old input.new)
         (seen O.written O.faults output.old output.new) }

@@ -15,7 +15,7 @@ use Rattle.rpki_replay.specs.State.{put}
 use Rattle.rpki_replay.specs.Admission.{IsAdmission, state_behind}
 use Rattle.rpki_replay.specs.Messages.{Sent}
 use Rattle.rpki_replay.specs.Shown.{answer_text}
-use Rattle.rpki_replay.specs.Answers.{IsAnswered}
+use Rattle.rpki_replay.specs.Answers.{IsGuardAnswered}
 use Rattle.rpki_common.proofs.Truths.{none_some}
 
 pub no_signed : (octets : List ℕ) → RefusesOctets (signed_message Ber) Ber octets Malformed → HoldsNoSigned octets
@@ -28,7 +28,7 @@ behind peers next key (Err e) admitted refused = refused
 
 pub is_judged : (scheme : Relation) (when : ℤ) (peers next : List Peer) (sent : Sent) (octets text : List ℕ) (signed : MessageFields) (answer : Result ℤ GuardError) → octets ≡ sent.octets → BeginsSigned octets signed
     → (answer ≢ Err OutOfMemory → IsAdmission scheme peers sent.peer signed when answer) → IfOk answer (λ time. next ≡ put peers sent.peer time) → OnErr answer (next ≡ peers)
-    → answer ≢ Err OutOfMemory → text ≡ answer_text answer → IsAnswered scheme when peers sent text next
+    → answer ≢ Err OutOfMemory → text ≡ answer_text answer → IsGuardAnswered scheme when peers sent text next
 is_judged scheme when peers next sent octets text signed answer are begins is admitted refused given written = inl (record {
   signed = signed;
   begins = subst (λ (l : List ℕ). BeginsSigned l signed) are begins;
@@ -40,7 +40,7 @@ is_judged scheme when peers next sent octets text signed answer are begins is ad
 })
 
 pub is_none : (scheme : Relation) (when : ℤ) (peers : List Peer) (sent : Sent) (octets text : List ℕ) → octets ≡ sent.octets → RefusesOctets (signed_message Ber) Ber octets Malformed → text ≡ codes "CmsDecode"
-    → IsAnswered scheme when peers sent text peers
+    → IsGuardAnswered scheme when peers sent text peers
 is_none scheme when peers sent octets text are refused written = inr (record {
   none = subst HoldsNoSigned are (no_signed octets refused);
   written = written;

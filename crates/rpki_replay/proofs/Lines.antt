@@ -10,10 +10,10 @@ use Rattle.rpki_base.specs.PublicKey.{KeyFields}
 use Rattle.rpki_ca.specs.Lines.{lines_of, pieces_of, without_empty_end, answer_lines, words_of}
 use Rattle.rpki_ca.proofs.Cutting.{IsOneLine, written_read}
 use Rattle.rpki_replay.specs.declared.peers.Peer.{Peer}
-use Rattle.rpki_replay.specs.State.{IsPeer, IsState, AreDistinct, last_of}
+use Rattle.rpki_replay.specs.State.{IsPeer, IsState, AreDistinctPeers, last_of}
 use Rattle.rpki_ca.specs.Keys.{same_key}
 use Rattle.rpki_replay.specs.StateText.{IsStateText, ends_line, peer_line}
-use Rattle.rpki_replay.specs.Messages.{Opens, dash}
+use Rattle.rpki_replay.specs.Messages.{OpensWithState, dash}
 use Rattle.rpki_ca.proofs.Keys.{same_key-sym}
 use Rattle.rpki_replay.proofs.Standing.{distinct_push, no_time}
 use Rattle.rpki_replay.proofs.Texts.{line_words, one_line, one_peer, key_word, time_word}
@@ -142,7 +142,7 @@ apart_key (held ∷ peers) peer behind key e =
       | false ↦ λ other. apart_key peers peer behind key other
     ] e
 
-pub apart_before : (guard : List Peer) (peer : Peer) (behind : List Peer) → AreDistinct (guard ++ peer ∷ behind) → last_of guard peer.key ≡ None
+pub apart_before : (guard : List Peer) (peer : Peer) (behind : List Peer) → AreDistinctPeers (guard ++ peer ∷ behind) → last_of guard peer.key ≡ None
 apart_before [] peer behind h = refl
 apart_before (held ∷ guard) peer behind h =
     let other : same_key peer.key held.key ≡ false = same_key-sym peer.key held.key ∙ apart_key guard peer behind held.key h.0 in
@@ -194,7 +194,7 @@ not_next guard line before rest text peers state h first bad is =
     let e : map peer_line guard ++ line ∷ rest ≡ map peer_line peers ++ [] =
     ap (λ (l : List (List ℕ)). map peer_line guard ++ l) (sym first) ∙ h ∙ state_lines text peers is ∙ sym (append-nil (map peer_line peers)) in
     elim (which_line guard peers line rest [] state.each is.state.each e) [
-      | inl next ↦ bad next.peer next.is next.written (apart_before guard next.peer next.behind (subst AreDistinct next.peers_are is.state.distinct))
+      | inl next ↦ bad next.peer next.is next.written (apart_before guard next.peer next.behind (subst AreDistinctPeers next.peers_are is.state.distinct))
       | inr (inl tail) ↦ nil_cons line rest tail.is
       | inr (inr tail) ↦ nil_cons (peer_line tail.peer) tail.more tail.is
     ]
@@ -229,7 +229,7 @@ pub not_before_dash : (guard : List Peer) (line written : List ℕ) (before rest
     → false ≡ bytes_eq line written → written ≡ dash → ((peer : Peer) → IsPeer peer → line ≡ peer_line peer → last_of guard peer.key ≢ None) → IsState peers → all ≡ map peer_line peers ++ dash ∷ behind → ⊥
 not_before_dash guard line written before rest all peers behind state h first other is bad is_state e =
     elim (which_line guard peers line rest (dash ∷ behind) state.each is_state.each (ap (λ (l : List (List ℕ)). map peer_line guard ++ l) (sym first) ∙ h ∙ e)) [
-      | inl next ↦ bad next.peer next.is next.written (apart_before guard next.peer next.behind (subst AreDistinct next.peers_are is_state.distinct))
+      | inl next ↦ bad next.peer next.is next.written (apart_before guard next.peer next.behind (subst AreDistinctPeers next.peers_are is_state.distinct))
       | inr (inl tail) ↦ not_dash line written other is (sym (heads dash line behind rest tail.is).0)
       | inr (inr tail) ↦ dash_other tail.peer tail.is_peer (sym (heads dash (peer_line tail.peer) behind tail.more tail.is).0)
     ]
@@ -248,5 +248,5 @@ same_opening (p ∷ one) (q ∷ other) behind more a b e =
     let rest = same_opening one other behind more a.1 b.1 h.1 in
     (λ i. first i ∷ rest.0 i, rest.1)
 
-pub one_opening : (input : List ℕ) (one other : List Peer) (behind more : List (List ℕ)) → Opens input one behind → Opens input other more → (one ≡ other) × (behind ≡ more)
+pub one_opening : (input : List ℕ) (one other : List Peer) (behind more : List (List ℕ)) → OpensWithState input one behind → OpensWithState input other more → (one ≡ other) × (behind ≡ more)
 one_opening input one other behind more a b = same_opening one other behind more a.state.each b.state.each (sym a.lines ∙ b.lines)

@@ -15,7 +15,7 @@ use Rattle.rpki_replay.specs.State.{last_of, put, IsPeer}
 use Rattle.rpki_ca.specs.Keys.{same_key}
 use Rattle.rpki_replay.specs.StateText.{IsStateText, peer_line}
 use Rattle.rpki_replay.specs.Admission.{IsAdmission, answer_behind, judged, state_behind}
-use Rattle.rpki_replay.specs.History.{AreMade, Call, IsLater, Rise, times_under, times_with}
+use Rattle.rpki_replay.specs.History.{AreMade, Call, IsLaterThan, Rise, times_under, times_with}
 use Rattle.rpki_ca.proofs.Keys.{key_is, key_itself}
 use Rattle.rpki_replay.proofs.Lines.{state_lines}
 use Rattle.rpki_replay.proofs.Texts.{one_peer}
@@ -52,7 +52,7 @@ given_ok t = Ok t
 ok_ok : (s t : ℤ) → given_ok s ≡ given_ok t → s ≡ t
 ok_ok s t e = cc
 
-judged_later : (last seen : Option ℤ) (time : ℤ) → judged last seen ≡ Ok time → (seen ≡ Some time) × IsLater last time
+judged_later : (last seen : Option ℤ) (time : ℤ) → judged last seen ≡ Ok time → (seen ≡ Some time) × IsLaterThan last time
 judged_later last None time e = absurd (ok_err time _ e)
 judged_later None (Some s) time e = (ap (λ (z : ℤ). Some z) (ok_ok s time e), tt)
 judged_later (Some l) (Some s) time e =
@@ -61,12 +61,12 @@ judged_later (Some l) (Some s) time e =
       | false ↦ λ less ok. absurd (ok_err time (Replayed l s) ok)
     ] refl e
 
-behind_later : (v : Result (Unit {0}) ValidationError) (last seen : Option ℤ) (time : ℤ) → answer_behind v last seen ≡ Ok time → (seen ≡ Some time) × IsLater last time
+behind_later : (v : Result (Unit {0}) ValidationError) (last seen : Option ℤ) (time : ℤ) → answer_behind v last seen ≡ Ok time → (seen ≡ Some time) × IsLaterThan last time
 behind_later (Ok u) last seen time e = judged_later last seen time e
 behind_later (Err f) last seen time e = absurd (ok_err time _ e)
 
 pub admitted_later : (scheme : Relation) (peers : List Peer) (key : KeyFields) (m : MessageFields) (when : ℤ) (answer : Result ℤ GuardError) (time : ℤ) → IsAdmission scheme peers key m when answer → answer ≡ Ok time
-    → (m.signing_time ≡ Some time) × IsLater (last_of peers key) time
+    → (m.signing_time ≡ Some time) × IsLaterThan (last_of peers key) time
 admitted_later scheme peers key m when answer time is e = behind_later is.validation (last_of peers key) m.signing_time time (sym is.is ∙ e)
 
 -- ---- what is held behind it
@@ -99,7 +99,7 @@ step scheme peers call times key (Ok time) is admission rise =
           let one : key ≡ call.key = key_is key call.key same in
           let later = admitted_later scheme peers call.key call.message call.when call.answer time admission is in
           let held : last_of (put peers call.key time) key ≡ Some time = ap (λ (k : KeyFields). last_of (put peers call.key time) k) one ∙ put_here peers call.key time in
-          (subst (λ (k : KeyFields). IsLater (last_of peers k) time) (sym one) later.1, subst (λ (o : Option ℤ). Rise o times) held rise)
+          (subst (λ (k : KeyFields). IsLaterThan (last_of peers k) time) (sym one) later.1, subst (λ (o : Option ℤ). Rise o times) held rise)
       | false ↦ λ other. subst (λ (o : Option ℤ). Rise o times) (put_other peers call.key time key other) rise
     ] refl
 

@@ -6,7 +6,7 @@ use Rattle.std.proofs.lemmas.List.Splits.{length-slice_split}
 use Rattle.hex.specs.Hex.{decode_of}
 use Rattle.rpki_base.specs.PublicKey.{KeyFields}
 use Rattle.rpki_ca.specs.Lines.{words_of}
-use Rattle.rpki_ca.specs.Words.{key_of}
+use Rattle.rpki_ca.specs.Words.{key_of_word}
 use Rattle.rpki_replay.specs.Messages.{Sent, sent_by, sent_in, sent_in_words, AreSent}
 
 some_words : (line : List ℕ) → 0 < length (words_of line)
@@ -28,15 +28,15 @@ no_octets None = refl
 no_octets (Some k) = refl
 
 pub not_spelled : (line key octets : List ℕ) → words_of line ≡ key ∷ octets ∷ [] → result_ok (decode_of octets) ≡ None → sent_in line ≡ None
-not_spelled line key octets e none = ap sent_in_words e ∙ ap (λ (o : Option (List ℕ)). sent_by (key_of key) o) none ∙ no_octets (key_of key)
+not_spelled line key octets e none = ap sent_in_words e ∙ ap (λ (o : Option (List ℕ)). sent_by (key_of_word key) o) none ∙ no_octets (key_of_word key)
 
-pub no_peer : (line key octets : List ℕ) → words_of line ≡ key ∷ octets ∷ [] → None ≡ key_of key → sent_in line ≡ None
+pub no_peer : (line key octets : List ℕ) → words_of line ≡ key ∷ octets ∷ [] → None ≡ key_of_word key → sent_in line ≡ None
 no_peer line key octets e none = ap sent_in_words e ∙ ap (λ (o : Option KeyFields). sent_by o (result_ok (decode_of octets))) (sym none)
 
-pub is_sent : (line key octets held : List ℕ) (peer : KeyFields) → words_of line ≡ key ∷ octets ∷ [] → result_ok (decode_of octets) ≡ Some held → Some peer ≡ key_of key
+pub is_sent : (line key octets held : List ℕ) (peer : KeyFields) → words_of line ≡ key ∷ octets ∷ [] → result_ok (decode_of octets) ≡ Some held → Some peer ≡ key_of_word key
     → sent_in line ≡ Some (record { peer = peer; octets = held })
 is_sent line key octets held peer e spelled some =
-    ap sent_in_words e ∙ ap (λ (o : Option (List ℕ)). sent_by (key_of key) o) spelled ∙ ap (λ (o : Option KeyFields). sent_by o (Some held)) (sym some)
+    ap sent_in_words e ∙ ap (λ (o : Option (List ℕ)). sent_by (key_of_word key) o) spelled ∙ ap (λ (o : Option KeyFields). sent_by o (Some held)) (sym some)
 
 -- ---- all lines
 

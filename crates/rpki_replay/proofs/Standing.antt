@@ -4,7 +4,7 @@ use Rattle.std.proofs.lemmas.Option.{none-some, same_Some}
 use Rattle.rpki_base.specs.PublicKey.{KeyFields}
 use Rattle.rpki_replay.specs.declared.peers.Peer.{Peer}
 use Rattle.rpki_replay.specs.declared.places.Places as held
-use Rattle.rpki_replay.specs.State.{last_of, put, AreDistinct}
+use Rattle.rpki_replay.specs.State.{last_of, put, AreDistinctPeers}
 use Rattle.rpki_ca.specs.Keys.{same_key}
 use Rattle.rpki_replay.specs.Places.{place_from, place_at, AreTold}
 use Rattle.rpki_ca.proofs.Keys.{key_is, key_itself, same_key-sym}
@@ -79,7 +79,7 @@ place_set n (peer ∷ more) (suc i) time d key = ap (λ (o : Option ℕ). if sam
 last_set : (peers : List Peer) (i : ℕ) (time : ℤ) (d : Peer) (key : KeyFields) → last_of peers key ≡ None → last_of (set peers i (timed (get_or peers i d) time)) key ≡ None
 last_set peers i time d key e = last_nowhere 0 _ key (place_set 0 peers i time d key ∙ no_place 0 peers key e)
 
-pub distinct_set : (peers : List Peer) (i : ℕ) (time : ℤ) (d : Peer) → AreDistinct peers → AreDistinct (set peers i (timed (get_or peers i d) time))
+pub distinct_set : (peers : List Peer) (i : ℕ) (time : ℤ) (d : Peer) → AreDistinctPeers peers → AreDistinctPeers (set peers i (timed (get_or peers i d) time))
 distinct_set [] i time d h = h
 distinct_set (peer ∷ more) zero time d h = h
 distinct_set (peer ∷ more) (suc i) time d h = (last_set more i time d peer.key h.0, distinct_set more i time d h.1)
@@ -113,7 +113,7 @@ push_here n (peer ∷ more) new key e same =
 last_push : (peers : List Peer) (new : Peer) (key : KeyFields) → same_key key new.key ≡ false → last_of peers key ≡ None → last_of (peers ++ new ∷ []) key ≡ None
 last_push peers new key other e = last_nowhere 0 (peers ++ new ∷ []) key (push_other 0 peers new key other ∙ no_place 0 peers key e)
 
-pub distinct_push : (peers : List Peer) (new : Peer) → AreDistinct peers → last_of peers new.key ≡ None → AreDistinct (peers ++ new ∷ [])
+pub distinct_push : (peers : List Peer) (new : Peer) → AreDistinctPeers peers → last_of peers new.key ≡ None → AreDistinctPeers (peers ++ new ∷ [])
 distinct_push [] new h e = (refl, tt)
 distinct_push (peer ∷ more) new h e =
     let other = head_other peer more new.key e in
@@ -152,19 +152,19 @@ put_at peers key time place peer e at =
     let whole : place - 0 ≡ place = omega arith in
     ap (λ (p : Peer). set peers place (timed p time)) at ∙ sym (rw whole at (put_there 0 peers key time place peer (sym e)))
 
-pub kept_at : (places : held.Places) (peers : List Peer) (time : ℤ) (place : ℕ) (peer : Peer) → peer ≡ get_or peers place peer → AreDistinct peers × AreTold places peers
-    → AreDistinct (set peers place (timed peer time)) × AreTold places (set peers place (timed peer time))
+pub kept_at : (places : held.Places) (peers : List Peer) (time : ℤ) (place : ℕ) (peer : Peer) → peer ≡ get_or peers place peer → AreDistinctPeers peers × AreTold places peers
+    → AreDistinctPeers (set peers place (timed peer time)) × AreTold places (set peers place (timed peer time))
 kept_at places peers time place peer at h =
-    let P : Peer → Type 0 = λ p. AreDistinct (set peers place (timed p time)) × AreTold places (set peers place (timed p time)) in
+    let P : Peer → Type 0 = λ p. AreDistinctPeers (set peers place (timed p time)) × AreTold places (set peers place (timed p time)) in
     subst P (sym at) (distinct_set peers place time peer h.0, told_set places peers place time peer h.1)
 
 pub put_pushed : (peers items : List Peer) (held key : KeyFields) (time : ℤ) → items ≡ peers ++ record { key = held; last = time } ∷ [] → held ≡ key → last_of peers key ≡ None → items ≡ put peers key time
 put_pushed peers items held key time e same none = e ∙ ap (λ (k : KeyFields). peers ++ record { key = k; last = time } ∷ []) same ∙ sym (put_new peers key time none)
 
 pub kept_pushed : (old new : held.Places) (peers items : List Peer) (kept key : KeyFields) (time : ℤ) (place : ℕ) → items ≡ peers ++ record { key = kept; last = time } ∷ [] → kept ≡ key → place ≡ length peers
-    → last_of peers key ≡ None → AreDistinct peers × AreTold old peers
-    → ((other : KeyFields) → place_at new other ≡ (if same_key key other then Some place else place_at old other)) → AreDistinct items × AreTold new items
+    → last_of peers key ≡ None → AreDistinctPeers peers × AreTold old peers
+    → ((other : KeyFields) → place_at new other ≡ (if same_key key other then Some place else place_at old other)) → AreDistinctPeers items × AreTold new items
 kept_pushed old new peers items kept key time place e same at none h ok =
-    let P : List Peer → Type 0 = λ l. AreDistinct l × AreTold new l in
+    let P : List Peer → Type 0 = λ l. AreDistinctPeers l × AreTold new l in
     let absent : last_of peers kept ≡ None = ap (λ (k : KeyFields). last_of peers k) same ∙ none in
     subst P (sym e) (distinct_push peers (record { key = kept; last = time }) h.0 absent, told_push old new peers (record { key = kept; last = time }) key place same at none h.1 ok)

@@ -24,7 +24,7 @@ use Rattle.rpki_base.specs.PublicKey.{KeyFields, spelled_key}
 use Rattle.rpki_base.proofs.Keys.{written_key}
 use Rattle.rpki_ca.proofs.Spelled.{key_there}
 use Rattle.rpki_ca.specs.Lines.{words_of}
-use Rattle.rpki_ca.specs.Words.{key_of}
+use Rattle.rpki_ca.specs.Words.{key_of_word}
 use Rattle.rpki_ca.proofs.Cutting.{IsOneLine}
 use Rattle.rpki_replay.specs.declared.peers.Peer.{Peer}
 use Rattle.rpki_replay.specs.State.{IsPeer}
@@ -130,7 +130,7 @@ time_not_refused word text r e when is same t p err = let both : Err e ≡ Ok wh
 
 -- ---- the key
 
-pub key_spelled : (peer : Peer) → IsPeer peer → key_of (key_word peer) ≡ Some peer.key
+pub key_spelled : (peer : Peer) → IsPeer peer → key_of_word (key_word peer) ≡ Some peer.key
 key_spelled peer is =
     let w = written_key Der peer.key [] is.spelled in
     let decoded : result_ok (decode_of (key_word peer)) ≡ Some (spelled_key peer.key) = ap result_ok (decode_of-encode_lower (spelled_key peer.key) is.octets) in
@@ -142,7 +142,7 @@ pub one_peer : (one other : Peer) → IsPeer one → IsPeer other → peer_line 
 one_peer one other is other_is same =
     let cut : words_of (peer_line one) ≡ key_word one ∷ words_of (time_word one) = line_words one is ∙ ap (λ (l : List (List ℕ)). key_word one ∷ l) (sym (slice_split_none (λ octet. nat_eq octet 32) (time_word one) (number_apart 32 one.last (omega arith) (moment_small one.last is.moment)))) in
     let parts = word_parts (peer_line one) (key_word one) (time_word one) other cut other_is same in
-    let keys : Some one.key ≡ Some other.key = sym (key_spelled one is) ∙ ap key_of parts.0 ∙ key_spelled other other_is in
+    let keys : Some one.key ≡ Some other.key = sym (key_spelled one is) ∙ ap key_of_word parts.0 ∙ key_spelled other other_is in
     let key : one.key ≡ other.key = some_key one.key other.key keys in
     let last : one.last ≡ other.last = signed_decimal_injective one.last other.last (moment_small one.last is.moment) (moment_small other.last other_is.moment) parts.1 in
     λ i. record { key = key i; last = last i }
@@ -160,19 +160,19 @@ no_time line key seconds peer o cut none found is same =
     no_z : (z : ℤ) → None ≡ Some z → ⊥
     no_z z e = cc
 
-pub no_key : (line key seconds : List ℕ) (peer : Peer) (o : Option KeyFields) → words_of line ≡ key ∷ words_of seconds → o ≡ None → o ≡ key_of key → IsPeer peer → line ≡ peer_line peer → ⊥
+pub no_key : (line key seconds : List ℕ) (peer : Peer) (o : Option KeyFields) → words_of line ≡ key ∷ words_of seconds → o ≡ None → o ≡ key_of_word key → IsPeer peer → line ≡ peer_line peer → ⊥
 no_key line key seconds peer o cut none found is same =
     let parts = word_parts line key seconds peer cut is same in
-    let both : None ≡ Some peer.key = sym none ∙ found ∙ ap key_of parts.0 ∙ key_spelled peer is in no_k peer.key both
+    let both : None ≡ Some peer.key = sym none ∙ found ∙ ap key_of_word parts.0 ∙ key_spelled peer is in no_k peer.key both
   where
     no_k : (k : KeyFields) → None ≡ Some k → ⊥
     no_k k e = cc
 
-pub not_written : (line key seconds written : List ℕ) (peer : Peer) (last : ℤ) (held : KeyFields) → words_of line ≡ key ∷ words_of seconds → Some held ≡ key_of key
+pub not_written : (line key seconds written : List ℕ) (peer : Peer) (last : ℤ) (held : KeyFields) → words_of line ≡ key ∷ words_of seconds → Some held ≡ key_of_word key
     → ((when : ℤ) → IsMoment when → seconds ≡ signed_decimal when → Some last ≡ Some when) → written ≡ peer_line (record { key = held; last = last }) → IsPeer peer → line ≡ peer_line peer → written ≡ line
 not_written line key seconds written peer last held cut found time is peer_is same =
     let parts = word_parts line key seconds peer cut peer_is same in
-    let keys : Some held ≡ Some peer.key = found ∙ ap key_of parts.0 ∙ key_spelled peer peer_is in
+    let keys : Some held ≡ Some peer.key = found ∙ ap key_of_word parts.0 ∙ key_spelled peer peer_is in
     let times : Some last ≡ Some peer.last = time peer.last peer_is.moment parts.1 in
     is ∙ ap peer_line (λ i. record { key = some_key held peer.key keys i; last = some_z last peer.last times i }) ∙ sym same
   where

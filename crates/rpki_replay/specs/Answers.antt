@@ -33,8 +33,8 @@ pub record IsNoMessage (peers : List Peer) (sent : Sent) (text : List ℕ) (next
     pub behind : next ≡ peers
 
 -- the text that is answered to a line, and the state behind it
-abbrev pub IsAnswered : Relation → ℤ → List Peer → Sent → List ℕ → List Peer → Type 0
-IsAnswered scheme when peers sent text next =
+abbrev pub IsGuardAnswered : Relation → ℤ → List Peer → Sent → List ℕ → List Peer → Type 0
+IsGuardAnswered scheme when peers sent text next =
     IsJudged scheme when peers sent text next ⊎ IsNoMessage peers sent text next
 
 -- what is written behind the answers
@@ -44,8 +44,8 @@ closing_text peers = dash ++ (10 ∷ state_text peers)
 -- the texts are the answers to all lines, one behind the other, and the closing text is that of the
 -- state behind them
 abbrev pub AreAllAnswered : Relation → ℤ → List Peer → List Sent → List (List ℕ) → List ℕ → Type 0
-AreAllAnswered scheme when = AreAllSteps (IsAnswered scheme when) closing_text
+AreAllAnswered scheme when = AreAllSteps (IsGuardAnswered scheme when) closing_text
 
 -- the texts are the answers to the first lines
 abbrev pub AreFirstAnswered : Relation → ℤ → List Peer → List Sent → List (List ℕ) → Type 0
-AreFirstAnswered scheme when = AreFirstSteps (IsAnswered scheme when)
+AreFirstAnswered scheme when = AreFirstSteps (IsGuardAnswered scheme when)

@@ -35,12 +35,12 @@ times_under key (call ∷ calls) =
     else times_under key calls
 
 -- the time is later than the last one, if there is one
-abbrev pub IsLater : Option ℤ → ℤ → Type 0
-IsLater None time = ⊤
-IsLater (Some last) time = last <ℤ time
+abbrev pub IsLaterThan : Option ℤ → ℤ → Type 0
+IsLaterThan None time = ⊤
+IsLaterThan (Some last) time = last <ℤ time
 
 -- each time is later than the one before it, and the first is later than the last one, if there is
 -- one
 abbrev pub Rise : Option ℤ → List ℤ → Type 0
 Rise last [] = ⊤
-Rise last (time ∷ times) = IsLater last time × Rise (Some time) times
+Rise last (time ∷ times) = IsLaterThan last time × Rise (Some time) times

@@ -4,7 +4,7 @@ use Rattle.std.specs.Prelude.{◌≡◌, ℤ, if◌then◌else◌, Option, None,
 use Rattle.std.specs.List.{AllByRecursion}
 use Rattle.hex.specs.Hex.{IsBytes}
 use Rattle.rpki_base.specs.Civil.{IsMoment}
-use Rattle.rpki_base.specs.PublicKey.{KeyFields, CanBeSpelled, spelled_key}
+use Rattle.rpki_base.specs.PublicKey.{KeyFields, CanSpellKey, spelled_key}
 use Rattle.rpki_ca.specs.Keys.{same_key}
 use Rattle.rpki_replay.specs.declared.peers.Peer.{Peer}
 
@@ -22,17 +22,17 @@ put (peer ∷ more) key time =
     else peer ∷ put more key time
 
 -- no key is held twice
-abbrev pub AreDistinct : List Peer → Type 0
-AreDistinct [] = Unit {0}
-AreDistinct (peer ∷ more) = (last_of more peer.key ≡ None) × AreDistinct more
+abbrev pub AreDistinctPeers : List Peer → Type 0
+AreDistinctPeers [] = Unit {0}
+AreDistinctPeers (peer ∷ more) = (last_of more peer.key ≡ None) × AreDistinctPeers more
 
 -- a pair whose time lies in the years 0 to 9999, and whose key has a spelling in octets
 pub record IsPeer (peer : Peer) : Type 0 where
   pub moment : IsMoment peer.last
-  pub spelled : CanBeSpelled peer.key
+  pub spelled : CanSpellKey peer.key
   pub octets : IsBytes (spelled_key peer.key)
 
 -- what a state may be
 pub record IsState (peers : List Peer) : Type 0 where
-  pub distinct : AreDistinct peers
+  pub distinct : AreDistinctPeers peers
   pub each : AllByRecursion IsPeer peers

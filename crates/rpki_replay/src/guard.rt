@@ -3,7 +3,7 @@
 ghost use Rattle.std.specs.Prelude.{◌≡◌, ◌≢◌, [], Err, IfOk, OnErr, Some};
 ghost use Rattle.rpki_replay.specs.Admission.{IsAdmission};
 ghost use Rattle.rpki_replay.specs.Shown.{error_text};
-ghost use Rattle.rpki_replay.specs.State.{AreDistinct, last_of, put};
+ghost use Rattle.rpki_replay.specs.State.{AreDistinctPeers, last_of, put};
 ghost use Rattle.rpki_replay.specs.declared.guard.GuardError.TheVariants as errors;
 
 use crate::peers::{Peer, Peers};
@@ -95,7 +95,7 @@ impl Guard {
     /// were first admitted; no key is there twice.
     pub fn peers(&self) -> &[Peer]
         ensures peers { result.now ≡ self.now }
-        ensures distinct { AreDistinct result.now }
+        ensures distinct { AreDistinctPeers result.now }
     {
         self.peers.as_slice()
     }

@@ -5,9 +5,9 @@ ghost use Rattle.rpki_common.specs.Limits.{most_input};
 ghost use Rattle.rpki_base.specs.PublicKey.{KeyFields};
 ghost use Rattle.rpki_ca.specs.Lines.{EndsRun};
 ghost use Rattle.rpki_ca.specs.Seen.{HasFailed, Seen};
-ghost use Rattle.rpki_replay.specs.Ends.{AnswersAll, EndsForCause};
+ghost use Rattle.rpki_replay.specs.Ends.{GuardAnswersAll, GuardEndsForCause};
 ghost use Rattle.rpki_replay.specs.History.{AreMade, Call, Rise, times_under};
-ghost use Rattle.rpki_replay.specs.Messages.{Opens};
+ghost use Rattle.rpki_replay.specs.Messages.{OpensWithState};
 ghost use Rattle.rpki_replay.specs.Running.{EndsInput};
 ghost use Rattle.rpki_replay.specs.State.{last_of};
 ghost use Rattle.rpki_replay.specs.StateText.{IsStateText};
@@ -24,7 +24,7 @@ pub fn one_state()
 /// An input begins with one state at most, and one list of lines is behind it.
 pub fn one_opening()
     ensures { (input : List ℕ) (one other : List HeldPeer) (behind more : List (List ℕ)) →
-        Opens input one behind → Opens input other more → (one ≡ other) × (behind ≡ more) }
+        OpensWithState input one behind → OpensWithState input other more → (one ≡ other) × (behind ≡ more) }
 {}
 
 /// Over every list of calls the times that are admitted under one key rise strictly, from the time that
@@ -47,7 +47,7 @@ pub fn none_is_admitted_twice<P: Scheme>()
 pub fn zero_answers_all<P: Scheme>()
     ensures { (when : ℤ) (source sink : Seen) (input : List ℕ) →
         EndsRun (λ octets. EndsInput P.checks when octets 0 sink) 0 source sink →
-        source.before ≡ Some input → AnswersAll P.checks when input sink }
+        source.before ≡ Some input → GuardAnswersAll P.checks when input sink }
 {}
 
 /// A run with one moment ends with 0 or 12, if neither stream failed and the input is within the limit;
@@ -56,5 +56,5 @@ pub fn runs_end_for_cause<P: Scheme>()
     ensures { (when : ℤ) (status : ℕ) (source sink : Seen) (input : List ℕ) →
         EndsRun (λ octets. EndsInput P.checks when octets status sink) status source sink →
         source.before ≡ Some input → length input ≤ most_input
-        → ¬ (HasFailed source) → ¬ (HasFailed sink) → EndsForCause input status }
+        → ¬ (HasFailed source) → ¬ (HasFailed sink) → GuardEndsForCause input status }
 {}

@@ -1,7 +1,7 @@
 //! What is answered to a line.
 
 ghost use Rattle.std.specs.Prelude.{◌≡◌, ◌≢◌, ◌∷◌, ◌++◌, [], Err, IfOk, List, OnOk, string_bytes, ℕ};
-ghost use Rattle.rpki_replay.specs.Answers.{IsAnswered};
+ghost use Rattle.rpki_replay.specs.Answers.{IsGuardAnswered};
 ghost use Rattle.rpki_replay.specs.Shown.{answer_text};
 ghost use Rattle.rpki_replay.specs.declared.guard.GuardError.TheVariants as errors;
 
@@ -35,7 +35,7 @@ fn answer_to<P: Scheme, V: Verifier<P>>(
     when: Time,
 ) -> Result<String, OutOfMemory>
     ensures { IfOk result (λ text.
-        IsAnswered P.checks when guard.old sent.now (string_bytes text) guard.new) }
+        IsGuardAnswered P.checks when guard.old sent.now (string_bytes text) guard.new) }
 {
     match SignedMessage::decode(alloc, &sent.octets, false) {
         Ok(message) => {
@@ -56,7 +56,7 @@ pub(crate) fn answer_line<P: Scheme, V: Verifier<P>>(
     when: Time,
 ) -> Result<String, OutOfMemory>
     ensures { IfOk result (λ line. (text : List ℕ)
-        × IsAnswered P.checks when guard.old sent.now text guard.new
+        × IsGuardAnswered P.checks when guard.old sent.now text guard.new
         × (string_bytes line ≡ text ++ 10 ∷ [])) }
 {
     let mut line = answer_to(alloc, guard, sent, verifier, when)?;

@@ -2,7 +2,7 @@
 
 ghost use Rattle.std.specs.Prelude.{◌≡◌, ◌<◌, [], IfSome, None, OnErr, OnOk, length};
 ghost use Rattle.rpki_replay.specs.Places.{place_from};
-ghost use Rattle.rpki_replay.specs.State.{AreDistinct, last_of, put as put_in};
+ghost use Rattle.rpki_replay.specs.State.{AreDistinctPeers, last_of, put as put_in};
 
 use crate::places::Places;
 use rpki_base::{PublicKey, Time};
@@ -40,13 +40,13 @@ impl Model for Peers {
     ghost use Rattle.std.specs.Prelude.{List};
     ghost use Rattle.rpki_replay.specs.declared.peers.Peer.{Peer};
     ghost use Rattle.rpki_replay.specs.Places.{AreTold};
-    ghost use Rattle.rpki_replay.specs.State.{AreDistinct};
+    ghost use Rattle.rpki_replay.specs.State.{AreDistinctPeers};
 
     ghost Value = { List Peer };
 
     ghost view = { λ p. p.list.items };
 
-    ghost invariant = { λ p. AreDistinct p.list.items × AreTold p.places p.list.items };
+    ghost invariant = { λ p. AreDistinctPeers p.list.items × AreTold p.places p.list.items };
 }
 
 impl Peers {
@@ -64,7 +64,7 @@ impl Peers {
     /// The peers.
     pub(crate) fn as_slice(&self) -> &[Peer]
         ensures peers { result.now ≡ self.now }
-        ensures distinct { AreDistinct result.now }
+        ensures distinct { AreDistinctPeers result.now }
     {
         self.list.as_slice()
     }

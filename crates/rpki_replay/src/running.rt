@@ -7,7 +7,7 @@ ghost use Rattle.rpki_ca.specs.Answer.{Ends};
 ghost use Rattle.rpki_ca.specs.Lines.{Answered, EndsRun, EndsWith, StopsForMemory};
 ghost use Rattle.rpki_ca.specs.Seen.{seen};
 ghost use Rattle.rpki_replay.specs.Answers.{AreAllAnswered, AreFirstAnswered, closing_text};
-ghost use Rattle.rpki_replay.specs.Running.{AreNoWords, AreWords, EndsInput, EndsMessages, bad_state};
+ghost use Rattle.rpki_replay.specs.Running.{AreNoGuardWords, AreGuardWords, EndsInput, EndsMessages, bad_state};
 
 use crate::guard::Guard;
 use crate::line_answers::answer_line;
@@ -21,8 +21,8 @@ use std::alloc::Global;
 
 // The only word, if it is a moment.
 fn moment_of(words: &Words) -> Option<Time>
-    ensures some { IfSome result (λ when. AreWords words.now when) }
-    ensures none { IsNone result → AreNoWords words.now }
+    ensures some { IfSome result (λ when. AreGuardWords words.now when) }
+    ensures none { IsNone result → AreNoGuardWords words.now }
 {
     if words.len() == 1 {
         words.moment(0)
@@ -136,15 +136,15 @@ pub fn run_guard<P: Scheme, I: Source, O: Sink, V: Verifier<P>>(
     verifier: &V,
 ) -> Status
     // Words other than one moment are refused, and the source is left unread.
-    ensures usage { AreNoWords words.now
+    ensures usage { AreNoGuardWords words.now
         → Ends (Err Refusal.Usage) result.0 (seen O.written O.faults output.old output.new) }
-    ensures unread { AreNoWords words.now → input.new ≡ input.old }
+    ensures unread { AreNoGuardWords words.now → input.new ≡ input.old }
 
     // At most one octet more than the limit is taken of the source.
     ensures most { TakesAtMost (I.rest input.old) (I.rest input.new) (most_input + 1) }
 
     // Where the source isn't read whole, that is what is answered; and where it is, the messages are.
-    ensures ends { (when : ℤ) → AreWords words.now when
+    ensures ends { (when : ℤ) → AreGuardWords words.now when
         → EndsRun (λ octets. EndsInput P.checks when octets result.0
         (seen O.written O.faults output.old output.new))
         result.0 (seen I.rest I.faults input.old input.new)

@@ -12,7 +12,7 @@ use Rattle.std.proofs.lemmas.List.Elements.{All-from_get_or}
 use Rattle.std.proofs.lemmas.Fmt.{decimal_is_IsNumeral}
 use Rattle.std.proofs.lemmas.Str.Parse.{digit_at, numerals_by_value, tells_all_ascii_digits}
 use Rattle.rpki_sets.specs.Texts.{decimal_below}
-use Rattle.rpki_sets.specs.Kinds.{IsLawful, IsPlain}
+use Rattle.rpki_sets.specs.Kinds.{IsLawfulKind, IsPlain}
 use Rattle.rpki_sets.specs.AsNumbers.{without_as, as_number, as_kind}
 use Rattle.rpki_sets.proofs.Fitting.{decimal_below-below}
 
@@ -56,5 +56,5 @@ as_empty : as_number [] ≡ None
 unfolding as_number decimal_below
 as_empty = refl
 
-pub as_lawful : IsLawful as_kind
+pub as_lawful : IsLawfulKind as_kind
 as_lawful = record { bounded = lit≤ tt; within = as_within; again = as_again; empty = as_empty; plain = All-plain-decimal }

@@ -11,7 +11,7 @@ use Rattle.rpki_sets.specs.declared.run.Run.{Run}
 use Rattle.rpki_sets.specs.Runs.{SameNumbers, AllOrdered, IsWithin, IsSet, union}
 use Rattle.rpki_sets.specs.Texts.{cut, trimmed, parts, read_all, decimal_below}
 use Rattle.rpki_sets.specs.Prefixes.{prefix}
-use Rattle.rpki_sets.specs.Kinds.{Kind, IsLawful, run_from, range_of, range, prefix_of, prefix_or_range, item, spaced_item, runs_of, blocks_of}
+use Rattle.rpki_sets.specs.Kinds.{Kind, IsLawfulKind, run_from, range_of, range, prefix_of, prefix_or_range, item, spaced_item, runs_of, blocks_of}
 use Rattle.rpki_sets.proofs.RunLemmas.{IsMaximal-union, Has-union}
 use Rattle.rpki_sets.proofs.PrefixLemmas.{block_below}
 
@@ -55,7 +55,7 @@ prefix-fits width address len within below =
     let positive = pow_pos (width - len) in
     record { ordered = omega arith; within = omega arith }
 
-module _ (kind : Kind) (lawful : IsLawful kind) where
+module _ (kind : Kind) (lawful : IsLawfulKind kind) where
   range_of-fits : (text : List ℕ) (cut_in : Option (List ℕ × List ℕ)) (run : Run) → range_of kind text cut_in ≡ Some run → IsFit kind.width run
   range_of-fits text None run e =
       bind_some (kind.number text) (λ n. run_from n n) run e
@@ -148,7 +148,7 @@ module _ (kind : Kind) (text : List ℕ) where
   blocks_of-none e = rw e refl
 
   -- the numbers of the union are those of the items
-  pub numbers_of_runs : (lawful : IsLawful kind) (runs blocks : List Run) → runs_of kind text ≡ Some runs → blocks ≡ union runs → IsSomeAnd (runs_of kind text) (λ found. SameNumbers blocks found)
+  pub numbers_of_runs : (lawful : IsLawfulKind kind) (runs blocks : List Run) → runs_of kind text ≡ Some runs → blocks ≡ union runs → IsSomeAnd (runs_of kind text) (λ found. SameNumbers blocks found)
   numbers_of_runs lawful runs blocks e is =
       let ordered = AllOrdered-fit kind lawful runs (AllFit-runs_of kind lawful text runs e) in
       rw (e, is) (Has-union runs ordered)

@@ -11,7 +11,7 @@ use Rattle.std.proofs.NetLemmas.Alphabet.{IsDigitOrDot, All-ipv4_text}
 use Rattle.std.proofs.NetLemmas.Texts.{IsDotted-ipv4_text}
 use Rattle.std.proofs.NetLemmas.Ipv4.{read_ipv4_complete, read_ipv4_sound}
 use Rattle.rpki_common.specs.Chaining.{◌>>=◌}
-use Rattle.rpki_sets.specs.Kinds.{IsLawful, IsPlain}
+use Rattle.rpki_sets.specs.Kinds.{IsLawfulKind, IsPlain}
 use Rattle.rpki_sets.specs.Ipv4Addresses.{ipv4_number, ipv4_number_text, ipv4_kind}
 use Rattle.rpki_sets.proofs.Fitting.{bind_some}
 use Rattle.rpki_sets.proofs.BigEndian.{bytes_small}
@@ -70,5 +70,5 @@ ipv4_empty : ipv4_number [] ≡ None
 unfolding ipv4_number read_ipv4 read_octet read_number ◌>>=◌
 ipv4_empty = refl
 
-pub ipv4_lawful : IsLawful ipv4_kind
+pub ipv4_lawful : IsLawfulKind ipv4_kind
 ipv4_lawful = record { bounded = lit≤ tt; within = ipv4_within; again = ipv4_again; empty = ipv4_empty; plain = ipv4_plain }

@@ -15,7 +15,7 @@ use Rattle.std.proofs.NetLemmas.Alphabet.{IsHexOrColon, All-hex_groups_text}
 use Rattle.std.proofs.NetLemmas.Texts.{IsColonHex-hex_groups_text}
 use Rattle.std.proofs.NetLemmas.Ipv6.{read_ipv6_complete, read_ipv6_sound, EndsGroups-nil}
 use Rattle.rpki_common.specs.Chaining.{◌>>=◌}
-use Rattle.rpki_sets.specs.Kinds.{IsLawful, IsPlain}
+use Rattle.rpki_sets.specs.Kinds.{IsLawfulKind, IsPlain}
 use Rattle.rpki_sets.specs.Ipv6Addresses.{ipv6_number, ipv6_number_text, ipv6_kind}
 use Rattle.rpki_sets.proofs.Fitting.{bind_some}
 use Rattle.rpki_sets.proofs.BigEndian.{bytes_small, octets_of-segments_of, segments_small, from_be_bytes-to_be_bytes_16}
@@ -136,5 +136,5 @@ ipv6_empty : ipv6_number [] ≡ None
 unfolding ipv6_number read_ipv6 read_segments read_segment read_ipv4 read_octet read_number ◌>>=◌
 ipv6_empty = refl
 
-pub ipv6_lawful : IsLawful ipv6_kind
+pub ipv6_lawful : IsLawfulKind ipv6_kind
 ipv6_lawful = record { bounded = lit≤ tt; within = ipv6_within; again = ipv6_again; empty = ipv6_empty; plain = ipv6_plain }

@@ -18,7 +18,7 @@ use Rattle.rpki_sets.specs.declared.run.Run.{Run}
 use Rattle.rpki_sets.specs.Runs.{IsSet, hull, add, union}
 use Rattle.rpki_sets.specs.Texts.{skip_spaces, trimmed, cut, parts, read_all, decimal_below}
 use Rattle.rpki_sets.specs.Prefixes.{prefix, prefix_length}
-use Rattle.rpki_sets.specs.Kinds.{Kind, IsLawful, run_from, range_of, range, prefix_or_range, item, spaced_item, runs_of, blocks_of, range_text, prefix_or_range_text, run_text, text_of}
+use Rattle.rpki_sets.specs.Kinds.{Kind, IsLawfulKind, run_from, range_of, range, prefix_or_range, item, spaced_item, runs_of, blocks_of, range_text, prefix_or_range_text, run_text, printed}
 use Rattle.rpki_sets.specs.AsNumbers.{as_kind}
 use Rattle.rpki_sets.specs.Ipv4Addresses.{ipv4_number_text, ipv4_kind}
 use Rattle.rpki_sets.specs.Ipv6Addresses.{ipv6_number, ipv6_number_text, ipv6_kind}
@@ -173,8 +173,8 @@ module _ (kind : Kind) (bounded : kind.width ≤ 128) (most : ℕ) (some : 3 ≤
         (λ p. length_by_length (prefix_length kind.width run) refl)
         (λ p. cond_both (eqb run.first run.last) (kind.number_text run.first) (range_text kind run) (λ l. length l ≤ 2 * most + 1) (λ e. let f = first_length in omega (arith, f)) (λ e. range_length))
 
-  text_length : (runs : List Run) → IsSet kind.width runs → length (text_of kind runs) ≤ length runs * (2 * most + 2)
-  unfolding text_of
+  text_length : (runs : List Run) → IsSet kind.width runs → length (printed kind runs) ≤ length runs * (2 * most + 2)
+  unfolding printed
   text_length [] set = omega arith
   text_length (run ∷ []) set =
       let a = length-append (run_text kind run) [] in
@@ -182,7 +182,7 @@ module _ (kind : Kind) (bounded : kind.width ≤ 128) (most : ℕ) (some : 3 ≤
       let times = suc-mul 0 (2 * most + 2) in
       omega (arith, a, r, times)
   text_length (run ∷ next ∷ rest) set =
-      let a = length-append (run_text kind run) (44 ∷ text_of kind (next ∷ rest)) in
+      let a = length-append (run_text kind run) (44 ∷ printed kind (next ∷ rest)) in
       let r = run_length run (head_fits kind.width run (next ∷ rest) set) in
       let more = text_length (next ∷ rest) (tail_set kind.width run (next ∷ rest) set) in
       let times = suc-mul (length (next ∷ rest)) (2 * most + 2) in
@@ -190,7 +190,7 @@ module _ (kind : Kind) (bounded : kind.width ≤ 128) (most : ℕ) (some : 3 ≤
 
 -- ---- the numbers of the three kinds
 
-not_empty : (kind : Kind) → IsLawful kind → (text : List ℕ) (n : ℕ) → kind.number text ≡ Some n → 1 ≤ length text
+not_empty : (kind : Kind) → IsLawfulKind kind → (text : List ℕ) (n : ℕ) → kind.number text ≡ Some n → 1 ≤ length text
 not_empty kind lawful [] n e = absurd (none_some n (sym lawful.empty ∙ e))
 not_empty kind lawful (c ∷ text) n e = omega arith
 
@@ -317,7 +317,7 @@ counts kind text runs e =
     let fewer = length-union found in
     (found, h, subst (λ (l : List Run). length l ≤ length found) same fewer))
 
-pub as_set_short : (text : List ℕ) (runs : List Run) → blocks_of as_kind text ≡ Some runs → length (text_of as_kind runs) ≤ 40 * length text
+pub as_set_short : (text : List ℕ) (runs : List Run) → blocks_of as_kind text ≡ Some runs → length (printed as_kind runs) ≤ 40 * length text
 as_set_short text runs e =
     let c = counts as_kind text runs e in
     let fewer = c.2 in
@@ -325,7 +325,7 @@ as_set_short text runs e =
     let print = text_length as_kind as_lawful.bounded 10 (omega arith) as_length runs (as_set_read text runs e) in
     omega (arith, fewer, items, print)
 
-pub ipv4_set_short : (text : List ℕ) (runs : List Run) → blocks_of ipv4_kind text ≡ Some runs → length (text_of ipv4_kind runs) ≤ 40 * length text
+pub ipv4_set_short : (text : List ℕ) (runs : List Run) → blocks_of ipv4_kind text ≡ Some runs → length (printed ipv4_kind runs) ≤ 40 * length text
 ipv4_set_short text runs e =
     let c = counts ipv4_kind text runs e in
     let fewer = c.2 in
@@ -333,7 +333,7 @@ ipv4_set_short text runs e =
     let print = text_length ipv4_kind ipv4_lawful.bounded 15 (omega arith) ipv4_length runs (ipv4_set_read text runs e) in
     omega (arith, fewer, items, print)
 
-pub ipv6_set_short : (text : List ℕ) (runs : List Run) → blocks_of ipv6_kind text ≡ Some runs → length (text_of ipv6_kind runs) ≤ 40 * length text
+pub ipv6_set_short : (text : List ℕ) (runs : List Run) → blocks_of ipv6_kind text ≡ Some runs → length (printed ipv6_kind runs) ≤ 40 * length text
 ipv6_set_short text runs e =
     let c = counts ipv6_kind text runs e in
     let fewer = c.2 in

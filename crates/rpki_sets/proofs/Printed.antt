@@ -14,7 +14,7 @@ use Rattle.std.proofs.NetLemmas.Alphabet.{IsDigitOrDot, IsHexOrColon, All-ipv4_t
 use Rattle.rpki_sets.specs.declared.run.Run.{Run}
 use Rattle.rpki_sets.specs.Runs.{IsSet, union}
 use Rattle.rpki_sets.specs.Prefixes.{prefix_length}
-use Rattle.rpki_sets.specs.Kinds.{Kind, IsLawful, runs_of, blocks_of, range_text, prefix_or_range_text, run_text, text_of, is_set_octet}
+use Rattle.rpki_sets.specs.Kinds.{Kind, IsLawfulKind, runs_of, blocks_of, range_text, prefix_or_range_text, run_text, printed, is_set_octet}
 use Rattle.rpki_sets.specs.AsNumbers.{as_kind}
 use Rattle.rpki_sets.specs.Ipv4Addresses.{ipv4_number_text, ipv4_kind}
 use Rattle.rpki_sets.specs.Ipv6Addresses.{ipv6_number_text, ipv6_kind}
@@ -29,18 +29,18 @@ use Rattle.rpki_sets.proofs.ReadBack.{blocks_of-text_of}
 
 -- ---- it is read again
 
-pub as_read_again : (runs : List Run) → IsSet 32 runs → blocks_of as_kind (text_of as_kind runs) ≡ Some runs
+pub as_read_again : (runs : List Run) → IsSet 32 runs → blocks_of as_kind (printed as_kind runs) ≡ Some runs
 as_read_again runs set = blocks_of-text_of as_kind as_lawful runs set
 
-pub ipv4_read_again : (runs : List Run) → IsSet 32 runs → blocks_of ipv4_kind (text_of ipv4_kind runs) ≡ Some runs
+pub ipv4_read_again : (runs : List Run) → IsSet 32 runs → blocks_of ipv4_kind (printed ipv4_kind runs) ≡ Some runs
 ipv4_read_again runs set = blocks_of-text_of ipv4_kind ipv4_lawful runs set
 
-pub ipv6_read_again : (runs : List Run) → IsSet 128 runs → blocks_of ipv6_kind (text_of ipv6_kind runs) ≡ Some runs
+pub ipv6_read_again : (runs : List Run) → IsSet 128 runs → blocks_of ipv6_kind (printed ipv6_kind runs) ≡ Some runs
 ipv6_read_again runs set = blocks_of-text_of ipv6_kind ipv6_lawful runs set
 
 -- ---- what is read is a set
 
-set_read : (kind : Kind) → IsLawful kind → (text : List ℕ) (runs : List Run) → blocks_of kind text ≡ Some runs → IsSet kind.width runs
+set_read : (kind : Kind) → IsLawfulKind kind → (text : List ℕ) (runs : List Run) → blocks_of kind text ≡ Some runs → IsSet kind.width runs
 unfolding blocks_of
 set_read kind lawful text runs e =
     bind_some (runs_of kind text) (λ found. Some (union found)) runs e
@@ -96,16 +96,16 @@ module _ (kind : Kind) (bounded : kind.width ≤ 128) (plain : (n : ℕ) → n <
         (λ p. octets_by_length (prefix_length kind.width run) refl)
         (λ p. cond_both (eqb run.first run.last) (kind.number_text run.first) (range_text kind run) (All IsSetOctet) (λ e. first_octets) (λ e. range_octets))
 
-  text_octets : (runs : List Run) → IsSet kind.width runs → All IsSetOctet (text_of kind runs)
-  unfolding text_of
+  text_octets : (runs : List Run) → IsSet kind.width runs → All IsSetOctet (printed kind runs)
+  unfolding printed
   text_octets [] set = All-nil IsSetOctet
   text_octets (run ∷ []) set = All-append IsSetOctet (run_text kind run) [] (run_octets run (head_fits kind.width run [] set)) (All-nil IsSetOctet)
   text_octets (run ∷ next ∷ rest) set =
-      All-append IsSetOctet (run_text kind run) (44 ∷ text_of kind (next ∷ rest)) (run_octets run (head_fits kind.width run (next ∷ rest) set))
-      (All-cons IsSetOctet 44 (text_of kind (next ∷ rest)) refl (text_octets (next ∷ rest) (tail_set kind.width run (next ∷ rest) set)))
+      All-append IsSetOctet (run_text kind run) (44 ∷ printed kind (next ∷ rest)) (run_octets run (head_fits kind.width run (next ∷ rest) set))
+      (All-cons IsSetOctet 44 (printed kind (next ∷ rest)) refl (text_octets (next ∷ rest) (tail_set kind.width run (next ∷ rest) set)))
 
-  set_octets : (runs : List Run) → IsSet kind.width runs → list_all is_set_octet (text_of kind runs) ≡ true
-  set_octets runs set = list_all-from_AllPass is_set_octet (text_of kind runs) (text_octets runs set)
+  set_octets : (runs : List Run) → IsSet kind.width runs → list_all is_set_octet (printed kind runs) ≡ true
+  set_octets runs set = list_all-from_AllPass is_set_octet (printed kind runs) (text_octets runs set)
 
 ipv4_octets : (n : ℕ) → n < 2 ^ 32 → All IsSetOctet (ipv4_number_text n)
 unfolding ipv4_number_text
@@ -115,13 +115,13 @@ ipv6_octets : (n : ℕ) → n < 2 ^ 128 → All IsSetOctet (ipv6_number_text n)
 unfolding ipv6_number_text
 ipv6_octets n small = All-weaker IsHexOrColon IsSetOctet hex_octet _ (All-hex_groups_text (segments_of (to_be_bytes w128 n)) (segments_small (to_be_bytes w128 n) (bytes_small 16 n)))
 
-pub as_set_octets : (runs : List Run) → IsSet 32 runs → list_all is_set_octet (text_of as_kind runs) ≡ true
+pub as_set_octets : (runs : List Run) → IsSet 32 runs → list_all is_set_octet (printed as_kind runs) ≡ true
 as_set_octets runs set = set_octets as_kind as_lawful.bounded decimal_octets runs set
 
-pub ipv4_set_octets : (runs : List Run) → IsSet 32 runs → list_all is_set_octet (text_of ipv4_kind runs) ≡ true
+pub ipv4_set_octets : (runs : List Run) → IsSet 32 runs → list_all is_set_octet (printed ipv4_kind runs) ≡ true
 ipv4_set_octets runs set = set_octets ipv4_kind ipv4_lawful.bounded ipv4_octets runs set
 
-pub ipv6_set_octets : (runs : List Run) → IsSet 128 runs → list_all is_set_octet (text_of ipv6_kind runs) ≡ true
+pub ipv6_set_octets : (runs : List Run) → IsSet 128 runs → list_all is_set_octet (printed ipv6_kind runs) ≡ true
 ipv6_set_octets runs set = set_octets ipv6_kind ipv6_lawful.bounded ipv6_octets runs set
 
 pub set_octet_visible : (octet : ℕ) → is_set_octet octet ≡ true → (33 ≤ octet) × (octet ≤ 126)

@@ -12,7 +12,7 @@ use Rattle.rpki_sets.specs.declared.run.Run.{Run}
 use Rattle.rpki_sets.specs.Runs.{AllOrdered, IsMaximal, IsSet}
 use Rattle.rpki_sets.specs.Texts.{skip_spaces, trimmed, read_all}
 use Rattle.rpki_sets.specs.Prefixes.{prefix_length}
-use Rattle.rpki_sets.specs.Kinds.{Kind, IsLawful, IsPlain, run_from, range, prefix_of, item, spaced_item, runs_of, blocks_of, range_text, prefix_or_range_text, run_text, text_of}
+use Rattle.rpki_sets.specs.Kinds.{Kind, IsLawfulKind, IsPlain, run_from, range, prefix_of, item, spaced_item, runs_of, blocks_of, range_text, prefix_or_range_text, run_text, printed}
 use Rattle.rpki_sets.proofs.AsLaws.{decimal_below-decimal, All-plain-decimal}
 use Rattle.rpki_sets.proofs.Cutting.{cut_behind, cut_none_there}
 use Rattle.rpki_sets.proofs.Fitting.{IsFit, blocks_of-some, runs_of-blank, runs_of-parts}
@@ -43,7 +43,7 @@ trimmed-none text none back =
 run_from-some : (run : Run) → run.first ≤ run.last → run_from run.first run.last ≡ Some run
 run_from-some run up = cond-true _ _ _ (le-leb run.first run.last up)
 
-module _ (kind : Kind) (lawful : IsLawful kind) (run : Run) (fit : IsFit kind.width run) where
+module _ (kind : Kind) (lawful : IsLawfulKind kind) (run : Run) (fit : IsFit kind.width run) where
   first_within : run.first < 2 ^ kind.width
   first_within = let up = fit.ordered in let top = fit.within in omega arith
 
@@ -134,7 +134,7 @@ module _ (kind : Kind) (lawful : IsLawful kind) (run : Run) (fit : IsFit kind.wi
 
 -- ---- a whole text
 
-module _ (kind : Kind) (lawful : IsLawful kind) where
+module _ (kind : Kind) (lawful : IsLawfulKind kind) where
   abbrev is_comma : ℕ → Bool
   is_comma octet = eqb octet 44
 
@@ -169,12 +169,12 @@ module _ (kind : Kind) (lawful : IsLawful kind) where
         ∙ item-run_text kind lawful run fit
 
   -- the text of runs is cut into the texts of the runs
-  split-text_of : (run : Run) (more : List Run) → IsSet kind.width (run ∷ more) → slice_split is_comma (text_of kind (run ∷ more)) ≡ run_text kind run ∷ map (run_text kind) more
-  unfolding text_of
+  split-text_of : (run : Run) (more : List Run) → IsSet kind.width (run ∷ more) → slice_split is_comma (printed kind (run ∷ more)) ≡ run_text kind run ∷ map (run_text kind) more
+  unfolding printed
   split-text_of run [] set =
       ap (slice_split is_comma) (append-nil (run_text kind run)) ∙ slice_split_none is_comma (run_text kind run) (no_comma run (head_fits kind.width run [] set))
   split-text_of run (next ∷ rest) set =
-      slice_split_at is_comma (run_text kind run) 44 (text_of kind (next ∷ rest)) (no_comma run (head_fits kind.width run (next ∷ rest) set)) refl
+      slice_split_at is_comma (run_text kind run) 44 (printed kind (next ∷ rest)) (no_comma run (head_fits kind.width run (next ∷ rest) set)) refl
       ∙ ap (λ l. run_text kind run ∷ l) (split-text_of next rest (tail_set kind.width run (next ∷ rest) set))
 
   -- each of them is read as its run
@@ -184,24 +184,24 @@ module _ (kind : Kind) (lawful : IsLawful kind) where
   read_all-texts (run ∷ more) set =
       rw (spaced-run_text run (head_fits kind.width run more set)) (rw (read_all-texts more (tail_set kind.width run more set)) refl)
 
-  no_space_text : (run : Run) (more : List Run) → IsSet kind.width (run ∷ more) → All (λ octet. octet ≢ 32) (text_of kind (run ∷ more))
-  unfolding text_of
+  no_space_text : (run : Run) (more : List Run) → IsSet kind.width (run ∷ more) → All (λ octet. octet ≢ 32) (printed kind (run ∷ more))
+  unfolding printed
   no_space_text run [] set = All-append (λ o. o ≢ 32) (run_text kind run) [] (no_space run (head_fits kind.width run [] set)) (All-nil (λ o. o ≢ 32))
   no_space_text run (next ∷ rest) set =
-      All-append (λ o. o ≢ 32) (run_text kind run) (44 ∷ text_of kind (next ∷ rest)) (no_space run (head_fits kind.width run (next ∷ rest) set))
-      (All-cons (λ o. o ≢ 32) 44 (text_of kind (next ∷ rest)) (λ e. omega arith) (no_space_text next rest (tail_set kind.width run (next ∷ rest) set)))
+      All-append (λ o. o ≢ 32) (run_text kind run) (44 ∷ printed kind (next ∷ rest)) (no_space run (head_fits kind.width run (next ∷ rest) set))
+      (All-cons (λ o. o ≢ 32) 44 (printed kind (next ∷ rest)) (λ e. omega arith) (no_space_text next rest (tail_set kind.width run (next ∷ rest) set)))
 
-  long_text : (run : Run) (more : List Run) → IsSet kind.width (run ∷ more) → 0 < length (text_of kind (run ∷ more))
-  unfolding text_of
+  long_text : (run : Run) (more : List Run) → IsSet kind.width (run ∷ more) → 0 < length (printed kind (run ∷ more))
+  unfolding printed
   long_text run more set =
       let long = not_empty_text (run_text kind run) run (item-run_text kind lawful run (head_fits kind.width run more set)) in
       simp length-append (omega arith)
 
   -- what is printed is read as the same runs
-  pub runs_of-text_of : (runs : List Run) → IsSet kind.width runs → runs_of kind (text_of kind runs) ≡ Some runs
-  runs_of-text_of [] set = runs_of-blank kind (text_of kind []) [] (ap (λ t. length (trimmed t)) (text_of-nil kind) ∙ ap length (trimmed-none [] (All-nil (λ o. o ≢ 32)) (All-nil (λ o. o ≢ 32)))) refl
+  pub runs_of-text_of : (runs : List Run) → IsSet kind.width runs → runs_of kind (printed kind runs) ≡ Some runs
+  runs_of-text_of [] set = runs_of-blank kind (printed kind []) [] (ap (λ t. length (trimmed t)) (text_of-nil kind) ∙ ap length (trimmed-none [] (All-nil (λ o. o ≢ 32)) (All-nil (λ o. o ≢ 32)))) refl
   runs_of-text_of (run ∷ more) set =
-      let text = text_of kind (run ∷ more) in
+      let text = printed kind (run ∷ more) in
       let none = no_space_text run more set in
       let same : trimmed text ≡ text = trimmed-none text none (All-permutation (λ octet. octet ≢ 32) _ _ (IsPermutation-reverse text) none) in
       let long = long_text run more set in
@@ -213,7 +213,7 @@ module _ (kind : Kind) (lawful : IsLawful kind) where
   AllOrdered-maximal (run ∷ more) m = (m.0, AllOrdered-maximal more m.2)
 
   -- what is printed of a set is read as the same set
-  pub blocks_of-text_of : (runs : List Run) → IsSet kind.width runs → blocks_of kind (text_of kind runs) ≡ Some runs
+  pub blocks_of-text_of : (runs : List Run) → IsSet kind.width runs → blocks_of kind (printed kind runs) ≡ Some runs
   blocks_of-text_of runs set =
-      blocks_of-some kind (text_of kind runs) runs (runs_of-text_of runs set)
+      blocks_of-some kind (printed kind runs) runs (runs_of-text_of runs set)
       ∙ ap Some (sym (is_union runs runs (AllOrdered-maximal runs set.maximal) set.maximal (λ n. (λ h. h, λ h. h))))

@@ -2,7 +2,7 @@
 use Rattle.std.proofs.Common.{◌≡◌, ◌↔◌, ℕ, ◌+◌, ◌<◌, ◌≤◌, ◌⊎◌, inl, inr, ltb, List, [], ◌∷◌, refl, arith}
 use Rattle.std.proofs.lemmas.Bool.{cases_lt, cond_both, ltb-true, ltb-false}
 use Rattle.rpki_sets.specs.declared.run.Run.{Run}
-use Rattle.rpki_sets.specs.Runs.{Holds, Has, SameNumbers, Includes, AllOrdered, IsApart, IsMaximal, hull, add, union}
+use Rattle.rpki_sets.specs.Runs.{HoldsNumber, Has, SameNumbers, Includes, AllOrdered, IsApart, IsMaximal, hull, add, union}
 
 -- ---- where the numbers of maximal runs lie
 
@@ -68,7 +68,7 @@ same_runs a b ma mb same = same_from_includes a b ma mb (SameNumbers-includes a 
 
 -- ---- a run added
 
-hull-holds : (a b : Run) → a.first ≤ a.last → b.first ≤ b.last → b.first ≤ a.last + 1 → a.first ≤ b.last + 1 → (n : ℕ) → Holds (hull a b) n ↔ (Holds a n ⊎ Holds b n)
+hull-holds : (a b : Run) → a.first ≤ a.last → b.first ≤ b.last → b.first ≤ a.last + 1 → a.first ≤ b.last + 1 → (n : ℕ) → HoldsNumber (hull a b) n ↔ (HoldsNumber a n ⊎ HoldsNumber b n)
 hull-holds a b oa ob near far n = (
   λ h. elim (cases_lt a.last n) [
     | inl above ↦ elim (cases_lt b.last n) [ inl both ↦ absurd (omega arith) | inr under ↦ inr (omega arith, under) ]
@@ -78,13 +78,13 @@ hull-holds a b oa ob near far n = (
 )
 
 -- what is added is there, and nothing else is new
-pub Has-add : (run : Run) (runs : List Run) → run.first ≤ run.last → IsMaximal runs → (n : ℕ) → Has (add run runs) n ↔ (Holds run n ⊎ Has runs n)
+pub Has-add : (run : Run) (runs : List Run) → run.first ≤ run.last → IsMaximal runs → (n : ℕ) → Has (add run runs) n ↔ (HoldsNumber run n ⊎ Has runs n)
 unfolding add
 Has-add run [] o m n = (λ h. h, λ h. h)
 Has-add run (next ∷ more) o m n =
-    cond_both (ltb (run.last + 1) next.first) _ _ (λ x. Has x n ↔ (Holds run n ⊎ Has (next ∷ more) n))
+    cond_both (ltb (run.last + 1) next.first) _ _ (λ x. Has x n ↔ (HoldsNumber run n ⊎ Has (next ∷ more) n))
     (λ e. (λ h. h, λ h. h))
-    (λ e. cond_both (ltb (next.last + 1) run.first) _ _ (λ x. Has x n ↔ (Holds run n ⊎ Has (next ∷ more) n))
+    (λ e. cond_both (ltb (next.last + 1) run.first) _ _ (λ x. Has x n ↔ (HoldsNumber run n ⊎ Has (next ∷ more) n))
     (λ f. let rec = Has-add run more o m.2 n in (
       λ h. elim h [ inl x ↦ inr (inl x) | inr y ↦ elim (rec.0 y) [ inl z ↦ inl z | inr w ↦ inr (inr w) ] ],
       λ h. elim h [ inl x ↦ inr (rec.1 (inl x)) | inr y ↦ elim y [ inl z ↦ inl z | inr w ↦ inr (rec.1 (inr w)) ] ],

@@ -5,19 +5,19 @@ use Rattle.std.specs.List.Sorted.{IsPermutation, IsNonDecreasingBy}
 use Rattle.std.proofs.lemmas.List.Elements.{All-from_recursion, All-head, All-tail}
 use Rattle.std.proofs.lemmas.List.Sorted.{All-permutation, Contains-permutation, IsPermutation-sym}
 use Rattle.rpki_sets.specs.declared.run.Run.{Run}
-use Rattle.rpki_sets.specs.Runs.{Holds, Has, SameNumbers, AllOrdered, union}
+use Rattle.rpki_sets.specs.Runs.{HoldsNumber, Has, SameNumbers, AllOrdered, union}
 use Rattle.rpki_sets.specs.Ascending.{AllFrom, IsAscending}
 use Rattle.rpki_sets.proofs.RunLemmas.{is_union, IsMaximal-union, Has-union}
 
 -- the run that has the number
-has_run : (runs : List Run) (n : ℕ) → Has runs n → (run : Run) × Contains runs run × Holds run n
+has_run : (runs : List Run) (n : ℕ) → Has runs n → (run : Run) × Contains runs run × HoldsNumber run n
 has_run [] n h = absurd h
 has_run (run ∷ more) n (inl held) = (run, (0, omega arith, refl), held)
 has_run (run ∷ more) n (inr later) =
     let found = has_run more n later in
     (found.0, (suc found.1.0, omega (arith, found.1.1), found.1.2), found.2)
 
-has_from : (runs : List Run) (n : ℕ) (run : Run) (k : ℕ) → k < length runs → get_or runs k run ≡ run → Holds run n → Has runs n
+has_from : (runs : List Run) (n : ℕ) (run : Run) (k : ℕ) → k < length runs → get_or runs k run ≡ run → HoldsNumber run n → Has runs n
 has_from [] n run k within is held = absurd (omega arith)
 has_from (first ∷ more) n run zero within is held = inl (rw is held)
 has_from (first ∷ more) n run (suc k) within is held = inr (has_from more n run k (omega arith) is held)

@@ -6,7 +6,7 @@ use Rattle.std.proofs.lemmas.List.{flat_map_more, take_more}
 use Rattle.std.proofs.lemmas.Bool.{eq-eqb, ne_eqb}
 use Rattle.rpki_sets.specs.declared.run.Run.{Run}
 use Rattle.rpki_sets.specs.Prefixes.{prefix_length}
-use Rattle.rpki_sets.specs.Kinds.{Kind, run_text, range_text, text_of}
+use Rattle.rpki_sets.specs.Kinds.{Kind, run_text, range_text, printed}
 
 module _ (kind : Kind) (run : Run) where
   pub run_text-prefix : (w len : ℕ) → w ≡ kind.width → kind.has_prefixes ≡ true → Some len ≡ prefix_length w run → run_text kind run ≡ kind.number_text run.first ++ (codes "/" ++ decimal len)
@@ -31,27 +31,27 @@ module _ (kind : Kind) where
   abbrev behind : Run → List ℕ
   behind next = codes "," ++ run_text kind next
 
-  pub text_of-nil : text_of kind [] ≡ []
-  unfolding text_of
+  pub text_of-nil : printed kind [] ≡ []
+  unfolding printed
   text_of-nil = refl
 
-  text_of-cons : (run : Run) (more : List Run) → text_of kind (run ∷ more) ≡ run_text kind run ++ flat_map behind more
-  unfolding text_of
+  text_of-cons : (run : Run) (more : List Run) → printed kind (run ∷ more) ≡ run_text kind run ++ flat_map behind more
+  unfolding printed
   text_of-cons run more = refl
 
   module _ (runs : List Run) (first : Run) (more : List Run) (is : runs ≡ first ∷ more) where
-    so_far : (i : ℕ) → text_of kind (take (i + 1) runs) ≡ run_text kind first ++ flat_map behind (take i more)
+    so_far : (i : ℕ) → printed kind (take (i + 1) runs) ≡ run_text kind first ++ flat_map behind (take i more)
     so_far i = rw (is, add-one) (text_of-cons first (take i more))
 
-    pub text_of-start : text_of kind (take (0 + 1) runs) ≡ run_text kind first
+    pub text_of-start : printed kind (take (0 + 1) runs) ≡ run_text kind first
     text_of-start = so_far 0 ∙ append-nil (run_text kind first)
 
-    pub text_of-more : (i : ℕ) (d : Run) → i < length more → text_of kind (take ((i + 1) + 1) runs) ≡ text_of kind (take (i + 1) runs) ++ (codes "," ++ run_text kind (get_or more i d))
+    pub text_of-more : (i : ℕ) (d : Run) → i < length more → printed kind (take ((i + 1) + 1) runs) ≡ printed kind (take (i + 1) runs) ++ (codes "," ++ run_text kind (get_or more i d))
     text_of-more i d within =
         let longer : take (i + 1) more ≡ take i more ++ get_or more i d ∷ [] = take_more more i d within in
         so_far (i + 1) ∙ ap (λ l. run_text kind first ++ flat_map behind l) longer
         ∙ sym (flat_map_more behind (run_text kind first) (take i more) (get_or more i d))
         ∙ ap (λ l. l ++ behind (get_or more i d)) (sym (so_far i))
 
-    pub text_of-all : (i : ℕ) → length more ≤ i → text_of kind (take (i + 1) runs) ≡ text_of kind runs
-    text_of-all i past = ap (text_of kind) (take_all (i + 1) runs (rw is (omega arith)))
+    pub text_of-all : (i : ℕ) → length more ≤ i → printed kind (take (i + 1) runs) ≡ printed kind runs
+    text_of-all i past = ap (printed kind) (take_all (i + 1) runs (rw is (omega arith)))

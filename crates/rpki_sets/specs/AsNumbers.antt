@@ -5,7 +5,7 @@ use Rattle.std.specs.Str.{bytes_eq}
 use Rattle.std.specs.Fmt.{decimal}
 use Rattle.rpki_sets.specs.declared.run.Run.{Run}
 use Rattle.rpki_sets.specs.Texts.{decimal_below}
-use Rattle.rpki_sets.specs.Kinds.{Kind, blocks_of, text_of}
+use Rattle.rpki_sets.specs.Kinds.{Kind, blocks_of, printed}
 
 -- what stands behind `AS` in any case, or the whole text where it doesn't begin so
 abbrev pub without_as : List ℕ → List ℕ
@@ -26,4 +26,4 @@ as_blocks = blocks_of as_kind
 
 -- the text of AS numbers
 abbrev pub as_text : List Run → List ℕ
-as_text = text_of as_kind
+as_text = printed as_kind

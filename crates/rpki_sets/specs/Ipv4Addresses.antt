@@ -5,7 +5,7 @@ use Rattle.std.specs.Net.Reader.{read_ipv4, whole_value}
 use Rattle.std.specs.Net.Text.{ipv4_text}
 use Rattle.rpki_common.specs.Chaining.{◌>>=◌}
 use Rattle.rpki_sets.specs.declared.run.Run.{Run}
-use Rattle.rpki_sets.specs.Kinds.{Kind, blocks_of, text_of}
+use Rattle.rpki_sets.specs.Kinds.{Kind, blocks_of, printed}
 
 -- four decimal numbers from 0 to 255 without leading zeros, with dots between them, as one number
 unfoldable pub ipv4_number : List ℕ → Option ℕ
@@ -30,4 +30,4 @@ ipv4_blocks = blocks_of ipv4_kind
 
 -- the text of IPv4 addresses
 abbrev pub ipv4_blocks_text : List Run → List ℕ
-ipv4_blocks_text = text_of ipv4_kind
+ipv4_blocks_text = printed ipv4_kind

@@ -6,7 +6,7 @@ use Rattle.std.specs.Net.Reader.{read_ipv6, whole_value}
 use Rattle.std.specs.Net.Text.{hex_groups_text}
 use Rattle.rpki_common.specs.Chaining.{◌>>=◌}
 use Rattle.rpki_sets.specs.declared.run.Run.{Run}
-use Rattle.rpki_sets.specs.Kinds.{Kind, blocks_of, text_of}
+use Rattle.rpki_sets.specs.Kinds.{Kind, blocks_of, printed}
 
 -- eight groups of one to four hexadecimal digits with colons between them, of which `::` stands for
 -- one zero group or more, and the last two may be written as an IPv4 address; as one number
@@ -34,4 +34,4 @@ ipv6_blocks = blocks_of ipv6_kind
 
 -- the text of IPv6 addresses
 abbrev pub ipv6_blocks_text : List Run → List ℕ
-ipv6_blocks_text = text_of ipv6_kind
+ipv6_blocks_text = printed ipv6_kind

@@ -79,9 +79,9 @@ run_text kind run =
     else (if run.first == run.last then kind.number_text run.first else range_text kind run)
 
 -- the runs with commas between them
-unfoldable pub text_of : Kind → List Run → List ℕ
-text_of kind [] = []
-text_of kind (run ∷ more) = run_text kind run ++ flat_map (λ next. codes "," ++ run_text kind next)
+unfoldable pub printed : Kind → List Run → List ℕ
+printed kind [] = []
+printed kind (run ∷ more) = run_text kind run ++ flat_map (λ next. codes "," ++ run_text kind next)
     more
 
 -- an octet of a printed set: `,`, `-`, `.`, `/`, a digit or `:`, which follow each other, or `a` to
@@ -98,7 +98,7 @@ IsPlain octet = (octet ≢ comma) × (octet ≢ space) × (octet ≢ dash) × (o
 -- numbers that are read have no more bits than the kind, what is written is read as the same
 -- number, the empty text is no number, and no text of a number has an octet that stands between
 -- numbers
-pub record IsLawful (kind : Kind) : Type 0 where
+pub record IsLawfulKind (kind : Kind) : Type 0 where
   pub bounded : kind.width ≤ 128
   pub within : (text : List ℕ) (n : ℕ) → kind.number text ≡ Some n → n < 2 ^ kind.width
   pub again : (n : ℕ) → n < 2 ^ kind.width → kind.number (kind.number_text n) ≡ Some n

@@ -3,13 +3,13 @@ use Rattle.std.specs.Prelude.{◌↔◌, ◌⊎◌, ℕ, ◌+◌, ◌≤◌, ◌
 use Rattle.rpki_sets.specs.declared.run.Run.{Run}
 
 -- the number lies in the run
-abbrev pub Holds : Run → ℕ → Type 0
-Holds run n = (run.first ≤ n) × (n ≤ run.last)
+abbrev pub HoldsNumber : Run → ℕ → Type 0
+HoldsNumber run n = (run.first ≤ n) × (n ≤ run.last)
 
 -- the number lies in one of the runs
 abbrev pub Has : List Run → ℕ → Type 0
 Has [] n = ⊥
-Has (run ∷ more) n = Holds run n ⊎ Has more n
+Has (run ∷ more) n = HoldsNumber run n ⊎ Has more n
 
 -- both lists stand for the same numbers
 abbrev pub SameNumbers : List Run → List Run → Type 0

@@ -5,7 +5,7 @@ ghost use Rattle.std.specs.Cmp.{partial_equiv_from_equiv};
 ghost use Rattle.std.specs.Cmp.Lexicographic.{pointwise, lists_equiv};
 ghost use Rattle.rpki_sets.specs.Comparing.{is_same, is_same-equiv};
 ghost use Rattle.rpki_sets.specs.Runs.{SameNumbers, Includes, IsSet};
-ghost use Rattle.rpki_sets.specs.Kinds.{runs_of, blocks_of, text_of};
+ghost use Rattle.rpki_sets.specs.Kinds.{runs_of, blocks_of, printed};
 
 use crate::error::BlocksError;
 use crate::includes::includes;
@@ -87,8 +87,8 @@ impl<N: Numbers> Blocks<N> {
 
     /// The text that this set prints is read as the same set.
     pub fn text_is_read_back(&self)
-        ensures runs { runs_of N.kind (text_of N.kind self.now) ≡ Some self.now }
-        ensures set { blocks_of N.kind (text_of N.kind self.now) ≡ Some self.now }
+        ensures runs { runs_of N.kind (printed N.kind self.now) ≡ Some self.now }
+        ensures set { blocks_of N.kind (printed N.kind self.now) ≡ Some self.now }
     {
         // For the proof: the set's runs are maximal, by its type.
         let _runs = self.runs();
@@ -126,7 +126,7 @@ impl<N: Numbers> Eq for Blocks<N> {
 }
 
 impl<N: Numbers> fmt::Display for Blocks<N> {
-    ghost output = { λ b. Some (text_of N.kind b) };
+    ghost output = { λ b. Some (printed N.kind b) };
 
     fn fmt<W: fmt::Write>(&self, f: &mut fmt::Formatter<W>) -> fmt::Result {
         let Some((first, more)) = self.runs().split_first() else {

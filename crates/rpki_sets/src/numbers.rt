@@ -2,7 +2,7 @@
 
 ghost use Rattle.std.specs.Prelude.{◌≡◌, ◌<◌, ◌^◌, Some};
 ghost use Rattle.std.specs.Fmt.{DisplaysOnOk};
-ghost use Rattle.rpki_sets.specs.Kinds.{Kind, IsLawful};
+ghost use Rattle.rpki_sets.specs.Kinds.{Kind, IsLawfulKind};
 
 use std::fmt;
 
@@ -31,5 +31,5 @@ pub trait Numbers {
     /// What holds of every kind: numbers that are read have no more bits than the kind, and what is written is read as
     /// the same number.
     fn law()
-        ensures { IsLawful kind };
+        ensures { IsLawfulKind kind };
 }

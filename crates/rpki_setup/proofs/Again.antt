@@ -4,7 +4,7 @@ use Rattle.std.specs.Prelude.{codes}
 use Rattle.base64.specs.GeneralPurpose.{IsBytes}
 use Rattle.rpki_common.specs.Chaining.{◌>>=◌}
 use Rattle.rpki_common.specs.Items as items
-use Rattle.rpki_message.specs.Parts.{attribute}
+use Rattle.rpki_xmltext.specs.Parts.{attribute}
 use Rattle.rpki_text.specs.Handle.{IsHandle}
 use Rattle.rpki_text.specs.Uri.{rsync, https, fault_of}
 use Rattle.rpki_text.proofs.Base64Laws.{base64_content-encode}
@@ -13,26 +13,26 @@ use Rattle.rpki_xml.specs.Content.{is_declaration}
 use Rattle.rpki_xml.specs.Element.{alone}
 use Rattle.rpki_xml.specs.Lettered.{AreOctets}
 use Rattle.rpki_xml.specs.PlainElement.{ArePlain}
-use Rattle.rpki_xml.specs.Tables.{only, optional, optional_by, required, given_or_absent}
+use Rattle.rpki_xml.specs.Tables.{only_listed, optional, optional_by, required, given_or_absent}
 use Rattle.rpki_xml.proofs.Octets.{written_is_read}
 use Rattle.rpki_setup.specs.ChildRequest.{ChildRequestFields, child_request_element, child_request_text, child_request_in, IsWritableChildRequest}
 use Rattle.rpki_setup.specs.ParentResponse.{ParentResponseFields, parent_response_element, parent_response_text, parent_response_in, last_certificate_in, IsWritableParentResponse}
 use Rattle.rpki_setup.specs.PublisherRequest.{PublisherRequestFields, publisher_request_element, publisher_request_text, publisher_request_in, IsWritablePublisherRequest}
-use Rattle.rpki_message.specs.Reading.{ReadsAs}
+use Rattle.rpki_xmltext.specs.Reading.{ReadsAs}
 use Rattle.rpki_setup.specs.RepoInfo.{repo_info_in}
 use Rattle.rpki_setup.specs.RepositoryResponse.{RepositoryResponseFields, repository_response_element, repository_response_text, repository_response_in, IsWritableRepositoryResponse}
-use Rattle.rpki_setup.specs.Root.{root_in, handle_in, certificate_in, one_certificate_in}
+use Rattle.rpki_setup.specs.Root.{setup_root_in, handle_in, certificate_in, one_certificate_in}
 use Rattle.rpki_setup.specs.ServiceUri.{service_uri_in, service_text, IsWritableService}
 use Rattle.rpki_setup.specs.declared.service_uri.ServiceUri.{ServiceUri}
 use Rattle.rpki_setup.proofs.Plain.{element_plain}
-use Rattle.rpki_message.proofs.Plain.{attribute_plain}
-use Rattle.rpki_message.proofs.Uris.{uri_is, handle_octets, uri_octets}
+use Rattle.rpki_xmltext.proofs.Plain.{attribute_plain}
+use Rattle.rpki_xmltext.proofs.Uris.{uri_is, handle_octets, uri_octets}
 use Rattle.rpki_setup.proofs.Lawful.{service_again, service_octets}
 
 -- ---- child_request
 
 child_in : (c h : List ℕ) (tag : Option (List ℕ)) → IsBytes c → IsHandle h → child_request_in (child_request_element (record { id_cert = c; child_handle = h; tag = tag })) ≡ Some (record { id_cert = c; child_handle = h; tag = tag })
-unfolding child_request_in child_request_element one_certificate_in only items.only root_in handle_in certificate_in required optional given_or_absent items.at_most_one items.the_one ◌>>=◌
+unfolding child_request_in child_request_element one_certificate_in only_listed items.only setup_root_in handle_in certificate_in required optional given_or_absent items.at_most_one items.the_one ◌>>=◌
 child_in c h None b i = rw (handle_of_text-some h i, base64_content-encode c b) refl
 child_in c h (Some t) b i = rw (handle_of_text-some h i, base64_content-encode c b) refl
 
@@ -65,7 +65,7 @@ child_again m w = record {
 -- ---- publisher_request
 
 publisher_in : (c h : List ℕ) (tag : Option (List ℕ)) → IsBytes c → IsHandle h → publisher_request_in (publisher_request_element (record { id_cert = c; publisher_handle = h; tag = tag })) ≡ Some (record { id_cert = c; publisher_handle = h; tag = tag })
-unfolding publisher_request_in publisher_request_element one_certificate_in only items.only root_in handle_in certificate_in required optional given_or_absent items.at_most_one items.the_one ◌>>=◌
+unfolding publisher_request_in publisher_request_element one_certificate_in only_listed items.only setup_root_in handle_in certificate_in required optional given_or_absent items.at_most_one items.the_one ◌>>=◌
 publisher_in c h None b i = rw (handle_of_text-some h i, base64_content-encode c b) refl
 publisher_in c h (Some t) b i = rw (handle_of_text-some h i, base64_content-encode c b) refl
 
@@ -98,7 +98,7 @@ publisher_again m w = record {
 -- ---- parent_response
 
 parent_in : (c p h : List ℕ) (s : ServiceUri) (tag : Option (List ℕ)) → IsBytes c → IsHandle p → IsHandle h → IsWritableService s → parent_response_in (parent_response_element (record { id_cert = c; parent_handle = p; child_handle = h; service_uri = s; tag = tag })) ≡ Some (record { id_cert = c; parent_handle = p; child_handle = h; service_uri = s; tag = tag })
-unfolding parent_response_in parent_response_element service_uri_in last_certificate_in items.only items.the_last root_in handle_in certificate_in required optional given_or_absent items.at_most_one items.the_one ◌>>=◌
+unfolding parent_response_in parent_response_element service_uri_in last_certificate_in items.only items.the_last setup_root_in handle_in certificate_in required optional given_or_absent items.at_most_one items.the_one ◌>>=◌
 parent_in c p h s None b i j k = rw (handle_of_text-some p i, handle_of_text-some h j, service_again s k, base64_content-encode c b) refl
 parent_in c p h s (Some t) b i j k = rw (handle_of_text-some p i, handle_of_text-some h j, service_again s k, base64_content-encode c b) refl
 
@@ -144,7 +144,7 @@ parent_again m w = record {
 
 repository_in : (c h : List ℕ) (s : ServiceUri) (u : List ℕ) (n tag : Option (List ℕ)) → IsBytes c → IsHandle h → IsWritableService s → fault_of rsync u ≡ None → IfSome n (λ v. fault_of https v ≡ None)
     → repository_response_in (repository_response_element (record { id_cert = c; publisher_handle = h; service_uri = s; repo_info = record { sia_base = u; rrdp_notification_uri = n }; tag = tag })) ≡ Some (record { id_cert = c; publisher_handle = h; service_uri = s; repo_info = record { sia_base = u; rrdp_notification_uri = n }; tag = tag })
-unfolding repository_response_in repository_response_element service_uri_in repo_info_in optional_by one_certificate_in root_in handle_in certificate_in required optional given_or_absent items.at_most_one items.the_one ◌>>=◌
+unfolding repository_response_in repository_response_element service_uri_in repo_info_in optional_by one_certificate_in setup_root_in handle_in certificate_in required optional given_or_absent items.at_most_one items.the_one ◌>>=◌
 repository_in c h s u None None b i j k l = rw (handle_of_text-some h i, service_again s j, uri_is rsync u k, base64_content-encode c b) refl
 repository_in c h s u None (Some t) b i j k l = rw (handle_of_text-some h i, service_again s j, uri_is rsync u k, base64_content-encode c b) refl
 repository_in c h s u (Some v) None b i j k l = rw (handle_of_text-some h i, service_again s j, uri_is rsync u k, uri_is https v l, base64_content-encode c b) refl

@@ -10,7 +10,7 @@ use Rattle.rpki_xml.specs.Lettered.{AreOctets}
 use Rattle.rpki_setup.specs.ServiceUri.{is_http, service_uri_of_text, service_text, IsWritableService}
 use Rattle.rpki_setup.specs.declared.service_uri.ServiceUri.{ServiceUri}
 use Rattle.rpki_setup.specs.declared.service_uri.ServiceUri.TheVariants.{Https, Http}
-use Rattle.rpki_message.proofs.Uris.{lawful_parts, uri_octets}
+use Rattle.rpki_xmltext.proofs.Uris.{lawful_parts, uri_octets}
 use Rattle.rpki_setup.proofs.Services.{kept, lawful}
 
 -- ---- the two schemes

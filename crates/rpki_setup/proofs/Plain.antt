@@ -8,9 +8,9 @@ use Rattle.rpki_xml.specs.Content.{is_declaration, is_distinct, trimmed}
 use Rattle.rpki_xml.specs.Element.{Attribute, alone}
 use Rattle.rpki_xml.specs.PlainElement.{IsPlainName, IsPlainAttribute, IsPlainHead, ArePlain}
 use Rattle.rpki_setup.specs.Root.{certificate_element, root_element}
-use Rattle.rpki_message.specs.Parts.{attribute}
-use Rattle.rpki_message.proofs.Base64s.{encode-trimmed, encode-octets}
-use Rattle.rpki_message.proofs.Plain.{leaf_plain}
+use Rattle.rpki_xmltext.specs.Parts.{attribute}
+use Rattle.rpki_xmltext.proofs.Base64s.{encode-trimmed, encode-octets}
+use Rattle.rpki_xmltext.proofs.Plain.{leaf_plain}
 
 root_plain : (name : List ℕ) (attributes : List Attribute) (child octets : List ℕ) → IsPlainName name → AllByRecursion IsPlainAttribute attributes
     → is_distinct (attribute (codes "version") (codes "1") ∷ attributes) ≡ true → IsPlainHead (root_element name attributes (certificate_element child octets)).head

@@ -8,8 +8,8 @@ use Rattle.rpki_xml.specs.Element.{Attribute}
 use Rattle.rpki_xml.specs.Spelling.{spelled, spelled_text, spelled_attribute, spelled_attributes, spelled_namespace, spelled_end}
 use Rattle.rpki_setup.specs.Root.{setup_namespace, certificate_element, root_element}
 use Rattle.rpki_setup.specs.Writing.{start_text, inside_text}
-use Rattle.rpki_message.specs.Inside.{text_inside}
-use Rattle.rpki_message.proofs.Elements.{leaf_spelled}
+use Rattle.rpki_xmltext.specs.Inside.{text_inside}
+use Rattle.rpki_xmltext.proofs.Elements.{leaf_spelled}
 
 parts : (n space version attributes child end : List ℕ) → (60 ∷ (n ++ (space ++ (version ++ attributes))) ++ 62 ∷ (child ++ end)) ++ [] ≡ 60 ∷ (n ++ (space ++ version)) ++ (attributes ++ 62 ∷ (child ++ end))
 parts n space version attributes child end = simp (append_assoc, append-nil)

@@ -10,7 +10,7 @@ use Rattle.rpki_setup.specs.declared.error.Error.{Error}
 use Rattle.rpki_setup.specs.declared.error.Error.TheVariants as errors
 use Rattle.rpki_setup.specs.Answers.{json_of, RefusesServiceUri}
 use Rattle.rpki_setup.specs.ServiceUri.{is_http, service_uri_of_text, service_uri_of_json}
-use Rattle.rpki_message.specs.UriText.{uri_of_text}
+use Rattle.rpki_xmltext.specs.UriText.{uri_of_text}
 use Rattle.rpki_setup.specs.declared.service_uri.ServiceUri.{ServiceUri}
 use Rattle.rpki_setup.specs.declared.service_uri.ServiceUri.TheVariants.{Https, Http}
 

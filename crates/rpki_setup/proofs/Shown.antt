@@ -1,7 +1,7 @@
 -- What messages print is what they are spelled as.
 use Rattle.std.proofs.Common.{◌≡◌, ℕ, List, ◌∷◌, ◌++◌, Option, sym, ap, ◌∙◌, append_assoc}
 use Rattle.std.specs.Prelude.{codes}
-use Rattle.rpki_message.specs.Parts.{attribute}
+use Rattle.rpki_xmltext.specs.Parts.{attribute}
 use Rattle.rpki_xml.specs.Draft.{optional_attribute}
 use Rattle.rpki_xml.specs.Spelling.{spelled_attribute, spelled_attributes}
 use Rattle.rpki_setup.specs.ChildRequest.{ChildRequestFields, child_request_element, child_request_text}
@@ -11,7 +11,7 @@ use Rattle.rpki_setup.specs.RepositoryResponse.{RepositoryResponseFields, reposi
 use Rattle.rpki_setup.specs.RepoInfo.{repo_info_attributes}
 use Rattle.rpki_setup.specs.ServiceUri.{service_text}
 use Rattle.rpki_setup.specs.Writing.{start_text, inside_text}
-use Rattle.rpki_message.proofs.Inside.{attributes_joined}
+use Rattle.rpki_xmltext.proofs.Inside.{attributes_joined}
 use Rattle.rpki_setup.proofs.Roots.{root_spelled}
 
 abbrev tagged : Option (List ℕ) → List ℕ

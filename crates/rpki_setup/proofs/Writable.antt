@@ -15,19 +15,19 @@ use Rattle.rpki_xml.proofs.Letters.{document_lettered}
 use Rattle.rpki_setup.specs.ChildRequest.{ChildRequestFields, child_request_in, IsWritableChildRequest}
 use Rattle.rpki_setup.specs.ParentResponse.{ParentResponseFields, parent_response_in, holds_certificate, some_certificate, last_certificate_in, IsWritableParentResponse}
 use Rattle.rpki_setup.specs.PublisherRequest.{PublisherRequestFields, publisher_request_in, IsWritablePublisherRequest}
-use Rattle.rpki_message.specs.Reading.{ReadsAs}
+use Rattle.rpki_xmltext.specs.Reading.{ReadsAs}
 use Rattle.rpki_setup.specs.RepoInfo.{RepoInfoFields, repo_info_in, IsWritableRepoInfo}
 use Rattle.rpki_setup.specs.RepositoryResponse.{RepositoryResponseFields, repository_response_in, IsWritableRepositoryResponse}
 use Rattle.rpki_setup.specs.Root.{handle_in, certificate_in, one_certificate_in}
-use Rattle.rpki_message.specs.UriText.{uri_of_text}
+use Rattle.rpki_xmltext.specs.UriText.{uri_of_text}
 use Rattle.rpki_setup.specs.ServiceUri.{is_http, service_uri_of_text, service_uri_in, service_text, IsWritableService}
 use Rattle.rpki_setup.specs.declared.service_uri.ServiceUri.{ServiceUri}
 use Rattle.rpki_setup.specs.declared.service_uri.ServiceUri.TheVariants.{Https, Http}
-use Rattle.rpki_message.proofs.Attributes.{then_some, required_lettered, optional_lettered, child_lettered, some_holds, last_holds, heads_lettered}
-use Rattle.rpki_message.proofs.Lawful.{uri_read}
-use Rattle.rpki_message.proofs.Uris.{uri_lawful}
+use Rattle.rpki_xmltext.proofs.Attributes.{then_some, required_lettered, optional_lettered, child_lettered, some_holds, last_holds, heads_lettered}
+use Rattle.rpki_xmltext.proofs.Lawful.{uri_read}
+use Rattle.rpki_xmltext.proofs.Uris.{uri_lawful}
 use Rattle.rpki_setup.proofs.Services.{kept}
-use Rattle.rpki_message.proofs.Spelt.{content_bytes}
+use Rattle.rpki_xmltext.proofs.Spelt.{content_bytes}
 use Rattle.rpki_setup.proofs.Lawful.{https_again}
 
 -- ---- texts

@@ -16,8 +16,8 @@ use Rattle.rpki_text.specs.declared.uri.Error.{Error as UriError}
 use Rattle.rpki_text.specs.declared.uri.Error.TheVariants as uri
 use Rattle.rpki_xml.specs.declared.error.XmlError.{XmlError}
 use Rattle.rpki_xml.specs.declared.error.XmlError.TheVariants as xml
-use Rattle.rpki_message.specs.declared.cause.Cause.{Cause}
-use Rattle.rpki_message.specs.declared.cause.Cause.TheVariants as causes
+use Rattle.rpki_xmltext.specs.declared.cause.Cause.{Cause}
+use Rattle.rpki_xmltext.specs.declared.cause.Cause.TheVariants as causes
 use Rattle.rpki_setup.specs.declared.error.Error.{Error}
 use Rattle.rpki_setup.specs.declared.error.Error.TheVariants as errors
 use Rattle.rpki_setup.specs.ServiceUri.{is_http}

@@ -3,7 +3,7 @@ use Rattle.std.specs.Prelude.{ℕ, List, ◌∷◌, Bool, ◌||◌, ◌&&◌, Op
 use Rattle.base64.specs.GeneralPurpose.{IsBytes}
 use Rattle.rpki_common.specs.Chaining.{◌>>=◌}
 use Rattle.rpki_common.specs.Items as items
-use Rattle.rpki_message.specs.Parts.{attribute}
+use Rattle.rpki_xmltext.specs.Parts.{attribute}
 use Rattle.rpki_text.specs.Handle.{IsHandle}
 use Rattle.rpki_xml.specs.Draft.{optional_attribute}
 use Rattle.rpki_xml.specs.Element.{Elements, Element, listed, is_none}
@@ -11,7 +11,7 @@ use Rattle.rpki_xml.specs.Lettered.{AreOctets}
 use Rattle.rpki_xml.specs.Spelling.{spelled}
 use Rattle.rpki_xml.specs.Tables.{is_named, optional}
 use Rattle.rpki_setup.specs.declared.service_uri.ServiceUri.{ServiceUri}
-use Rattle.rpki_setup.specs.Root.{certificate_element, root_element, root_in, handle_in, certificate_in}
+use Rattle.rpki_setup.specs.Root.{certificate_element, root_element, setup_root_in, handle_in, certificate_in}
 use Rattle.rpki_setup.specs.ServiceUri.{service_uri_in, service_text, IsWritableService}
 
 -- what a parent's response says: its BPKI trust anchor, both handles, where its service is, and a
@@ -66,7 +66,7 @@ last_certificate_in children = do
 -- the response that an element is read as; attributes of other names are passed over
 unfoldable pub parent_response_in : Element → Option ParentResponseFields
 parent_response_in e = do
-  _ ← root_in (codes "parent_response") e
+  _ ← setup_root_in (codes "parent_response") e
   parent ← handle_in (codes "parent_handle") e.head
   child ← handle_in (codes "child_handle") e.head
   service ← service_uri_in e.head

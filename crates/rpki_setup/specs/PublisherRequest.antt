@@ -2,14 +2,14 @@
 use Rattle.std.specs.Prelude.{ℕ, List, [], ◌∷◌, Option, Some, IfSome, codes}
 use Rattle.base64.specs.GeneralPurpose.{IsBytes}
 use Rattle.rpki_common.specs.Chaining.{◌>>=◌}
-use Rattle.rpki_message.specs.Parts.{attribute}
+use Rattle.rpki_xmltext.specs.Parts.{attribute}
 use Rattle.rpki_text.specs.Handle.{IsHandle}
 use Rattle.rpki_xml.specs.Draft.{optional_attribute}
 use Rattle.rpki_xml.specs.Element.{Element}
 use Rattle.rpki_xml.specs.Lettered.{AreOctets}
 use Rattle.rpki_xml.specs.Spelling.{spelled}
-use Rattle.rpki_xml.specs.Tables.{only, optional}
-use Rattle.rpki_setup.specs.Root.{certificate_element, root_element, root_in, handle_in, one_certificate_in}
+use Rattle.rpki_xml.specs.Tables.{only_listed, optional}
+use Rattle.rpki_setup.specs.Root.{certificate_element, root_element, setup_root_in, handle_in, one_certificate_in}
 
 -- what a publisher's request says: its BPKI trust anchor, its handle, and a tag if it has one
 pub record PublisherRequestFields : Type 0 where
@@ -33,8 +33,8 @@ publisher_request_text m = spelled (publisher_request_element m)
 -- the request that an element is read as
 unfoldable pub publisher_request_in : Element → Option PublisherRequestFields
 publisher_request_in e = do
-  _ ← root_in (codes "publisher_request") e
-  _ ← only (codes "version" ∷ codes "publisher_handle" ∷ codes "tag" ∷ []) e.head
+  _ ← setup_root_in (codes "publisher_request") e
+  _ ← only_listed (codes "version" ∷ codes "publisher_handle" ∷ codes "tag" ∷ []) e.head
   handle ← handle_in (codes "publisher_handle") e.head
   tag ← optional (codes "tag") e.head
   octets ← one_certificate_in (codes "publisher_bpki_ta") e.children

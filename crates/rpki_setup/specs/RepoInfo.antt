@@ -1,12 +1,12 @@
 -- Where a repository's objects are found (RFC 8183, 5.2.4).
 use Rattle.std.specs.Prelude.{◌≡◌, ℕ, List, [], ◌∷◌, ◌++◌, Option, None, Some, IfSome, codes}
 use Rattle.rpki_common.specs.Chaining.{◌>>=◌}
-use Rattle.rpki_message.specs.Parts.{attribute}
+use Rattle.rpki_xmltext.specs.Parts.{attribute}
 use Rattle.rpki_text.specs.Uri.{rsync, https, fault_of, joined}
 use Rattle.rpki_xml.specs.Draft.{optional_attribute}
 use Rattle.rpki_xml.specs.Element.{Attribute, Head}
 use Rattle.rpki_xml.specs.Tables.{required, optional_by}
-use Rattle.rpki_message.specs.UriText.{uri_of_text}
+use Rattle.rpki_xmltext.specs.UriText.{uri_of_text}
 
 -- the base of the URIs of a repository's objects, and the URI of its RRDP notifications, if it has
 -- them

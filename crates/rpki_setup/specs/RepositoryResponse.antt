@@ -2,7 +2,7 @@
 use Rattle.std.specs.Prelude.{ℕ, List, ◌∷◌, ◌++◌, Option, Some, IfSome, codes}
 use Rattle.base64.specs.GeneralPurpose.{IsBytes}
 use Rattle.rpki_common.specs.Chaining.{◌>>=◌}
-use Rattle.rpki_message.specs.Parts.{attribute}
+use Rattle.rpki_xmltext.specs.Parts.{attribute}
 use Rattle.rpki_text.specs.Handle.{IsHandle}
 use Rattle.rpki_xml.specs.Draft.{optional_attribute}
 use Rattle.rpki_xml.specs.Element.{Element}
@@ -10,7 +10,7 @@ use Rattle.rpki_xml.specs.Lettered.{AreOctets}
 use Rattle.rpki_xml.specs.Spelling.{spelled}
 use Rattle.rpki_xml.specs.Tables.{optional}
 use Rattle.rpki_setup.specs.declared.service_uri.ServiceUri.{ServiceUri}
-use Rattle.rpki_setup.specs.Root.{certificate_element, root_element, root_in, handle_in, one_certificate_in}
+use Rattle.rpki_setup.specs.Root.{certificate_element, root_element, setup_root_in, handle_in, one_certificate_in}
 use Rattle.rpki_setup.specs.RepoInfo.{RepoInfoFields, repo_info_attributes, repo_info_in, IsWritableRepoInfo}
 use Rattle.rpki_setup.specs.ServiceUri.{service_uri_in, service_text, IsWritableService}
 
@@ -40,7 +40,7 @@ repository_response_text m = spelled (repository_response_element m)
 -- the response that an element is read as; attributes of other names are passed over
 unfoldable pub repository_response_in : Element → Option RepositoryResponseFields
 repository_response_in e = do
-  _ ← root_in (codes "repository_response") e
+  _ ← setup_root_in (codes "repository_response") e
   publisher ← handle_in (codes "publisher_handle") e.head
   service ← service_uri_in e.head
   info ← repo_info_in e.head

@@ -5,7 +5,7 @@ use Rattle.std.specs.Str.{bytes_eq}
 use Rattle.base64.specs.Engines.{standard}
 use Rattle.base64.specs.GeneralPurpose.{encode_of}
 use Rattle.rpki_common.specs.Chaining.{◌>>=◌}
-use Rattle.rpki_message.specs.Parts.{attribute, leaf}
+use Rattle.rpki_xmltext.specs.Parts.{attribute, leaf}
 use Rattle.rpki_text.specs.Base64.{base64_content}
 use Rattle.rpki_text.specs.Handle.{handle_of_text}
 use Rattle.rpki_xml.specs.Element.{Attribute, Head, Elements, Element, alone, is_none, is_nil}
@@ -46,8 +46,8 @@ is_setup_namespace None = true
 is_setup_namespace (Some uri) = bytes_eq uri setup_namespace || bytes_eq uri setup_namespace_bare
 
 -- a root of this name, without text, with version 1 where it has a version
-unfoldable pub root_in : List ℕ → Element → Option (Unit {0})
-root_in local e = do
+unfoldable pub setup_root_in : List ℕ → Element → Option (Unit {0})
+setup_root_in local e = do
   _ ← require (is_named local e.head)
   _ ← require (is_setup_namespace e.head.namespace)
   _ ← require (is_nil e.head.text)

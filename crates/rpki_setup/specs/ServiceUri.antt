@@ -6,7 +6,7 @@ use Rattle.rpki_text.specs.Uri.{https, has_scheme, fault_of}
 use Rattle.rpki_xml.specs.Element.{Head}
 use Rattle.rpki_xml.specs.Lettered.{AreOctets}
 use Rattle.rpki_xml.specs.Tables.{required}
-use Rattle.rpki_message.specs.UriText.{uri_of_text}
+use Rattle.rpki_xmltext.specs.UriText.{uri_of_text}
 use Rattle.rpki_setup.specs.declared.service_uri.ServiceUri.{ServiceUri}
 use Rattle.rpki_setup.specs.declared.service_uri.ServiceUri.TheVariants.{Https, Http}
 

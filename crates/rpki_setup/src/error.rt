@@ -9,9 +9,9 @@ ghost use Rattle.rpki_setup.specs.declared.error.Error.TheVariants as variant;
 use rpki_common::OutOfMemory;
 use rpki_der::DecodeError;
 use rpki_idcert::ValidationError;
-use rpki_message::Cause;
 use rpki_text::{ReadAllError, uri};
 use rpki_xml::{Mismatch, XmlError};
+use rpki_xmltext::Cause;
 use std::fmt;
 
 /// Why a setup message was not read, written or believed. `InvalidVersion`, `InvalidHandle` and `InvalidTaBase64` are never

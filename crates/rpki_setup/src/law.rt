@@ -4,7 +4,7 @@ ghost use Rattle.std.specs.Prelude.{◌≡◌, ◌↔◌, ℕ, List, Some, true}
 ghost use Rattle.rpki_setup.specs.ChildRequest.{ChildRequestFields, child_request_in, child_request_text, IsWritableChildRequest};
 ghost use Rattle.rpki_setup.specs.ParentResponse.{ParentResponseFields, parent_response_in, parent_response_text, IsWritableParentResponse};
 ghost use Rattle.rpki_setup.specs.PublisherRequest.{PublisherRequestFields, publisher_request_in, publisher_request_text, IsWritablePublisherRequest};
-ghost use Rattle.rpki_message.specs.Reading.{ReadsAs};
+ghost use Rattle.rpki_xmltext.specs.Reading.{ReadsAs};
 ghost use Rattle.rpki_setup.specs.RepoInfo.{RepoInfoFields};
 ghost use Rattle.rpki_setup.specs.RepositoryResponse.{RepositoryResponseFields, repository_response_in, repository_response_text, IsWritableRepositoryResponse};
 ghost use Rattle.rpki_setup.specs.ServiceUri.{service_uri_of_text, service_text};

@@ -4,10 +4,10 @@ ghost use Rattle.std.specs.Prelude.{◌≡◌, ◌↔◌, Some, IfOk, IsTrue, Ma
 ghost use Rattle.std.specs.Option.{option_map};
 ghost use Rattle.std.specs.Rc.{rc_str_bytes};
 ghost use Rattle.rpki_xml.specs.Answers.{Gives};
-ghost use Rattle.rpki_message.specs.Answers.{Parses, WritesText, RefusesMessage};
+ghost use Rattle.rpki_xmltext.specs.Answers.{Parses, WritesText, RefusesMessage};
 ghost use Rattle.rpki_setup.specs.Answers.{cause_of, IsBelievedIn, RefusesCertificate};
 ghost use Rattle.rpki_setup.specs.ParentResponse.{parent_response_in, parent_response_text, IsWritableParentResponse};
-ghost use Rattle.rpki_message.specs.Reading.{ReadsAs};
+ghost use Rattle.rpki_xmltext.specs.Reading.{ReadsAs};
 
 use crate::error::Error;
 use crate::reading::{handle_in, last_certificate_in, root_in, service_uri_in};
@@ -18,12 +18,12 @@ use crate::writing::{write_inside, write_start};
 use rpki_base::{Scheme, Time, Verifier};
 use rpki_common::{OutOfMemory, Text};
 use rpki_idcert::IdCert;
-use rpki_message::{
+use rpki_text::{Base64, ChildHandle, ParentHandle, Sink, Source, read_all};
+use rpki_xml::{ElementRef, XmlError, read_document};
+use rpki_xmltext::{
     MOST_OCTETS, cloned, is_plain_or_absent, lent, shared, tag_in, taken_in, write_attribute,
     write_optional,
 };
-use rpki_text::{Base64, ChildHandle, ParentHandle, Sink, Source, read_all};
-use rpki_xml::{ElementRef, XmlError, read_document};
 use std::alloc::Global;
 use std::fmt;
 use std::marker::Model;

@@ -8,16 +8,16 @@ ghost use Rattle.rpki_xml.specs.Tables.{optional_by};
 ghost use Rattle.rpki_setup.specs.ParentResponse.{is_passed_over, last_certificate_in};
 ghost use Rattle.rpki_setup.specs.RepoInfo.{repo_info_in};
 ghost use Rattle.rpki_setup.specs.ResponseStep.{response_step};
-ghost use Rattle.rpki_setup.specs.Root.{is_setup_namespace, root_in, handle_in, certificate_in, one_certificate_in};
+ghost use Rattle.rpki_setup.specs.Root.{is_setup_namespace, setup_root_in, handle_in, certificate_in, one_certificate_in};
 ghost use Rattle.rpki_setup.specs.ServiceUri.{service_uri_of_text, service_uri_in};
-ghost use Rattle.rpki_message.specs.UriText.{uri_of_text};
+ghost use Rattle.rpki_xmltext.specs.UriText.{uri_of_text};
 
 use crate::error::Error;
 use crate::repo_info::RepoInfo;
 use crate::service_uri::ServiceUri;
-use rpki_message::{base64_of, handle_of, uri_of};
 use rpki_text::{Base64, Handle, uri};
 use rpki_xml::{Children, ElementRef, Mismatch, XmlError, require};
+use rpki_xmltext::{base64_of, handle_of, uri_of};
 use std::alloc::Global;
 
 const NAMESPACE: &str = "http://www.hactrn.net/uris/rpki/rpki-setup/";
@@ -48,7 +48,7 @@ fn is_setup_namespace(uri: Option<&str>) -> bool
 
 /// Whether an element is a root of this name.
 pub(crate) fn root_in(local: &str, root: &ElementRef<'_>) -> Result<(), Mismatch>
-    ensures { Matches (root_in local.now root.now) (λ _. tt) result }
+    ensures { Matches (setup_root_in local.now root.now) (λ _. tt) result }
 {
     require(root.is_named(local))?;
     require(is_setup_namespace(root.namespace()))?;

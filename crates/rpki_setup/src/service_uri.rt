@@ -9,8 +9,8 @@ ghost use Rattle.rpki_setup.specs.ServiceUri.{service_uri_of_text, service_uri_o
 use crate::error::Error;
 use crate::law::printed_service_uri_is_read;
 use rpki_common::{OutOfMemory, Text};
-use rpki_message::is_plain;
 use rpki_text::{JsonError, read_string, uri, write_string};
+use rpki_xmltext::is_plain;
 use std::alloc::Global;
 use std::fmt;
 

@@ -1,6 +1,6 @@
 //! Octets are written to a sink within the limit of messages.
 
-ghost use Rattle.rpki_message.specs.Answers.{WritesText};
+ghost use Rattle.rpki_xmltext.specs.Answers.{WritesText};
 ghost use Rattle.rpki_setup.specs.Answers.{cause_of};
 
 use crate::error::Error;
@@ -11,5 +11,5 @@ pub(crate) fn write_octets<O: Sink>(sink: &mut O, octets: &[u8]) -> Result<(), E
     ensures { WritesText cause_of octets.now (O.written sink.old) (O.written sink.new)
         (O.faults sink.old) (O.faults sink.new) result }
 {
-    Ok(rpki_message::write_octets(sink, octets)?)
+    Ok(rpki_xmltext::write_octets(sink, octets)?)
 }

@@ -9,8 +9,8 @@ ghost use Rattle.rpki_setup.specs.Root.{certificate_element};
 ghost use Rattle.rpki_setup.specs.Writing.{start_text, inside_text};
 
 use crate::repo_info::RepoInfo;
-use rpki_message::{write_attribute, write_base64, write_end, write_optional};
 use rpki_text::Base64;
+use rpki_xmltext::{write_attribute, write_base64, write_end, write_optional};
 use std::fmt;
 
 // An element that holds a certificate.

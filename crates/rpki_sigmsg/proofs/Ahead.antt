@@ -4,7 +4,7 @@ use Rattle.std.specs.Prelude.{◌==◌, ◌||◌, bytes_eq}
 use Rattle.rpki_der.specs.declared.error.DecodeError.{DecodeError}
 use Rattle.rpki_der.specs.Identifier.{has_tag, without_bit_6}
 use Rattle.rpki_der.specs.Header.{IdentifierFirst}
-use Rattle.rpki_der.specs.Level.{Level, Sized, Marked, Ends}
+use Rattle.rpki_der.specs.Level.{Level, Sized, Marked, EndsLevel}
 use Rattle.rpki_der.specs.Grammar.{identifier_of, optional}
 use Rattle.rpki_der.specs.Position.{Position, top}
 use Rattle.rpki_der.specs.Tags.{sequence}
@@ -32,7 +32,7 @@ seen found octets here e h = ap begins_sequence (sym h) ∙ sym e
 tagged : (p : Position) (found : Bool) → begins_sequence p.here ≡ found → (v : Value) (rest : List ℕ) → Begins p.mode p.here v rest → has_tag sequence (identifier_of v) ≡ found
 tagged p found s v rest h = let f = begins_identifier p.mode p.here v rest h in first_octet p.here (identifier_of v) f.0 f.1 ∙ s
 
-ended : (level : Level) (here rest : List ℕ) → Ends level here rest → begins_sequence here ≡ true → ⊥
+ended : (level : Level) (here rest : List ℕ) → EndsLevel level here rest → begins_sequence here ≡ true → ⊥
 ended (Sized after) here rest e s = let f : false ≡ true = rw e.0 at s in cc
 ended Marked here rest e s = let f : false ≡ true = rw e at s in cc
 

@@ -6,12 +6,12 @@ use Rattle.rpki_der.specs.declared.mode.Mode.TheVariants.{Ber}
 use Rattle.rpki_der.specs.Grammar.{within, wrapped, so}
 use Rattle.rpki_der.specs.Held.{with_octets}
 use Rattle.rpki_der.specs.Identifier.{has_tag}
-use Rattle.rpki_der.specs.OctetString.{joined, joined_all, octets_under, octet_string}
+use Rattle.rpki_der.specs.OctetString.{joined_pieces, joined_all, octets_under, octet_string}
 use Rattle.rpki_der.specs.Tags.{octet_string_tag, sequence, context}
 use Rattle.rpki_der.specs.Takes.{BeginsAs}
 use Rattle.rpki_der.specs.Value.{Value, Primitive, Constructed, Values, End, ◌▸◌, lengths_of, end_mark, spelling, spellings}
 use Rattle.rpki_der.proofs.Firsts.{FirstIs, done_is}
-use Rattle.rpki_sigmsg.specs.Message.{MessageFields, ViewFields, encapsulated_content, view_of, signed_parts, viewed_message, message_of, signed_message}
+use Rattle.rpki_sigmsg.specs.Message.{MessageFields, ViewFields, encapsulated_content, view_of, signed_parts, viewed_message, message_of_view, signed_message}
 use Rattle.rpki_sigmsg.proofs.Fields.{field}
 
 -- ---- what a grammar reads is no longer than the value
@@ -54,9 +54,9 @@ inside_with_octets {X = X} size grammar g v p e =
 -- ---- octet strings
 
 mutual
-  unfolding joined
+  unfolding joined_pieces
 
-  joined_inside : (tag : List ℕ) (v : Value) (octets : List ℕ) → joined tag v ≡ Some octets → length octets ≤ length (spelling v)
+  joined_inside : (tag : List ℕ) (v : Value) (octets : List ℕ) → joined_pieces tag v ≡ Some octets → length octets ≤ length (spelling v)
   joined_inside tag (Primitive i l c) octets e =
       let is = same_some c octets (chosen (has_tag tag i) (Some c) octets e) in
       subst (λ (o : List ℕ). length o ≤ length (i ++ (l ++ c))) is (contents i l c)
@@ -66,7 +66,7 @@ mutual
   all_inside : (vs : Values) (octets : List ℕ) → joined_all vs ≡ Some octets → length octets ≤ length (spellings vs)
   all_inside End octets e = let is = same_some [] octets e in subst (λ (o : List ℕ). length o ≤ 0) is (omega arith)
   all_inside (v ▸ vs) octets e =
-      let a = bound (joined octet_string_tag v) _ octets e in
+      let a = bound (joined_pieces octet_string_tag v) _ octets e in
       let w = bound (joined_all vs) _ octets a.then' in
       let is = same_some (a.x ++ w.x) octets w.then' in
       subst (λ (o : List ℕ). length o ≤ length (spelling v ++ spellings vs)) is (omega (arith, length-append a.x w.x, length-append (spelling v) (spellings vs), joined_inside octet_string_tag v a.x a.found, all_inside vs w.x w.found))
@@ -117,7 +117,7 @@ view_inside = inside_within view_size sequence _ (λ vs w e.
 message_inside : IsInside (λ (m : MessageFields). length m.content) (signed_message Ber)
 unfolding signed_message so
 message_inside v m e =
-    let b = bound (viewed_message Ber v) message_of m e in
+    let b = bound (viewed_message Ber v) message_of_view m e in
     subst (λ (n : MessageFields). length n.content ≤ length (spelling v)) (same_some b.x.message m b.then') (view_inside v b.x b.found)
 
 pub content_within : (octets : List ℕ) (m : MessageFields) → BeginsAs (signed_message Ber) Ber octets m → length m.content ≤ length octets

@@ -10,7 +10,7 @@ use Rattle.rpki_signer.specs.declared.errors.MakeError.{MakeError}
 use Rattle.rpki_signer.specs.declared.errors.MakeError.TheVariants as make
 use Rattle.rpki_signer.specs.Limits.{default_algorithm, IsShortKey, IsShortOneOff, Keeps, MakeFails, RefusesKey, RefusesOneOff, RefusesSignature}
 use Rattle.rpki_signer.specs.Serials.{without_first_bit}
-use Rattle.rpki_signer.specs.Signer.{SignerState, Holds, AreDistinct}
+use Rattle.rpki_signer.specs.Signer.{SignerState, HoldsKey, AreDistinct}
 use Rattle.rpki_signer.proofs.Keyrings.{one_key}
 use Rattle.rpki_signer.proofs.States.{rose_then, stays_keeps, keeps_then, fails_before, key_refused, one_off_refused, signature_refused, spared_same}
 use Rattle.rpki_idcert.specs.IdCert.{CertificateFields}
@@ -19,7 +19,7 @@ use Rattle.rpki_idcert.proofs.Issuing.{end_entity_fails}
 use Rattle.rpki_sigmsg.specs.declared.create_error.CreateError.TheVariants as create
 use Rattle.rpki_sigmsg.specs.Crl.{CrlFields}
 use Rattle.rpki_sigmsg.specs.Errors.{create_error_of}
-use Rattle.rpki_sigmsg.specs.Making.{window, HasWindow, ContentFields, made_covered, IsCrlMade, IsCrlSigned, IsCertified, assembled, IsCreated, IsReused, CreateFails}
+use Rattle.rpki_sigmsg.specs.Making.{window, HasWindow, ContentFields, made_covered, IsCrlMade, IsCrlSigned, IsCertified, assembled, IsMessageCreated, IsReused, CreateFails}
 use Rattle.rpki_sigmsg.specs.Message.{MessageFields}
 use Rattle.rpki_sigmsg.specs.FirstRefusals.{HasKeys, HasOneKey, StopsAtKeys, StopsCertifying, StopsCreating, IsFirstRefusal}
 
@@ -29,7 +29,7 @@ made_message c content moment now octets e m o = o ∙ (ap (λ (f : ContentField
 
 -- ---- CRL and certificate
 
-crl_made : {I : Type 0} (scheme : Relation) (issuing : KeyFields) (now : ℤ) (id : I) (a b : SignerState I) (c : CrlFields) → AreDistinct a.keyring → Holds a.keyring id issuing → IsCrlSigned scheme issuing now id a b c → IsCrlMade scheme issuing now c
+crl_made : {I : Type 0} (scheme : Relation) (issuing : KeyFields) (now : ℤ) (id : I) (a b : SignerState I) (c : CrlFields) → AreDistinct a.keyring → HoldsKey a.keyring id issuing → IsCrlSigned scheme issuing now id a b c → IsCrlMade scheme issuing now c
 crl_made scheme issuing now id a b c d h s = record {
   fields = s.fields;
   slice = s.slice;
@@ -37,10 +37,10 @@ crl_made scheme issuing now id a b c d h s = record {
   signed = subst (λ (k : KeyFields). scheme RsaSha256 k c.signed.slice c.signed.signature.value) (one_key a.keyring id s.signed.is.key issuing d s.signed.is.holds h) (subst (λ o. scheme RsaSha256 s.signed.is.key o c.signed.signature.value) (sym s.slice) s.signed.is.signed);
 }
 
-pub certified : {I : Type 0} (scheme : Relation) (issuing key : KeyFields) (now : ℤ) (id : I) (a b c : SignerState I) (crl : CrlFields) (cert : CertificateFields) → AreDistinct a.keyring → AreDistinct b.keyring → Holds a.keyring id issuing
+pub certified : {I : Type 0} (scheme : Relation) (issuing key : KeyFields) (now : ℤ) (id : I) (a b c : SignerState I) (crl : CrlFields) (cert : CertificateFields) → AreDistinct a.keyring → AreDistinct b.keyring → HoldsKey a.keyring id issuing
     → IsCrlSigned scheme issuing now id a b crl → IsEndEntityMade scheme key id (window now) b c cert → IsCertified scheme issuing key now a c crl cert
 certified scheme issuing key now id a b c crl cert d e h s m =
-    let k : Holds b.keyring id issuing = subst (λ r. Holds r id issuing) (sym s.signed.is.stays.keyring) h in
+    let k : HoldsKey b.keyring id issuing = subst (λ r. HoldsKey r id issuing) (sym s.signed.is.stays.keyring) h in
     let same : m.issuing ≡ issuing = one_key b.keyring id m.issuing issuing e m.holds k in
     record {
       crl_made = crl_made scheme issuing now id a b crl d h s;
@@ -90,19 +90,19 @@ keys_fail scheme message id a b e (inr s) = fails_before RsaSha256 id a s.betwee
 pub keys_keep : {I : Type 0} (scheme : Relation) (message : List ℕ) (id : I) (a b : SignerState I) (octets : List ℕ) (key issuing : KeyFields) → HasKeys scheme message id a b octets key issuing → Keeps a b
 keys_keep scheme message id a b octets key issuing k = keeps_then a k.between b (once_keeps scheme message a k.between octets key k.once) (stays_keeps k.between b k.then_key.is.stays)
 
-pub holds_before : {I : Type 0} (scheme : Relation) (message : List ℕ) (id : I) (a b : SignerState I) (octets : List ℕ) (key issuing : KeyFields) → HasKeys scheme message id a b octets key issuing → Holds a.keyring id issuing
-holds_before scheme message id a b octets key issuing k = subst (λ r. Holds r id issuing) k.once.is.keyring k.then_key.is.holds
+pub holds_before : {I : Type 0} (scheme : Relation) (message : List ℕ) (id : I) (a b : SignerState I) (octets : List ℕ) (key issuing : KeyFields) → HasKeys scheme message id a b octets key issuing → HoldsKey a.keyring id issuing
+holds_before scheme message id a b octets key issuing k = subst (λ r. HoldsKey r id issuing) k.once.is.keyring k.then_key.is.holds
 
 -- no two keys had one identifier before, so the issuing key is the only one under its own
 pub distinct_before : {I : Type 0} (scheme : Relation) (message : List ℕ) (id : I) (a b : SignerState I) (octets : List ℕ) (key issuing : KeyFields) → HasKeys scheme message id a b octets key issuing → AreDistinct b.keyring → AreDistinct a.keyring
 distinct_before scheme message id a b octets key issuing k d = subst AreDistinct (keys_keep scheme message id a b octets key issuing k).keyring d
 
-only_key : {I : Type 0} (scheme : Relation) (message : List ℕ) (id : I) (a b : SignerState I) (octets : List ℕ) (key issuing : KeyFields) → HasKeys scheme message id a b octets key issuing → AreDistinct b.keyring → (other : KeyFields) → Holds a.keyring id other → other ≡ issuing
+only_key : {I : Type 0} (scheme : Relation) (message : List ℕ) (id : I) (a b : SignerState I) (octets : List ℕ) (key issuing : KeyFields) → HasKeys scheme message id a b octets key issuing → AreDistinct b.keyring → (other : KeyFields) → HoldsKey a.keyring id other → other ≡ issuing
 only_key scheme message id a b octets key issuing k d other h =
     one_key a.keyring id other issuing (distinct_before scheme message id a b octets key issuing k d) h (holds_before scheme message id a b octets key issuing k)
 
-pub holds_then : {I : Type 0} (scheme : Relation) (message : List ℕ) (id : I) (a b : SignerState I) (octets : List ℕ) (key issuing : KeyFields) → HasKeys scheme message id a b octets key issuing → Holds b.keyring id issuing
-holds_then scheme message id a b octets key issuing k = subst (λ r. Holds r id issuing) (sym k.then_key.is.stays.keyring) k.then_key.is.holds
+pub holds_then : {I : Type 0} (scheme : Relation) (message : List ℕ) (id : I) (a b : SignerState I) (octets : List ℕ) (key issuing : KeyFields) → HasKeys scheme message id a b octets key issuing → HoldsKey b.keyring id issuing
+holds_then scheme message id a b octets key issuing k = subst (λ r. HoldsKey r id issuing) (sym k.then_key.is.stays.keyring) k.then_key.is.holds
 
 -- ---- refusals
 
@@ -122,7 +122,7 @@ reused scheme message id a b octets key issuing e k d =
       holds = h;
       only = only_key scheme message id a b octets key issuing k d;
       drawn = k.then_key.is.stays.drawn ∙ (k.once.is.drawn ∙ ap (λ (x : KeyFields). Some x) e);
-      told = rose_then a.reused k.between.reused b.reused (k.once.is.fresh id (subst (λ (x : KeyFields). Holds a.keyring id x) (sym e) h)) k.then_key.is.stays.later.reused;
+      told = rose_then a.reused k.between.reused b.reused (k.once.is.fresh id (subst (λ (x : KeyFields). HoldsKey a.keyring id x) (sym e) h)) k.then_key.is.stays.later.reused;
     }
 
 pub uncreated : {I E : Type 0} (scheme : Relation) (message content : List ℕ) (now : ℤ) (id : I) (a b c : SignerState I) (octets : List ℕ) (key issuing : KeyFields) (e : MakeError E) → HasWindow now → length content ≤ 2147483648 → HasKeys scheme message id a b octets key issuing
@@ -172,7 +172,7 @@ own_is_false true key issuing d n = absurd (n (d.0 refl))
 own_is_false false key issuing d n = refl
 
 pub created : {I : Type 0} (scheme : Relation) (content : List ℕ) (now : ℤ) (id : I) (a b c : SignerState I) (signature : SignatureParts RpkiAlgorithm) (key issuing : KeyFields) (crl : CrlFields) (cert : CertificateFields) (m : MessageFields) → HasWindow now → signature.algorithm ≡ default_algorithm
-    → HasKeys scheme (made_covered content now) id a b signature.value key issuing → key ≢ issuing → AreDistinct b.keyring → IsCertified scheme issuing key now b c crl cert → m ≡ assembled (record { content = content; moment = now }) signature cert crl → IsCreated scheme content now id a c m
+    → HasKeys scheme (made_covered content now) id a b signature.value key issuing → key ≢ issuing → AreDistinct b.keyring → IsCertified scheme issuing key now b c crl cert → m ≡ assembled (record { content = content; moment = now }) signature cert crl → IsMessageCreated scheme content now id a c m
 created scheme content now id a b c signature key issuing crl cert m w g k n d t e = record {
   window_is = w;
   issuing = issuing;

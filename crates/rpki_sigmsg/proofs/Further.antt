@@ -3,7 +3,7 @@ use Rattle.std.proofs.Common.{◌≡◌, ℕ, Option, None, Some, List, refl, ap
 use Rattle.rpki_common.specs.Chaining.{◌>>=◌}
 use Rattle.rpki_der.specs.declared.error.DecodeError.{DecodeError}
 use Rattle.rpki_der.specs.declared.error.DecodeError.TheVariants.{Malformed, OutOfMemory}
-use Rattle.rpki_der.specs.Level.{Holds}
+use Rattle.rpki_der.specs.Level.{LevelHolds}
 use Rattle.rpki_der.specs.Position.{Position, top, AtEnd}
 use Rattle.rpki_der.specs.Takes.{TakesOne, NoneStands, Refuses, RefusesFields}
 use Rattle.rpki_der.specs.Ticks.{CountedOne, CountedRefuses, CountedFields, CountedRefusesFields}
@@ -19,13 +19,13 @@ read_there : {X : Type 0} (field : Value → Option X) (v : Value) (vs : Values)
 unfolding if_any ◌>>=◌
 read_there field v vs x e = rw e refl
 
-only_there : {X : Type 0} (field : Value → Option X) (p q : Position) (x : X) → TakesOne field p q x → (all : Values) (rest : List ℕ) → Holds p.mode (top p.levels) p.here all rest
-    → (vs : Values) × Holds p.mode (top p.levels) q.here vs rest × (if_any field all ≡ Some (Some x, vs))
+only_there : {X : Type 0} (field : Value → Option X) (p q : Position) (x : X) → TakesOne field p q x → (all : Values) (rest : List ℕ) → LevelHolds p.mode (top p.levels) p.here all rest
+    → (vs : Values) × LevelHolds p.mode (top p.levels) q.here vs rest × (if_any field all ≡ Some (Some x, vs))
 only_there field p q x t End rest h = absurd (ends_no_value p.mode (top p.levels) p.here rest (end_holds p.mode (top p.levels) p.here rest h) t.value q.here t.begins)
 only_there field p q x t (v ▸ vs) rest h =
     let m = holds_more p.mode (top p.levels) p.here v vs rest h in
     let s = at_most_one p.mode p.here v t.value m.here' q.here m.begins t.begins in
-    (vs, subst (λ (r : List ℕ). Holds p.mode (top p.levels) r vs rest) s.rest m.holds, read_there field v vs x (ap field s.value ∙ t.reads))
+    (vs, subst (λ (r : List ℕ). LevelHolds p.mode (top p.levels) r vs rest) s.rest m.holds, read_there field v vs x (ap field s.value ∙ t.reads))
 
 pub takes_another : {X : Type 0} (c : ℕ) (field : Value → Option X) (p q : Position) (b a : ℕ) (x : X) → CountedOne c field p q b a x → CountedFields c 0 (if_any field) p q b a (Some x)
 takes_another c field p q b a x t = record {
@@ -43,7 +43,7 @@ takes_another c field p q b a x t = record {
 
 -- ---- none is there
 
-none_there : {X : Type 0} (field : Value → Option X) (p : Position) → AtEnd p → (vs : Values) (rest : List ℕ) → Holds p.mode (top p.levels) p.here vs rest → if_any field vs ≡ Some (None, vs)
+none_there : {X : Type 0} (field : Value → Option X) (p : Position) → AtEnd p → (vs : Values) (rest : List ℕ) → LevelHolds p.mode (top p.levels) p.here vs rest → if_any field vs ≡ Some (None, vs)
 unfolding if_any
 none_there field p e End rest h = refl
 none_there field p e (v ▸ vs) rest h = let m = holds_more p.mode (top p.levels) p.here v vs rest h in absurd (ends_no_value p.mode (top p.levels) p.here e.0 e.1 v m.here' m.begins)
@@ -64,7 +64,7 @@ takes_no_other c field p b e = record {
 
 -- ---- what is there isn't read
 
-refused_there : {X : Type 0} (field : Value → Option X) (p : Position) → (AtEnd p → ⊥) → NoneStands field p → (all : Values) (rest : List ℕ) → Holds p.mode (top p.levels) p.here all rest → if_any field all ≡ None
+refused_there : {X : Type 0} (field : Value → Option X) (p : Position) → (AtEnd p → ⊥) → NoneStands field p → (all : Values) (rest : List ℕ) → LevelHolds p.mode (top p.levels) p.here all rest → if_any field all ≡ None
 unfolding if_any ◌>>=◌
 refused_there field p more none End rest h = absurd (more (rest, end_holds p.mode (top p.levels) p.here rest h))
 refused_there field p more none (v ▸ vs) rest h = let m = holds_more p.mode (top p.levels) p.here v vs rest h in rw (none v m.here' m.begins) refl

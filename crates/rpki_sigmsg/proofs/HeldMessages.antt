@@ -33,7 +33,7 @@ use Rattle.rpki_idcert.specs.TbsIdCert.{tbs_certificate}
 use Rattle.rpki_idcert.proofs.Pieces.{Piece, of_whole}
 use Rattle.rpki_sigmsg.specs.Attributes.{AttributeFields, attributes, signed_attributes}
 use Rattle.rpki_sigmsg.specs.Crl.{CrlFields, revocation_list}
-use Rattle.rpki_sigmsg.specs.Message.{MessageFields, ViewFields, AreOneOrTwo, crl_in_der, CrlSet, crl_set_of, if_any, crl_set, view_of, signed_parts, viewed_message, message_of, signed_message}
+use Rattle.rpki_sigmsg.specs.Message.{MessageFields, ViewFields, AreOneOrTwo, crl_in_der, CrlSet, crl_set_of, if_any, crl_set, view_of, signed_parts, viewed_message, message_of_view, signed_message}
 use Rattle.rpki_sigmsg.specs.Signer.{SignerFields, signer_info}
 use Rattle.rpki_sigmsg.specs.TbsCrl.{tbs_crl}
 use Rattle.rpki_sigmsg.proofs.Fields.{field, lawful_field, first_lawful, there_is}
@@ -231,5 +231,5 @@ view_message_held mode = gives_within mode sequence _ (IsMessageHeld mode) (λ v
 pub message_held : (mode : Mode) (v : Value) (m : MessageFields) → IsValue mode v → signed_message mode v ≡ Some m → IsHeld mode m
 unfolding signed_message so
 message_held mode v m l e =
-    let b = bound (viewed_message mode v) message_of m e in
+    let b = bound (viewed_message mode v) message_of_view m e in
     subst (IsHeld mode) (same_some b.x.message m b.then') (view_message_held mode v b.x l b.found)

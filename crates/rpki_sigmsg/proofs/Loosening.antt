@@ -11,7 +11,7 @@ use Rattle.rpki_der.specs.Value.{Value, Primitive, Constructed, Values, End, ◌
 use Rattle.rpki_der.specs.Grammar.{identifier_of, any, primitive, so, within, first, optional, every, wrapped}
 use Rattle.rpki_der.specs.Held.{held, with_octets}
 use Rattle.rpki_der.specs.Boolean.{truth, boolean}
-use Rattle.rpki_der.specs.OctetString.{joined, octets_under, octet_string}
+use Rattle.rpki_der.specs.OctetString.{joined_pieces, octets_under, octet_string}
 use Rattle.rpki_der.specs.Oid.{oid}
 use Rattle.rpki_der.specs.Entry.{entry, set_of}
 use Rattle.rpki_der.specs.Takes.{BeginsAs}
@@ -27,7 +27,7 @@ use Rattle.rpki_idcert.specs.TbsIdCert.{tbs_certificate}
 use Rattle.rpki_idcert.specs.IdCert.{identity_certificate}
 use Rattle.rpki_sigmsg.specs.Attributes.{digest_in, attributes, signed_attributes}
 use Rattle.rpki_sigmsg.specs.Signer.{signer_info}
-use Rattle.rpki_sigmsg.specs.Message.{MessageFields, ViewFields, encapsulated_content, signed_parts, viewed_message, message_of, signed_message}
+use Rattle.rpki_sigmsg.specs.Message.{MessageFields, ViewFields, encapsulated_content, signed_parts, viewed_message, message_of_view, signed_message}
 
 -- ---- partial values
 
@@ -113,7 +113,7 @@ unfolding boolean so
 loose_boolean v = keeps_behind (primitive boolean_tag v) _ _ loose_truth
 
 loose_octets : (tag : List ℕ) → Loosens (octets_under tag Der) (octets_under tag Ber)
-unfolding octets_under joined
+unfolding octets_under joined_pieces
 loose_octets tag (Primitive i l c) x e = e
 loose_octets tag (Constructed i form vs) x e = absurd (none-some x e)
 
@@ -216,7 +216,7 @@ loose_view = loosens_within sequence _ _ λ vs.
 
 loose_message : Loosens (signed_message Der) (signed_message Ber)
 unfolding signed_message so
-loose_message v = keeps_before (viewed_message Der v) (viewed_message Ber v) message_of (loose_view v)
+loose_message v = keeps_before (viewed_message Der v) (viewed_message Ber v) message_of_view (loose_view v)
 
 -- ---- octets that begin with one
 

@@ -38,7 +38,7 @@ use Rattle.rpki_base.specs.Checks.{first_failure}
 use Rattle.rpki_base.proofs.Checking.{passes}
 use Rattle.rpki_signer.specs.Limits.{default_algorithm}
 use Rattle.rpki_idcert.specs.Making.{name_of_key}
-use Rattle.rpki_idcert.specs.Spelling.{spelled_authority_key, spelled_tbs, CanBeSpelled, AreReadable}
+use Rattle.rpki_idcert.specs.Spelling.{spelled_authority_key, spelled_tbs, CanSpellCertificate, AreReadable}
 use Rattle.rpki_idcert.proofs.Pieces.{Piece, of_whole, constructed, wrapping, inside_is}
 use Rattle.rpki_idcert.proofs.ReadAgain.{is_integer, is_context_0, Pieces, and_pieces, one_piece, an_extension, named_authority, serial_piece, algorithm_piece, time_piece, name_is_read, sha1_twenty, tbs_piece, made_readable}
 use Rattle.rpki_idcert.proofs.Sizes.{primitive_size, constructed_size, content_within, time_size}
@@ -55,16 +55,16 @@ use Rattle.rpki_base.specs.declared.algorithm.SigningAlgorithm.TheVariants.{RsaS
 use Rattle.rpki_base.specs.declared.rpki_algorithm.RsaIdentifier.TheVariants.{RsaEncryption}
 use Rattle.rpki_base.specs.Bits.{spelled_bits}
 use Rattle.rpki_base.specs.PublicKey.{names_issuer}
-use Rattle.rpki_base.specs.SignedData.{CanBeSpelled as DataCanBeSpelled}
+use Rattle.rpki_base.specs.SignedData.{CanSpellSigned as DataCanBeSpelled}
 use Rattle.rpki_signer.specs.Serials.{without_first_bit}
-use Rattle.rpki_signer.specs.Signer.{SignerState, Holds}
+use Rattle.rpki_signer.specs.Signer.{SignerState, HoldsKey}
 use Rattle.rpki_idcert.specs.Checks.{has_own_identifier, is_true, is_within}
 use Rattle.rpki_idcert.specs.Spelling.{spelled_fields}
 use Rattle.rpki_idcert.specs.TbsIdCert.{TbsFields, tbs_certificate}
 use Rattle.rpki_sigmsg.specs.Checks.{checks, IsBelieved}
 use Rattle.rpki_sigmsg.specs.Crl.{CrlFields}
 use Rattle.rpki_sigmsg.specs.CrlChecks.{same_algorithm}
-use Rattle.rpki_sigmsg.specs.Making.{IsCrlMade, assembled, IsMessageMade, IsCreated}
+use Rattle.rpki_sigmsg.specs.Making.{IsCrlMade, assembled, IsMessageMade, IsMessageCreated}
 use Rattle.rpki_sigmsg.specs.Message.{MessageFields, signed_message}
 use Rattle.rpki_sigmsg.specs.RevokedCertificates.{is_listed}
 use Rattle.rpki_sigmsg.proofs.Again.{begins_again}
@@ -263,7 +263,7 @@ crl_fits : (t : TbsCrlFields) (slice : List ℕ) → slice ≡ spec.spelled_tbs_
 unfolding spec.spelled_tbs_crl
 crl_fits t slice e h = omega (arith, h, ap (λ (o : List ℕ). length o) e, content_within sequence (spec.spelled_crl_fields t))
 
-tbs_fits : (t : TbsFields) (slice : List ℕ) → slice ≡ spelled_tbs t → length slice < 4294967296 → CanBeSpelled t
+tbs_fits : (t : TbsFields) (slice : List ℕ) → slice ≡ spelled_tbs t → length slice < 4294967296 → CanSpellCertificate t
 unfolding spelled_tbs
 tbs_fits t slice e h = omega (arith, h, ap (λ (o : List ℕ). length o) e, content_within sequence (spelled_fields t))
 
@@ -296,7 +296,7 @@ window_moments now w = record {
 }
 
 assembled_held : (mode : Mode) (scheme : Relation) (content : List ℕ) (now : ℤ) (issuing key : KeyFields) (serial' : List ℕ) (m : MessageFields) (d : IsMessageMade scheme content now issuing key serial' m) → AreMoments now → length serial' ≡ 20
-    → spec.CanBeSpelled (assembled (record { content = content; moment = now }) d.signature d.certificate d.crl) → IsHeld mode (assembled (record { content = content; moment = now }) d.signature d.certificate d.crl)
+    → spec.CanSpellMessage (assembled (record { content = content; moment = now }) d.signature d.certificate d.crl) → IsHeld mode (assembled (record { content = content; moment = now }) d.signature d.certificate d.crl)
 unfolding made_covered
 assembled_held mode scheme content now issuing key serial' m d t l k =
     let f = all_fit (assembled (record { content = content; moment = now }) d.signature d.certificate d.crl) k in
@@ -319,9 +319,9 @@ assembled_held mode scheme content now issuing key serial' m d t l k =
       few = (omega arith, omega arith);
     }
 
-pub made_held : (mode : Mode) (scheme : Relation) (content : List ℕ) (now : ℤ) (issuing key : KeyFields) (serial' : List ℕ) (m : MessageFields) → IsMessageMade scheme content now issuing key serial' m → AreMoments now → length serial' ≡ 20 → spec.CanBeSpelled m → IsHeld mode m
+pub made_held : (mode : Mode) (scheme : Relation) (content : List ℕ) (now : ℤ) (issuing key : KeyFields) (serial' : List ℕ) (m : MessageFields) → IsMessageMade scheme content now issuing key serial' m → AreMoments now → length serial' ≡ 20 → spec.CanSpellMessage m → IsHeld mode m
 made_held mode scheme content now issuing key serial' m d t l k =
-    subst (λ (x : MessageFields). IsHeld mode x) (sym d.is) (assembled_held mode scheme content now issuing key serial' m d t l (subst (λ (x : MessageFields). spec.CanBeSpelled x) d.is k))
+    subst (λ (x : MessageFields). IsHeld mode x) (sym d.is) (assembled_held mode scheme content now issuing key serial' m d t l (subst (λ (x : MessageFields). spec.CanSpellMessage x) d.is k))
 
 -- ---- it is believed in its window
 
@@ -374,21 +374,21 @@ first_bit [] e = e
 first_bit (a ∷ more) e = e
 
 -- what is created is believed under the issuing key at each second of its window
-pub created_believed : {I : Type 0} (scheme : Relation) (content : List ℕ) (now : ℤ) (id : I) (a b : SignerState I) (m : MessageFields) → IsCreated scheme content now id a b m
-    → (key : KeyFields) → Holds a.keyring id key → (when : ℤ) → (window now).not_before ≤ℤ when → when ≤ℤ (window now).not_after → IsBelieved scheme m key when
+pub created_believed : {I : Type 0} (scheme : Relation) (content : List ℕ) (now : ℤ) (id : I) (a b : SignerState I) (m : MessageFields) → IsMessageCreated scheme content now id a b m
+    → (key : KeyFields) → HoldsKey a.keyring id key → (when : ℤ) → (window now).not_before ≤ℤ when → when ≤ℤ (window now).not_after → IsBelieved scheme m key when
 created_believed scheme content now id a b m c key h when p q = subst (λ (k : KeyFields). IsBelieved scheme m k when) (sym (c.only key h)) (made_believed scheme content now c.issuing c.key (without_first_bit b.random) m c.made when p q)
 
 -- and what is written of it is read again
-pub created_again : {I : Type 0} (scheme : Relation) (content : List ℕ) (now : ℤ) (id : I) (a b : SignerState I) (m : MessageFields) → IsCreated scheme content now id a b m
-    → (mode : Mode) (rest : List ℕ) → spec.CanBeSpelled m → BeginsAs (signed_message mode) mode (spec.rewritten m ++ rest) m
+pub created_again : {I : Type 0} (scheme : Relation) (content : List ℕ) (now : ℤ) (id : I) (a b : SignerState I) (m : MessageFields) → IsMessageCreated scheme content now id a b m
+    → (mode : Mode) (rest : List ℕ) → spec.CanSpellMessage m → BeginsAs (signed_message mode) mode (spec.rewritten m ++ rest) m
 created_again scheme content now id a b m c mode rest k = begins_again mode m rest (made_held mode scheme content now c.issuing c.key (without_first_bit b.random) m c.made (window_moments now c.window_is) (first_bit b.random c.twenty) k) k
 
-pub believed_within : {I E : Type 0} (scheme : Relation) (content : List ℕ) (w now : ℤ) (id : I) (a b : SignerState I) (r : Result MessageFields E) (f : E → Type 0) → w ≡ now → MatchResult r (IsCreated scheme content w id a b) f
-    → IfOk r (λ m. (key : KeyFields) → Holds a.keyring id key → (when : ℤ) → (window now).not_before ≤ℤ when → when ≤ℤ (window now).not_after → IsBelieved scheme m key when)
-believed_within scheme content w now id a b (Ok m) f e c = subst (λ (n : ℤ). (key : KeyFields) → Holds a.keyring id key → (when : ℤ) → (window n).not_before ≤ℤ when → when ≤ℤ (window n).not_after → IsBelieved scheme m key when) e (created_believed scheme content w id a b m c)
+pub believed_within : {I E : Type 0} (scheme : Relation) (content : List ℕ) (w now : ℤ) (id : I) (a b : SignerState I) (r : Result MessageFields E) (f : E → Type 0) → w ≡ now → MatchResult r (IsMessageCreated scheme content w id a b) f
+    → IfOk r (λ m. (key : KeyFields) → HoldsKey a.keyring id key → (when : ℤ) → (window now).not_before ≤ℤ when → when ≤ℤ (window now).not_after → IsBelieved scheme m key when)
+believed_within scheme content w now id a b (Ok m) f e c = subst (λ (n : ℤ). (key : KeyFields) → HoldsKey a.keyring id key → (when : ℤ) → (window n).not_before ≤ℤ when → when ≤ℤ (window n).not_after → IsBelieved scheme m key when) e (created_believed scheme content w id a b m c)
 believed_within scheme content w now id a b (Err x) f e c = tt
 
-pub again_result : {I E : Type 0} (scheme : Relation) (content : List ℕ) (now : ℤ) (id : I) (a b : SignerState I) (r : Result MessageFields E) (f : E → Type 0) → MatchResult r (IsCreated scheme content now id a b) f
-    → IfOk r (λ m. (mode : Mode) (rest : List ℕ) → spec.CanBeSpelled m → BeginsAs (signed_message mode) mode (spec.rewritten m ++ rest) m)
+pub again_result : {I E : Type 0} (scheme : Relation) (content : List ℕ) (now : ℤ) (id : I) (a b : SignerState I) (r : Result MessageFields E) (f : E → Type 0) → MatchResult r (IsMessageCreated scheme content now id a b) f
+    → IfOk r (λ m. (mode : Mode) (rest : List ℕ) → spec.CanSpellMessage m → BeginsAs (signed_message mode) mode (spec.rewritten m ++ rest) m)
 again_result scheme content now id a b (Ok m) f c = created_again scheme content now id a b m c
 again_result scheme content now id a b (Err e) f c = tt

@@ -13,7 +13,7 @@ use Rattle.rpki_der.specs.Identifier.{IsTag}
 use Rattle.rpki_der.specs.InDer.{in_der}
 use Rattle.rpki_der.specs.Integer.{integer_is}
 use Rattle.rpki_der.specs.Null.{null}
-use Rattle.rpki_der.specs.OctetString.{joined, octets_under, octet_string}
+use Rattle.rpki_der.specs.OctetString.{joined_pieces, octets_under, octet_string}
 use Rattle.rpki_der.specs.Oid.{oid, oid_is}
 use Rattle.rpki_der.specs.Tags.{sequence, set, context, oid_tag, integer_tag, null_tag, octet_string_tag}
 use Rattle.rpki_der.specs.Value.{Value, Values, End, ◌▸◌, spelling, spellings, IsValue}
@@ -26,7 +26,7 @@ use Rattle.rpki_base.specs.AlgorithmLaws.{cms_again, cms_value}
 use Rattle.rpki_base.specs.Bits.{spelled_bits}
 use Rattle.rpki_base.specs.KeyIdentifier.{key_identifier_under}
 use Rattle.rpki_base.specs.RpkiSignatureAlgorithm.{RpkiAlgorithm, cms_algorithm, spelled_x509, spelled_cms}
-use Rattle.rpki_base.specs.SignedData.{spelled_data, CanBeSpelled as DataCanBeSpelled}
+use Rattle.rpki_base.specs.SignedData.{spelled_data, CanSpellSigned as DataCanBeSpelled}
 use Rattle.rpki_base.specs.WritingLaws.{is_sequence, is_oid}
 use Rattle.rpki_idcert.specs.IdCert.{CertificateFields, identity_certificate}
 use Rattle.rpki_idcert.specs.TbsIdCert.{tbs_certificate}
@@ -99,7 +99,7 @@ unfolding oid_is oid so ◌>>=◌
 xml_type mode = record { value = primitive_value oid_tag xml_content; spells = spells_primitive mode oid_tag xml_content is_oid (omega arith); reads = refl }
 
 string_read : (mode : Mode) (octets : List ℕ) → octet_string mode (primitive_value octet_string_tag octets) ≡ Some octets
-unfolding octets_under joined
+unfolding octets_under joined_pieces
 string_read Ber octets = refl
 string_read Der octets = refl
 
@@ -107,7 +107,7 @@ pub a_string : (mode : Mode) (octets : List ℕ) → length octets < 4294967296 
 a_string mode octets h = record { value = primitive_value octet_string_tag octets; spells = spells_primitive mode octet_string_tag octets is_octets h; reads = string_read mode octets }
 
 name_read : (mode : Mode) (id : List ℕ) → length id ≡ 20 → key_identifier_under (context 0) mode (primitive_value (context 0) id) ≡ Some id
-unfolding key_identifier_under octets_under joined so ◌>>=◌
+unfolding key_identifier_under octets_under joined_pieces so ◌>>=◌
 name_read Ber id l = rw (eq-eqb (length id) 20 l) refl
 name_read Der id l = rw (eq-eqb (length id) 20 l) refl
 
@@ -271,7 +271,7 @@ pub record Fits (m : MessageFields) : Type 0 where
   pub attributes : length (spec.under_context m.covered) < 4294967296
   pub signature : length m.signature.value < 4294967296
 
-pub all_fit : (m : MessageFields) → spec.CanBeSpelled m → Fits m
+pub all_fit : (m : MessageFields) → spec.CanSpellMessage m → Fits m
 unfolding spec.message_parts spec.signed_data_fields spec.spelled_signer
 all_fit m h =
     let a0 = der_primitive oid_tag signed_data_type in
@@ -384,7 +384,7 @@ same_message : (m : MessageFields) (crls : List CrlFields) (s : SignerFields) (o
     → ◌≡◌ {A = MessageFields} (record { content = m.content; signer = s.identifier; digest = s.said.digest; signing_time = s.said.signing_time; covered = covered s.attributes; signature = s.signature; certificate = m.certificate; crls = crls }) m
 same_message m crls s octets e f g a k c = rw (e, f, g, k, ap covered a, sym c) refl
 
-view_piece : (mode : Mode) (m : MessageFields) → IsHeld mode m → spec.CanBeSpelled m → ViewPiece mode m
+view_piece : (mode : Mode) (m : MessageFields) → IsHeld mode m → spec.CanSpellMessage m → ViewPiece mode m
 unfolding spec.rewritten spec.message_parts spec.signed_data_fields spec.spelled_content viewed_message signed_parts
 view_piece mode m h k =
     let f = all_fit m k in
@@ -413,7 +413,7 @@ message_read : (mode : Mode) (v : Value) (w : ViewFields) (m : MessageFields) �
 unfolding signed_message so ◌>>=◌
 message_read mode v w m e f = rw e (ap (λ (x : MessageFields). Some x) f)
 
-pub held_again : (mode : Mode) (m : MessageFields) → IsHeld mode m → spec.CanBeSpelled m → Piece mode (signed_message mode) (spec.rewritten m) m
+pub held_again : (mode : Mode) (m : MessageFields) → IsHeld mode m → spec.CanSpellMessage m → Piece mode (signed_message mode) (spec.rewritten m) m
 held_again mode m h k =
     let p = view_piece mode m h k in
     record { value = p.piece.value; spells = p.piece.spells; reads = message_read mode p.piece.value p.view m p.piece.reads p.is }

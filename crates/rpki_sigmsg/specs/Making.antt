@@ -18,7 +18,7 @@ use Rattle.rpki_base.specs.Validity.{ValidityFields}
 use Rattle.rpki_signer.specs.declared.errors.SigningError.TheVariants as signing
 use Rattle.rpki_signer.specs.Limits.{default_algorithm, IsShort, IsShortSignature, Keeps}
 use Rattle.rpki_signer.specs.Serials.{without_first_bit}
-use Rattle.rpki_signer.specs.Signer.{SignerState, Holds, SigningFails}
+use Rattle.rpki_signer.specs.Signer.{SignerState, HoldsKey, SigningFails}
 use Rattle.rpki_idcert.specs.IdCert.{CertificateFields}
 use Rattle.rpki_idcert.specs.Making.{name_of_key, made_fields, IsMadeFor, IsIssued}
 use Rattle.rpki_idcert.specs.Spelling.{spelled_tbs}
@@ -172,12 +172,12 @@ pub record IsMessageMade (scheme : Relation) (content : List ℕ) (when : ℤ)
 -- The signer holds the issuing key alone under this identifier. The key for this one use is the one
 -- that it drew, and not the issuing key; the serial number is what it drew last. The keys and the
 -- signatures have at most 2^16 octets each; that of the certificate's signature is in `IsIssued`.
-pub record IsCreated {Id : Type 0} (scheme : Relation) (content : List ℕ) (when : ℤ) (id : Id)
+pub record IsMessageCreated {Id : Type 0} (scheme : Relation) (content : List ℕ) (when : ℤ) (id : Id)
     (before after : SignerState Id) (m : MessageFields) : Type 0 where
   pub window_is : HasWindow when
   pub issuing : KeyFields
-  pub holds : Holds before.keyring id issuing
-  pub only : (other : KeyFields) → Holds before.keyring id other → other ≡ issuing
+  pub holds : HoldsKey before.keyring id issuing
+  pub only : (other : KeyFields) → HoldsKey before.keyring id other → other ≡ issuing
   pub key : KeyFields
   pub drawn : after.drawn ≡ Some key
   pub other : key ≢ issuing
@@ -194,8 +194,8 @@ pub record IsCreated {Id : Type 0} (scheme : Relation) (content : List ℕ) (whe
 -- and it told so by its count
 pub record IsReused {Id : Type 0} (id : Id) (before after : SignerState Id) : Type 0 where
   pub issuing : KeyFields
-  pub holds : Holds before.keyring id issuing
-  pub only : (other : KeyFields) → Holds before.keyring id other → other ≡ issuing
+  pub holds : HoldsKey before.keyring id issuing
+  pub only : (other : KeyFields) → HoldsKey before.keyring id other → other ≡ issuing
   pub drawn : after.drawn ≡ Some issuing
   pub told : Rose before.reused after.reused
 

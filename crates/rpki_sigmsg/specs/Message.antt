@@ -149,12 +149,12 @@ viewed_message mode = within sequence (λ vs. do
   done parts.0 parts.1)
 
 -- without the octets of the parts
-abbrev pub message_of : ViewFields → Option MessageFields
-message_of view = Some view.message
+abbrev pub message_of_view : ViewFields → Option MessageFields
+message_of_view view = Some view.message
 
 -- a signed message, as a value is read: content information that holds signed data (RFC 5652, 3)
 unfoldable pub signed_message : Mode → Value → Option MessageFields
-signed_message mode = so (viewed_message mode) message_of
+signed_message mode = so (viewed_message mode) message_of_view
 
 -- strictly: in DER; loosely: in BER
 abbrev pub mode_of : Bool → Mode

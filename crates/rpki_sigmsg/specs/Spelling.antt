@@ -114,5 +114,5 @@ unfoldable pub rewritten : MessageFields → List ℕ
 rewritten m = der_constructed sequence (message_parts m)
 
 -- four length octets can say how long its parts are (X.690, 8.1.3)
-abbrev pub CanBeSpelled : MessageFields → Type 0
-CanBeSpelled m = length (message_parts m) < 2 ^ 32
+abbrev pub CanSpellMessage : MessageFields → Type 0
+CanSpellMessage m = length (message_parts m) < 2 ^ 32

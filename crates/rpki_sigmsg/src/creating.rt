@@ -6,12 +6,12 @@ ghost use Rattle.rpki_der.specs.declared.mode.Mode.{Mode};
 ghost use Rattle.rpki_der.specs.Takes.{BeginsAs};
 ghost use Rattle.rpki_base.specs.PublicKey.{KeyFields};
 ghost use Rattle.rpki_signer.specs.Limits.{Keeps, RefusesSignature, default_algorithm};
-ghost use Rattle.rpki_signer.specs.Signer.{Holds, AreDistinct};
+ghost use Rattle.rpki_signer.specs.Signer.{HoldsKey, AreDistinct};
 ghost use Rattle.rpki_sigmsg.specs.Checks.{IsBelieved};
 ghost use Rattle.rpki_sigmsg.specs.Making as spec;
 ghost use Rattle.rpki_sigmsg.specs.declared.create_error.CreateError.TheVariants as create;
 ghost use Rattle.rpki_sigmsg.specs.Message.{signed_message};
-ghost use Rattle.rpki_sigmsg.specs.Spelling.{rewritten, CanBeSpelled};
+ghost use Rattle.rpki_sigmsg.specs.Spelling.{rewritten, CanSpellMessage};
 ghost use Rattle.rpki_sigmsg.specs.FirstRefusals.{HasKeys, StopsAtKeys, StopsCertifying, IsFirstRefusal};
 
 use crate::create_error::CreateError;
@@ -91,7 +91,7 @@ fn certify<P: Scheme, S: Signer<P>>(
     issuing_key_id: &S::KeyId,
     signer: &mut S,
 ) -> Result<(SignedMessageCrl, IdCert), MakeError<S::Error>>
-    requires holds { Holds (S.state signer.old).keyring issuing_key_id.now issuing_key.now }
+    requires holds { HoldsKey (S.state signer.old).keyring issuing_key_id.now issuing_key.now }
     requires distinct { AreDistinct (S.state signer.old).keyring }
     ensures { MatchResult result
         (λ r. spec.IsCertified P.checks issuing_key.now key.now window
@@ -117,7 +117,7 @@ fn create_within<P: Scheme, S: Signer<P>>(
     requires has_window { spec.HasWindow window }
     requires short { length content ≤ most_content }
     ensures created { MatchResult result
-        (spec.IsCreated P.checks content window issuing_key_id.now
+        (spec.IsMessageCreated P.checks content window issuing_key_id.now
         (S.state signer.old) (S.state signer.new))
         (spec.CreateFails content window issuing_key_id.now
         (S.state signer.old) (S.state signer.new)) }
@@ -159,19 +159,19 @@ impl SignedMessage {
     ) -> Result<SignedMessage, CreateError<S::Error>>
         // What is created, and why nothing is.
         ensures created { MatchResult result
-            (spec.IsCreated P.checks content when issuing_key_id.now
+            (spec.IsMessageCreated P.checks content when issuing_key_id.now
             (S.state signer.old) (S.state signer.new))
             (spec.CreateFails content when issuing_key_id.now
             (S.state signer.old) (S.state signer.new)) }
 
         // The message is believed under the issuing key at each second of the window.
         ensures believed { IfOk result (λ m. (key : KeyFields)
-            → Holds (S.state signer.old).keyring issuing_key_id.now key
+            → HoldsKey (S.state signer.old).keyring issuing_key_id.now key
             → (at : ℤ) → (spec.window when).not_before ≤ℤ at
             → at ≤ℤ (spec.window when).not_after → IsBelieved P.checks m key at) }
 
         // What is written of the message is read again, in both modes, whatever stands behind it.
-        ensures again { IfOk result (λ m. (mode : Mode) (rest : List ℕ) → CanBeSpelled m
+        ensures again { IfOk result (λ m. (mode : Mode) (rest : List ℕ) → CanSpellMessage m
             → BeginsAs (signed_message mode) mode (rewritten m ++ rest) m) }
 
         // Moment and a content that is too long are told in any case, before the signer is asked.

@@ -6,7 +6,7 @@ ghost use Rattle.rpki_der.specs.declared.mode.Mode.TheVariants.{Ber, Der};
 ghost use Rattle.rpki_der.specs.Takes.{BeginsAs};
 ghost use Rattle.rpki_der.specs.Value.{Value, spelling, IsValue};
 ghost use Rattle.rpki_sigmsg.specs.Message.{MessageFields, ViewFields, signed_message, viewed_message};
-ghost use Rattle.rpki_sigmsg.specs.Spelling.{rewritten, CanBeSpelled};
+ghost use Rattle.rpki_sigmsg.specs.Spelling.{rewritten, CanSpellMessage};
 ghost use Rattle.rpki_sigmsg.specs.Places.{StandInTurn, parts_of};
 
 /// What is a message in DER is the same message in BER, and so is a view of one: what strict decoding accepts, loose decoding
@@ -37,9 +37,9 @@ pub fn parts_stand_in_turn()
 /// read, and in BER.
 pub fn rewritten_messages_are_read()
     ensures again { (mode : Mode) (v : Value) (m : MessageFields) (rest : List ℕ) →
-        IsValue mode v → signed_message mode v ≡ Some m → CanBeSpelled m →
+        IsValue mode v → signed_message mode v ≡ Some m → CanSpellMessage m →
         BeginsAs (signed_message mode) mode (rewritten m ++ rest) m }
     ensures loosely { (mode : Mode) (v : Value) (m : MessageFields) (rest : List ℕ) →
-        IsValue mode v → signed_message mode v ≡ Some m → CanBeSpelled m →
+        IsValue mode v → signed_message mode v ≡ Some m → CanSpellMessage m →
         BeginsAs (signed_message Ber) Ber (rewritten m ++ rest) m }
 {}

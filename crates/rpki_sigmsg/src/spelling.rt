@@ -4,7 +4,7 @@ ghost use Rattle.std.specs.Prelude.{◌≡◌, ◌++◌, [], ◌<◌, ◌+◌, �
 ghost use Rattle.rpki_der.specs.Tags.{sequence, set, context, octet_string_tag};
 ghost use Rattle.rpki_der.specs.Writing.{der_primitive, der_constructed};
 ghost use Rattle.rpki_base.specs.RpkiSignatureAlgorithm.{spelled_x509};
-ghost use Rattle.rpki_base.specs.SignedData.{spelled_data, CanBeSpelled};
+ghost use Rattle.rpki_base.specs.SignedData.{spelled_data, CanSpellSigned};
 ghost use Rattle.rpki_idcert.specs.Spelling.{spelled_extension};
 ghost use Rattle.rpki_sigmsg.specs.Spelling as spec;
 
@@ -136,7 +136,7 @@ impl SignedMessageCrl {
     /// nothing is appended; a CRL that is longer than length octets can say is refused as want of memory.
     pub fn encode_ref(&self, out: &mut Writer) -> Result<(), OutOfMemory>
         ensures ok { OnOk result (out.new ≡ out.old ++ spelled_data spelled_x509 self.now.signed) }
-        ensures spelled { OnOk result (CanBeSpelled spelled_x509 self.now.signed) }
+        ensures spelled { OnOk result (CanSpellSigned spelled_x509 self.now.signed) }
         ensures err { OnErr result (out.new ≡ out.old) }
     {
         self.signed_data().encode_ref(out)
@@ -299,7 +299,7 @@ impl SignedMessage {
     #[tactic(auto, unfolding(crate::specs::Spelling::rewritten))]
     pub fn encode_ref(&self, out: &mut Writer) -> Result<(), OutOfMemory>
         ensures ok { OnOk result (out.new ≡ out.old ++ spec.rewritten self.now) }
-        ensures spelled { OnOk result (spec.CanBeSpelled self.now) }
+        ensures spelled { OnOk result (spec.CanSpellMessage self.now) }
         ensures err { OnErr result (out.new ≡ out.old) }
     {
         let mut parts = out.inner();
@@ -310,7 +310,7 @@ impl SignedMessage {
     /// What `encode_ref` appends, by itself.
     pub fn to_captured(&self, alloc: Global) -> Result<Captured, OutOfMemory>
         ensures octets { IfOk result (λ c. c ≡ spec.rewritten self.now) }
-        ensures spelled { OnOk result (spec.CanBeSpelled self.now) }
+        ensures spelled { OnOk result (spec.CanSpellMessage self.now) }
     {
         let mut out = Writer::new(alloc);
         self.encode_ref(&mut out)?;

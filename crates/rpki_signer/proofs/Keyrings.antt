@@ -3,7 +3,7 @@ use Rattle.std.proofs.Common.{◌≡◌, ◌⊎◌, inl, inr, List, [], ◌∷�
 use Rattle.std.specs.Prelude.{Contains}
 use Rattle.std.proofs.lemmas.List.Elements.{Contains-push, Contains-push_cases, Contains-append_left, Contains-append_right, Contains-append_cases}
 use Rattle.rpki_base.specs.PublicKey.{KeyFields}
-use Rattle.rpki_signer.specs.Signer.{HeldKey, Holds, Lacks, AreDistinct}
+use Rattle.rpki_signer.specs.Signer.{HeldKey, HoldsKey, LacksKey, AreDistinct}
 
 -- ---- membership
 
@@ -35,27 +35,27 @@ id_of {I = I} h k e = ap (λ (x : HeldKey I). x.id) e
 key_under : {I : Type 0} (h : HeldKey I) (id : I) (k : KeyFields) → h ≡ record { id = id; key = k } → h.key ≡ k
 key_under {I = I} h id k e = ap (λ (x : HeldKey I). x.key) e
 
-one_key_by : {I : Type 0} (h : HeldKey I) (more : List (HeldKey I)) (id : I) (k l : KeyFields) → Lacks more h.id
-    → ((h ≡ record { id = id; key = k }) ⊎ Holds more id k) → ((h ≡ record { id = id; key = l }) ⊎ Holds more id l)
-    → (Holds more id k → Holds more id l → k ≡ l) → k ≡ l
+one_key_by : {I : Type 0} (h : HeldKey I) (more : List (HeldKey I)) (id : I) (k l : KeyFields) → LacksKey more h.id
+    → ((h ≡ record { id = id; key = k }) ⊎ HoldsKey more id k) → ((h ≡ record { id = id; key = l }) ⊎ HoldsKey more id l)
+    → (HoldsKey more id k → HoldsKey more id l → k ≡ l) → k ≡ l
 one_key_by h more id k l n (inl p) (inl q) f = sym (key_under h id k p) ∙ key_under h id l q
-one_key_by h more id k l n (inl p) (inr d) f = absurd (n l (subst (λ i. Holds more i l) (sym (id_of h (record { id = id; key = k }) p)) d))
-one_key_by h more id k l n (inr c) (inl q) f = absurd (n k (subst (λ i. Holds more i k) (sym (id_of h (record { id = id; key = l }) q)) c))
+one_key_by h more id k l n (inl p) (inr d) f = absurd (n l (subst (λ i. HoldsKey more i l) (sym (id_of h (record { id = id; key = k }) p)) d))
+one_key_by h more id k l n (inr c) (inl q) f = absurd (n k (subst (λ i. HoldsKey more i k) (sym (id_of h (record { id = id; key = l }) q)) c))
 one_key_by h more id k l n (inr c) (inr d) f = f c d
 
-pub one_key : {I : Type 0} (keyring : List (HeldKey I)) (id : I) (k l : KeyFields) → AreDistinct keyring → Holds keyring id k → Holds keyring id l → k ≡ l
+pub one_key : {I : Type 0} (keyring : List (HeldKey I)) (id : I) (k l : KeyFields) → AreDistinct keyring → HoldsKey keyring id k → HoldsKey keyring id l → k ≡ l
 one_key [] id k l d p q = absurd (none_in (record { id = id; key = k }) p)
 one_key (h ∷ more) id k l d p q =
     one_key_by h more id k l d.0 (first_or_behind h (record { id = id; key = k }) more p) (first_or_behind h (record { id = id; key = l }) more q) (one_key more id k l d.1)
 
 -- ---- a key more, and a key less
 
-lacks_push_by : {I : Type 0} (h g : HeldKey I) (more : List (HeldKey I)) (key : KeyFields) → Lacks more h.id → Lacks (h ∷ more) g.id
-    → (Holds more h.id key ⊎ (g ≡ record { id = h.id; key = key })) → ⊥
+lacks_push_by : {I : Type 0} (h g : HeldKey I) (more : List (HeldKey I)) (key : KeyFields) → LacksKey more h.id → LacksKey (h ∷ more) g.id
+    → (HoldsKey more h.id key ⊎ (g ≡ record { id = h.id; key = key })) → ⊥
 lacks_push_by h g more key n m (inl c) = n key c
-lacks_push_by h g more key n m (inr e) = m h.key (subst (λ i. Holds (h ∷ more) i h.key) (sym (id_of g (record { id = h.id; key = key }) e)) (here h more))
+lacks_push_by h g more key n m (inr e) = m h.key (subst (λ i. HoldsKey (h ∷ more) i h.key) (sym (id_of g (record { id = h.id; key = key }) e)) (here h more))
 
-pub distinct_push : {I : Type 0} (keyring : List (HeldKey I)) (g : HeldKey I) → AreDistinct keyring → Lacks keyring g.id → AreDistinct (keyring ++ g ∷ [])
+pub distinct_push : {I : Type 0} (keyring : List (HeldKey I)) (g : HeldKey I) → AreDistinct keyring → LacksKey keyring g.id → AreDistinct (keyring ++ g ∷ [])
 distinct_push [] g d n = ((λ key c. none_in (record { id = g.id; key = key }) c), tt)
 distinct_push (h ∷ more) g d n = (
   (λ key c. lacks_push_by h g more key d.0 n (Contains-push_cases more g (record { id = h.id; key = key }) c)),

@@ -20,8 +20,8 @@ use Rattle.rpki_signer.specs.declared.errors.SigningError.TheVariants as signing
 use Rattle.rpki_signer.specs.declared.toy_signer.ToyKey.{ToyKey}
 use Rattle.rpki_signer.specs.Any.{AnyChecks}
 use Rattle.rpki_signer.specs.Toy.{ToyChecks, toy_signature}
-use Rattle.rpki_signer.specs.Signer.{SignerState, IsLater, Stays, TellsLength, CallFails, KeyFails, SigningFails, CallSpares, KeySpares, SigningSpares, IsCreated, IsDestroyed, IsKeyOf, IsSignature, IsOneOff, IsDrawn}
-use Rattle.rpki_signer.specs.ToySigner.{ToyState, key_of, state_of, IsSound, AreCounts, one_off_key, after_signing_once, after_choosing, after_fault, cannot_sign_once, IsToyCreated, IsToyKey, IsToyDestroyed, IsToyFound, IsToyRandom, octets_of, once_of}
+use Rattle.rpki_signer.specs.Signer.{SignerState, IsLater, Stays, TellsLength, CallFails, KeyFails, SigningFails, CallSpares, KeySpares, SigningSpares, IsKeyCreated, IsDestroyed, IsKeyOf, IsSignature, IsOneOff, IsDrawn}
+use Rattle.rpki_signer.specs.ToySigner.{ToyState, key_of, state_of, IsSoundToy, AreCounts, one_off_key, after_signing_once, after_choosing, after_fault, cannot_sign_once, IsToyCreated, IsToyKey, IsToyDestroyed, IsToyFound, IsToyRandom, octets_of_parts, once_of}
 use Rattle.rpki_signer.specs.LongSigner.{LongState, long_state, long_signature, overlong_after, after_giving, with_toy, IsLongSigned, IsLongSignedOnce}
 use Rattle.rpki_signer.proofs.Promises.{created_is, key_is, destroyed_is, signed_is, once_is, random_is, created_spares, key_spares, destroyed_spares, refused_spares, choosing_spares}
 
@@ -57,13 +57,13 @@ signing_with kind id a b n signing.OutOfMemory p = (stays_with a b n n (same_cou
 
 -- ---- the calls that sign nothing
 
-created_with : {E : Type 0} (format : PublicKeyFormat) (a b : SignerState ℕ) (n : ℕ) (result : Result ℕ (CallError E)) → MatchResult result (IsCreated format a b) (λ e. Stays a b × CallFails a b e)
-    → MatchResult result (IsCreated format (with_count a n) (with_count b n)) (λ e. Stays (with_count a n) (with_count b n) × CallFails (with_count a n) (with_count b n) e)
+created_with : {E : Type 0} (format : PublicKeyFormat) (a b : SignerState ℕ) (n : ℕ) (result : Result ℕ (CallError E)) → MatchResult result (IsKeyCreated format a b) (λ e. Stays a b × CallFails a b e)
+    → MatchResult result (IsKeyCreated format (with_count a n) (with_count b n)) (λ e. Stays (with_count a n) (with_count b n) × CallFails (with_count a n) (with_count b n) e)
 created_with format a b n (Ok id) p = record { key = p.key; format_is = p.format_is; new = p.new; keyring = p.keyring; later = later_with a b n n (same_count n) p.later; no_fault = p.no_fault; drawn = p.drawn; random = p.random }
 created_with format a b n (Err e) p = call_with a b n e p
 
-pub long_created : (format : PublicKeyFormat) (old : LongState) (new : ToyState) (result : Result ℕ (CallError ToyFault)) → IsSound old.toy.seed old.toy.next old.toy.keys → AreCounts old.toy → IsToyCreated format old.toy new result
-    → MatchResult result (IsCreated format (long_state old) (long_state (with_toy new old))) (λ e. Stays (long_state old) (long_state (with_toy new old)) × CallFails (long_state old) (long_state (with_toy new old)) e)
+pub long_created : (format : PublicKeyFormat) (old : LongState) (new : ToyState) (result : Result ℕ (CallError ToyFault)) → IsSoundToy old.toy.seed old.toy.next old.toy.keys → AreCounts old.toy → IsToyCreated format old.toy new result
+    → MatchResult result (IsKeyCreated format (long_state old) (long_state (with_toy new old))) (λ e. Stays (long_state old) (long_state (with_toy new old)) × CallFails (long_state old) (long_state (with_toy new old)) e)
 long_created format old new result s c e = created_with format (state_of old.toy) (state_of new) old.overlong result (created_is format old.toy new result s c e)
 
 -- a toy signer tells nothing of lengths
@@ -118,7 +118,7 @@ told_by octets n signature e long =
     let risen : Rose n (count_after n) = omega arith in
     subst (λ b. Rose n (if b then count_after n else n)) (sym (lt-ltb 65536 octets over)) risen
 
-long_found : (kind : SigningAlgorithm) (number : ℕ) (message octets : List ℕ) (old : LongState) (new : ToyState) (key : ToyKey) → IsSound old.toy.seed old.toy.next old.toy.keys → AreCounts old.toy → old.overlong < 18446744073709551616 → IsToyFound number (format_of kind) old.toy new key → octets ≡ long_signature old.octets
+long_found : (kind : SigningAlgorithm) (number : ℕ) (message octets : List ℕ) (old : LongState) (new : ToyState) (key : ToyKey) → IsSoundToy old.toy.seed old.toy.next old.toy.keys → AreCounts old.toy → old.overlong < 18446744073709551616 → IsToyFound number (format_of kind) old.toy new key → octets ≡ long_signature old.octets
     → IsSignature AnyChecks kind number message (long_state old) (long_state (after_giving new old)) octets
 long_found kind number message octets old new key s c h f e =
     let p = signed_is kind number message old.toy new (Ok (toy_signature (key_of old.toy.seed key) message)) s c (key, f, refl) in
@@ -131,7 +131,7 @@ long_found kind number message octets old new key s c h f e =
       told = told_by old.octets old.overlong octets e;
     }
 
-long_signed : (kind : SigningAlgorithm) (number : ℕ) (message : List ℕ) (old new : LongState) (result : Result (List ℕ) (SigningError ToyFault)) → IsSound old.toy.seed old.toy.next old.toy.keys → AreCounts old.toy → OnOk result (old.overlong < 18446744073709551616) → IsLongSigned kind number old new result
+long_signed : (kind : SigningAlgorithm) (number : ℕ) (message : List ℕ) (old new : LongState) (result : Result (List ℕ) (SigningError ToyFault)) → IsSoundToy old.toy.seed old.toy.next old.toy.keys → AreCounts old.toy → OnOk result (old.overlong < 18446744073709551616) → IsLongSigned kind number old new result
     → MatchResult result (λ octets. IsSignature AnyChecks kind number message (long_state old) (long_state new) octets) (λ e. Stays (long_state old) (long_state new) × SigningFails kind number (long_state old) (long_state new) e)
 long_signed kind number message old new (Ok octets) s c h e =
     subst (λ (x : LongState). IsSignature AnyChecks kind number message (long_state old) (long_state x) octets) (sym e.3) (long_found kind number message octets old new.toy e.0 s c h e.1 e.2)
@@ -155,7 +155,7 @@ once_with kind message toy octets key a b m n still h t p = record {
   key_told = untold a b m n key.bits still p.key_told;
 }
 
-once_given : (kind : SigningAlgorithm) (message octets : List ℕ) (key : KeyFields) (old : LongState) → IsSound old.toy.seed old.toy.next old.toy.keys → AreCounts old.toy → old.overlong < 18446744073709551616 → cannot_sign_once (format_of kind) old.toy ≡ false
+once_given : (kind : SigningAlgorithm) (message octets : List ℕ) (key : KeyFields) (old : LongState) → IsSoundToy old.toy.seed old.toy.next old.toy.keys → AreCounts old.toy → old.overlong < 18446744073709551616 → cannot_sign_once (format_of kind) old.toy ≡ false
     → key ≡ key_of old.toy.seed (one_off_key (format_of kind) old.toy.reuse old.toy.next) → octets ≡ long_signature old.octets
     → IsOneOff AnyChecks kind message (long_state old) (long_state (after_giving (after_signing_once (format_of kind) old.toy) old)) octets key
 once_given kind message octets key old s c h able k e =
@@ -164,7 +164,7 @@ once_given kind message octets key old s c h able k e =
     once_with kind message (toy_signature key message) octets key (state_of old.toy) (state_of toy) old.overlong (overlong_after old.octets old.overlong) none_rose (rises old.octets old.overlong h)
     (told_by old.octets old.overlong octets e) p
 
-long_once : (kind : SigningAlgorithm) (message : List ℕ) (old new : LongState) (result : Result (List ℕ × KeyFields) (CallError ToyFault)) → IsSound old.toy.seed old.toy.next old.toy.keys → AreCounts old.toy → OnOk result (old.overlong < 18446744073709551616) → IsLongSignedOnce kind old new result
+long_once : (kind : SigningAlgorithm) (message : List ℕ) (old new : LongState) (result : Result (List ℕ × KeyFields) (CallError ToyFault)) → IsSoundToy old.toy.seed old.toy.next old.toy.keys → AreCounts old.toy → OnOk result (old.overlong < 18446744073709551616) → IsLongSignedOnce kind old new result
     → MatchResult result (λ r. IsOneOff AnyChecks kind message (long_state old) (long_state new) r.0 r.1) (λ e. Stays (long_state old) (long_state new) × CallFails (long_state old) (long_state new) e)
 long_once kind message old new (Ok (octets, key)) s c h e =
     subst (λ (x : LongState). IsOneOff AnyChecks kind message (long_state old) (long_state x) octets key) (sym e.3) (once_given kind message octets key old s c h e.0 e.1 e.2)
@@ -179,12 +179,12 @@ long_once kind message old new (Err call.OutOfMemory) s c h e =
 
 -- ---- what is answered
 
-pub long_answer : {A : Type 0} (kind : SigningAlgorithm) (number : ℕ) (message : List ℕ) (old new : LongState) (result : Result (SignatureParts A) (SigningError ToyFault)) → IsSound old.toy.seed old.toy.next old.toy.keys → AreCounts old.toy → OnOk result (old.overlong < 18446744073709551616) → IsLongSigned kind number old new (octets_of result)
+pub long_answer : {A : Type 0} (kind : SigningAlgorithm) (number : ℕ) (message : List ℕ) (old new : LongState) (result : Result (SignatureParts A) (SigningError ToyFault)) → IsSoundToy old.toy.seed old.toy.next old.toy.keys → AreCounts old.toy → OnOk result (old.overlong < 18446744073709551616) → IsLongSigned kind number old new (octets_of_parts result)
     → MatchResult result (λ s. IsSignature AnyChecks kind number message (long_state old) (long_state new) s.value) (λ e. Stays (long_state old) (long_state new) × SigningFails kind number (long_state old) (long_state new) e)
 long_answer kind number message old new (Ok s) sound c h e = long_signed kind number message old new (Ok s.value) sound c h e
 long_answer kind number message old new (Err error) sound c h e = long_signed kind number message old new (Err error) sound c h e
 
-pub long_answer_once : {A : Type 0} (kind : SigningAlgorithm) (message : List ℕ) (old new : LongState) (result : Result (SignatureParts A × KeyFields) (CallError ToyFault)) → IsSound old.toy.seed old.toy.next old.toy.keys → AreCounts old.toy → OnOk result (old.overlong < 18446744073709551616)
+pub long_answer_once : {A : Type 0} (kind : SigningAlgorithm) (message : List ℕ) (old new : LongState) (result : Result (SignatureParts A × KeyFields) (CallError ToyFault)) → IsSoundToy old.toy.seed old.toy.next old.toy.keys → AreCounts old.toy → OnOk result (old.overlong < 18446744073709551616)
     → IsLongSignedOnce kind old new (once_of result)
     → MatchResult result (λ r. IsOneOff AnyChecks kind message (long_state old) (long_state new) r.0.value r.1) (λ e. Stays (long_state old) (long_state new) × CallFails (long_state old) (long_state new) e)
 long_answer_once kind message old new (Ok (s, k)) sound c h e = long_once kind message old new (Ok (s.value, k)) sound c h e
@@ -218,7 +218,7 @@ long_key_spares number old new result e = key_spares_with (state_of old.toy) (st
 pub long_destroyed_spares : (number : ℕ) (old : LongState) (new : ToyState) (result : Result (Unit {0}) (KeyError ToyFault)) → IsToyDestroyed number old.toy new result → IfErr result (KeySpares (long_state old) (long_state (with_toy new old)))
 long_destroyed_spares number old new result e = key_spares_with (state_of old.toy) (state_of new) old.overlong old.overlong result (destroyed_spares number old.toy new result e)
 
-pub long_signed_spares : {A : Type 0} (kind : SigningAlgorithm) (number : ℕ) (old new : LongState) (result : Result (SignatureParts A) (SigningError ToyFault)) → IsLongSigned kind number old new (octets_of result) → IfErr result (SigningSpares (long_state old) (long_state new))
+pub long_signed_spares : {A : Type 0} (kind : SigningAlgorithm) (number : ℕ) (old new : LongState) (result : Result (SignatureParts A) (SigningError ToyFault)) → IsLongSigned kind number old new (octets_of_parts result) → IfErr result (SigningSpares (long_state old) (long_state new))
 long_signed_spares kind number old new (Ok s) e = tt
 long_signed_spares kind number old new (Err error) e = signing_spares_with (state_of old.toy) (state_of new.toy) old.overlong new.overlong error (refused_spares number (format_of kind) old.toy new.toy error e.0)
 

@@ -24,8 +24,8 @@ use Rattle.rpki_signer.specs.declared.errors.SigningError.{SigningError}
 use Rattle.rpki_signer.specs.declared.errors.SigningError.TheVariants as signing
 use Rattle.rpki_signer.specs.declared.toy_signer.ToyKey.{ToyKey}
 use Rattle.rpki_signer.specs.Toy.{ToyChecks, toy_signature}
-use Rattle.rpki_signer.specs.Signer.{HeldKey, Holds, AreDistinct, Stays, CallFails, KeyFails, SigningFails, CallSpares, KeySpares, SigningSpares, IsUnfit, IsCreated, IsDestroyed, IsKeyOf, IsSignature, IsOneOff, IsDrawn}
-use Rattle.rpki_signer.specs.ToySigner.{ToyState, key_of, held_key, keyring_of, state_of, IsSound, AreCounts, key_numbered, after_creating, counted, after_fault, after_drawing, after_choosing, after_signing_once, one_off_key, IsToyGone, IsToyCreated, IsToyKey, IsToyDestroyed, IsToyFound, IsToyUnfit, IsToySigned, RefusesToyKey, IsToySignedOnce, IsToyRandom, octets_of, once_of}
+use Rattle.rpki_signer.specs.Signer.{HeldKey, HoldsKey, AreDistinct, Stays, CallFails, KeyFails, SigningFails, CallSpares, KeySpares, SigningSpares, IsUnfit, IsKeyCreated, IsDestroyed, IsKeyOf, IsSignature, IsOneOff, IsDrawn}
+use Rattle.rpki_signer.specs.ToySigner.{ToyState, key_of, held_key, keyring_of, state_of, IsSoundToy, AreCounts, key_numbered, after_creating, counted, after_fault, after_drawing, after_choosing, after_signing_once, one_off_key, IsToyGone, IsToyCreated, IsToyKey, IsToyDestroyed, IsToyFound, IsToyUnfit, IsToySigned, RefusesToyKey, IsToySignedOnce, IsToyRandom, octets_of_parts, once_of}
 use Rattle.rpki_signer.proofs.Keyrings.{none_in, first_or_behind, one_key}
 use Rattle.rpki_signer.proofs.ToySigners.{AreBelow, lacks_next, keyring_push, keyring_parts, found_is_held, missing_is_lacked}
 
@@ -105,7 +105,7 @@ refused_spares number format old new signing.IncompatibleKey e = counted_spares 
 refused_spares number format old new (signing.Signer fault) e = tt
 refused_spares number format old new signing.OutOfMemory e = counted_spares old new e.1.is
 
-pub signed_spares : {A : Type 0} (kind : SigningAlgorithm) (number : ℕ) (message : List ℕ) (old new : ToyState) (result : Result (SignatureParts A) (SigningError ToyFault)) → IsToySigned kind number message old new (octets_of result) → IfErr result (SigningSpares (state_of old) (state_of new))
+pub signed_spares : {A : Type 0} (kind : SigningAlgorithm) (number : ℕ) (message : List ℕ) (old new : ToyState) (result : Result (SignatureParts A) (SigningError ToyFault)) → IsToySigned kind number message old new (octets_of_parts result) → IfErr result (SigningSpares (state_of old) (state_of new))
 signed_spares kind number message old new (Ok s) e = tt
 signed_spares kind number message old new (Err error) e = refused_spares number (format_of kind) old new error e
 
@@ -116,7 +116,7 @@ once_spares kind message old new (Err call.OutOfMemory) e = faults_of old (after
 
 -- ---- making a key
 
-after_added : (s : ToyState) (format : PublicKeyFormat) → IsSound s.seed s.next s.keys → IsCreated format (state_of s) (state_of (after_creating format s)) s.next
+after_added : (s : ToyState) (format : PublicKeyFormat) → IsSoundToy s.seed s.next s.keys → IsKeyCreated format (state_of s) (state_of (after_creating format s)) s.next
 after_added s format sound = record {
   key = key_of s.seed (record { number = s.next; format = format });
   format_is = refl;
@@ -128,8 +128,8 @@ after_added s format sound = record {
   random = refl;
 }
 
-pub created_is : (format : PublicKeyFormat) (old new : ToyState) (result : Result ℕ (CallError ToyFault)) → IsSound old.seed old.next old.keys → AreCounts old → IsToyCreated format old new result
-    → MatchResult result (IsCreated format (state_of old) (state_of new)) (λ e. Stays (state_of old) (state_of new) × CallFails (state_of old) (state_of new) e)
+pub created_is : (format : PublicKeyFormat) (old new : ToyState) (result : Result ℕ (CallError ToyFault)) → IsSoundToy old.seed old.next old.keys → AreCounts old → IsToyCreated format old new result
+    → MatchResult result (IsKeyCreated format (state_of old) (state_of new)) (λ e. Stays (state_of old) (state_of new) × CallFails (state_of old) (state_of new) e)
 created_is format old new (Ok id) s c e = rw (e.1, e.2) (after_added old format s)
 created_is format old new (Err (call.Signer fault)) s c e = (stays_fault old new c e.1, rose_fault old new e.1)
 created_is format old new (Err call.OutOfMemory) s c e = (stays_drawing old new e.1, tt)
@@ -159,7 +159,7 @@ is_key old new number key e f =
     record {
       stays = stays_counted old new f;
       no_fault = counted_spares old new f;
-      holds = subst (λ x. Holds (keyring_of old.seed old.keys) number x) k.2 (found_is_held old.seed old.keys number k.0 k.1);
+      holds = subst (λ x. HoldsKey (keyring_of old.seed old.keys) number x) k.2 (found_is_held old.seed old.keys number k.0 k.1);
       told = λ long. absurd (short_key old.seed k.0 key k.2 long);
     }
 
@@ -224,7 +224,7 @@ unfit_is kind old new number d u =
       only = λ other held. subst (λ (k : KeyFields). k.format ≢ format_of kind) (one_key (keyring_of old.seed old.keys) number key other d holds held) u.unfit;
     }
 
-pub signed_is : (kind : SigningAlgorithm) (number : ℕ) (message : List ℕ) (old new : ToyState) (result : Result (List ℕ) (SigningError ToyFault)) → IsSound old.seed old.next old.keys → AreCounts old → IsToySigned kind number message old new result
+pub signed_is : (kind : SigningAlgorithm) (number : ℕ) (message : List ℕ) (old new : ToyState) (result : Result (List ℕ) (SigningError ToyFault)) → IsSoundToy old.seed old.next old.keys → AreCounts old → IsToySigned kind number message old new result
     → MatchResult result (λ octets. IsSignature ToyChecks kind number message (state_of old) (state_of new) octets) (λ e. Stays (state_of old) (state_of new) × SigningFails kind number (state_of old) (state_of new) e)
 signed_is kind number message old new (Ok octets) s c e = found_signs kind old new number message octets e.0 e.1 e.2
 signed_is kind number message old new (Err signing.KeyNotFound) s c e = (stays_counted old new e.2, missing_is_lacked old.seed old.keys number e.1)
@@ -243,14 +243,14 @@ key_numbers seed k l p q e =
     same_number k.number l.number p q (append_cancel_left (to_be_bytes w64 seed) (to_be_bytes w64 k.number) (to_be_bytes w64 l.number) (ap (λ (x : KeyFields). x.bits) e))
 
 fresh_by : (seed next : ℕ) (format : PublicKeyFormat) (k : ToyKey) (more : List ToyKey) (id : ℕ) → next < 18446744073709551616 → k.number < next
-    → ((held_key seed k ≡ record { id = id; key = key_of seed (record { number = next; format = format }) }) ⊎ Holds (keyring_of seed more) id (key_of seed (record { number = next; format = format })))
-    → (Holds (keyring_of seed more) id (key_of seed (record { number = next; format = format })) → ⊥) → ⊥
+    → ((held_key seed k ≡ record { id = id; key = key_of seed (record { number = next; format = format }) }) ⊎ HoldsKey (keyring_of seed more) id (key_of seed (record { number = next; format = format })))
+    → (HoldsKey (keyring_of seed more) id (key_of seed (record { number = next; format = format })) → ⊥) → ⊥
 fresh_by seed next format k more id h b (inl e) f =
     let n : k.number ≡ next = key_numbers seed k (record { number = next; format = format }) (omega (arith, h, b)) h (ap (λ (x : HeldKey ℕ). x.key) e) in
     omega (arith, n, b)
 fresh_by seed next format k more id h b (inr c) f = f c
 
-fresh : (seed next : ℕ) (format : PublicKeyFormat) (held : List ToyKey) (id : ℕ) → next < 18446744073709551616 → AreBelow next held → Holds (keyring_of seed held) id (key_of seed (record { number = next; format = format })) → ⊥
+fresh : (seed next : ℕ) (format : PublicKeyFormat) (held : List ToyKey) (id : ℕ) → next < 18446744073709551616 → AreBelow next held → HoldsKey (keyring_of seed held) id (key_of seed (record { number = next; format = format })) → ⊥
 fresh seed next format [] id h b c = none_in (record { id = id; key = key_of seed (record { number = next; format = format }) }) c
 fresh seed next format (k ∷ more) id h b c =
     fresh_by seed next format k more id h b.0 (first_or_behind (held_key seed k) (record { id = id; key = key_of seed (record { number = next; format = format }) }) (keyring_of seed more) c) (fresh seed next format more id h b.1)
@@ -258,7 +258,7 @@ fresh seed next format (k ∷ more) id h b c =
 -- what is chosen, with the rest of the clause
 pub record IsChosen (old : ToyState) (format : PublicKeyFormat) : Type 0 where
   pub stays : Stays (state_of old) (state_of (after_choosing format old))
-  pub new : (id : ℕ) → Holds (keyring_of old.seed old.keys) id (key_of old.seed (one_off_key format old.reuse old.next)) → Rose old.reused (after_choosing format old).reused
+  pub new : (id : ℕ) → HoldsKey (keyring_of old.seed old.keys) id (key_of old.seed (one_off_key format old.reuse old.next)) → Rose old.reused (after_choosing format old).reused
   pub format_is : (one_off_key format old.reuse old.next).format ≡ format
   pub seed : (after_choosing format old).seed ≡ old.seed
   pub no_fault : (after_choosing format old).faults ≡ old.faults
@@ -266,15 +266,15 @@ pub record IsChosen (old : ToyState) (format : PublicKeyFormat) : Type 0 where
 set_again : (s : ToyState) (number : ℕ) → AreCounts s → Stays (state_of s) (state_of (record s { calls = count_after s.calls; reused = count_after s.reused }))
 set_again s number c = record { later = record { faults = omega arith; overlong = omega arith; reused = rises s.reused c.reused }; keyring = refl; drawn = refl; random = refl }
 
-chosen_by : (format : PublicKeyFormat) (reuse : Option ℕ) (s : ToyState) → s.reuse ≡ reuse → IsSound s.seed s.next s.keys → AreCounts s → IsChosen s format
+chosen_by : (format : PublicKeyFormat) (reuse : Option ℕ) (s : ToyState) → s.reuse ≡ reuse → IsSoundToy s.seed s.next s.keys → AreCounts s → IsChosen s format
 chosen_by Rsa (Some number) s e sound c = rw e (record { stays = set_again s number c; new = λ id h. rose s.reused; format_is = refl; seed = refl; no_fault = refl })
 chosen_by Rsa None s e sound c = rw e (record { stays = drawing_stays s; new = λ id h. absurd (fresh s.seed s.next Rsa s.keys id c.next sound.below h); format_is = refl; seed = refl; no_fault = refl })
 chosen_by EcdsaP256 o s e sound c = record { stays = drawing_stays s; new = λ id h. absurd (fresh s.seed s.next EcdsaP256 s.keys id c.next sound.below h); format_is = refl; seed = refl; no_fault = refl }
 
-pub chosen : (format : PublicKeyFormat) (s : ToyState) → IsSound s.seed s.next s.keys → AreCounts s → IsChosen s format
+pub chosen : (format : PublicKeyFormat) (s : ToyState) → IsSoundToy s.seed s.next s.keys → AreCounts s → IsChosen s format
 chosen format s sound c = chosen_by format s.reuse s refl sound c
 
-signed_once : (kind : SigningAlgorithm) (message : List ℕ) (old : ToyState) (octets : List ℕ) (key : KeyFields) → IsSound old.seed old.next old.keys → AreCounts old
+signed_once : (kind : SigningAlgorithm) (message : List ℕ) (old : ToyState) (octets : List ℕ) (key : KeyFields) → IsSoundToy old.seed old.next old.keys → AreCounts old
     → key ≡ key_of old.seed (one_off_key (format_of kind) old.reuse old.next) → octets ≡ toy_signature key message → IsOneOff ToyChecks kind message (state_of old) (state_of (after_signing_once (format_of kind) old)) octets key
 signed_once kind message old octets key s c e f =
     let d = chosen (format_of kind) old s c in
@@ -286,12 +286,12 @@ signed_once kind message old octets key s c e f =
       drawn = ap (λ seed. Some (key_of seed k)) d.seed ∙ ap (λ (x : KeyFields). Some x) (sym e);
       random = d.stays.random;
       signed = (ap (λ (x : KeyFields). x.format) e ∙ d.format_is, f);
-      fresh = λ id h. d.new id (subst (λ (x : KeyFields). Holds (keyring_of old.seed old.keys) id x) e h);
+      fresh = λ id h. d.new id (subst (λ (x : KeyFields). HoldsKey (keyring_of old.seed old.keys) id x) e h);
       told = λ long. absurd (short_signature octets key message f long);
       key_told = λ long. absurd (short_key old.seed k key (sym e) long);
     }
 
-pub once_is : (kind : SigningAlgorithm) (message : List ℕ) (old new : ToyState) (result : Result (List ℕ × KeyFields) (CallError ToyFault)) → IsSound old.seed old.next old.keys → AreCounts old → IsToySignedOnce kind message old new result
+pub once_is : (kind : SigningAlgorithm) (message : List ℕ) (old new : ToyState) (result : Result (List ℕ × KeyFields) (CallError ToyFault)) → IsSoundToy old.seed old.next old.keys → AreCounts old → IsToySignedOnce kind message old new result
     → MatchResult result (λ r. IsOneOff ToyChecks kind message (state_of old) (state_of new) r.0 r.1) (λ e. Stays (state_of old) (state_of new) × CallFails (state_of old) (state_of new) e)
 once_is kind message old new (Ok (octets, key)) s c e = subst (λ (x : ToyState). IsOneOff ToyChecks kind message (state_of old) (state_of x) octets key) (sym e.3) (signed_once kind message old octets key s c e.1 e.2)
 once_is kind message old new (Err (call.Signer fault)) s c e = (stays_fault old new c e.1, rose_fault old new e.1)
@@ -312,12 +312,12 @@ distinct_if_same old new d e f = rw (e, f) d
 
 -- ---- what is answered
 
-pub answer_signed : {A : Type 0} (kind : SigningAlgorithm) (number : ℕ) (message : List ℕ) (old new : ToyState) (result : Result (SignatureParts A) (SigningError ToyFault)) → IsSound old.seed old.next old.keys → AreCounts old → IsToySigned kind number message old new (octets_of result)
+pub answer_signed : {A : Type 0} (kind : SigningAlgorithm) (number : ℕ) (message : List ℕ) (old new : ToyState) (result : Result (SignatureParts A) (SigningError ToyFault)) → IsSoundToy old.seed old.next old.keys → AreCounts old → IsToySigned kind number message old new (octets_of_parts result)
     → MatchResult result (λ s. IsSignature ToyChecks kind number message (state_of old) (state_of new) s.value) (λ e. Stays (state_of old) (state_of new) × SigningFails kind number (state_of old) (state_of new) e)
 answer_signed kind number message old new (Ok s) sound c e = signed_is kind number message old new (Ok s.value) sound c e
 answer_signed kind number message old new (Err error) sound c e = signed_is kind number message old new (Err error) sound c e
 
-pub answer_once : {A : Type 0} (kind : SigningAlgorithm) (message : List ℕ) (old new : ToyState) (result : Result (SignatureParts A × KeyFields) (CallError ToyFault)) → IsSound old.seed old.next old.keys → AreCounts old → IsToySignedOnce kind message old new (once_of result)
+pub answer_once : {A : Type 0} (kind : SigningAlgorithm) (message : List ℕ) (old new : ToyState) (result : Result (SignatureParts A × KeyFields) (CallError ToyFault)) → IsSoundToy old.seed old.next old.keys → AreCounts old → IsToySignedOnce kind message old new (once_of result)
     → MatchResult result (λ r. IsOneOff ToyChecks kind message (state_of old) (state_of new) r.0.value r.1) (λ e. Stays (state_of old) (state_of new) × CallFails (state_of old) (state_of new) e)
 answer_once kind message old new (Ok (s, k)) sound c e = once_is kind message old new (Ok (s.value, k)) sound c e
 answer_once kind message old new (Err error) sound c e = once_is kind message old new (Err error) sound c e

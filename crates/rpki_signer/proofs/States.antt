@@ -14,7 +14,7 @@ use Rattle.rpki_base.specs.declared.algorithm.SigningAlgorithm.TheVariants.{RsaS
 use Rattle.rpki_base.specs.PublicKey.{KeyFields}
 use Rattle.rpki_base.specs.Scheme.{Relation}
 use Rattle.rpki_signer.specs.Limits.{IsShortKey, IsSpared, Keeps, MakeFails, RefusesKey, RefusesSignature, RefusesOneOff, StopsInTurn}
-use Rattle.rpki_signer.specs.Signer.{SignerState, Lacks, IsLater, Stays, IsUnfit, IsOneOff, CallFails, SigningFails}
+use Rattle.rpki_signer.specs.Signer.{SignerState, LacksKey, IsLater, Stays, IsUnfit, IsOneOff, CallFails, SigningFails}
 
 -- ---- counts
 
@@ -53,7 +53,7 @@ unfit_before : {I : Type 0} (kind : SigningAlgorithm) (a b : SignerState I) (id 
 unfit_before kind a b id k u = subst (λ r. IsUnfit kind r id) k.keyring u
 
 pub signing_before : {I E : Type 0} (kind : SigningAlgorithm) (id : I) (a b c : SignerState I) (e : SigningError E) → Keeps a b → SigningFails kind id b c e → SigningFails kind id a c e
-signing_before kind id a b c signing.KeyNotFound k f = subst (λ r. Lacks r id) k.keyring f
+signing_before kind id a b c signing.KeyNotFound k f = subst (λ r. LacksKey r id) k.keyring f
 signing_before kind id a b c signing.IncompatibleKey k f = unfit_before kind a b id k f
 signing_before kind id a b c (signing.Signer e) k f = then_rose a.faults b.faults c.faults k.later.faults f
 signing_before kind id a b c signing.OutOfMemory k f = tt

@@ -58,7 +58,7 @@ MakeFails kind id before after make.OutOfMemory = ⊤
 -- ---- which refusal was the first, where an RSA key is asked for and then signed under
 
 -- a call was refused: it gave nothing, so it counted nothing that is too long
-pub record IsRefused {Id E : Type 0} (id : Id) (before after : SignerState Id)
+pub record IsCallRefused {Id E : Type 0} (id : Id) (before after : SignerState Id)
     (error : SigningError E) : Type 0 where
   pub stays : Stays before after
   pub uncounted : after.overlong ≡ before.overlong
@@ -84,7 +84,7 @@ abbrev pub RefusesKey : {Id E : Type 0} → Id → SignerState Id → SignerStat
     → Type 0
 RefusesKey id before after make.TooLong = GivesLongKey id before after
 RefusesKey id before after (make.Signing error) =
-    IsRefused id before after error × (error ≢ signing.IncompatibleKey)
+    IsCallRefused id before after error × (error ≢ signing.IncompatibleKey)
 RefusesKey id before after make.OutOfMemory = IsSpared before after
 
 -- a signature of some message was given, and is too long
@@ -99,7 +99,7 @@ pub record GivesLongSignature {Id : Type 0} (scheme : Relation) (id : Id)
 abbrev pub RefusesSignature : {Id E : Type 0} → Relation → Id → SignerState Id → SignerState Id
     → MakeError E → Type 0
 RefusesSignature scheme id before after make.TooLong = GivesLongSignature scheme id before after
-RefusesSignature scheme id before after (make.Signing error) = IsRefused id before after error
+RefusesSignature scheme id before after (make.Signing error) = IsCallRefused id before after error
 RefusesSignature scheme id before after make.OutOfMemory = IsSpared before after
 
 -- the key was given, and is not too long

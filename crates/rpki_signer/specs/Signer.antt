@@ -32,17 +32,17 @@ pub record SignerState (Id : Type 0) : Type 0 where
   pub random : List ℕ
 
 -- the identifier is that of the key
-abbrev pub Holds : {Id : Type 0} → List (HeldKey Id) → Id → KeyFields → Type 0
-Holds keyring id key = Contains keyring (record { id = id; key = key })
+abbrev pub HoldsKey : {Id : Type 0} → List (HeldKey Id) → Id → KeyFields → Type 0
+HoldsKey keyring id key = Contains keyring (record { id = id; key = key })
 
 -- the identifier is that of no key
-abbrev pub Lacks : {Id : Type 0} → List (HeldKey Id) → Id → Type 0
-Lacks keyring id = (key : KeyFields) → Holds keyring id key → ⊥
+abbrev pub LacksKey : {Id : Type 0} → List (HeldKey Id) → Id → Type 0
+LacksKey keyring id = (key : KeyFields) → HoldsKey keyring id key → ⊥
 
 -- no two keys have one identifier
 abbrev pub AreDistinct : {Id : Type 0} → List (HeldKey Id) → Type 0
 AreDistinct [] = ⊤
-AreDistinct (held ∷ more) = Lacks more held.id × AreDistinct more
+AreDistinct (held ∷ more) = LacksKey more held.id × AreDistinct more
 
 -- ---- what a call leaves
 
@@ -73,7 +73,7 @@ CallFails before after call.OutOfMemory = ⊤
 -- what a KeyError says: KeyNotFound, that no key has the identifier; Signer, that the count of
 -- faults rose or is at its end
 abbrev pub KeyFails : {Id E : Type 0} → Id → SignerState Id → SignerState Id → KeyError E → Type 0
-KeyFails id before after key.KeyNotFound = Lacks before.keyring id
+KeyFails id before after key.KeyNotFound = LacksKey before.keyring id
 KeyFails id before after (key.Signer error) = Rose before.faults after.faults
 KeyFails id before after key.OutOfMemory = ⊤
 
@@ -82,14 +82,14 @@ KeyFails id before after key.OutOfMemory = ⊤
 pub record IsUnfit {Id : Type 0} (kind : SigningAlgorithm) (keyring : List (HeldKey Id)) (id : Id)
     : Type 0 where
   pub key : KeyFields
-  pub holds : Holds keyring id key
-  pub only : (other : KeyFields) → Holds keyring id other → other.format ≢ format_of kind
+  pub holds : HoldsKey keyring id key
+  pub only : (other : KeyFields) → HoldsKey keyring id other → other.format ≢ format_of kind
 
 -- what a SigningError says: KeyNotFound, that the identifier has no key; IncompatibleKey, that each
 -- of its keys has another format; Signer, that the count of faults rose or is at its end
 abbrev pub SigningFails : {Id E : Type 0} → SigningAlgorithm → Id → SignerState Id
     → SignerState Id → SigningError E → Type 0
-SigningFails kind id before after signing.KeyNotFound = Lacks before.keyring id
+SigningFails kind id before after signing.KeyNotFound = LacksKey before.keyring id
 SigningFails kind id before after signing.IncompatibleKey = IsUnfit kind before.keyring id
 SigningFails kind id before after (signing.Signer error) = Rose before.faults after.faults
 SigningFails kind id before after signing.OutOfMemory = ⊤
@@ -118,11 +118,11 @@ SigningSpares before after signing.OutOfMemory = after.faults ≡ before.faults
 -- ---- what is given, without a fault
 
 -- a key of this format was added under a new identifier
-pub record IsCreated {Id : Type 0} (format : PublicKeyFormat) (before after : SignerState Id)
+pub record IsKeyCreated {Id : Type 0} (format : PublicKeyFormat) (before after : SignerState Id)
     (id : Id) : Type 0 where
   pub key : KeyFields
   pub format_is : key.format ≡ format
-  pub new : Lacks before.keyring id
+  pub new : LacksKey before.keyring id
   pub keyring : after.keyring ≡ before.keyring ++ record { id = id; key = key } ∷ []
   pub later : IsLater before after
   pub no_fault : after.faults ≡ before.faults
@@ -146,7 +146,7 @@ pub record IsKeyOf {Id : Type 0} (id : Id) (before after : SignerState Id) (key 
     : Type 0 where
   pub stays : Stays before after
   pub no_fault : after.faults ≡ before.faults
-  pub holds : Holds before.keyring id key
+  pub holds : HoldsKey before.keyring id key
   pub told : TellsLength before after key.bits
 
 -- the octets are a signature of the message under the identifier's key
@@ -155,7 +155,7 @@ pub record IsSignature {Id : Type 0} (scheme : Relation) (kind : SigningAlgorith
   pub stays : Stays before after
   pub no_fault : after.faults ≡ before.faults
   pub key : KeyFields
-  pub holds : Holds before.keyring id key
+  pub holds : HoldsKey before.keyring id key
   pub signed : scheme kind key message octets
   pub told : TellsLength before after octets
 
@@ -169,7 +169,7 @@ pub record IsOneOff {Id : Type 0} (scheme : Relation) (kind : SigningAlgorithm) 
   pub drawn : after.drawn ≡ Some key
   pub random : after.random ≡ before.random
   pub signed : scheme kind key message octets
-  pub fresh : (id : Id) → Holds before.keyring id key → Rose before.reused after.reused
+  pub fresh : (id : Id) → HoldsKey before.keyring id key → Rose before.reused after.reused
   pub told : TellsLength before after octets
   pub key_told : TellsLength before after key.bits
 

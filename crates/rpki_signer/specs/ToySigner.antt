@@ -84,7 +84,7 @@ state_of s = record {
 }
 
 -- no two of its keys have one number, and all numbers were drawn before
-pub record IsSound (seed next : ℕ) (keys : List ToyKey) : Type 0 where
+pub record IsSoundToy (seed next : ℕ) (keys : List ToyKey) : Type 0 where
   pub distinct : AreDistinct (keyring_of seed keys)
   pub below : AllByRecursion (λ k. k.number < next) keys
 
@@ -316,9 +316,9 @@ IsToyRandom before after was octets (Err call.OutOfMemory) = ⊥
 -- ---- the octets of what is answered
 
 -- of an answer with a signature, its octets
-abbrev pub octets_of : {A E : Type 0} → Result (SignatureParts A) E → Result (List ℕ) E
-octets_of (Ok signature) = Ok signature.value
-octets_of (Err error) = Err error
+abbrev pub octets_of_parts : {A E : Type 0} → Result (SignatureParts A) E → Result (List ℕ) E
+octets_of_parts (Ok signature) = Ok signature.value
+octets_of_parts (Err error) = Err error
 
 -- of an answer with a signature under a key for one use, its octets and that key
 abbrev pub once_of : {A K E : Type 0} → Result (SignatureParts A × K) E → Result (List ℕ × K) E

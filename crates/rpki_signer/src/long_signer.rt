@@ -4,7 +4,7 @@ ghost use Rattle.std.specs.Prelude.{◌≡◌, ◌<◌, ◌^◌, IfOk, IfErr, On
 ghost use Rattle.rpki_signer.specs.Any.{AnyChecks};
 ghost use Rattle.rpki_signer.specs.Signer.{AreDistinct, Stays, CallFails, KeyFails, SigningFails};
 ghost use Rattle.rpki_signer.specs.Signer.{CallSpares, KeySpares, SigningSpares};
-ghost use Rattle.rpki_signer.specs.Signer.{IsCreated, IsDestroyed, IsKeyOf, IsSignature, IsOneOff, IsDrawn};
+ghost use Rattle.rpki_signer.specs.Signer.{IsKeyCreated, IsDestroyed, IsKeyOf, IsSignature, IsOneOff, IsDrawn};
 ghost use Rattle.rpki_signer.specs.ToySigner as toy_spec;
 ghost use Rattle.rpki_signer.specs.LongSigner as spec;
 
@@ -86,9 +86,9 @@ impl LongSigner {
         algorithm: Alg,
     ) -> Result<Signature<Alg>, SigningError<ToyFault>>
         ensures signed { spec.IsLongSigned (Alg.kind algorithm) number
-            self.old self.new (toy_spec.octets_of result) }
+            self.old self.new (toy_spec.octets_of_parts result) }
         ensures algorithm { IfOk result (λ s. s.algorithm ≡ algorithm) }
-        ensures sound { toy_spec.IsSound self.old.toy.seed self.old.toy.next self.old.toy.keys }
+        ensures sound { toy_spec.IsSoundToy self.old.toy.seed self.old.toy.next self.old.toy.keys }
         ensures counts { toy_spec.AreCounts self.old.toy }
         ensures count { OnOk result (self.old.overlong < 2 ^ 64) }
     {
@@ -107,7 +107,7 @@ impl LongSigner {
         ensures signed { spec.IsLongSignedOnce (Alg.kind algorithm)
             self.old self.new (toy_spec.once_of result) }
         ensures algorithm { IfOk result (λ r. r.0.algorithm ≡ algorithm) }
-        ensures sound { toy_spec.IsSound self.old.toy.seed self.old.toy.next self.old.toy.keys }
+        ensures sound { toy_spec.IsSoundToy self.old.toy.seed self.old.toy.next self.old.toy.keys }
         ensures counts { toy_spec.AreCounts self.old.toy }
         ensures count { OnOk result (self.old.overlong < 2 ^ 64) }
     {
@@ -136,7 +136,7 @@ impl Signer<AnyScheme> for LongSigner {
     ) -> Result<u64, CallError<ToyFault>>
         // What each signer promises.
         ensures created { MatchResult result
-            (IsCreated format (spec.long_state self.old) (spec.long_state self.new))
+            (IsKeyCreated format (spec.long_state self.old) (spec.long_state self.new))
             (λ e. Stays (spec.long_state self.old) (spec.long_state self.new)
             × CallFails (spec.long_state self.old) (spec.long_state self.new) e) }
         ensures spares { IfErr result
@@ -210,7 +210,7 @@ impl Signer<AnyScheme> for LongSigner {
 
         // Which answer, and what the signer is then.
         ensures exact { spec.IsLongSigned (Alg.kind algorithm) key.now
-            self.old self.new (toy_spec.octets_of result) }
+            self.old self.new (toy_spec.octets_of_parts result) }
     {
         self.sign_with(alloc, *key, algorithm)
     }

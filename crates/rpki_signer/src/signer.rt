@@ -4,7 +4,7 @@ ghost use Rattle.std.specs.Prelude.{◌≡◌, ◌<◌, IfOk, IfErr, OnErr, IsEr
 ghost use Rattle.rpki_signer.specs.declared.errors.CallError.TheVariants as call;
 ghost use Rattle.rpki_signer.specs.Signer.{SignerState, AreDistinct, Stays, CallFails, KeyFails, SigningFails};
 ghost use Rattle.rpki_signer.specs.Signer.{CallSpares, KeySpares, SigningSpares};
-ghost use Rattle.rpki_signer.specs.Signer.{IsCreated, IsDestroyed, IsKeyOf, IsSignature, IsOneOff, IsDrawn};
+ghost use Rattle.rpki_signer.specs.Signer.{IsKeyCreated, IsDestroyed, IsKeyOf, IsSignature, IsOneOff, IsDrawn};
 
 use crate::errors::{CallError, KeyError, SigningError};
 use rpki_base::{PublicKey, PublicKeyFormat, Scheme, Signature, SignatureAlgorithm};
@@ -30,7 +30,7 @@ pub trait Signer<P: Scheme> {
         alloc: Global,
         format: PublicKeyFormat,
     ) -> Result<Self::KeyId, CallError<Self::Error>>
-        ensures created { MatchResult result (IsCreated format (state self.old) (state self.new))
+        ensures created { MatchResult result (IsKeyCreated format (state self.old) (state self.new))
             (λ e. Stays (state self.old) (state self.new)
             × CallFails (state self.old) (state self.new) e) }
         ensures spares { IfErr result (CallSpares (state self.old) (state self.new)) }

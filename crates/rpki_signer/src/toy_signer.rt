@@ -6,7 +6,7 @@ ghost use Rattle.rpki_base.specs.declared.algorithm.PublicKeyFormat.TheVariants.
 ghost use Rattle.rpki_signer.specs.Toy.{ToyChecks, toy_signature};
 ghost use Rattle.rpki_signer.specs.Signer.{AreDistinct, Stays, CallFails, KeyFails, SigningFails};
 ghost use Rattle.rpki_signer.specs.Signer.{CallSpares, KeySpares, SigningSpares};
-ghost use Rattle.rpki_signer.specs.Signer.{IsCreated, IsDestroyed, IsKeyOf, IsSignature, IsOneOff, IsDrawn};
+ghost use Rattle.rpki_signer.specs.Signer.{IsKeyCreated, IsDestroyed, IsKeyOf, IsSignature, IsOneOff, IsDrawn};
 ghost use Rattle.rpki_signer.specs.ToySigner as spec;
 ghost use Rattle.rpki_signer.specs.declared.toy_signer.ToyKey.{ToyKey as Key};
 
@@ -72,7 +72,7 @@ impl Drop for ToySigner {
 }
 
 impl Model for ToySigner {
-    ghost use Rattle.rpki_signer.specs.ToySigner.{ToyState, IsSound, octets_drawn};
+    ghost use Rattle.rpki_signer.specs.ToySigner.{ToyState, IsSoundToy, octets_drawn};
 
     ghost Value = { ToyState };
 
@@ -89,7 +89,7 @@ impl Model for ToySigner {
       random = octets_drawn s.seed s.random;
     } };
 
-    ghost invariant = { λ s. IsSound s.seed s.next s.keys.items };
+    ghost invariant = { λ s. IsSoundToy s.seed s.next s.keys.items };
 }
 
 // The key with this number among the keys.
@@ -211,7 +211,7 @@ impl ToySigner {
             ((spec.is_listed self.old ≡ false) × (self.new ≡ spec.counted self.old)) }
         ensures err { OnErr result
             ((spec.is_listed self.old ≡ true) × (self.new ≡ spec.after_fault self.old)) }
-        ensures sound { spec.IsSound self.old.seed self.old.next self.old.keys }
+        ensures sound { spec.IsSoundToy self.old.seed self.old.next self.old.keys }
         ensures counts { spec.AreCounts self.old }
     {
         let fails = self.failing.contains(&self.calls);
@@ -229,7 +229,7 @@ impl ToySigner {
             × (self.new ≡ spec.after_drawing self.old)) }
         ensures err { OnErr result
             ((spec.cannot_draw self.old ≡ true) × (self.new ≡ spec.after_fault self.old)) }
-        ensures sound { spec.IsSound self.old.seed self.old.next self.old.keys }
+        ensures sound { spec.IsSoundToy self.old.seed self.old.next self.old.keys }
         ensures counts { spec.AreCounts self.old }
     {
         let fails = self.failing.contains(&self.calls) || self.next == u64::MAX;
@@ -252,9 +252,9 @@ impl ToySigner {
         format: PublicKeyFormat,
     ) -> Result<u64, CallError<ToyFault>>
         ensures created { spec.IsToyCreated format self.old self.new result }
-        ensures sound { spec.IsSound self.old.seed self.old.next self.old.keys }
+        ensures sound { spec.IsSoundToy self.old.seed self.old.next self.old.keys }
         ensures counts { spec.AreCounts self.old }
-        ensures sound_after { spec.IsSound self.new.seed self.new.next self.new.keys }
+        ensures sound_after { spec.IsSoundToy self.new.seed self.new.next self.new.keys }
     {
         let number = match self.draw() {
             Ok(number) => number,
@@ -272,7 +272,7 @@ impl ToySigner {
         number: u64,
     ) -> Result<PublicKey, KeyError<ToyFault>>
         ensures key { spec.IsToyKey number self.old self.new result }
-        ensures sound { spec.IsSound self.old.seed self.old.next self.old.keys }
+        ensures sound { spec.IsSoundToy self.old.seed self.old.next self.old.keys }
         ensures counts { spec.AreCounts self.old }
     {
         if let Err(fault) = self.count_call() {
@@ -289,9 +289,9 @@ impl ToySigner {
 
     pub(crate) fn destroy(&mut self, number: u64) -> Result<(), KeyError<ToyFault>>
         ensures destroyed { spec.IsToyDestroyed number self.old self.new result }
-        ensures sound { spec.IsSound self.old.seed self.old.next self.old.keys }
+        ensures sound { spec.IsSoundToy self.old.seed self.old.next self.old.keys }
         ensures counts { spec.AreCounts self.old }
-        ensures sound_after { spec.IsSound self.new.seed self.new.next self.new.keys }
+        ensures sound_after { spec.IsSoundToy self.new.seed self.new.next self.new.keys }
     {
         if let Err(fault) = self.count_call() {
             return Err(KeyError::Signer(fault));
@@ -311,7 +311,7 @@ impl ToySigner {
     ) -> Result<ToyKey, SigningError<ToyFault>>
         ensures ok { IfOk result (spec.IsToyFound number format self.old self.new) }
         ensures err { IfErr result (spec.RefusesToyKey number format self.old self.new) }
-        ensures sound { spec.IsSound self.old.seed self.old.next self.old.keys }
+        ensures sound { spec.IsSoundToy self.old.seed self.old.next self.old.keys }
         ensures counts { spec.AreCounts self.old }
     {
         if let Err(fault) = self.count_call() {
@@ -334,9 +334,9 @@ impl ToySigner {
         message: &[u8],
     ) -> Result<Signature<Alg>, SigningError<ToyFault>>
         ensures signed { spec.IsToySigned (Alg.kind algorithm) number message.now
-            self.old self.new (spec.octets_of result) }
+            self.old self.new (spec.octets_of_parts result) }
         ensures algorithm { IfOk result (λ s. s.algorithm ≡ algorithm) }
-        ensures sound { spec.IsSound self.old.seed self.old.next self.old.keys }
+        ensures sound { spec.IsSoundToy self.old.seed self.old.next self.old.keys }
         ensures counts { spec.AreCounts self.old }
     {
         let format = algorithm.signing_algorithm().public_key_format();
@@ -354,7 +354,7 @@ impl ToySigner {
         ensures signed { spec.IsToySignedOnce (Alg.kind algorithm) message.now
             self.old self.new (spec.once_of result) }
         ensures algorithm { IfOk result (λ r. r.0.algorithm ≡ algorithm) }
-        ensures sound { spec.IsSound self.old.seed self.old.next self.old.keys }
+        ensures sound { spec.IsSoundToy self.old.seed self.old.next self.old.keys }
         ensures counts { spec.AreCounts self.old }
     {
         let format = algorithm.signing_algorithm().public_key_format();
@@ -371,7 +371,7 @@ impl ToySigner {
         format: PublicKeyFormat,
     ) -> Result<(ToyKey, PublicKey), CallError<ToyFault>>
         ensures chosen { spec.IsToyChosen format self.old self.new result }
-        ensures sound { spec.IsSound self.old.seed self.old.next self.old.keys }
+        ensures sound { spec.IsSoundToy self.old.seed self.old.next self.old.keys }
         ensures counts { spec.AreCounts self.old }
     {
         let chosen = match self.choose(format) {
@@ -396,7 +396,7 @@ impl ToySigner {
             × (self.new ≡ spec.after_choosing format self.old)) }
         ensures err { OnErr result ((spec.cannot_sign_once format self.old ≡ true)
             × (self.new ≡ spec.after_fault self.old)) }
-        ensures sound { spec.IsSound self.old.seed self.old.next self.old.keys }
+        ensures sound { spec.IsSoundToy self.old.seed self.old.next self.old.keys }
         ensures counts { spec.AreCounts self.old }
     {
         let number = match (format, self.reuse) {
@@ -412,7 +412,7 @@ impl ToySigner {
 
     pub(crate) fn fill(&mut self, target: &mut [u8]) -> Result<(), CallError<ToyFault>>
         ensures random { spec.IsToyRandom self.old self.new target.old target.new result }
-        ensures sound { spec.IsSound self.old.seed self.old.next self.old.keys }
+        ensures sound { spec.IsSoundToy self.old.seed self.old.next self.old.keys }
         ensures counts { spec.AreCounts self.old }
     {
         let number = match self.draw() {
@@ -465,7 +465,7 @@ impl Signer<ToyScheme> for ToySigner {
     ) -> Result<u64, CallError<ToyFault>>
         // What each signer promises.
         ensures created { MatchResult result
-            (IsCreated format (spec.state_of self.old) (spec.state_of self.new))
+            (IsKeyCreated format (spec.state_of self.old) (spec.state_of self.new))
             (λ e. Stays (spec.state_of self.old) (spec.state_of self.new)
             × CallFails (spec.state_of self.old) (spec.state_of self.new) e) }
         ensures spares { IfErr result
@@ -536,7 +536,7 @@ impl Signer<ToyScheme> for ToySigner {
 
         // Which answer, and what the signer is then.
         ensures exact { spec.IsToySigned (Alg.kind algorithm) key.now message.now
-            self.old self.new (spec.octets_of result) }
+            self.old self.new (spec.octets_of_parts result) }
     {
         self.sign_with(alloc, *key, algorithm, message)
     }

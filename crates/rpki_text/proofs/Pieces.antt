@@ -5,7 +5,7 @@ use Rattle.std.specs.declared.option.Option.{Option}
 use Rattle.std.specs.Io.KnownBytes.{Appends, Consumes}
 use Rattle.std.proofs.KnownBytes.{Appends-trans, Consumes-trans}
 use Rattle.std.proofs.lemmas.List.{take_all, length-drop, drop-drop}
-use Rattle.rpki_text.specs.Source.{Takes}
+use Rattle.rpki_text.specs.Source.{TakesExactly}
 
 -- one more piece was written
 pub write_more : (old mid new : Option (List ℕ)) (all front rest : List ℕ) (count : ℕ) → all ≡ front ++ rest → Appends old mid front
@@ -17,7 +17,7 @@ write_more old mid new all front rest count e p q le =
 
 -- one more piece was read
 pub read_more : (old mid new : Option (List ℕ)) (held block : List ℕ) (count : ℕ) → Consumes old mid held → Consumes mid new (take count block) → count ≤ length block
-    → Takes old new (length held + count)
+    → TakesExactly old new (length held + count)
 read_more old mid new held block count p q le =
     (held ++ take count block, Consumes-trans old mid new held (take count block) p q, omega (arith, length-append held (take count block), length-take count block))
 

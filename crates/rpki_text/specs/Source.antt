@@ -3,8 +3,8 @@ use Rattle.std.specs.Prelude.{◌≡◌, ◌≤◌, ℕ, Option, None, Some, Lis
 use Rattle.std.specs.Io.KnownBytes.{Consumes}
 
 -- The next `count` octets were taken.
-abbrev pub Takes : Option (List ℕ) → Option (List ℕ) → ℕ → Type 0
-Takes before after count =
+abbrev pub TakesExactly : Option (List ℕ) → Option (List ℕ) → ℕ → Type 0
+TakesExactly before after count =
     (octets : List ℕ) × Consumes before after octets × (length octets ≡ count)
 
 -- Some of the next octets were taken, and not more than `most`.

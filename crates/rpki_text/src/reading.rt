@@ -3,7 +3,7 @@
 ghost use Rattle.std.specs.Prelude.{◌≡◌, ◌≤◌, ◌+◌, ◌++◌, length, IfOk, OnOk, OnErr, IfSome, IsErrOf};
 ghost use Rattle.std.specs.Io.KnownBytes.{Consumes, IsAtEnd};
 ghost use Rattle.rpki_common.specs.Causes.{Rose};
-ghost use Rattle.rpki_text.specs.Source.{Takes, TakesAtMost};
+ghost use Rattle.rpki_text.specs.Source.{TakesExactly, TakesAtMost};
 ghost use Rattle.rpki_text.specs.declared.reading.ReadAllError.TheVariants as variant;
 
 use crate::traits::Source;
@@ -81,7 +81,7 @@ pub fn read_all<I: Source>(
     // alone.
     ensures most { TakesAtMost (I.rest source.old) (I.rest source.new) (limit + 1) }
     ensures too_long { IsErrOf result ReadAllError.TooLong
-        → Takes (I.rest source.old) (I.rest source.new) (limit + 1) }
+        → TakesExactly (I.rest source.old) (I.rest source.new) (limit + 1) }
     ensures no_more { ¬ (IsErrOf result ReadAllError.TooLong)
         → TakesAtMost (I.rest source.old) (I.rest source.new) limit }
 {

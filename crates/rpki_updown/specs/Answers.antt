@@ -1,7 +1,7 @@
 -- What calls answer, and how errors of lower layers are passed on.
 use Rattle.std.specs.Prelude.{◌≡◌, ℕ, List, Option, None, Some, ⊤}
-use Rattle.rpki_message.specs.declared.cause.Cause.{Cause}
-use Rattle.rpki_message.specs.declared.cause.Cause.TheVariants as causes
+use Rattle.rpki_xmltext.specs.declared.cause.Cause.{Cause}
+use Rattle.rpki_xmltext.specs.declared.cause.Cause.TheVariants as causes
 use Rattle.rpki_sets.specs.Resources.{Resources}
 use Rattle.rpki_text.specs.declared.reading.ReadAllError.{ReadAllError}
 use Rattle.rpki_text.specs.declared.reading.ReadAllError.TheVariants as read

@@ -9,10 +9,10 @@ use crate::payload_type::PayloadTypeError;
 use crate::request_resource_limit::RequestResourceLimit;
 use rpki_base::ValidationError;
 use rpki_common::OutOfMemory;
-use rpki_message::Cause;
 use rpki_sets::ResourceSet;
 use rpki_text::ReadAllError;
 use rpki_xml::{Mismatch, XmlError};
+use rpki_xmltext::Cause;
 use std::alloc::{AllocError, AllocFailed};
 use std::fmt;
 

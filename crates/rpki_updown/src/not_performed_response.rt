@@ -6,7 +6,7 @@ ghost use Rattle.std.specs.Rc.{rc_str_bytes};
 ghost use Rattle.rpki_updown.specs.NotPerformedResponse.{reason, not_performed_text};
 
 use rpki_common::{OutOfMemory, Text};
-use rpki_message::{cloned, shared, taken_in};
+use rpki_xmltext::{cloned, shared, taken_in};
 use std::alloc::Global;
 use std::fmt;
 use std::marker::Model;

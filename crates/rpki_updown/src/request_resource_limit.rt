@@ -5,7 +5,7 @@ ghost use Rattle.std.specs.Bool.{OnTrue, OnFalse};
 ghost use Rattle.std.specs.Cmp.{partial_equiv_from_equiv};
 ghost use Rattle.std.specs.Fmt.{WritesOnOk};
 ghost use Rattle.std.specs.Option.{option_map};
-ghost use Rattle.rpki_sets.specs.Kinds.{text_of};
+ghost use Rattle.rpki_sets.specs.Kinds.{printed};
 ghost use Rattle.rpki_sets.specs.Runs.{IsSet};
 ghost use Rattle.rpki_updown.specs.Answers.{RefusesLimit};
 ghost use Rattle.rpki_updown.specs.RequestResourceLimit.{no_limit, HasStated, IsContained, limited, limited_set, are_same, are_same-equiv, limit_text};
@@ -250,7 +250,7 @@ fn show_part<N: Numbers, W: fmt::Write>(
     stated: &Option<Blocks<N>>,
 ) -> fmt::Result
     ensures { WritesOnOk W.write_str_gives f.old result
-        (shown_part separator.now name.now (text_of N.kind) stated.now) f.new }
+        (shown_part separator.now name.now (printed N.kind) stated.now) f.new }
 {
     match stated {
         None => Ok(()),

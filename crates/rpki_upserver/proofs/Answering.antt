@@ -5,7 +5,7 @@ use Rattle.rpki_base.specs.Scheme.{Relation}
 use Rattle.rpki_signer.specs.Limits.{Keeps}
 use Rattle.rpki_signer.specs.Signer.{SignerState}
 use Rattle.rpki_sigmsg.specs.declared.create_error.CreateError.{CreateError}
-use Rattle.rpki_sigmsg.specs.Spelling.{rewritten, CanBeSpelled}
+use Rattle.rpki_sigmsg.specs.Spelling.{rewritten, CanSpellMessage}
 use Rattle.rpki_updown.specs.declared.error.Error.{Error}
 use Rattle.rpki_provisioning.specs.Cms.{CmsFields}
 use Rattle.rpki_provisioning.specs.Message.{text_of}
@@ -26,13 +26,13 @@ use Rattle.rpki_ca.proofs.Creating.{first_told}
 use Rattle.rpki_ca.proofs.Sending.{not_memory, signing_cause}
 use Rattle.rpki_ca.proofs.Serving.{stopped_at}
 use Rattle.rpki_ca.proofs.Stepping.{all_steps, first_steps}
-use Rattle.rpki_upserver.specs.Answering.{IsAnswered, IsUnsent, ParentAndIssuer, RefusesOctets, error_of, reply}
+use Rattle.rpki_upserver.specs.Answering.{IsRequestAnswered, IsUnsent, ParentAndIssuer, RefusesOctets, error_of, reply}
 use Rattle.rpki_upserver.specs.Serving.{AreAllAnswered, AreFirstAnswered, FailsLine, IsLeft, IsLineAnswered, Service, StopsAnswering, service_of}
 
 -- ---- one line
 
 -- what is signed is written in hexadecimal
-pub replied_so : {I : Type 0} (scheme : Relation) (when : ℤ) (signer : SignerSeen I) (before : ParentAndIssuer) (octets : List ℕ) (c : CmsFields) (after : ParentAndIssuer) → IsAnswered scheme octets when before after signer c → CanBeSpelled c.signed
+pub replied_so : {I : Type 0} (scheme : Relation) (when : ℤ) (signer : SignerSeen I) (before : ParentAndIssuer) (octets : List ℕ) (c : CmsFields) (after : ParentAndIssuer) → IsRequestAnswered scheme octets when before after signer c → CanSpellMessage c.signed
     → Keeps signer.before signer.after → IsLineAnswered scheme when signer.id (service_of before signer.before) octets (encode_lower (rewritten c.signed)) (service_of after signer.after)
 replied_so scheme when signer before octets c after answered spelled keeps = inl (record {
   payload = answered.payload;

@@ -7,7 +7,7 @@ use Rattle.rpki_updown.specs.KeyElement.{KeyElementFields}
 use Rattle.rpki_provisioning.specs.Shape.{MessageFields}
 use Rattle.rpki_provisioning.specs.declared.payload.Payload.{Payload}
 use Rattle.rpki_provisioning.specs.declared.payload.Payload.TheVariants as payloads
-use Rattle.rpki_upserver.specs.Response.{IsFromChild, IsIssueAnswer, IsPayloadAnswer, IsResponse, IsRevokeAnswer, Outcome, Refuses, refusal}
+use Rattle.rpki_upserver.specs.Response.{IsFromChild, IsIssueAnswer, IsPayloadAnswer, IsResponse, IsRevokeAnswer, Outcome, RefusesRequest, refusal}
 use Rattle.rpki_upserver.specs.Table.{ClassState, ParentState, Table, class_named}
 
 -- the status of a payload that says that something wasn't performed
@@ -16,7 +16,7 @@ status_in (payloads.ErrorResponse response) = response.status
 status_in other = 0
 
 -- another reason is told by another status
-another : (status : ℕ) (table : Table) (o : Outcome) → Refuses status table o → o.payload ≡ refusal 2001 → status ≡ 2001
+another : (status : ℕ) (table : Table) (o : Outcome) → RefusesRequest status table o → o.payload ≡ refusal 2001 → status ≡ 2001
 another status table o r is = ap status_in (sym r.payload ∙ is)
 
 abbrev pub HasRisen : Outcome → Type 0

@@ -8,12 +8,12 @@ use Rattle.rpki_updown.specs.Entitlements.{IssuedFields}
 use Rattle.rpki_updown.specs.RequestResourceLimit.{LimitFields}
 use Rattle.rpki_cert.specs.ReadInDer.{IsCertificate}
 use Rattle.rpki_provisioning.specs.Writable.{IsWritableClass, IsWritableIssued, IsWritableLimit}
-use Rattle.rpki_upserver.specs.Table.{ClassState, IsBase, IsSound, entitled, has_key, put, with_issued, with_revoked, without}
+use Rattle.rpki_upserver.specs.Table.{ClassState, IsClassBase, IsSound, entitled, has_key, put, with_issued, with_revoked, without}
 use Rattle.rpki_upserver.proofs.Places.{all_put, all_without, without_placed}
 
 -- what holds of each class
 abbrev pub IsKept : ClassState → Type 0
-IsKept c = IsBase c.base × IsSound c.resource_set c.not_after c.signing_cert c.issued_certs
+IsKept c = IsClassBase c.base × IsSound c.resource_set c.not_after c.signing_cert c.issued_certs
 
 -- the class with these certificates
 abbrev pub with_certs : ClassState → List IssuedFields → ClassState

@@ -19,8 +19,8 @@ use Rattle.rpki_upserver.specs.declared.issuer.IssuerError.TheVariants as errors
 use Rattle.rpki_upserver.specs.Answering.{with_issuer}
 use Rattle.rpki_upserver.specs.Decision.{IsDecidedBy, IsFirstReason, status_of}
 use Rattle.rpki_upserver.specs.Issuer.{IsRevoked, IssuerFails, IssuerState}
-use Rattle.rpki_upserver.specs.Response.{IsEmpty, IsPayloadAnswer, IsProven, IsRevokeAnswer, Outcome, refusal, requested_key}
-use Rattle.rpki_upserver.specs.Table.{AreDistinct, ClassState, ParentState, Table, change, class_named, is_issued_elsewhere, is_issued_in, is_named, is_revoked, with_revoked, with_table}
+use Rattle.rpki_upserver.specs.Response.{IsEmpty, IsPayloadAnswer, IsSelfSigned, IsRevokeAnswer, Outcome, refusal, requested_key}
+use Rattle.rpki_upserver.specs.Table.{AreDistinctClasses, ClassState, ParentState, Table, change, class_named, is_issued_elsewhere, is_issued_in, is_named, is_revoked, with_revoked, with_table}
 use Rattle.rpki_upserver.proofs.Tables.{changed_at, named_at, same_set, unnamed}
 use Rattle.rpki_upserver.proofs.Told.{clash, named_name}
 
@@ -105,7 +105,7 @@ module _ (before now : ParentState) (asked name : List ℕ) (classes : Table) (o
     pub left_so : (new : ClassState) → new ≡ c → with_class before place new ≡ before
     left_so new same = ap (λ (t : Table). record before { table = t }) (same_set before.table place c new within at same)
 
-    pub changed_so : (new : ClassState) (f : ClassState → ClassState) → AreDistinct before.table → new ≡ f c → set before.table place new ≡ change asked f before.table
+    pub changed_so : (new : ClassState) (f : ClassState → ClassState) → AreDistinctClasses before.table → new ≡ f c → set before.table place new ≡ change asked f before.table
     changed_so new f distinct new_is = changed_at before.table asked place c new f distinct (sought s (Some place) is) at new_is
 
 -- seen from the parent as the call found it
@@ -156,10 +156,10 @@ same_class table place c x lt at is = let e : Some (get_or table place c) ≡ So
 
 -- no row before the limit refuses
 pub no_reason : (scheme : Relation) (before now : ParentState) (classes : Table) (request : IssuanceRequestFields) (place : ℕ) (c x : ClassState) (is_empty used : Bool) (proven : CaRequest) (name key : List ℕ) → before ≡ now → place < length now.table → c ≡ get_or before.table place c
-    → slice_get now.table place ≡ Some x → (IsEmpty c.resource_set → is_empty ≡ true) → is_empty ≡ false → IsProven scheme proven → proven ≡ request.csr → classes ≡ before.table → name ≡ request.class_name → key ≡ requested_key request
+    → slice_get now.table place ≡ Some x → (IsEmpty c.resource_set → is_empty ≡ true) → is_empty ≡ false → IsSelfSigned scheme proven → proven ≡ request.csr → classes ≡ before.table → name ≡ request.class_name → key ≡ requested_key request
     → used ≡ (is_revoked key classes || is_issued_elsewhere name key classes) → used ≡ false → IsFirstReason scheme now.table request x None
 no_reason scheme before now classes request place c x is_empty used proven name key view lt at is empty not_empty holds asked lent named key_is used_is unused =
-    inr (λ e. clash is_empty (empty (subst (λ (y : ClassState). IsEmpty y.resource_set) same e)) not_empty, inl (subst (λ (q : CaRequest). IsProven scheme q) asked holds, inr (λ u. clash _ u none, refl)))
+    inr (λ e. clash is_empty (empty (subst (λ (y : ClassState). IsEmpty y.resource_set) same e)) not_empty, inl (subst (λ (q : CaRequest). IsSelfSigned scheme q) asked holds, inr (λ u. clash _ u none, refl)))
   where
     same : x ≡ c
     same = same_class now.table place c x lt (subst (λ (q : ParentState). c ≡ get_or q.table place c) view at) is

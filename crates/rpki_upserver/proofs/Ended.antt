@@ -14,8 +14,8 @@ use Rattle.rpki_signer.proofs.States.{keeps_same}
 use Rattle.rpki_sigmsg.specs.Making.{HasWindow}
 use Rattle.rpki_ca.proofs.Ended.{lines_end, on_input_or_12, with_refusal}
 use Rattle.rpki_upserver.specs.Answering.{ParentAndIssuer, reply, with_issuer}
-use Rattle.rpki_upserver.specs.Ends.{CanServe, EndsForCause, HasLongLine}
-use Rattle.rpki_upserver.specs.Running.{EndsServed, EndsServing, Run}
+use Rattle.rpki_upserver.specs.Ends.{ParentCanServe, ParentEndsForCause, HasLongLine}
+use Rattle.rpki_upserver.specs.Running.{EndsParentServed, EndsParentRun, Run}
 use Rattle.rpki_upserver.specs.Serving.{AreAllAnswered, AreFirstAnswered, IsLineAnswered, Service, StopsAnswering, service_of}
 
 module _ {I : Type 0} (scheme : Relation) (run : Run I) where
@@ -32,7 +32,7 @@ module _ {I : Type 0} (scheme : Relation) (run : Run I) where
       no_cause run.when run.signer.id run.signer.before last.signer run.signer.after (received.Provisioning (reply last.parties.parent f.fails.payload)) can w keeps
       (λ long. short (record { texts = texts; steps = stops.steps; octets = f.octets; stands = f.stands; parent = f.parent; payload = f.fails.payload; decided = f.fails.decided; long = long })) r f.fails.cause)
 
-  served_end : (input : List ℕ) (status : ℕ) (sink : Seen) → CanServe scheme run input → ¬ (HasFailed sink) → EndsServed scheme run (lines_of input) status sink → EndsForCause run input status
+  served_end : (input : List ℕ) (status : ℕ) (sink : Seen) → ParentCanServe scheme run input → ¬ (HasFailed sink) → EndsParentServed scheme run (lines_of input) status sink → ParentEndsForCause run input status
   served_end input status sink can none (inl a) =
       let start : ParentAndIssuer = with_issuer a.parent run.issuer_before in
       inl (lines_end (AreAllAnswered scheme run.when run.signer start run.issuer_after a.messages) (AreFirstAnswered scheme run.when run.signer start run.issuer_after a.messages) (StopsAnswering scheme run.when run.signer start run.issuer_after a.messages) status sink
@@ -41,14 +41,14 @@ module _ {I : Type 0} (scheme : Relation) (run : Run I) where
   served_end input status sink can none (inr (inr (inl hex))) = inr (inl (with_refusal refusals.Hex status sink none hex.1, hex.0))
   served_end input status sink can none (inr (inr (inr memory))) = inl (inr (with_refusal refusals.OutOfMemory status sink none memory.0))
 
-  run_so : (status : ℕ) (source sink : Seen) → EndsServing scheme run status source sink → EndsRun (λ octets. EndsServed scheme run (lines_of octets) status sink) status source sink
+  run_so : (status : ℕ) (source sink : Seen) → EndsParentRun scheme run status source sink → EndsRun (λ octets. EndsParentServed scheme run (lines_of octets) status sink) status source sink
   run_so status source sink (inl unread) = inl unread.0
   run_so status source sink (inr read) = inr read
 
-  pub ends_so : (status : ℕ) (source sink : Seen) (input : List ℕ) → EndsServing scheme run status source sink → source.before ≡ Some input → length input ≤ 2 ^ 26
-      → ¬ (HasFailed source) → ¬ (HasFailed sink) → CanServe scheme run input → EndsForCause run input status
+  pub ends_so : (status : ℕ) (source sink : Seen) (input : List ℕ) → EndsParentRun scheme run status source sink → source.before ≡ Some input → length input ≤ 2 ^ 26
+      → ¬ (HasFailed source) → ¬ (HasFailed sink) → ParentCanServe scheme run input → ParentEndsForCause run input status
   ends_so status source sink input ended e le sound whole can =
-      elim (on_input_or_12 (λ octets. EndsServed scheme run (lines_of octets) status sink) status source sink input (run_so status source sink ended) e le sound whole) [
+      elim (on_input_or_12 (λ octets. EndsParentServed scheme run (lines_of octets) status sink) status source sink input (run_so status source sink ended) e le sound whole) [
         | inl memory ↦ inl (inr memory)
         | inr ends ↦ served_end input status sink can whole ends
       ]

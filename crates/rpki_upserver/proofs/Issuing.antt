@@ -17,15 +17,15 @@ use Rattle.rpki_upserver.specs.declared.decision.Reason.TheVariants as reasons
 use Rattle.rpki_upserver.specs.declared.issuer.IssuerError.TheVariants as errors
 use Rattle.rpki_upserver.specs.Answering.{with_issuer}
 use Rattle.rpki_upserver.specs.Decision.{IsDecidedBy, IsFirstReason, IsIssuedAt, status_of}
-use Rattle.rpki_upserver.specs.Issuer.{IsIssued, IssuerFails, IssuerState}
-use Rattle.rpki_upserver.specs.Response.{IsEmpty, IsIssueAnswer, IsPayloadAnswer, IsProven, IsUsed, Outcome, Refuses, published, refusal, requested_key}
+use Rattle.rpki_upserver.specs.Issuer.{IsCertificateIssued, IssuerFails, IssuerState}
+use Rattle.rpki_upserver.specs.Response.{IsEmpty, IsIssueAnswer, IsPayloadAnswer, IsSelfSigned, IsUsed, Outcome, RefusesRequest, published, refusal, requested_key}
 use Rattle.rpki_upserver.specs.Table.{ClassState, ParentState, Table, change, class_named, entitled, with_issued}
 use Rattle.rpki_upserver.proofs.Deciding.{comes_as, not_performed, seen_from, with_class}
 use Rattle.rpki_upserver.proofs.Told.{named_name}
 
 -- ---- the rows
 
-refuses_as : (status : ℕ) (table : Table) (issuer : IssuerState) (reason : Reason) → status_of reason ≡ status → Refuses status table (comes_as (refusal (status_of reason)) table issuer issuer)
+refuses_as : (status : ℕ) (table : Table) (issuer : IssuerState) (reason : Reason) → status_of reason ≡ status → RefusesRequest status table (comes_as (refusal (status_of reason)) table issuer issuer)
 refuses_as status table issuer reason e = record { payload = ap refusal e; stays = record { next = refl; issuer = refl } }
 
 same_reason : (result : Option Reason) (one other : Reason) → result ≡ Some one → result ≡ Some other → status_of one ≡ status_of other
@@ -50,7 +50,7 @@ module _ (scheme : Relation) (table : Table) (request : IssuanceRequestFields) w
 
     record IsAllowed : Type 0 where
       some : IsEmpty c.resource_set → ⊥
-      proven : IsProven scheme request.csr
+      proven : IsSelfSigned scheme request.csr
       unused : IsUsed request.class_name (requested_key request) table → ⊥
 
     allowed : IsFirstReason scheme table request c result → result ≡ None → IsAllowed
@@ -77,7 +77,7 @@ module _ (scheme : Relation) (table : Table) (request : IssuanceRequestFields) w
             contained,
             inr (record {
               cert = i.cert;
-              issued = subst (λ (n : List ℕ). IsIssued n request.csr (limited_set request.limit c.resource_set) c.not_after before after i.cert) (named_name request.class_name table c named) i.issued;
+              issued = subst (λ (n : List ℕ). IsCertificateIssued n request.csr (limited_set request.limit c.resource_set) c.not_after before after i.cert) (named_name request.class_name table c named) i.issued;
               payload = refl;
               next = next_is;
             }),
@@ -174,7 +174,7 @@ module _ (scheme : Relation) (before now : ParentState) (request : IssuanceReque
           by_limit : IsIssuedAt c request (limited_set request.limit c.resource_set) issuer next new at
           by_limit = record {
             cert = i.cert;
-            issued = subst (λ (s : Resources). IsIssued c.class_name request.csr s c.not_after issuer next i.cert) left i.issued;
+            issued = subst (λ (s : Resources). IsCertificateIssued c.class_name request.csr s c.not_after issuer next i.cert) left i.issued;
             kept = i.kept;
             at = i.at;
           }

@@ -10,8 +10,8 @@ use Rattle.rpki_provisioning.specs.Shape.{MessageFields}
 use Rattle.rpki_provisioning.specs.declared.payload.Payload.{Payload}
 use Rattle.rpki_provisioning.specs.declared.payload.Payload.TheVariants as payloads
 use Rattle.rpki_upserver.specs.History.{Adds, IsEntitled}
-use Rattle.rpki_upserver.specs.Issuer.{IssuerState, Leaves, Made}
-use Rattle.rpki_upserver.specs.Response.{Fails, IsIssueAnswer, IsPayloadAnswer, IsResponse, IsRevokeAnswer, IsUsed, Issues, Lists, Outcome, Refuses, Revokes, requested_key}
+use Rattle.rpki_upserver.specs.Issuer.{IssuerState, IssuedNothing, Made}
+use Rattle.rpki_upserver.specs.Response.{FailsIssuing, IsIssueAnswer, IsPayloadAnswer, IsResponse, IsRevokeAnswer, IsUsed, Issues, Lists, Outcome, RefusesRequest, Revokes, requested_key}
 use Rattle.rpki_upserver.specs.Table.{ClassState, ParentState, Table, class_named}
 
 -- it brings no certificate, and says of no key that it was revoked
@@ -22,7 +22,7 @@ IsOther other = Unit {0}
 
 pub record HasLeft (table : Table) (o : Outcome) : Type 0 where
   pub next : o.next ≡ table
-  pub leaves : Leaves o.before o.after
+  pub leaves : IssuedNothing o.before o.after
   pub says : IsOther o.payload
 
 pub record HasIssued (table : Table) (o : Outcome) : Type 0 where
@@ -44,7 +44,7 @@ HasCome table o = HasLeft table o ⊎ (HasIssued table o ⊎ HasRevoked table o)
 
 -- ---- row by row
 
-same_leaves : (before after : IssuerState) → after ≡ before → Leaves before after
+same_leaves : (before after : IssuerState) → after ≡ before → IssuedNothing before after
 same_leaves before after e =
     let count : after.faults ≡ before.faults = ap (λ (s : IssuerState). s.faults) e in
     record {
@@ -53,7 +53,7 @@ same_leaves before after e =
       faults = omega (arith, count);
     }
 
-refused_left : (status : ℕ) (table : Table) (o : Outcome) → Refuses status table o → HasLeft table o
+refused_left : (status : ℕ) (table : Table) (o : Outcome) → RefusesRequest status table o → HasLeft table o
 refused_left status table o r = record {
   next = r.stays.next;
   leaves = same_leaves o.before o.after r.stays.issuer;
@@ -67,7 +67,7 @@ listed_left table o l = record {
   says = subst IsOther (sym l.payload) tt;
 }
 
-failed_left : (table : Table) (o : Outcome) → Fails table o → HasLeft table o
+failed_left : (table : Table) (o : Outcome) → FailsIssuing table o → HasLeft table o
 failed_left table o f = record { next = f.next; leaves = f.leaves; says = subst IsOther (sym f.payload) tt }
 
 issue_came : (scheme : Relation) (table : Table) (request : IssuanceRequestFields) (found : Option ClassState) (o : Outcome) → class_named request.class_name table ≡ found → IsIssueAnswer scheme table request found o → HasCome table o

@@ -18,7 +18,7 @@ use Rattle.rpki_der.specs.Value.{Constructed, End, Primitive, Value, Values, spe
 use Rattle.rpki_der.specs.Whole.{whole_of}
 use Rattle.rpki_base.specs.PublicKey.{KeyFields}
 use Rattle.rpki_base.specs.RpkiSignatureAlgorithm.{spelled_x509, x509_algorithm}
-use Rattle.rpki_base.specs.SignedData.{CanBeSpelled, signature_in, spelled_data, signed_as, signed_fields, signed_value}
+use Rattle.rpki_base.specs.SignedData.{CanSpellSigned, signature_in, spelled_data, signed_as, signed_fields, signed_value}
 use Rattle.rpki_idcert.specs.Extensions.{KnownExtensions, extension_list}
 use Rattle.rpki_idcert.specs.IdCert.{CertificateFields, identity_certificate}
 use Rattle.rpki_idcert.specs.Making.{IsReadAgain}
@@ -101,7 +101,7 @@ one_key mode v i c h j =
     let held : kept.x ≡ c.key = cc in
     sym held ∙ sym key ∙ tbs_alike mode b.v b.p.1 b.q w b.second_is ∙ ap (λ (f : TbsFields). f.key) tbs
 
-pub same_key : (i : CertificateFields) (c : CertFields) → IsReadAgain Der i → CanBeSpelled spelled_x509 i.signed → BeginsAs (certificate Der) Der (spelled_data spelled_x509 i.signed) c → c.key ≡ i.tbs.key
+pub same_key : (i : CertificateFields) (c : CertFields) → IsReadAgain Der i → CanSpellSigned spelled_x509 i.signed → BeginsAs (certificate Der) Der (spelled_data spelled_x509 i.signed) c → c.key ≡ i.tbs.key
 same_key i c again spelled h =
     let own = subst (λ (o : List ℕ). BeginsAs (identity_certificate Der) Der o i) (append-nil (spelled_data spelled_x509 i.signed)) (again [] spelled) in
     let value : own.value ≡ h.value = (at_most_one Der (spelled_data spelled_x509 i.signed) own.value h.value own.rest h.rest own.begins h.begins).value in
@@ -173,7 +173,7 @@ outer_found mode v i h = then_found _ _ (within_found sequence _ _ v i h (λ vs 
     (λ p q rest b. step_found (signature_in (whole_of x509_algorithm) mode rest) _ _ i b (λ s c. record { x = _; is = refl }))))
 
 -- what is written of a certificate that is read again isn't refused as a resource certificate
-pub not_malformed : (i : CertificateFields) (r : Result CertFields DecodeError) → IsReadAgain Der i → CanBeSpelled spelled_x509 i.signed → Decodes (certificate Der) (λ c. c) Der (spelled_data spelled_x509 i.signed) r → IsErrOf r Malformed → ⊥
+pub not_malformed : (i : CertificateFields) (r : Result CertFields DecodeError) → IsReadAgain Der i → CanSpellSigned spelled_x509 i.signed → Decodes (certificate Der) (λ c. c) Der (spelled_data spelled_x509 i.signed) r → IsErrOf r Malformed → ⊥
 unfolding RefusesOctets
 not_malformed i (Ok c) again spelled d e = cc
 not_malformed i (Err OutOfMemory) again spelled d e = cc

@@ -8,8 +8,8 @@ use Rattle.std.proofs.lemmas.List.{length-append, length-take-le}
 use Rattle.std.proofs.Math.Seq.{get_or-append_seam}
 use Rattle.std.proofs.lemmas.Option.{slice_get-get_or, slice_get_past}
 use Rattle.rpki_updown.specs.Entitlements.{IssuedFields}
-use Rattle.rpki_upserver.specs.Kept.{HasRoom, KeptItems}
-use Rattle.rpki_upserver.specs.Table.{ClassState, Table, class_named, has_key, is_named, key_of, put, without}
+use Rattle.rpki_upserver.specs.Kept.{HasKeptRoom, KeptItems}
+use Rattle.rpki_upserver.specs.Table.{ClassState, Table, class_named, has_key, is_named, key_of_issued, put, without}
 
 pub no_place : (i : ℕ) → i < 0 → ⊥
 no_place i h = omega (arith, h)
@@ -55,42 +55,42 @@ some_placed test xs (Some i) e = (λ h. placed test xs i (sym e), λ h. refl)
 
 -- ---- certificates
 
-pub put_there : (xs : List IssuedFields) (issued : IssuedFields) (i : ℕ) (d : IssuedFields) → IsFirst (has_key (key_of issued)) xs i d
+pub put_there : (xs : List IssuedFields) (issued : IssuedFields) (i : ℕ) (d : IssuedFields) → IsFirst (has_key (key_of_issued issued)) xs i d
     → put xs issued ≡ take i xs ++ issued ∷ drop (suc i) xs
 put_there [] issued i d h = absurd (no_place i h.0)
 put_there (x ∷ xs) issued zero d h = rw h.1 refl
 put_there (x ∷ xs) issued (suc i) d h =
-    let other = first_fails (has_key (key_of issued)) x xs i d h in
-    rw other (ap (λ (l : List IssuedFields). x ∷ l) (put_there xs issued i d (behind_first (has_key (key_of issued)) x xs i d h)))
+    let other = first_fails (has_key (key_of_issued issued)) x xs i d h in
+    rw other (ap (λ (l : List IssuedFields). x ∷ l) (put_there xs issued i d (behind_first (has_key (key_of_issued issued)) x xs i d h)))
 
-pub put_last : (xs : List IssuedFields) (issued : IssuedFields) → list_any (has_key (key_of issued)) xs ≡ false → put xs issued ≡ xs ++ issued ∷ []
+pub put_last : (xs : List IssuedFields) (issued : IssuedFields) → list_any (has_key (key_of_issued issued)) xs ≡ false → put xs issued ≡ xs ++ issued ∷ []
 put_last [] issued h = refl
-put_last (x ∷ xs) issued h = one (has_key (key_of issued) x) h (put_last xs issued)
+put_last (x ∷ xs) issued h = one (has_key (key_of_issued issued) x) h (put_last xs issued)
   where
-    one : (t : Bool) → (t || list_any (has_key (key_of issued)) xs) ≡ false → (list_any (has_key (key_of issued)) xs ≡ false → put xs issued ≡ xs ++ issued ∷ [])
+    one : (t : Bool) → (t || list_any (has_key (key_of_issued issued)) xs) ≡ false → (list_any (has_key (key_of_issued issued)) xs ≡ false → put xs issued ≡ xs ++ issued ∷ [])
         → (if t then issued ∷ xs else x ∷ put xs issued) ≡ x ∷ (xs ++ issued ∷ [])
     one true h rest = cc
     one false h rest = ap (λ (l : List IssuedFields). x ∷ l) (rest h)
 
 -- ---- one that is put
 
-at_key : (held : List IssuedFields) (issued new : IssuedFields) (key : List ℕ) (o wanted : Option ℕ) → new ≡ issued → key ≡ key_of new → o ≡ position (has_key key) held → o ≡ wanted → position (has_key (key_of issued)) held ≡ wanted
-at_key held issued new key o wanted same is at e = ap (λ (k : List ℕ). position (has_key k) held) (ap key_of (sym same) ∙ sym is) ∙ sym at ∙ e
+at_key : (held : List IssuedFields) (issued new : IssuedFields) (key : List ℕ) (o wanted : Option ℕ) → new ≡ issued → key ≡ key_of_issued new → o ≡ position (has_key key) held → o ≡ wanted → position (has_key (key_of_issued issued)) held ≡ wanted
+at_key held issued new key o wanted same is at e = ap (λ (k : List ℕ). position (has_key k) held) (ap key_of_issued (sym same) ∙ sym is) ∙ sym at ∙ e
 
-pub put_found : (held after : List IssuedFields) (issued new : IssuedFields) (key : List ℕ) (o : Option ℕ) (place : ℕ) → new ≡ issued → key ≡ key_of new → o ≡ position (has_key key) held → o ≡ Some place
+pub put_found : (held after : List IssuedFields) (issued new : IssuedFields) (key : List ℕ) (o : Option ℕ) (place : ℕ) → new ≡ issued → key ≡ key_of_issued new → o ≡ position (has_key key) held → o ≡ Some place
     → after ≡ take place held ++ new ∷ drop (suc place) held → after ≡ put held issued
 put_found held after issued new key o place same is at e put_at =
-    put_at ∙ ap (λ (x : IssuedFields). take place held ++ x ∷ drop (suc place) held) same ∙ sym (put_there held issued place issued (position-Some (has_key (key_of issued)) held place issued (at_key held issued new key o (Some place) same is at e)))
+    put_at ∙ ap (λ (x : IssuedFields). take place held ++ x ∷ drop (suc place) held) same ∙ sym (put_there held issued place issued (position-Some (has_key (key_of_issued issued)) held place issued (at_key held issued new key o (Some place) same is at e)))
 
-pub put_unfound : (held after : List IssuedFields) (issued new : IssuedFields) (key : List ℕ) (o : Option ℕ) → new ≡ issued → key ≡ key_of new → o ≡ position (has_key key) held → o ≡ None
+pub put_unfound : (held after : List IssuedFields) (issued new : IssuedFields) (key : List ℕ) (o : Option ℕ) → new ≡ issued → key ≡ key_of_issued new → o ≡ position (has_key key) held → o ≡ None
     → after ≡ held ++ new ∷ [] → after ≡ put held issued
 put_unfound held after issued new key o same is at e put_at =
-    put_at ∙ ap (λ (x : IssuedFields). held ++ x ∷ []) same ∙ sym (put_last held issued (unplaced (has_key (key_of issued)) held (at_key held issued new key o None same is at e)))
+    put_at ∙ ap (λ (x : IssuedFields). held ++ x ∷ []) same ∙ sym (put_last held issued (unplaced (has_key (key_of_issued issued)) held (at_key held issued new key o None same is at e)))
 
-pub room_left : (held : KeptItems IssuedFields) (issued new : IssuedFields) (key : List ℕ) (o : Option ℕ) → new ≡ issued → key ≡ key_of new → o ≡ position (has_key key) held.items → o ≡ None → HasRoom held (key_of issued) → 1 ≤ held.room
+pub room_left : (held : KeptItems IssuedFields) (issued new : IssuedFields) (key : List ℕ) (o : Option ℕ) → new ≡ issued → key ≡ key_of_issued new → o ≡ position (has_key key) held.items → o ≡ None → HasKeptRoom held (key_of_issued issued) → 1 ≤ held.room
 room_left held issued new key o same is at e (inr room) = room
 room_left held issued new key o same is at e (inl there) =
-    let none = unplaced (has_key (key_of issued)) held.items (at_key held.items issued new key o None same is at e) in
+    let none = unplaced (has_key (key_of_issued issued)) held.items (at_key held.items issued new key o None same is at e) in
     let c : true ≡ false = sym there ∙ none in cc
 
 got_there : {X : Type 0} (xs ys : List X) (x : X) → slice_get (xs ++ x ∷ ys) (length xs) ≡ Some x
@@ -126,7 +126,7 @@ without_placed (x ∷ xs) key i e = without_there (x ∷ xs) key i x (position-S
 
 pub all_put : (P : IssuedFields → Type 0) (xs : List IssuedFields) (issued : IssuedFields) → AllByRecursion P xs → P issued → AllByRecursion P (put xs issued)
 all_put P [] issued all here = (here, tt)
-all_put P (x ∷ xs) issued all here = one (has_key (key_of issued) x) (all_put P xs issued all.1 here)
+all_put P (x ∷ xs) issued all here = one (has_key (key_of_issued issued) x) (all_put P xs issued all.1 here)
   where
     one : (t : Bool) → AllByRecursion P (put xs issued) → AllByRecursion P (if t then issued ∷ xs else x ∷ put xs issued)
     one true rest = (here, all.1)

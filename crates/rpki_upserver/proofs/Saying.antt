@@ -18,7 +18,7 @@ use Rattle.rpki_ca.specs.Acceptance.{Accepted}
 use Rattle.rpki_ca.specs.Seen.{SignerSeen}
 use Rattle.rpki_ca.specs.declared.receiving.Kind.TheVariants as kinds
 use Rattle.rpki_ca.specs.declared.receiving.Received.TheVariants as received
-use Rattle.rpki_upserver.specs.Answering.{IsAnswered, IsDecided, IsSigned, reply, with_issuer}
+use Rattle.rpki_upserver.specs.Answering.{IsRequestAnswered, IsDecided, IsSignedResponse, reply, with_issuer}
 use Rattle.rpki_upserver.specs.Decision.{IsDecidedBy, IsIssuance, IsPayloadOf}
 use Rattle.rpki_upserver.specs.Issuer.{IssuerState}
 use Rattle.rpki_upserver.specs.Response.{IsFromChild, IsPayloadAnswer, IsResponse, refusal}
@@ -90,9 +90,9 @@ decided_so before after m issuer next d accepted h = record { message = m; accep
 pub answered_so : {I : Type 0} (scheme : Relation) (octets : List ℕ) (when : ℤ) (signer : SignerSeen I) (before after : ParentState) (m : MessageFields) (issuer next : IssuerState) (d : Decision) (c : CmsFields)
     → Accepted scheme kinds.Provisioning octets (before.child_key ∷ []) when (received.Provisioning m)
     → IsDecidedBy (IsResponse scheme before m) (with_issuer before issuer) (with_issuer after next) d
-    → ((payload : Payload) → IsPayloadOf after.table d payload → IsSigned scheme when signer (reply after payload) c) → IsAnswered scheme octets when (with_issuer before issuer) (with_issuer after next) signer c
+    → ((payload : Payload) → IsPayloadOf after.table d payload → IsSignedResponse scheme when signer (reply after payload) c) → IsRequestAnswered scheme octets when (with_issuer before issuer) (with_issuer after next) signer c
 answered_so scheme octets when signer before after m issuer next d c accepted h signed = record {
   payload = h.payload;
   decided = decided_so before after m issuer next d accepted h;
-  signed = subst (λ (x : MessageFields). IsSigned scheme when signer x c) (ap (λ (p : ParentState). reply p h.payload) h.behind) (signed h.payload h.said);
+  signed = subst (λ (x : MessageFields). IsSignedResponse scheme when signer x c) (ap (λ (p : ParentState). reply p h.payload) h.behind) (signed h.payload h.said);
 }

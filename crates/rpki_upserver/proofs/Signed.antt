@@ -6,10 +6,10 @@ use Rattle.rpki_provisioning.specs.Cms.{CmsFields}
 use Rattle.rpki_provisioning.specs.Shape.{MessageFields}
 use Rattle.rpki_ca.specs.declared.receiving.Received.TheVariants as received
 use Rattle.rpki_ca.specs.Seen.{SignerSeen}
-use Rattle.rpki_ca.specs.Sending.{IsSignedAs}
-use Rattle.rpki_upserver.specs.Answering.{IsSigned}
+use Rattle.rpki_ca.specs.Sending.{IsSentAs}
+use Rattle.rpki_upserver.specs.Answering.{IsSignedResponse}
 
-pub holds_so : {I E : Type 0} (scheme : Relation) (when : ℤ) (signer : SignerSeen I) (message : MessageFields) (r : Result CmsFields (CreateError E)) → IfOk r (λ c. c.message ≡ message) → IfOk r (λ c. IsSignedAs scheme when signer (received.Provisioning message) c.signed)
-    → IfOk r (IsSigned scheme when signer message)
+pub holds_so : {I E : Type 0} (scheme : Relation) (when : ℤ) (signer : SignerSeen I) (message : MessageFields) (r : Result CmsFields (CreateError E)) → IfOk r (λ c. c.message ≡ message) → IfOk r (λ c. IsSentAs scheme when signer (received.Provisioning message) c.signed)
+    → IfOk r (IsSignedResponse scheme when signer message)
 holds_so scheme when signer message (Ok c) same signed = record { message_is = same; signed = signed }
 holds_so scheme when signer message (Err e) same signed = tt

@@ -9,7 +9,7 @@ use Rattle.std.proofs.lemmas.Slice.Eq.{bytes_eq-Decides}
 use Rattle.rpki_ca.proofs.Stepping.{take_more}
 use Rattle.rpki_xml.specs.Lettered.{AreOctets}
 use Rattle.rpki_provisioning.specs.Writable.{IsWritableClass}
-use Rattle.rpki_upserver.specs.Table.{AreDistinct, AreWritable, ClassState, IsParent, Table, change, class_named, entitled, is_named}
+use Rattle.rpki_upserver.specs.Table.{AreDistinctClasses, AreWritable, ClassState, IsParent, Table, change, class_named, entitled, is_named}
 use Rattle.rpki_upserver.proofs.Places.{IsFirst, behind_first, first_fails, named_there, no_place, some_placed, unplaced, unplaced_unfound}
 
 -- ---- the class of a name, by its place
@@ -30,7 +30,7 @@ unchanged (c ∷ more) name f none = one (is_named name c) none (unchanged more 
     one true h rest = cc
     one false h rest = ap (λ (l : Table). c ∷ l) (rest h)
 
-changed_there : (table : Table) (name : List ℕ) (i : ℕ) (d : ClassState) (f : ClassState → ClassState) → AreDistinct table → IsFirst (is_named name) table i d → set table i (f (get_or table i d)) ≡ change name f table
+changed_there : (table : Table) (name : List ℕ) (i : ℕ) (d : ClassState) (f : ClassState → ClassState) → AreDistinctClasses table → IsFirst (is_named name) table i d → set table i (f (get_or table i d)) ≡ change name f table
 changed_there [] name i d f distinct h = absurd (no_place i h.0)
 changed_there (c ∷ more) name zero d f distinct h =
     let is : c.class_name ≡ name = (bytes_eq-Decides c.class_name name).0 h.1 in
@@ -39,7 +39,7 @@ changed_there (c ∷ more) name (suc i) d f distinct h =
     let other = first_fails (is_named name) c more i d h in
     rw other (ap (λ (l : Table). c ∷ l) (changed_there more name i d f distinct.1 (behind_first (is_named name) c more i d h)))
 
-pub changed_at : (table : Table) (name : List ℕ) (place : ℕ) (c new : ClassState) (f : ClassState → ClassState) → AreDistinct table → position (is_named name) table ≡ Some place → c ≡ get_or table place c → new ≡ f c → set table place new ≡ change name f table
+pub changed_at : (table : Table) (name : List ℕ) (place : ℕ) (c new : ClassState) (f : ClassState → ClassState) → AreDistinctClasses table → position (is_named name) table ≡ Some place → c ≡ get_or table place c → new ≡ f c → set table place new ≡ change name f table
 changed_at table name place c new f distinct at is new_is =
     ap (λ (x : ClassState). set table place x) (new_is ∙ ap f is) ∙ changed_there table name place c f distinct (position-Some (is_named name) table place c at)
 
@@ -72,7 +72,7 @@ named_alike n [] place new d lt same = absurd (no_place place lt)
 named_alike n (c ∷ more) zero new d lt same = ap (λ (x : List ℕ). bytes_eq x n || list_any (is_named n) more) same
 named_alike n (c ∷ more) (suc i) new d lt same = ap (λ (b : Bool). is_named n c || b) (named_alike n more i new d (omega (arith, lt)) same)
 
-pub distinct_set : (table : Table) (place : ℕ) (new d : ClassState) → place < length table → new.class_name ≡ (get_or table place d).class_name → AreDistinct table → AreDistinct (set table place new)
+pub distinct_set : (table : Table) (place : ℕ) (new d : ClassState) → place < length table → new.class_name ≡ (get_or table place d).class_name → AreDistinctClasses table → AreDistinctClasses (set table place new)
 distinct_set [] place new d lt same distinct = distinct
 distinct_set (c ∷ more) zero new d lt same distinct = (subst (λ (n : List ℕ). list_any (is_named n) more ≡ false) (sym same) distinct.0, distinct.1)
 distinct_set (c ∷ more) (suc i) new d lt same distinct =
@@ -107,17 +107,17 @@ module _ (all rest : Table) (c : ClassState) (name : List ℕ) (o : Option ℕ) 
   named_again : name ≡ c.class_name → o ≡ position (is_named name) (take (length rest - 1) (drop 1 rest)) → is_some o ≡ true → list_any (is_named c.class_name) (take (length rest - 1) (drop 1 rest)) ≡ true
   named_again same at some = subst (λ (n : List ℕ). list_any (is_named n) (take (length rest - 1) (drop 1 rest)) ≡ true) same ((some_placed (is_named name) (take (length rest - 1) (drop 1 rest)) o at).0 some)
 
-  pub two_alike : (AreDistinct rest ↔ AreDistinct all) → 1 ≤ length rest → c ≡ get_or rest 0 c → name ≡ c.class_name → o ≡ position (is_named name) (take (length rest - 1) (drop 1 rest)) → is_some o ≡ true → IsTrue false ↔ AreDistinct all
+  pub two_alike : (AreDistinctClasses rest ↔ AreDistinctClasses all) → 1 ≤ length rest → c ≡ get_or rest 0 c → name ≡ c.class_name → o ≡ position (is_named name) (take (length rest - 1) (drop 1 rest)) → is_some o ≡ true → IsTrue false ↔ AreDistinctClasses all
   two_alike so_far some is same at is_there = (
     λ h. let e : false ≡ true = h in cc,
-    λ distinct. let first = (subst AreDistinct (parts rest c some is) (so_far.1 distinct)).0 in
+    λ distinct. let first = (subst AreDistinctClasses (parts rest c some is) (so_far.1 distinct)).0 in
         let e : true ≡ false = sym (named_again same at is_there) ∙ first in cc,
   )
 
-  pub still_distinct : (AreDistinct rest ↔ AreDistinct all) → 1 ≤ length rest → c ≡ get_or rest 0 c → name ≡ c.class_name → o ≡ position (is_named name) (take (length rest - 1) (drop 1 rest)) → is_some o ≡ false → AreDistinct (take (length rest - 1) (drop 1 rest)) ↔ AreDistinct all
+  pub still_distinct : (AreDistinctClasses rest ↔ AreDistinctClasses all) → 1 ≤ length rest → c ≡ get_or rest 0 c → name ≡ c.class_name → o ≡ position (is_named name) (take (length rest - 1) (drop 1 rest)) → is_some o ≡ false → AreDistinctClasses (take (length rest - 1) (drop 1 rest)) ↔ AreDistinctClasses all
   still_distinct so_far some is same at none = (
-    λ distinct. so_far.0 (subst AreDistinct (sym (parts rest c some is)) (unnamed_first, distinct)),
-    λ distinct. (subst AreDistinct (parts rest c some is) (so_far.1 distinct)).1,
+    λ distinct. so_far.0 (subst AreDistinctClasses (sym (parts rest c some is)) (unnamed_first, distinct)),
+    λ distinct. (subst AreDistinctClasses (parts rest c some is) (so_far.1 distinct)).1,
   )
     where
       unnamed_first : list_any (is_named c.class_name) (take (length rest - 1) (drop 1 rest)) ≡ false

@@ -8,10 +8,10 @@ use Rattle.rpki_base.specs.Scheme.{Relation}
 use Rattle.rpki_updown.specs.Entitlements.{IssuedFields}
 use Rattle.rpki_provisioning.specs.declared.payload.Payload.{Payload}
 use Rattle.rpki_provisioning.specs.declared.payload.Payload.TheVariants as payloads
-use Rattle.rpki_upserver.specs.History.{AreAllOnce, AreMade, AreNew, AreOnce, Call, Tells, standing, standing_behind, table_behind}
+use Rattle.rpki_upserver.specs.History.{AreAllOnce, AreMade, AreNew, AreOnce, Call, ListsAs, last_issued, last_issued_behind, table_behind}
 use Rattle.rpki_upserver.specs.Issuer.{IssuerState}
 use Rattle.rpki_upserver.specs.Response.{Outcome, published}
-use Rattle.rpki_upserver.specs.Table.{ClassState, ParentState, Table, change, class_named, has_key, is_named, key_of, put, with_issued, with_revoked, with_table, without}
+use Rattle.rpki_upserver.specs.Table.{ClassState, ParentState, Table, change, class_named, has_key, is_named, key_of_issued, put, with_issued, with_revoked, with_table, without}
 use Rattle.rpki_upserver.proofs.Outcomes.{HasCome, HasIssued, HasLeft, HasRevoked, IsOther, came}
 use Rattle.rpki_common.proofs.Truths.{same_octets}
 
@@ -69,13 +69,13 @@ none_found k (held ∷ more) h = let n = neither (has_key k held) (list_any (has
 find_put : (certs : List IssuedFields) (issued : IssuedFields) (key : List ℕ) → find (has_key key) (put certs issued) ≡ (if has_key key issued then Some issued else find (has_key key) certs)
 find_put [] issued key = refl
 find_put (held ∷ more) issued key =
-    elim (has_key (key_of issued) held) as (λ t. has_key (key_of issued) held ≡ t → find (has_key key) (if t then issued ∷ more else held ∷ put more issued)
+    elim (has_key (key_of_issued issued) held) as (λ t. has_key (key_of_issued issued) held ≡ t → find (has_key key) (if t then issued ∷ more else held ∷ put more issued)
     ≡ (if has_key key issued then Some issued else (if has_key key held then Some held else find (has_key key) more))) [
       | true ↦ λ same. first_kept (has_key key issued) (has_key key held) (Some issued) (Some held) (find (has_key key) more)
-          (λ other. ap (λ (k : List ℕ). bytes_eq k key) (same_octets (key_of held) (key_of issued) same) ∙ other)
+          (λ other. ap (λ (k : List ℕ). bytes_eq k key) (same_octets (key_of_issued held) (key_of_issued issued) same) ∙ other)
       | false ↦ λ other. ap (λ (w : Option IssuedFields). if has_key key held then Some held else w) (find_put more issued key)
           ∙ in_turn (has_key key issued) (has_key key held) (Some issued) (Some held) (find (has_key key) more)
-          (λ one here. clash (has_key (key_of issued) held) (are_same (key_of held) (key_of issued) (same_octets (key_of held) key here ∙ sym (same_octets (key_of issued) key one))) other)
+          (λ one here. clash (has_key (key_of_issued issued) held) (are_same (key_of_issued held) (key_of_issued issued) (same_octets (key_of_issued held) key here ∙ sym (same_octets (key_of_issued issued) key one))) other)
     ] refl
 
 find_without : (certs : List IssuedFields) (key other : List ℕ) → AreOnce certs → find (has_key other) (without certs key) ≡ (if bytes_eq key other then None else find (has_key other) certs)
@@ -84,18 +84,18 @@ find_without (held ∷ more) key other once =
     elim (has_key key held) as (λ t. has_key key held ≡ t → find (has_key other) (if t then more else held ∷ without more key)
     ≡ (if bytes_eq key other then None else (if has_key other held then Some held else find (has_key other) more))) [
       | true ↦ λ same. taken (bytes_eq key other) (has_key other held) (Some held) (find (has_key other) more) None
-          (λ is. none_found other more (subst (λ (k : List ℕ). list_any (has_key k) more ≡ false) (same_octets (key_of held) key same ∙ same_octets key other is) once.0))
-          (λ not. ap (λ (k : List ℕ). bytes_eq k other) (same_octets (key_of held) key same) ∙ not)
+          (λ is. none_found other more (subst (λ (k : List ℕ). list_any (has_key k) more ≡ false) (same_octets (key_of_issued held) key same ∙ same_octets key other is) once.0))
+          (λ not. ap (λ (k : List ℕ). bytes_eq k other) (same_octets (key_of_issued held) key same) ∙ not)
       | false ↦ λ differs. ap (λ (w : Option IssuedFields). if has_key other held then Some held else w) (find_without more key other once.1)
           ∙ in_turn (bytes_eq key other) (has_key other held) None (Some held) (find (has_key other) more)
-          (λ is here. clash (has_key key held) (are_same (key_of held) key (same_octets (key_of held) other here ∙ sym (same_octets key other is))) differs)
+          (λ is here. clash (has_key key held) (are_same (key_of_issued held) key (same_octets (key_of_issued held) other here ∙ sym (same_octets key other is))) differs)
     ] refl
 
 -- ---- they stay so
 
 none_put : (certs : List IssuedFields) (issued : IssuedFields) (k : List ℕ) → has_key k issued ≡ false → list_any (has_key k) certs ≡ false → list_any (has_key k) (put certs issued) ≡ false
 none_put [] issued k h none = or_none (has_key k issued) false h refl
-none_put (held ∷ more) issued k h none = one (has_key (key_of issued) held) (none_put more issued k h two.1)
+none_put (held ∷ more) issued k h none = one (has_key (key_of_issued issued) held) (none_put more issued k h two.1)
   where
     two : (has_key k held ≡ false) × (list_any (has_key k) more ≡ false)
     two = neither (has_key k held) (list_any (has_key k) more) none
@@ -107,9 +107,9 @@ none_put (held ∷ more) issued k h none = one (has_key (key_of issued) held) (n
 once_put : (certs : List IssuedFields) (issued : IssuedFields) → AreOnce certs → AreOnce (put certs issued)
 once_put [] issued once = (refl, tt)
 once_put (held ∷ more) issued once =
-    elim (has_key (key_of issued) held) as (λ t. has_key (key_of issued) held ≡ t → AreOnce (if t then issued ∷ more else held ∷ put more issued)) [
-      | true ↦ λ same. (subst (λ (k : List ℕ). list_any (has_key k) more ≡ false) (same_octets (key_of held) (key_of issued) same) once.0, once.1)
-      | false ↦ λ other. (none_put more issued (key_of held) (turned (key_of issued) (key_of held) ∙ other) once.0, once_put more issued once.1)
+    elim (has_key (key_of_issued issued) held) as (λ t. has_key (key_of_issued issued) held ≡ t → AreOnce (if t then issued ∷ more else held ∷ put more issued)) [
+      | true ↦ λ same. (subst (λ (k : List ℕ). list_any (has_key k) more ≡ false) (same_octets (key_of_issued held) (key_of_issued issued) same) once.0, once.1)
+      | false ↦ λ other. (none_put more issued (key_of_issued held) (turned (key_of_issued issued) (key_of_issued held) ∙ other) once.0, once_put more issued once.1)
     ] refl
 
 none_without : (certs : List IssuedFields) (key k : List ℕ) → list_any (has_key k) certs ≡ false → list_any (has_key k) (without certs key) ≡ false
@@ -129,7 +129,7 @@ once_without (held ∷ more) key once = one (has_key key held) (once_without mor
   where
     one : (t : Bool) → AreOnce (without more key) → AreOnce (if t then more else held ∷ without more key)
     one true rest = once.1
-    one false rest = (none_without more key (key_of held) once.0, rest)
+    one false rest = (none_without more key (key_of_issued held) once.0, rest)
 
 -- ---- classes by their names
 
@@ -185,7 +185,7 @@ changes name n table c named = ap (λ (x : List ℕ). bytes_eq x n) (named_name 
 
 -- ---- by a message
 
-other_stands : (name key : List ℕ) (payload : Payload) (before : Option IssuedFields) → IsOther payload → standing_behind name key payload before ≡ before
+other_stands : (name key : List ℕ) (payload : Payload) (before : Option IssuedFields) → IsOther payload → last_issued_behind name key payload before ≡ before
 other_stands name key payloads.List before h = refl
 other_stands name key (payloads.ListResponse classes) before h = refl
 other_stands name key (payloads.Issue request) before h = refl
@@ -206,20 +206,20 @@ abbrev pub Stands : Type 0
 Stands = List ℕ → List ℕ → Option IssuedFields
 
 abbrev behind : Payload → Stands → Stands
-behind payload stands name key = standing_behind name key payload (stands name key)
+behind payload stands name key = last_issued_behind name key payload (stands name key)
 
-told_left : (table : Table) (o : Outcome) (stands : Stands) → HasLeft table o → Tells table stands → Tells o.next (behind o.payload stands)
+told_left : (table : Table) (o : Outcome) (stands : Stands) → HasLeft table o → ListsAs table stands → ListsAs o.next (behind o.payload stands)
 told_left table o stands left told = λ name key c named.
     told name key c (subst (λ (t : Table). class_named name t ≡ Some c) left.next named) ∙ sym (other_stands name key o.payload (stands name key) left.says)
 
-told_issued : (table : Table) (o : Outcome) (stands : Stands) → HasIssued table o → Tells table stands → Tells o.next (behind o.payload stands)
+told_issued : (table : Table) (o : Outcome) (stands : Stands) → HasIssued table o → ListsAs table stands → ListsAs o.next (behind o.payload stands)
 told_issued table o stands i told = λ name key after named.
     let w = was_named name n f table after (λ c. refl) (subst (λ (t : Table). class_named name t ≡ Some after) i.issues.next named) in
     ap (λ (c : ClassState). find (has_key key) c.issued_certs) w.is
     ∙ by_issue issued key w.c (is_named n w.c)
     ∙ ap (λ (t : Bool). if t && has_key key issued then Some issued else find (has_key key) w.c.issued_certs) (changes name n table w.c w.named ∙ ap (λ (x : List ℕ). bytes_eq x name) (sym (named_name n table i.c i.named)))
     ∙ ap (λ (x : Option IssuedFields). if bytes_eq i.c.class_name name && has_key key issued then Some issued else x) (told name key w.c w.named)
-    ∙ ap (λ (p : Payload). standing_behind name key p (stands name key)) (sym i.issues.payload)
+    ∙ ap (λ (p : Payload). last_issued_behind name key p (stands name key)) (sym i.issues.payload)
   where
     n : List ℕ
     n = i.request.class_name
@@ -230,14 +230,14 @@ told_issued table o stands i told = λ name key after named.
     f : ClassState → ClassState
     f = with_issued issued
 
-told_revoked : (table : Table) (o : Outcome) (stands : Stands) → HasRevoked table o → AreAllOnce table → Tells table stands → Tells o.next (behind o.payload stands)
+told_revoked : (table : Table) (o : Outcome) (stands : Stands) → HasRevoked table o → AreAllOnce table → ListsAs table stands → ListsAs o.next (behind o.payload stands)
 told_revoked table o stands r once told = λ name key after named.
     let w = was_named name n f table after (λ c. refl) (subst (λ (t : Table). class_named name t ≡ Some after) r.revokes.next named) in
     ap (λ (c : ClassState). find (has_key key) c.issued_certs) w.is
     ∙ by_revoke r.request.key key w.c (is_named n w.c) (named_holds (λ c. AreOnce c.issued_certs) name table w.c once w.named)
     ∙ ap (λ (t : Bool). if t && bytes_eq r.request.key key then None else find (has_key key) w.c.issued_certs) (changes name n table w.c w.named)
     ∙ ap (λ (x : Option IssuedFields). if bytes_eq n name && bytes_eq r.request.key key then None else x) (told name key w.c w.named)
-    ∙ ap (λ (p : Payload). standing_behind name key p (stands name key)) (sym r.revokes.payload)
+    ∙ ap (λ (p : Payload). last_issued_behind name key p (stands name key)) (sym r.revokes.payload)
   where
     n : List ℕ
     n = r.request.class_name
@@ -245,7 +245,7 @@ told_revoked table o stands r once told = λ name key after named.
     f : ClassState → ClassState
     f = with_revoked r.request.key
 
-told_more : (table : Table) (o : Outcome) (stands : Stands) → HasCome table o → AreAllOnce table → Tells table stands → Tells o.next (behind o.payload stands)
+told_more : (table : Table) (o : Outcome) (stands : Stands) → HasCome table o → AreAllOnce table → ListsAs table stands → ListsAs o.next (behind o.payload stands)
 told_more table o stands (inl left) once told = told_left table o stands left told
 told_more table o stands (inr (inl i)) once told = told_issued table o stands i told
 told_more table o stands (inr (inr r)) once told = told_revoked table o stands r once told
@@ -259,8 +259,8 @@ once_more table o (inr (inr r)) once =
 
 -- ---- by many
 
-told_all : (scheme : Relation) (p : ParentState) (issuer : IssuerState) (calls : List Call) (stands : Stands) → AreMade scheme p issuer calls → AreAllOnce p.table → Tells p.table stands
-    → Tells (table_behind p.table calls) (λ name key. standing name key calls (stands name key))
+told_all : (scheme : Relation) (p : ParentState) (issuer : IssuerState) (calls : List Call) (stands : Stands) → AreMade scheme p issuer calls → AreAllOnce p.table → ListsAs p.table stands
+    → ListsAs (table_behind p.table calls) (λ name key. last_issued name key calls (stands name key))
 told_all scheme p issuer [] stands are once told = told
 told_all scheme p issuer (call ∷ calls) stands are once told =
     let h = came scheme p call.message call.outcome are.1.0 in
@@ -272,10 +272,10 @@ new_once : (table : Table) → AreNew table → AreAllOnce table
 new_once [] new = tt
 new_once (c ∷ more) new = (subst AreOnce (sym new.0) tt, new_once more new.1)
 
-new_tells : (table : Table) → AreNew table → Tells table (λ name key. None)
+new_tells : (table : Table) → AreNew table → ListsAs table (λ name key. None)
 new_tells table new = λ name key c named. ap (λ (certs : List IssuedFields). find (has_key key) certs) (named_holds (λ x. x.issued_certs ≡ []) name table c new named)
 
-pub told_so : (scheme : Relation) (p : ParentState) (issuer : IssuerState) (calls : List Call) → AreNew p.table → AreMade scheme p issuer calls → Tells (table_behind p.table calls) (λ name key. standing name key calls None)
+pub told_so : (scheme : Relation) (p : ParentState) (issuer : IssuerState) (calls : List Call) → AreNew p.table → AreMade scheme p issuer calls → ListsAs (table_behind p.table calls) (λ name key. last_issued name key calls None)
 told_so scheme p issuer calls new are = told_all scheme p issuer calls (λ name key. None) are (new_once p.table new) (new_tells p.table new)
 
 once_all : (scheme : Relation) (p : ParentState) (issuer : IssuerState) (calls : List Call) → AreMade scheme p issuer calls → AreAllOnce p.table → AreAllOnce (table_behind p.table calls)

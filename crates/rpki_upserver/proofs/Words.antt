@@ -7,14 +7,14 @@ use Rattle.rpki_updown.specs.Entitlements.{SigningFields}
 use Rattle.rpki_ca.specs.Seen.{Seen, SignerSeen}
 use Rattle.rpki_ca.proofs.Commands.{one_moment_at}
 use Rattle.rpki_upserver.specs.Issuer.{IssuerState}
-use Rattle.rpki_upserver.specs.Running.{AreWords, EndsServing, run_of}
+use Rattle.rpki_upserver.specs.Running.{AreParentWords, EndsParentRun, run_of}
 
 -- how it ends by the words, by whatever they are said to name
 abbrev EndsBy : {I : Type 0} → Relation → SigningFields → IssuerState → IssuerState → SignerSeen I → ℕ → Seen → Seen → ℤ → KeyFields → Type 0
-EndsBy scheme signing one other signer status source sink when key = EndsServing scheme (run_of when key signing one other signer) status source sink
+EndsBy scheme signing one other signer status source sink when key = EndsParentRun scheme (run_of when key signing one other signer) status source sink
 
 pub ends_by : {I : Type 0} (scheme : Relation) (signing : SigningFields) (one two : IssuerState) (signer : SignerSeen I) (status : ℕ) (source sink : Seen) (words : List (List ℕ)) (when other : ℤ) (key other_key : KeyFields)
-    → AreWords words when key → AreWords words other other_key → EndsBy scheme signing one two signer status source sink when key → EndsBy scheme signing one two signer status source sink other other_key
+    → AreParentWords words when key → AreParentWords words other other_key → EndsBy scheme signing one two signer status source sink when key → EndsBy scheme signing one two signer status source sink other other_key
 ends_by scheme signing one two signer status source sink words when other key other_key a b ends =
     let moment : when ≡ other = one_moment_at words 0 when other a.moment b.moment in
     let keys : key ≡ other_key = same_some key other_key (sym a.key_is ∙ b.key_is) in

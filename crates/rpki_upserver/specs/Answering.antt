@@ -13,7 +13,7 @@ use Rattle.rpki_provisioning.specs.Shape.{MessageFields}
 use Rattle.rpki_provisioning.specs.declared.payload.Payload.{Payload}
 use Rattle.rpki_ca.specs.Acceptance.{Accepted, RefusesReceipt}
 use Rattle.rpki_ca.specs.Seen.{SignerSeen}
-use Rattle.rpki_ca.specs.Sending.{FailsToSign, IsSignedAs}
+use Rattle.rpki_ca.specs.Sending.{FailsToSign, IsSentAs}
 use Rattle.rpki_ca.specs.declared.receiving.Kind.TheVariants as kinds
 use Rattle.rpki_ca.specs.declared.receiving.Received.TheVariants as received
 use Rattle.rpki_ca.specs.declared.receiving.ReceiveError.{ReceiveError}
@@ -63,17 +63,17 @@ pub record IsUndecided (before after : ParentAndIssuer) : Type 0 where
 -- ---- what is signed
 
 -- the signed message holds the message, and was created with it at the moment
-pub record IsSigned {Id : Type 0} (scheme : Relation) (when : ℤ) (signer : SignerSeen Id)
+pub record IsSignedResponse {Id : Type 0} (scheme : Relation) (when : ℤ) (signer : SignerSeen Id)
     (message : MessageFields) (c : CmsFields) : Type 0 where
   pub message_is : c.message ≡ message
-  pub signed : IsSignedAs scheme when signer (received.Provisioning message) c.signed
+  pub signed : IsSentAs scheme when signer (received.Provisioning message) c.signed
 
 -- the signed message holds the reply that says what was decided on the octets
-pub record IsAnswered {Id : Type 0} (scheme : Relation) (octets : List ℕ) (when : ℤ)
+pub record IsRequestAnswered {Id : Type 0} (scheme : Relation) (octets : List ℕ) (when : ℤ)
     (before after : ParentAndIssuer) (signer : SignerSeen Id) (c : CmsFields) : Type 0 where
   pub payload : Payload
   pub decided : IsDecided scheme octets when before after payload
-  pub signed : IsSigned scheme when signer (reply before.parent payload) c
+  pub signed : IsSignedResponse scheme when signer (reply before.parent payload) c
 
 -- ---- why nothing is sent
 
@@ -115,10 +115,10 @@ SendsNothing scheme octets when before after signer answers.OutOfMemory =
     IsUndecided before after
 
 -- the octets are refused
-abbrev pub IsRefused : {E : Type 0} → AnswerError E → Type 0
-IsRefused (answers.Refused error) = Unit {0}
-IsRefused (answers.Unsent error) = ⊥
-IsRefused answers.OutOfMemory = ⊥
+abbrev pub AreOctetsRefused : {E : Type 0} → AnswerError E → Type 0
+AreOctetsRefused (answers.Refused error) = Unit {0}
+AreOctetsRefused (answers.Unsent error) = ⊥
+AreOctetsRefused answers.OutOfMemory = ⊥
 
 -- how an error of receipt is answered
 abbrev pub refused : {E : Type 0} → ReceiveError → AnswerError E

@@ -12,8 +12,8 @@ use Rattle.rpki_upserver.specs.declared.decision.Decision.TheVariants as decisio
 use Rattle.rpki_upserver.specs.declared.decision.Reason.{Reason}
 use Rattle.rpki_upserver.specs.declared.decision.Reason.TheVariants as reasons
 use Rattle.rpki_upserver.specs.Answering.{ParentAndIssuer}
-use Rattle.rpki_upserver.specs.Issuer.{IsIssued, IssuerState}
-use Rattle.rpki_upserver.specs.Response.{IsEmpty, IsProven, IsUsed, Outcome, Row, Unless, published, refusal, requested_key}
+use Rattle.rpki_upserver.specs.Issuer.{IsCertificateIssued, IssuerState}
+use Rattle.rpki_upserver.specs.Response.{IsEmpty, IsSelfSigned, IsUsed, Outcome, Row, Unless, published, refusal, requested_key}
 use Rattle.rpki_upserver.specs.Table.{ClassState, Table, entitled, with_issued, with_table}
 
 -- the status of each reason (RFC 6492, 3.6)
@@ -40,7 +40,7 @@ pub record IsIssuance (table : Table) (class_place place : ℕ) (payload : Paylo
 pub record IsIssuedAt (c : ClassState) (request : IssuanceRequestFields) (set : Resources)
     (before after : IssuerState) (next : ClassState) (place : ℕ) : Type 0 where
   pub cert : CertFields
-  pub issued : IsIssued c.class_name request.csr set c.not_after before after cert
+  pub issued : IsCertificateIssued c.class_name request.csr set c.not_after before after cert
   pub kept : next ≡ with_issued (published c request cert) c
   pub at : slice_get next.issued_certs place ≡ Some (published c request cert)
 
@@ -80,6 +80,6 @@ abbrev pub IsFirstReason : Relation → Table → IssuanceRequestFields → Clas
     → Type 0
 IsFirstReason scheme table request c reason =
     Row (IsEmpty c.resource_set) (reason ≡ Some reasons.NoResources)
-    (Unless (IsProven scheme request.csr) (reason ≡ Some reasons.BadRequest)
+    (Unless (IsSelfSigned scheme request.csr) (reason ≡ Some reasons.BadRequest)
     (Row (IsUsed request.class_name (requested_key request) table) (reason ≡ Some reasons.UsedKey)
     (reason ≡ None)))

@@ -17,7 +17,7 @@ use Rattle.rpki_upserver.specs.Table.{ParentState}
 
 -- All lines of the input are those of octets, and the answers to all of them were written, from the
 -- parent at first; the issuer did what they say, and nothing else.
-pub record AnswersAll {Id : Type 0} (scheme : Relation) (run : Run Id) (input : List ℕ)
+pub record ParentAnswersAll {Id : Type 0} (scheme : Relation) (run : Run Id) (input : List ℕ)
     (sink : Seen) : Type 0 where
   pub messages : List (List ℕ)
   pub are : AreSent (lines_of input) messages
@@ -43,7 +43,7 @@ pub record HasLongLine {Id : Type 0} (scheme : Relation) (run : Run Id) (start :
 
 -- The signer holds a fitting key, and it neither failed nor gave too many octets, nor that key for
 -- one use; and no reply that was decided has a text of more than 2^31 octets.
-pub record CanServe {Id : Type 0} (scheme : Relation) (run : Run Id) (input : List ℕ) : Type 0
+pub record ParentCanServe {Id : Type 0} (scheme : Relation) (run : Run Id) (input : List ℕ) : Type 0
   where
     pub signs : CanSign run.signer
     pub short : (messages : List (List ℕ)) → AreSent (lines_of input) messages
@@ -51,7 +51,7 @@ pub record CanServe {Id : Type 0} (scheme : Relation) (run : Run Id) (input : Li
         → HasLongLine scheme run (with_issuer parent run.issuer_before) messages → ⊥
 
 -- 0 or 12; or 3 where some line isn't hexadecimal, or 8 where the moment has no window
-abbrev pub EndsForCause : {Id : Type 0} → Run Id → List ℕ → ℕ → Type 0
-EndsForCause run input status =
+abbrev pub ParentEndsForCause : {Id : Type 0} → Run Id → List ℕ → ℕ → Type 0
+ParentEndsForCause run input status =
     ((status ≡ 0) ⊎ (status ≡ 12))
     ⊎ (((status ≡ 3) × AreNotSent (lines_of input)) ⊎ ((status ≡ 8) × (HasWindow run.when → ⊥)))

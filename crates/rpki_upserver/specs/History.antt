@@ -11,7 +11,7 @@ use Rattle.rpki_provisioning.specs.declared.payload.Payload.{Payload}
 use Rattle.rpki_provisioning.specs.declared.payload.Payload.TheVariants as payloads
 use Rattle.rpki_upserver.specs.Issuer.{IssuerState, Made}
 use Rattle.rpki_upserver.specs.Response.{IsResponse, Outcome}
-use Rattle.rpki_upserver.specs.Table.{ClassState, ParentState, Table, class_named, has_key, key_of, with_table}
+use Rattle.rpki_upserver.specs.Table.{ClassState, ParentState, Table, class_named, has_key, key_of_issued, with_table}
 
 -- a message, and what came of it
 pub record Call : Type 0 where
@@ -38,7 +38,7 @@ abbrev pub Adds : Outcome → Made → Type 0
 Adds o made = o.after.made ≡ o.before.made ++ made ∷ []
 
 -- all resources of the one are among those of the other
-pub record IsWithin (part whole : Resources) : Type 0 where
+pub record IsPartOf (part whole : Resources) : Type 0 where
   pub asn : Includes whole.asn part.asn
   pub ipv4 : Includes whole.ipv4 part.ipv4
   pub ipv6 : Includes whole.ipv6 part.ipv6
@@ -47,7 +47,7 @@ pub record IsWithin (part whole : Resources) : Type 0 where
 pub record IsEntitled (table : Table) (made : Made) : Type 0 where
   pub c : ClassState
   pub named : class_named made.class_name table ≡ Some c
-  pub within : IsWithin made.resource_set c.resource_set
+  pub within : IsPartOf made.resource_set c.resource_set
   pub until : made.not_after ≡ c.not_after
 
 -- ---- what stands, by what was replied
@@ -65,29 +65,29 @@ abbrev pub is_revoked_by : List ℕ → List ℕ → KeyElementFields → Bool
 is_revoked_by name key k = bytes_eq k.class_name name && bytes_eq k.key key
 
 -- the certificate of a class and a key behind a reply, where this stood before it
-abbrev pub standing_behind : List ℕ → List ℕ → Payload → Option IssuedFields → Option IssuedFields
-standing_behind name key (payloads.IssueResponse r) before =
+abbrev pub last_issued_behind : List ℕ → List ℕ → Payload → Option IssuedFields → Option IssuedFields
+last_issued_behind name key (payloads.IssueResponse r) before =
     if is_certified_by name key r then Some r.issued_cert else before
-standing_behind name key (payloads.RevokeResponse k) before =
+last_issued_behind name key (payloads.RevokeResponse k) before =
     if is_revoked_by name key k then None else before
-standing_behind name key other before = before
+last_issued_behind name key other before = before
 
 -- the certificate of a class and a key behind all replies: the last one that was issued, unless it
 -- was revoked since
-abbrev pub standing : List ℕ → List ℕ → List Call → Option IssuedFields → Option IssuedFields
-standing name key [] before = before
-standing name key (call ∷ calls) before =
-    standing name key calls (standing_behind name key call.outcome.payload before)
+abbrev pub last_issued : List ℕ → List ℕ → List Call → Option IssuedFields → Option IssuedFields
+last_issued name key [] before = before
+last_issued name key (call ∷ calls) before =
+    last_issued name key calls (last_issued_behind name key call.outcome.payload before)
 
 -- what the table says of each class and each key
-abbrev pub Tells : Table → (List ℕ → List ℕ → Option IssuedFields) → Type 0
-Tells table stands = (name key : List ℕ) (c : ClassState) → class_named name table ≡ Some c
+abbrev pub ListsAs : Table → (List ℕ → List ℕ → Option IssuedFields) → Type 0
+ListsAs table stands = (name key : List ℕ) (c : ClassState) → class_named name table ≡ Some c
     → find (has_key key) c.issued_certs ≡ stands name key
 
 -- no two of the certificates have one key
 abbrev pub AreOnce : List IssuedFields → Type 0
 AreOnce [] = ⊤
-AreOnce (issued ∷ more) = (list_any (has_key (key_of issued)) more ≡ false) × AreOnce more
+AreOnce (issued ∷ more) = (list_any (has_key (key_of_issued issued)) more ≡ false) × AreOnce more
 
 -- each class holds at most one certificate of a key
 abbrev pub AreAllOnce : Table → Type 0

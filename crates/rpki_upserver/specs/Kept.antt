@@ -19,5 +19,5 @@ kept_items None = record { items = []; room = 0 }
 kept_items (Some held) = record { items = held.items; room = vec_capacity held - vec_len held }
 
 -- a certificate of the key is there, or there is room for it
-abbrev pub HasRoom : KeptItems IssuedFields → List ℕ → Type 0
-HasRoom held key = (list_any (has_key key) held.items ≡ true) ⊎ (1 ≤ held.room)
+abbrev pub HasKeptRoom : KeptItems IssuedFields → List ℕ → Type 0
+HasKeptRoom held key = (list_any (has_key key) held.items ≡ true) ⊎ (1 ≤ held.room)

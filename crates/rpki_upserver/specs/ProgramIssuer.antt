@@ -12,7 +12,7 @@ use Rattle.rpki_cert.specs.Cert.{certificate}
 use Rattle.rpki_idcert.specs.IdCert.{CertificateFields}
 use Rattle.rpki_idcert.specs.Making.{IsAnchorMade}
 use Rattle.rpki_signer.specs.Limits.{StopsInTurn}
-use Rattle.rpki_signer.specs.Signer.{Holds, SignerState}
+use Rattle.rpki_signer.specs.Signer.{HoldsKey, SignerState}
 use Rattle.rpki_signer.specs.Toy.{ToyChecks}
 use Rattle.rpki_signer.specs.ToySigner.{ToyState, after_creating, state_of, toy_signer}
 use Rattle.rpki_signer.specs.declared.errors.MakeError.{MakeError}
@@ -22,7 +22,7 @@ use Rattle.rpki_ca.specs.Seen.{Seen, seen_signer}
 use Rattle.rpki_ca.specs.declared.refusals.Refusal.{Refusal}
 use Rattle.rpki_updown.specs.Entitlements.{SigningFields}
 use Rattle.rpki_upserver.specs.Issuer.{IssuerState}
-use Rattle.rpki_upserver.specs.Running.{EndsServing, run_of}
+use Rattle.rpki_upserver.specs.Running.{EndsParentRun, run_of}
 use Rattle.rpki_upserver.specs.ToyIssuer.{ToyIssuerState, issuer_state, toy_issuer}
 
 -- from the first second of 1970 to the last of 9999
@@ -67,9 +67,9 @@ pub record IsProgramRun (when : ℤ) (child : KeyFields) (status : ℕ) (source 
     pub issuer_is : IsProgramIssuer (after_creating Rsa (toy_signer 3 [])) issuing_key issuer signing
     pub key : ℕ
     pub held : KeyFields
-    pub holds : Holds (state_of first_signer).keyring key held
+    pub holds : HoldsKey (state_of first_signer).keyring key held
     pub issuer_after : IssuerState
     pub signer_after : SignerState ℕ
-    pub ends : EndsServing ToyChecks
+    pub ends : EndsParentRun ToyChecks
         (run_of when child signing (issuer_state issuer) issuer_after
         (seen_signer key (state_of first_signer) signer_after)) status source sink

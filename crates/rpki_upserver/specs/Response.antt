@@ -13,7 +13,7 @@ use Rattle.rpki_updown.specs.RequestResourceLimit.{IsContained, limited_set}
 use Rattle.rpki_provisioning.specs.Shape.{MessageFields}
 use Rattle.rpki_provisioning.specs.declared.payload.Payload.{Payload}
 use Rattle.rpki_provisioning.specs.declared.payload.Payload.TheVariants as payloads
-use Rattle.rpki_upserver.specs.Issuer.{IsIssued, IsRevoked, IssuerState, Leaves}
+use Rattle.rpki_upserver.specs.Issuer.{IsCertificateIssued, IsRevoked, IssuerState, IssuedNothing}
 use Rattle.rpki_upserver.specs.Table.{ClassState, ParentState, Table, change, class_named, entitled, is_issued_elsewhere, is_issued_in, is_revoked, place_of, with_issued, with_revoked}
 
 -- what comes of a message: the payload of the reply, the table behind it, and the issuer's state
@@ -36,7 +36,7 @@ Unless condition here behind = (condition × behind) ⊎ ((condition → ⊥) ×
 -- ---- what is answered
 
 -- nothing is changed
-pub record Stays (table : Table) (o : Outcome) : Type 0 where
+pub record ChangesNothing (table : Table) (o : Outcome) : Type 0 where
   pub next : o.next ≡ table
   pub issuer : o.after ≡ o.before
 
@@ -45,15 +45,15 @@ abbrev pub refusal : ℕ → Payload
 refusal status = payloads.ErrorResponse (record { status = status; description = reason status })
 
 -- the reply is the refusal with this status, and neither table nor issuer changes
-pub record Refuses (status : ℕ) (table : Table) (o : Outcome) : Type 0 where
+pub record RefusesRequest (status : ℕ) (table : Table) (o : Outcome) : Type 0 where
   pub payload : o.payload ≡ refusal status
-  pub stays : Stays table o
+  pub stays : ChangesNothing table o
 
 -- The issuer failed, and its count rose: so it is an internal error of the server.
-pub record Fails (table : Table) (o : Outcome) : Type 0 where
+pub record FailsIssuing (table : Table) (o : Outcome) : Type 0 where
   pub payload : o.payload ≡ refusal 2001
   pub next : o.next ≡ table
-  pub leaves : Leaves o.before o.after
+  pub leaves : IssuedNothing o.before o.after
   pub rose : Rose o.before.faults o.after.faults
 
 -- ---- the list request (3.3)
@@ -62,7 +62,7 @@ pub record Fails (table : Table) (o : Outcome) : Type 0 where
 -- issuer changes
 pub record Lists (table : Table) (o : Outcome) : Type 0 where
   pub payload : o.payload ≡ payloads.ListResponse (map entitled table)
-  pub stays : Stays table o
+  pub stays : ChangesNothing table o
 
 -- ---- the certificate request (3.4)
 
@@ -75,8 +75,8 @@ abbrev pub IsEmpty : Resources → Type 0
 IsEmpty set = set ≡ record { asn = []; ipv4 = []; ipv6 = [] }
 
 -- the request is signed under the key that it is for
-abbrev pub IsProven : Relation → CaRequest → Type 0
-IsProven scheme csr =
+abbrev pub IsSelfSigned : Relation → CaRequest → Type 0
+IsSelfSigned scheme csr =
     scheme RsaSha256 csr.tbs.key csr.signed.slice csr.signed.signature.value
 
 -- the key was revoked in any class, or is certified in another one
@@ -97,7 +97,7 @@ published c request cert = record {
 pub record Issues (table : Table) (c : ClassState) (request : IssuanceRequestFields) (o : Outcome)
     : Type 0 where
   pub cert : CertFields
-  pub issued : IsIssued request.class_name request.csr (limited_set request.limit c.resource_set)
+  pub issued : IsCertificateIssued request.class_name request.csr (limited_set request.limit c.resource_set)
       c.not_after o.before o.after cert
   pub payload : o.payload
       ≡ payloads.IssueResponse (issuance (entitled c) (published c request cert))
@@ -108,16 +108,16 @@ pub record Issues (table : Table) (c : ClassState) (request : IssuanceRequestFie
 abbrev pub IsIssueAnswerIn : Relation → Table → IssuanceRequestFields → ClassState → Outcome
     → Type 0
 IsIssueAnswerIn scheme table request c o =
-    Row (IsEmpty c.resource_set) (Refuses 1202 table o)
-    (Unless (IsProven scheme request.csr) (Refuses 1203 table o)
-    (Row (IsUsed request.class_name (requested_key request) table) (Refuses 1204 table o)
-    (Unless (IsContained request.limit c.resource_set) (Refuses 1202 table o)
-    (Fails table o ⊎ Issues table c request o))))
+    Row (IsEmpty c.resource_set) (RefusesRequest 1202 table o)
+    (Unless (IsSelfSigned scheme request.csr) (RefusesRequest 1203 table o)
+    (Row (IsUsed request.class_name (requested_key request) table) (RefusesRequest 1204 table o)
+    (Unless (IsContained request.limit c.resource_set) (RefusesRequest 1202 table o)
+    (FailsIssuing table o ⊎ Issues table c request o))))
 
 -- the rows for a request, by the class that it names, if there is one
 abbrev pub IsIssueAnswer : Relation → Table → IssuanceRequestFields → Option ClassState → Outcome
     → Type 0
-IsIssueAnswer scheme table request None o = Refuses 1201 table o
+IsIssueAnswer scheme table request None o = RefusesRequest 1201 table o
 IsIssueAnswer scheme table request (Some c) o = IsIssueAnswerIn scheme table request c o
 
 -- ---- the request to revoke the certificates of a key (3.5)
@@ -131,10 +131,10 @@ pub record Revokes (table : Table) (request : KeyElementFields) (o : Outcome) : 
 -- the rows for a request to revoke: no class of its name 1301, no certificate of the key in it
 -- 1302; else the issuer fails, or revokes
 abbrev pub IsRevokeAnswer : Table → KeyElementFields → Option ClassState → Outcome → Type 0
-IsRevokeAnswer table request None o = Refuses 1301 table o
+IsRevokeAnswer table request None o = RefusesRequest 1301 table o
 IsRevokeAnswer table request (Some c) o =
-    Unless (is_issued_in request.key c ≡ true) (Refuses 1302 table o)
-    (Fails table o ⊎ Revokes table request o)
+    Unless (is_issued_in request.key c ≡ true) (RefusesRequest 1302 table o)
+    (FailsIssuing table o ⊎ Revokes table request o)
 
 -- ---- messages
 
@@ -145,7 +145,7 @@ IsPayloadAnswer scheme table (payloads.Issue request) o =
     IsIssueAnswer scheme table request (class_named request.class_name table) o
 IsPayloadAnswer scheme table (payloads.Revoke request) o =
     IsRevokeAnswer table request (class_named request.class_name table) o
-IsPayloadAnswer scheme table other o = Refuses 1103 table o
+IsPayloadAnswer scheme table other o = RefusesRequest 1103 table o
 
 -- the child sends it to this parent
 pub record IsFromChild (p : ParentState) (m : MessageFields) : Type 0 where
@@ -155,5 +155,5 @@ pub record IsFromChild (p : ParentState) (m : MessageFields) : Type 0 where
 -- what comes of a message
 abbrev pub IsResponse : Relation → ParentState → MessageFields → Outcome → Type 0
 IsResponse scheme p m o =
-    Unless (IsFromChild p m) (Refuses 2001 p.table o)
+    Unless (IsFromChild p m) (RefusesRequest 2001 p.table o)
     (IsPayloadAnswer scheme p.table m.payload o)

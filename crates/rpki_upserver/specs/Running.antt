@@ -22,14 +22,14 @@ use Rattle.rpki_upserver.specs.Table.{ClassState, ParentState, new_class, new_pa
 -- ---- words
 
 -- two words: a moment, and the child's key
-pub record AreWords (words : List (List ℕ)) (when : ℤ) (key : KeyFields) : Type 0 where
+pub record AreParentWords (words : List (List ℕ)) (when : ℤ) (key : KeyFields) : Type 0 where
   pub two : length words ≡ 2
   pub moment : IsMomentAt words 0 when
   pub key_is : key_at words 1 ≡ Some key
 
 -- the words are not a moment and a child's key
-abbrev pub AreNoWords : List (List ℕ) → Type 0
-AreNoWords words = (when : ℤ) (key : KeyFields) → AreWords words when key → ⊥
+abbrev pub AreNoParentWords : List (List ℕ) → Type 0
+AreNoParentWords words = (when : ℤ) (key : KeyFields) → AreParentWords words when key → ⊥
 
 -- ---- the parent at first
 
@@ -95,7 +95,7 @@ EndsFrom scheme run parent messages status sink = EndsLines
 
 -- How it ends where each line is that of octets, and the moment has a window: they are answered
 -- from the parent at first.
-pub record EndsAnswered {Id : Type 0} (scheme : Relation) (run : Run Id) (lines : List (List ℕ))
+pub record EndsParentAnswered {Id : Type 0} (scheme : Relation) (run : Run Id) (lines : List (List ℕ))
     (status : ℕ) (sink : Seen) : Type 0 where
   pub messages : List (List ℕ)
   pub are : AreSent lines messages
@@ -106,16 +106,16 @@ pub record EndsAnswered {Id : Type 0} (scheme : Relation) (run : Run Id) (lines 
 
 -- how it ends: with the answers from a first parent; or the moment has no window; or some line is
 -- that of no octets; or memory ran out
-abbrev pub EndsServed : {Id : Type 0} → Relation → Run Id → List (List ℕ) → ℕ → Seen → Type 0
-EndsServed scheme run lines status sink =
-    EndsAnswered scheme run lines status sink
+abbrev pub EndsParentServed : {Id : Type 0} → Relation → Run Id → List (List ℕ) → ℕ → Seen → Type 0
+EndsParentServed scheme run lines status sink =
+    EndsParentAnswered scheme run lines status sink
     ⊎ ((EndsMoment run.when lines status sink × IsIdle run)
     ⊎ ((AreNotSent lines × Ends (Err Hex) status sink × IsIdle run)
     ⊎ (Ends (Err OutOfMemory) status sink × IsIdle run)))
 
 -- How it ends on a source: the input isn't read, and issuer and signer did nothing; or it is, and
 -- its lines are answered.
-abbrev pub EndsServing : {Id : Type 0} → Relation → Run Id → ℕ → Seen → Seen → Type 0
-EndsServing scheme run status source sink =
+abbrev pub EndsParentRun : {Id : Type 0} → Relation → Run Id → ℕ → Seen → Seen → Type 0
+EndsParentRun scheme run status source sink =
     (EndsUnread status source sink × IsIdle run)
-    ⊎ EndsRead (λ input. EndsServed scheme run (lines_of input) status sink) source
+    ⊎ EndsRead (λ input. EndsParentServed scheme run (lines_of input) status sink) source

@@ -54,7 +54,7 @@ entitled c = record {
 -- ---- where certificates are published
 
 -- the URI names a directory, and leaves room for a name in it
-pub record IsBase (uri : List ℕ) : Type 0 where
+pub record IsClassBase (uri : List ℕ) : Type 0 where
   pub directory : names_directory (path_of rsync uri) ≡ true
   pub short : length uri ≤ 65000
 
@@ -73,12 +73,12 @@ abbrev pub class_named : List ℕ → Table → Option ClassState
 class_named name table = find (is_named name) table
 
 -- the identifier of a certificate's key
-abbrev pub key_of : IssuedFields → List ℕ
-key_of issued = sha1 issued.cert.key.bits
+abbrev pub key_of_issued : IssuedFields → List ℕ
+key_of_issued issued = sha1 issued.cert.key.bits
 
 -- whether the certificate is of the key with this identifier
 abbrev pub has_key : List ℕ → IssuedFields → Bool
-has_key key issued = bytes_eq (key_of issued) key
+has_key key issued = bytes_eq (key_of_issued issued) key
 
 -- a certificate of the key was issued in the class, and is not revoked
 abbrev pub is_issued_in : List ℕ → ClassState → Bool
@@ -103,7 +103,7 @@ is_issued_elsewhere name key table =
 abbrev pub put : List IssuedFields → IssuedFields → List IssuedFields
 put [] issued = issued ∷ []
 put (held ∷ more) issued =
-    if has_key (key_of issued) held then issued ∷ more else held ∷ put more issued
+    if has_key (key_of_issued issued) held then issued ∷ more else held ∷ put more issued
 
 -- the certificate of a key is taken out
 abbrev pub without : List IssuedFields → List ℕ → List IssuedFields
@@ -140,9 +140,9 @@ abbrev pub AreWritable : Table → Type 0
 AreWritable table = AllByRecursion (λ c. IsWritableClass (entitled c)) table
 
 -- no two classes have one name
-abbrev pub AreDistinct : Table → Type 0
-AreDistinct [] = Unit {0}
-AreDistinct (c ∷ more) = (list_any (is_named c.class_name) more ≡ false) × AreDistinct more
+abbrev pub AreDistinctClasses : Table → Type 0
+AreDistinctClasses [] = Unit {0}
+AreDistinctClasses (c ∷ more) = (list_any (is_named c.class_name) more ≡ false) × AreDistinctClasses more
 
 -- The handle of the parent and that of the child, the child's key, and the table.
 pub record ParentState : Type 0 where
@@ -164,5 +164,5 @@ with_table table p = record p { table = table }
 pub record IsParent (me child : List ℕ) (table : Table) : Type 0 where
   pub me_is : IsHandle me
   pub child_is : IsHandle child
-  pub distinct : AreDistinct table
+  pub distinct : AreDistinctClasses table
   pub names : AllByRecursion (λ c. AreOctets c.class_name) table

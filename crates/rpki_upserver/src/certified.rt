@@ -1,7 +1,7 @@
 //! A certificate beside its key's identifier.
 
 ghost use Rattle.std.specs.Prelude.{◌≡◌};
-ghost use Rattle.rpki_upserver.specs.Table.{key_of};
+ghost use Rattle.rpki_upserver.specs.Table.{key_of_issued};
 
 use rpki_base::KeyIdentifier;
 use rpki_updown::IssuedCert;
@@ -17,13 +17,13 @@ pub(crate) struct Certified {
 impl Model for Certified {
     ghost use Rattle.std.specs.Prelude.{◌≡◌};
     ghost use Rattle.rpki_updown.specs.Entitlements.{IssuedFields};
-    ghost use Rattle.rpki_upserver.specs.Table.{key_of};
+    ghost use Rattle.rpki_upserver.specs.Table.{key_of_issued};
 
     ghost Value = { IssuedFields };
 
     ghost view = { λ c. c.issued };
 
-    ghost invariant = { λ c. c.key ≡ key_of c.issued };
+    ghost invariant = { λ c. c.key ≡ key_of_issued c.issued };
 }
 
 impl Certified {
@@ -39,7 +39,7 @@ impl Certified {
 
     /// The identifier of its key.
     pub(crate) fn key(&self) -> KeyIdentifier
-        ensures { result ≡ key_of self.now }
+        ensures { result ≡ key_of_issued self.now }
     {
         self.key
     }

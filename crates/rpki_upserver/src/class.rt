@@ -7,9 +7,9 @@ ghost use Rattle.rpki_xml.specs.Lettered.{AreOctets};
 ghost use Rattle.rpki_updown.specs.Entitlements.{IssuedFields, issuance};
 ghost use Rattle.rpki_upserver.specs.Decision.{IsIssuedAt};
 ghost use Rattle.rpki_upserver.specs.Issuer.{IsRevoked, IssuerFails};
-ghost use Rattle.rpki_upserver.specs.Kept.{HasRoom};
+ghost use Rattle.rpki_upserver.specs.Kept.{HasKeptRoom};
 ghost use Rattle.rpki_upserver.specs.Response.{IsEmpty};
-ghost use Rattle.rpki_upserver.specs.Table.{IsBase, IsSound, entitled, has_key, is_issued_in, is_revoked_in, key_of};
+ghost use Rattle.rpki_upserver.specs.Table.{IsClassBase, IsSound, entitled, has_key, is_issued_in, is_revoked_in, key_of_issued};
 ghost use Rattle.rpki_upserver.specs.Table.{new_class, place_of, put as put_in, with_revoked};
 
 use crate::certified::Certified;
@@ -59,7 +59,7 @@ impl Drop for Class {
 }
 
 impl Model for Class {
-    ghost use Rattle.rpki_upserver.specs.Table.{ClassState, IsBase, IsSound};
+    ghost use Rattle.rpki_upserver.specs.Table.{ClassState, IsClassBase, IsSound};
 
     ghost Value = { ClassState };
 
@@ -73,7 +73,7 @@ impl Model for Class {
       revoked = c.revoked.items;
     } };
 
-    ghost invariant = { λ c. IsBase c.base
+    ghost invariant = { λ c. IsClassBase c.base
         × IsSound c.set c.not_after c.signing c.issued.items };
 }
 
@@ -106,7 +106,7 @@ impl Class {
         base: Rsync,
         signing: SigningCert,
     ) -> Option<Class>
-        ensures some { IsSome result ↔ IsBase base }
+        ensures some { IsSome result ↔ IsClassBase base }
         ensures value { IfSome result (λ c. c ≡ new_class name set not_after base signing) }
     {
         if !base.path_is_dir() || base.as_str().len() > MOST_OCTETS {
@@ -258,7 +258,7 @@ fn make_room_for(
     key: KeyIdentifier,
 ) -> Result<(), OutOfMemory>
     ensures items { held.new.items ≡ held.old.items }
-    ensures room { OnOk result (HasRoom held.new key) }
+    ensures room { OnOk result (HasKeptRoom held.new key) }
 {
     if place_among(held, key).is_none() {
         held.make_room(alloc)?;
@@ -279,7 +279,7 @@ fn place_among(held: &Kept<Certified>, key: KeyIdentifier) -> Option<usize>
 // Puts a certificate in the place of that of the same key, or else last, where there is room. It
 // answers the place.
 fn put(held: &mut Kept<Certified>, issued: IssuedCert) -> usize
-    requires { HasRoom held.old (key_of issued) }
+    requires { HasKeptRoom held.old (key_of_issued issued) }
     ensures items { held.new.items ≡ put_in held.old.items issued }
     ensures place { slice_get held.new.items result ≡ Some issued }
 {

@@ -1,7 +1,7 @@
 //! Who issues certificates.
 
 ghost use Rattle.std.specs.Prelude.{◌≡◌, MatchResult};
-ghost use Rattle.rpki_upserver.specs.Issuer.{IsIssued, IsRevoked, IssuerFails, IssuerState};
+ghost use Rattle.rpki_upserver.specs.Issuer.{IsCertificateIssued, IsRevoked, IssuerFails, IssuerState};
 ghost use Rattle.rpki_upserver.specs.declared.issuer.IssuerError.TheVariants as errors;
 
 use rpki_base::{KeyIdentifier, Time};
@@ -46,7 +46,7 @@ pub trait Issuer {
         not_after: Time,
     ) -> Result<Cert, IssuerError>
         ensures { MatchResult result
-            (IsIssued class_name.now csr.now set.now not_after (state self.old) (state self.new))
+            (IsCertificateIssued class_name.now csr.now set.now not_after (state self.old) (state self.new))
             (IssuerFails (state self.old) (state self.new)) };
 
     /// Revokes the certificates of the key with this identifier in this class. Failed only where its count rose; whatever the error,

@@ -7,11 +7,11 @@ ghost use Rattle.rpki_updown.specs.KeyElement.{KeyElementFields};
 ghost use Rattle.rpki_provisioning.specs.Shape.{MessageFields};
 ghost use Rattle.rpki_provisioning.specs.declared.payload.Payload.TheVariants as payloads;
 ghost use Rattle.rpki_ca.specs.Seen.{HasFailed, Seen};
-ghost use Rattle.rpki_upserver.specs.Ends.{AnswersAll, CanServe, EndsForCause};
-ghost use Rattle.rpki_upserver.specs.History.{Adds, AreAllOnce, AreMade, AreNew, Call, IsEntitled, Tells, standing, table_behind};
+ghost use Rattle.rpki_upserver.specs.Ends.{ParentAnswersAll, ParentCanServe, ParentEndsForCause};
+ghost use Rattle.rpki_upserver.specs.History.{Adds, AreAllOnce, AreMade, AreNew, Call, IsEntitled, ListsAs, last_issued, table_behind};
 ghost use Rattle.rpki_upserver.specs.Issuer.{IssuerState, Made};
 ghost use Rattle.rpki_upserver.specs.Response.{IsFromChild, IsResponse, Outcome, refusal};
-ghost use Rattle.rpki_upserver.specs.Running.{EndsServing, Run};
+ghost use Rattle.rpki_upserver.specs.Running.{EndsParentRun, Run};
 ghost use Rattle.rpki_upserver.specs.Table.{ParentState};
 
 use rpki_base::Scheme;
@@ -37,7 +37,7 @@ pub fn revoked_keys_are_not_certified_again<P: Scheme>()
 pub fn what_is_told_was_issued_and_not_revoked<P: Scheme>()
     ensures { (parent : ParentState) (issuer : IssuerState) (calls : List Call) →
         AreNew parent.table → AreMade P.checks parent issuer calls →
-        Tells (table_behind parent.table calls) (λ name key. standing name key calls None) }
+        ListsAs (table_behind parent.table calls) (λ name key. last_issued name key calls None) }
 {}
 
 /// A class in which nothing was issued at first holds at most one certificate of a key.
@@ -57,15 +57,15 @@ pub fn internal_errors_have_causes<P: Scheme>()
 /// With 0 the answers to all lines were written, and the issuer did what they say and nothing else.
 pub fn zero_answers_all<P: Scheme, S: Signer<P>>()
     ensures { (run : Run S.KeyId) (source sink : Seen) (input : List ℕ) →
-        EndsServing P.checks run 0 source sink → source.before ≡ Some input →
-        AnswersAll P.checks run input sink }
+        EndsParentRun P.checks run 0 source sink → source.before ≡ Some input →
+        ParentAnswersAll P.checks run input sink }
 {}
 
 /// A run with two words of the form ends with 0 or 12, if neither stream failed, the input is within the limit, the signer can sign and no
 /// reply is too long; or with 3 or 8, where a line isn't hexadecimal or the moment has no window.
 pub fn runs_end_for_cause<P: Scheme, S: Signer<P>>()
     ensures { (run : Run S.KeyId) (status : ℕ) (source sink : Seen) (input : List ℕ) →
-        EndsServing P.checks run status source sink →
+        EndsParentRun P.checks run status source sink →
         source.before ≡ Some input → length input ≤ most_input → ¬ (HasFailed source) →
-        ¬ (HasFailed sink) → CanServe P.checks run input → EndsForCause run input status }
+        ¬ (HasFailed sink) → ParentCanServe P.checks run input → ParentEndsForCause run input status }
 {}

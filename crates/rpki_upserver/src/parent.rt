@@ -12,7 +12,7 @@ ghost use Rattle.rpki_ca.specs.Sending.{FailsToSign};
 ghost use Rattle.rpki_ca.specs.declared.receiving.Kind.TheVariants as kinds;
 ghost use Rattle.rpki_ca.specs.declared.receiving.Received.TheVariants as received;
 ghost use Rattle.rpki_ca.specs.declared.receiving.ReceiveError.TheVariants as receipt;
-ghost use Rattle.rpki_upserver.specs.Answering.{IsAnswered, IsRefused, IsSigned, SendsNothing, refused, reply, with_issuer};
+ghost use Rattle.rpki_upserver.specs.Answering.{IsRequestAnswered, AreOctetsRefused, IsSignedResponse, SendsNothing, refused, reply, with_issuer};
 ghost use Rattle.rpki_upserver.specs.Decision.{CanBeSaid, IsDecidedBy, IsFirstReason, IsPayloadOf};
 ghost use Rattle.rpki_upserver.specs.Response.{IsFromChild, IsPayloadAnswer, IsResponse};
 ghost use Rattle.rpki_upserver.specs.Table.{AreWritable, ClassState, IsParent, entitled, new_parent};
@@ -366,7 +366,7 @@ impl Parent {
     ) -> Result<ProvisioningCms, CreateError<S::Error>>
         requires { CanBeSaid self.now.table decision.now }
         ensures ok { IfOk result (λ c. (payload : Said)
-            → IsPayloadOf self.now.table decision.now payload → IsSigned P.checks when
+            → IsPayloadOf self.now.table decision.now payload → IsSignedResponse P.checks when
             (seen_signer key.now (S.state signer.old) (S.state signer.new))
             (reply self.now payload) c) }
         ensures err { IfErr result (λ e. e ≢ create.OutOfMemory → (payload : Said)
@@ -403,7 +403,7 @@ impl Parent {
     ) -> Result<ProvisioningCms, AnswerError<S::Error>>
         // The reply says what comes of the message by the table's rows, and is received over its
         // window.
-        ensures answered { IfOk result (IsAnswered P.checks octets.now when
+        ensures answered { IfOk result (IsRequestAnswered P.checks octets.now when
             (with_issuer self.old (N.state issuer.old)) (with_issuer self.new (N.state issuer.new))
             (seen_signer key.now (S.state signer.old) (S.state signer.new))) }
 
@@ -414,7 +414,7 @@ impl Parent {
 
         // Octets that are refused leave all as it was, and nothing is signed before a reply is
         // decided.
-        ensures refused { IfErr result (λ e. IsRefused e → (issuer.new ≡ issuer.old)
+        ensures refused { IfErr result (λ e. AreOctetsRefused e → (issuer.new ≡ issuer.old)
             × (signer.new ≡ signer.old)) }
         ensures unsigned { IsErrOf result answers.OutOfMemory → signer.new ≡ signer.old }
         ensures keeps { Keeps (S.state signer.old) (S.state signer.new) }

@@ -2,7 +2,7 @@
 
 ghost use Rattle.std.specs.Prelude.{◌≡◌, IfOk, IfSome, IsNone};
 ghost use Rattle.rpki_sets.specs.Kinds.{blocks_of};
-ghost use Rattle.rpki_upserver.specs.Running.{AreNoWords, AreWords, IsFirstClass, IsFirstParent, IsFirstSet};
+ghost use Rattle.rpki_upserver.specs.Running.{AreNoParentWords, AreParentWords, IsFirstClass, IsFirstParent, IsFirstSet};
 
 use crate::class::Class;
 use crate::lawful::{handle, rsync_uri};
@@ -24,8 +24,8 @@ pub(crate) struct Terms {
 /// What the two words ask for; None exactly where they aren't of the form.
 pub(crate) fn terms_of(alloc: Global, words: &Words) -> Result<Option<Terms>, OutOfMemory>
     ensures some { IfOk result (λ o. IfSome o (λ terms.
-        AreWords words.now terms.when terms.child)) }
-    ensures none { IfOk result (λ o. IsNone o → AreNoWords words.now) }
+        AreParentWords words.now terms.when terms.child)) }
+    ensures none { IfOk result (λ o. IsNone o → AreNoParentWords words.now) }
 {
     if words.len() != 2 {
         return Ok(None);

@@ -5,7 +5,7 @@ ghost use Rattle.hex.specs.Hex.{encode_lower};
 ghost use Rattle.rpki_common.specs.Limits.{most_input};
 ghost use Rattle.rpki_base.specs.PublicKey.{KeyFields};
 ghost use Rattle.rpki_signer.specs.Limits.{Keeps};
-ghost use Rattle.rpki_sigmsg.specs.Spelling.{CanBeSpelled, rewritten};
+ghost use Rattle.rpki_sigmsg.specs.Spelling.{CanSpellMessage, rewritten};
 ghost use Rattle.rpki_text.specs.Source.{TakesAtMost};
 ghost use Rattle.rpki_ca.specs.Acceptance.{of_provisioning, refusal_of};
 ghost use Rattle.rpki_ca.specs.Answer.{Ends};
@@ -14,7 +14,7 @@ ghost use Rattle.rpki_ca.specs.Refusal.{name_of};
 ghost use Rattle.rpki_ca.specs.Seen.{seen, seen_signer};
 ghost use Rattle.rpki_ca.specs.declared.refusals.Refusal.TheVariants as refusals;
 ghost use Rattle.rpki_upserver.specs.Answering.{with_issuer};
-ghost use Rattle.rpki_upserver.specs.Running.{AreNoWords, AreWords, EndsServed, EndsServing, run_of};
+ghost use Rattle.rpki_upserver.specs.Running.{AreNoParentWords, AreParentWords, EndsParentServed, EndsParentRun, run_of};
 ghost use Rattle.rpki_upserver.specs.Serving.{AreAllAnswered, AreFirstAnswered, FailsLine, IsLeft, IsLineAnswered, StopsAnswering, service_of};
 
 use crate::issuer::Issuer;
@@ -37,7 +37,7 @@ use std::alloc::Global;
 fn message_line(alloc: Global, cms: &ProvisioningCms) -> Result<Vec<u8>, OutOfMemory>
     ensures line { IfOk result (λ line. line.items
         ≡ encode_lower (rewritten cms.now.signed) ++ 10 ∷ []) }
-    ensures spelled { OnOk result (CanBeSpelled cms.now.signed) }
+    ensures spelled { OnOk result (CanSpellMessage cms.now.signed) }
 {
     let octets = cms.to_bytes(alloc)?;
     hexadecimal_line(alloc, octets.as_slice())
@@ -134,7 +134,7 @@ fn serve_lines<P: Scheme, O: Sink, V: Verifier<P>, N: Issuer, S: Signer<P>>(
     key: &S::KeyId,
     signing: &SigningCert,
 ) -> Status
-    ensures ends { EndsServed P.checks
+    ensures ends { EndsParentServed P.checks
         (run_of when child_key signing.now (N.state issuer.old) (N.state issuer.new)
         (seen_signer key.now (S.state signer.old) (S.state signer.new))) lines.entry result.0
         (seen O.written O.faults output.old output.new) }
@@ -193,11 +193,11 @@ pub fn serve<P: Scheme, I: Source, O: Sink, V: Verifier<P>, N: Issuer, S: Signer
 ) -> Status
 
     // Other words are refused, the source is left unread, and issuer and signer unasked.
-    ensures usage { AreNoWords words.now
+    ensures usage { AreNoParentWords words.now
         → Ends (Err refusals.Usage) result.0 (seen O.written O.faults output.old output.new)
         ⊎ Ends (Err refusals.OutOfMemory) result.0 (seen O.written O.faults output.old output.new) }
-    ensures unread { AreNoWords words.now → input.new ≡ input.old }
-    ensures unasked { AreNoWords words.now → (issuer.new ≡ issuer.old)
+    ensures unread { AreNoParentWords words.now → input.new ≡ input.old }
+    ensures unasked { AreNoParentWords words.now → (issuer.new ≡ issuer.old)
         × (signer.new ≡ signer.old) }
 
     // At most one octet more than the limit is taken of the source.
@@ -205,8 +205,8 @@ pub fn serve<P: Scheme, I: Source, O: Sink, V: Verifier<P>, N: Issuer, S: Signer
 
     // Where the source isn't read whole, that is what is answered, and issuer and signer did
     // nothing; and where it is, the messages are answered.
-    ensures ends { (when : ℤ) (child : KeyFields) → AreWords words.now when child
-        → EndsServing P.checks
+    ensures ends { (when : ℤ) (child : KeyFields) → AreParentWords words.now when child
+        → EndsParentRun P.checks
         (run_of when child signing.now (N.state issuer.old) (N.state issuer.new)
         (seen_signer key.now (S.state signer.old) (S.state signer.new)))
         result.0 (seen I.rest I.faults input.old input.new)

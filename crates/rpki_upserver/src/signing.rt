@@ -7,7 +7,7 @@ ghost use Rattle.rpki_provisioning.specs.Writable.{IsWritable};
 ghost use Rattle.rpki_ca.specs.Seen.{seen_signer};
 ghost use Rattle.rpki_ca.specs.Sending.{FailsToSign};
 ghost use Rattle.rpki_ca.specs.declared.receiving.Received.TheVariants as received;
-ghost use Rattle.rpki_upserver.specs.Answering.{IsSigned};
+ghost use Rattle.rpki_upserver.specs.Answering.{IsSignedResponse};
 
 use rpki_base::{Scheme, Time};
 use rpki_provisioning::{Message, ProvisioningCms};
@@ -24,7 +24,7 @@ pub(crate) fn signed<P: Scheme, S: Signer<P>>(
     signer: &mut S,
 ) -> Result<ProvisioningCms, CreateError<S::Error>>
     requires { IsWritable message }
-    ensures ok { IfOk result (IsSigned P.checks when
+    ensures ok { IfOk result (IsSignedResponse P.checks when
         (seen_signer key.now (S.state signer.old) (S.state signer.new)) message) }
     ensures err { IfErr result (λ e. e ≢ create.OutOfMemory → FailsToSign P.checks when
         (seen_signer key.now (S.state signer.old) (S.state signer.new))

@@ -4,7 +4,7 @@ ghost use Rattle.std.specs.Prelude.{◌≡◌, ◌↔◌, ◌<◌, ◌||◌, len
 ghost use Rattle.std.specs.List.{AllByRecursion};
 ghost use Rattle.rpki_xml.specs.Lettered.{AreOctets};
 ghost use Rattle.rpki_upserver.specs.Table as definitions;
-ghost use Rattle.rpki_upserver.specs.Table.{AreDistinct, AreWritable, is_named};
+ghost use Rattle.rpki_upserver.specs.Table.{AreDistinctClasses, AreWritable, is_named};
 
 use crate::class::Class;
 use rpki_base::KeyIdentifier;
@@ -20,7 +20,7 @@ pub(crate) fn place_named(classes: &[Class], name: &ResourceClassName) -> Option
 
 /// Whether no two classes have one name.
 pub(crate) fn are_distinct(classes: &[Class]) -> bool
-    ensures { IsTrue result ↔ AreDistinct classes.now }
+    ensures { IsTrue result ↔ AreDistinctClasses classes.now }
 {
     let mut rest = classes;
     while let [class, more @ ..] = rest {

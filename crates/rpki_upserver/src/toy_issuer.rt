@@ -6,7 +6,7 @@ ghost use Rattle.rpki_der.specs.declared.mode.Mode.TheVariants.{Der};
 ghost use Rattle.rpki_der.specs.Takes.{BeginsAs, Decodes};
 ghost use Rattle.rpki_base.specs.declared.algorithm.SigningAlgorithm.TheVariants.{RsaSha256};
 ghost use Rattle.rpki_base.specs.RpkiSignatureAlgorithm.{spelled_x509};
-ghost use Rattle.rpki_base.specs.SignedData.{CanBeSpelled, spelled_data};
+ghost use Rattle.rpki_base.specs.SignedData.{CanSpellSigned, spelled_data};
 ghost use Rattle.rpki_cert.specs.Cert.{certificate};
 ghost use Rattle.rpki_idcert.specs.Making.{IsEndEntityMade, IsReadAgain};
 ghost use Rattle.rpki_idcert.specs.Spelling.{spelled_tbs};
@@ -14,7 +14,7 @@ ghost use Rattle.rpki_signer.specs.Serials.{IsSerialDrawn};
 ghost use Rattle.rpki_signer.specs.Signer.{AreDistinct, IsKeyOf, IsSignature};
 ghost use Rattle.rpki_signer.specs.Toy.{ToyChecks};
 ghost use Rattle.rpki_signer.specs.ToySigner.{state_of};
-ghost use Rattle.rpki_upserver.specs.Issuer.{IsIssued, IsRevoked, IssuerFails};
+ghost use Rattle.rpki_upserver.specs.Issuer.{IsCertificateIssued, IsRevoked, IssuerFails};
 ghost use Rattle.rpki_upserver.specs.ToyIssuer.{DrewNone, DrewSerial, GaveKey, GivesNoKey, IsSignedFor};
 ghost use Rattle.rpki_upserver.specs.ToyIssuer.{IsToyCertificate, IsToyIssue, IsToyRevocation, MakesNone, SignedFields, SignsNone};
 ghost use Rattle.rpki_upserver.specs.ToyIssuer.{after_fault, issuer_state, made_of, toy_issuer, with_gone, with_made};
@@ -310,7 +310,7 @@ fn entry(
 pub(crate) fn resource_certificate(alloc: Global, cert: &IdCert) -> Result<Cert, DecodeError>
     ensures decoded { Decodes (certificate Der) (λ c. c) Der
         (spelled_data spelled_x509 cert.now.signed) result }
-    ensures spelled { OnOk result (CanBeSpelled spelled_x509 cert.now.signed) }
+    ensures spelled { OnOk result (CanSpellSigned spelled_x509 cert.now.signed) }
 
     // Of a certificate whose octets are read again memory alone may be wanting.
     ensures again { IsReadAgain Der cert.now → ¬ (IsErrOf result DecodeError.Malformed) }
@@ -348,7 +348,7 @@ impl Issuer for ToyIssuer {
     ) -> Result<Cert, IssuerError>
         // What each issuer promises.
         ensures issued { MatchResult result
-            (IsIssued class_name.now csr.now set.now not_after (issuer_state self.old)
+            (IsCertificateIssued class_name.now csr.now set.now not_after (issuer_state self.old)
             (issuer_state self.new))
             (IssuerFails (issuer_state self.old) (issuer_state self.new)) }
 

@@ -2,11 +2,11 @@
 use Rattle.std.proofs.Common.{◌≡◌, ℕ, ◌<◌, ◌+◌, length, get_or, take, map, List, [], ◌∷◌, ◌++◌, ◌&&◌, true, false, Option, Some, None, refl, sym, ap, ◌∙◌, append_assoc}
 use Rattle.std.proofs.lemmas.List.{append-nil, map_more}
 use Rattle.std.specs.Prelude.{codes}
-use Rattle.rpki_xml.specs.Element.{Attribute, Head, Elements, none, first, Element, alone, joined, elements_of, is_nil, is_none}
+use Rattle.rpki_xml.specs.Element.{Attribute, Head, Elements, none, first, Element, alone, joined_elements, elements_of, is_nil, is_none}
 use Rattle.rpki_xml.specs.Spelling.{spelled_text, spelled_attribute, spelled_attributes, spelled_namespace, spelled_start, spelled_inside, spelled_end, spelled_all, spelled}
 use Rattle.rpki_xml.specs.Draft.{Draft, empty_draft, settled, with_inside, opened, with_attribute, with_attributes, with_namespace, with_text, closed, with_elements, with_element, with_start, written}
 
-joined-none : (es : Elements) → joined es none ≡ es
+joined-none : (es : Elements) → joined_elements es none ≡ es
 joined-none none = refl
 joined-none (first h cs rest) = ap (first h cs) (joined-none rest)
 
@@ -66,7 +66,7 @@ written_is e d =
     ∙ ap (λ (s : List ℕ). settled_draft d.open_names (octets ++ ((s ++ spelled_inside (is_nil e.head.text && is_none e.children) e.head.name (spelled_text e.head.text ++ spelled_all e.children)) ++ []))) (append_assoc start (spelled_namespace e.head.namespace) (spelled_attributes e.head.attributes))
 
 -- what elements that follow each other are spelled as
-pub spelled_all-joined : (front back : Elements) → spelled_all (joined front back) ≡ spelled_all front ++ spelled_all back
+pub spelled_all-joined : (front back : Elements) → spelled_all (joined_elements front back) ≡ spelled_all front ++ spelled_all back
 spelled_all-joined none back = refl
 spelled_all-joined (first h cs rest) back =
     let one = spelled_start h ++ spelled_inside (is_nil h.text && is_none cs) h.name (spelled_text h.text ++ spelled_all cs) in
@@ -77,7 +77,7 @@ unfolding with_inside
 two_insides i j d = ap (settled_draft d.open_names) (append_assoc (settled d.in_start d.octets) i j)
 
 -- elements after elements are the elements that follow each other
-pub with_elements-joined : (front back : Elements) (d : Draft) → with_elements back (with_elements front d) ≡ with_elements (joined front back) d
+pub with_elements-joined : (front back : Elements) (d : Draft) → with_elements back (with_elements front d) ≡ with_elements (joined_elements front back) d
 unfolding with_elements
 with_elements-joined none back d = refl
 with_elements-joined (first h cs rest) none d = ap (λ (es : Elements). with_elements (first h cs es) d) (sym (joined-none rest))
@@ -85,7 +85,7 @@ with_elements-joined (first h cs rest) (first h' cs' rest') d =
     two_insides (spelled_all (first h cs rest)) (spelled_all (first h' cs' rest')) d ∙ ap (λ (s : List ℕ). with_inside s d) (sym (spelled_all-joined (first h cs rest) (first h' cs' rest')))
 
 -- one more of the elements that a list gives
-pub elements_of-push : {X : Type 0} (f : X → Element) (xs : List X) (x : X) → elements_of f (xs ++ x ∷ []) ≡ joined (elements_of f xs) (alone (f x))
+pub elements_of-push : {X : Type 0} (f : X → Element) (xs : List X) (x : X) → elements_of f (xs ++ x ∷ []) ≡ joined_elements (elements_of f xs) (alone (f x))
 elements_of-push f [] x = refl
 elements_of-push f (y ∷ xs) x = ap (first (f y).head (f y).children) (elements_of-push f xs x)
 

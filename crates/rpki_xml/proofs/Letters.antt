@@ -10,7 +10,7 @@ use Rattle.std.specs.List.{list_all, AllByRecursion}
 use Rattle.rpki_common.specs.Chaining.{◌>>=◌}
 use Rattle.rpki_common.proofs.Truths.{both}
 use Rattle.rpki_xml.specs.Element.{Attribute, Elements, none, first, Element, alone}
-use Rattle.rpki_xml.specs.Content.{Tag, Piece, run, passed_over, leaf, start, end, Content, nothing, and_run, and_passed_over, and_leaf, and_element, pieces, behind, is_declaration, declares, declared, not_empty, namespace_of, handed_on, is_white, without_white, trimmed, characters, text_of, head_of, elements_in}
+use Rattle.rpki_xml.specs.Content.{Tag, Piece, run, passed_over, leaf, start, end, Content, nothing, and_run, and_passed_over, and_leaf, and_element, pieces, behind, is_declaration, declares, declared, not_empty, namespace_of, handed_on, is_white, without_white, trimmed, characters, text_of_content, head_of_tag, elements_in}
 use Rattle.rpki_xml.specs.Lettered.{AreOctets, IsLetteredAttribute, IsLetteredHead, AreLettered}
 use Rattle.rpki_xml.specs.Lexing.{front_of, back_of, or_else, entity_at, any_entity_at, character_at, name_at, past_white, end_at, repeated, until, ends_at, value_in, quoted_at, attribute_at, no_attribute, closed_at, tag_at, past_next, passed_at, behind_front, run_at, markup_at, piece_at, Repeats, is_octet, IsDocument}
 use Rattle.rpki_xml.specs.Name.{is_name, is_name_octet, behind_colon, prefix_of, local_name}
@@ -249,7 +249,7 @@ handed_on_lettered [] h = tt
 handed_on_lettered (a ∷ list) h =
     let more = handed_on_lettered list h.1 in either (AllByRecursion IsLetteredAttribute) (not (is_declaration a)) (a ∷ handed_on list) (handed_on list) (h.0, more) more
 
-head_lettered : (tag : Tag) (text : List ℕ) → IsLetteredTag tag → AreOctets text → IsLetteredHead (head_of tag text)
+head_lettered : (tag : Tag) (text : List ℕ) → IsLetteredTag tag → AreOctets text → IsLetteredHead (head_of_tag tag text)
 unfolding namespace_of
 head_lettered tag text t h = record {
   name = t.0;
@@ -274,7 +274,7 @@ trimmed_octets : (text : List ℕ) → AreOctets text → AreOctets (trimmed tex
 unfolding trimmed
 trimmed_octets text h = reverse_octets (without_white (reverse (without_white text))) (without_white_octets (reverse (without_white text)) (reverse_octets (without_white text) (without_white_octets text h)))
 
-text_octets : (children : Elements) (text : List ℕ) → AreOctets text → AreOctets (text_of children text)
+text_octets : (children : Elements) (text : List ℕ) → AreOctets text → AreOctets (text_of_content children text)
 text_octets none text h = trimmed_octets text h
 text_octets (first head children rest) text h = refl
 
@@ -291,7 +291,7 @@ content_lettered (and_element tag inside c) h =
     let split = all_split IsLetteredPiece (pieces inside) (end tag.name ∷ pieces c) h.1 in
     let within = content_lettered inside split.0 in
     let more = content_lettered c split.1.1 in
-    ((head_lettered tag (text_of (elements_in inside) (characters inside)) h.0 (text_octets (elements_in inside) (characters inside) within.1), (within.0, more.0)), more.1)
+    ((head_lettered tag (text_of_content (elements_in inside) (characters inside)) h.0 (text_octets (elements_in inside) (characters inside) within.1), (within.0, more.0)), more.1)
 
 pub document_lettered : (b : List ℕ) (x : Element) → IsDocument b x → AreLettered (alone x)
 document_lettered b x doc =

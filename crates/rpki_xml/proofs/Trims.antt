@@ -1,7 +1,7 @@
 -- Texts of a document have no outer white space.
 use Rattle.std.proofs.Common.{◌≡◌, ℕ, Bool, true, false, cond, List, [], ◌∷◌, ◌++◌, reverse, refl, sym, ap, subst, ◌∙◌, ◌⊎◌, inl, inr}
 use Rattle.std.proofs.lemmas.List.{reverse-append, reverse-reverse}
-use Rattle.rpki_xml.specs.Content.{is_white, without_white, trimmed, Content, nothing, and_run, and_passed_over, and_leaf, and_element, characters, text_of, elements_in}
+use Rattle.rpki_xml.specs.Content.{is_white, without_white, trimmed, Content, nothing, and_run, and_passed_over, and_leaf, and_element, characters, text_of_content, elements_in}
 use Rattle.rpki_xml.specs.Element.{Elements, none, first, Element, alone}
 use Rattle.rpki_xml.specs.Lexing.{IsDocument}
 use Rattle.rpki_xml.specs.Trimmed.{AreTrimmed}
@@ -58,7 +58,7 @@ trimmed_twice t =
           ∙ sym (ap without_end_white h.2)
     ]
 
-text_trimmed : (children : Elements) (text : List ℕ) → trimmed (text_of children text) ≡ text_of children text
+text_trimmed : (children : Elements) (text : List ℕ) → trimmed (text_of_content children text) ≡ text_of_content children text
 unfolding trimmed
 text_trimmed none text = trimmed_twice text
 text_trimmed (first head children rest) text = refl

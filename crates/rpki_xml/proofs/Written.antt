@@ -7,7 +7,7 @@ use Rattle.std.specs.Str.{bytes_eq}
 use Rattle.std.specs.Prelude.{codes, IfSome}
 use Rattle.rpki_common.proofs.Truths.{both}
 use Rattle.rpki_xml.specs.Element.{Attribute, Head, Elements, none, first, Element, alone, is_none, is_nil}
-use Rattle.rpki_xml.specs.Content.{Tag, Piece, run, end, Content, pieces, characters, elements_in, text_of, head_of, fits, is_distinct, is_declaration, handed_on, namespace_of, declares, declared, trimmed, is_white, IsLawful}
+use Rattle.rpki_xml.specs.Content.{Tag, Piece, run, end, Content, pieces, characters, elements_in, text_of_content, head_of_tag, fits, is_distinct, is_declaration, handed_on, namespace_of, declares, declared, trimmed, is_white, IsLawful}
 use Rattle.rpki_xml.specs.Lexing.{piece_at, Repeats, is_octet, IsDocument}
 use Rattle.rpki_xml.specs.Spelling.{text_character, spelled_text, spelled_attributes, spelled_namespace, spelled_start, spelled_inside, spelled_end, spelled_all, spelled}
 use Rattle.rpki_xml.specs.PlainElement.{IsPlainAttribute, IsPlainHead, ArePlain}
@@ -140,7 +140,7 @@ distinct_again h p = go h.namespace
 abbrev head_with : List ℕ → Option (List ℕ) → List Attribute → List ℕ → Head
 head_with name namespace attributes text = record { name = name; namespace = namespace; attributes = attributes; text = text }
 
-head_again : (h : Head) (text : List ℕ) → IsPlainHead h → text ≡ h.text → head_of (tag_of h) text ≡ h
+head_again : (h : Head) (text : List ℕ) → IsPlainHead h → text ≡ h.text → head_of_tag (tag_of h) text ≡ h
 head_again h text p e =
     ap (λ (n : Option (List ℕ)). head_with h.name n (handed_on (tag_of h).attributes) text) (namespace_again h p)
     ∙ ap (λ (l : List Attribute). head_with h.name h.namespace l text) (handed_on_again h p)
@@ -169,7 +169,7 @@ text_lawful (c ∷ text) more h = h
 inside_characters : (text : List ℕ) (cs : Elements) → characters (text_content text (content_of cs)) ≡ text
 inside_characters text cs = text_characters text (content_of cs) ∙ ap (λ (l : List ℕ). text ++ l) (no_characters cs) ∙ append-nil text
 
-text_stays : (cs : Elements) (text : List ℕ) → trimmed text ≡ text → (is_none cs ≡ false → text ≡ []) → text_of cs text ≡ text
+text_stays : (cs : Elements) (text : List ℕ) → trimmed text ≡ text → (is_none cs ≡ false → text ≡ []) → text_of_content cs text ≡ text
 text_stays none text t e = t
 text_stays (first h cs rest) text t e = sym (e refl)
 
@@ -197,8 +197,8 @@ elements_again (first h cs rest) p = go (is_nil h.text && is_none cs) refl (elem
     go false e children others =
         let inside = text_content h.text (content_of cs) in
         let es : elements_in inside ≡ cs = text_elements h.text (content_of cs) ∙ children in
-        let text : text_of (elements_in inside) (characters inside) ≡ h.text = ap (λ (x : Elements). text_of x (characters inside)) es ∙ ap (text_of cs) (inside_characters h.text cs) ∙ text_stays cs h.text p.0.trimmed p.1.0 in
-        ap (λ (x : Head). first x (elements_in inside) (elements_in (content_of rest))) (head_again h (text_of (elements_in inside) (characters inside)) p.0 text)
+        let text : text_of_content (elements_in inside) (characters inside) ≡ h.text = ap (λ (x : Elements). text_of_content x (characters inside)) es ∙ ap (text_of_content cs) (inside_characters h.text cs) ∙ text_stays cs h.text p.0.trimmed p.1.0 in
+        ap (λ (x : Head). first x (elements_in inside) (elements_in (content_of rest))) (head_again h (text_of_content (elements_in inside) (characters inside)) p.0 text)
         ∙ ap (λ (x : Elements). first h x (elements_in (content_of rest))) es ∙ ap (first h cs) others
 
 pub content_lawful : (es : Elements) → ArePlain es → IsLawful (content_of es)

@@ -24,6 +24,6 @@ Gives given view (Ok x) = given ≡ Some (view x)
 Gives given view (Err e) = Fails e given
 
 -- Malformed comes exactly where the octets are no document. OutOfMemory says nothing.
-abbrev pub IsRefused : XmlError → List ℕ → Type 0
-IsRefused errors.OutOfMemory b = Unit {0}
-IsRefused errors.Malformed b = (x : Element) → IsDocument b x → ⊥
+abbrev pub IsDocumentRefused : XmlError → List ℕ → Type 0
+IsDocumentRefused errors.OutOfMemory b = Unit {0}
+IsDocumentRefused errors.Malformed b = (x : Element) → IsDocument b x → ⊥

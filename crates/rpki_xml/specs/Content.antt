@@ -117,13 +117,13 @@ characters (and_element tag inside more) = characters more
 
 -- the text of an element with these children and runs: none beside a child, else the runs without
 -- outer white space
-abbrev pub text_of : Elements → List ℕ → List ℕ
-text_of none text = trimmed text
-text_of (first head children rest) text = []
+abbrev pub text_of_content : Elements → List ℕ → List ℕ
+text_of_content none text = trimmed text
+text_of_content (first head children rest) text = []
 
 -- the head that a start gives, and this text
-abbrev pub head_of : Tag → List ℕ → Head
-head_of tag text = record {
+abbrev pub head_of_tag : Tag → List ℕ → Head
+head_of_tag tag text = record {
   name = tag.name;
   namespace = namespace_of tag;
   attributes = handed_on tag.attributes;
@@ -135,9 +135,9 @@ abbrev pub elements_in : Content → Elements
 elements_in nothing = none
 elements_in (and_run text more) = elements_in more
 elements_in (and_passed_over more) = elements_in more
-elements_in (and_leaf tag more) = first (head_of tag []) none (elements_in more)
+elements_in (and_leaf tag more) = first (head_of_tag tag []) none (elements_in more)
 elements_in (and_element tag inside more) =
-    first (head_of tag (text_of (elements_in inside) (characters inside))) (elements_in inside)
+    first (head_of_tag tag (text_of_content (elements_in inside) (characters inside))) (elements_in inside)
     (elements_in more)
 
 -- beside a child element all runs are white space

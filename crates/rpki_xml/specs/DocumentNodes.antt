@@ -21,19 +21,19 @@ unfoldable pub root_of : List ℕ → List Node → Element
 root_of source nodes = first_of (tree_of (slots source (drop 1 nodes)))
 
 -- behind it there is one element, and nothing else
-abbrev pub IsWhole : List ℕ → List Node → Type 0
-IsWhole source nodes = slots source (drop 1 nodes) ≡ flat (alone (root_of source nodes))
+abbrev pub IsWholeDocument : List ℕ → List Node → Type 0
+IsWholeDocument source nodes = slots source (drop 1 nodes) ≡ flat (alone (root_of source nodes))
 
 -- the element of a document in memory
-abbrev pub root_in : Document → Element
-root_in d = root_of d.source.now d.nodes.items
+abbrev pub root_of_document : Document → Element
+root_of_document d = root_of d.source.now d.nodes.items
 
 -- behind the own node of a document in memory there is one element, and nothing else
 abbrev pub IsWholeIn : Document → Type 0
-IsWholeIn d = IsWhole d.source.now d.nodes.items
+IsWholeIn d = IsWholeDocument d.source.now d.nodes.items
 
 -- the element of a document whose pieces were all read
-unfoldable pub root_element : List Open → Option Element
-root_element [] = None
-root_element (d ∷ []) = if list_all is_white d.head.text then the_child d.done else None
-root_element (d ∷ o ∷ outer) = None
+unfoldable pub root_of_opens : List Open → Option Element
+root_of_opens [] = None
+root_of_opens (d ∷ []) = if list_all is_white d.head.text then the_child d.done else None
+root_of_opens (d ∷ o ∷ outer) = None

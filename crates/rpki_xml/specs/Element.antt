@@ -31,9 +31,9 @@ abbrev pub alone : Element → Elements
 alone e = first e.head e.children none
 
 -- elements, and then more of them
-abbrev pub joined : Elements → Elements → Elements
-joined none more = more
-joined (first head children rest) more = first head children (joined rest more)
+abbrev pub joined_elements : Elements → Elements → Elements
+joined_elements none more = more
+joined_elements (first head children rest) more = first head children (joined_elements rest more)
 
 -- the elements as a list
 abbrev pub listed : Elements → List Element

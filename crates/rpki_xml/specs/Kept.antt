@@ -16,13 +16,13 @@ abbrev pub part_of : ℕ → ℕ → List ℕ → List ℕ
 part_of start end source = drop start (take end source)
 
 -- a text that is kept as two places of a document, or by itself
-abbrev pub text_of : List ℕ → Text → List ℕ
-text_of source (variant.At start end) = part_of start end source
-text_of source (variant.Own octets) = octets.value.items
+abbrev pub kept_text : List ℕ → Text → List ℕ
+kept_text source (variant.At start end) = part_of start end source
+kept_text source (variant.Own octets) = octets.value.items
 
 -- an attribute whose name begins at a place of a document
 abbrev pub attribute_of : List ℕ → Named → Attribute
-attribute_of source a = record { name = name_from source a.name; value = text_of source a.value }
+attribute_of source a = record { name = name_from source a.name; value = kept_text source a.value }
 
 -- attributes whose names begin at places of a document
 abbrev pub attributes_of : List ℕ → List Named → List Attribute

@@ -42,8 +42,8 @@ unfoldable pub required : List ℕ → Head → Option (List ℕ)
 required local h = items.the_one value_of (filter (is_called local) h.attributes)
 
 -- no attributes but those with these local names
-unfoldable pub only : List (List ℕ) → Head → Option (Unit {0})
-only locals h = items.only (is_listed locals) h.attributes
+unfoldable pub only_listed : List (List ℕ) → Head → Option (Unit {0})
+only_listed locals h = items.only (is_listed locals) h.attributes
 
 -- what a rule reads of a text that may be absent: it must be lawful where it is there
 abbrev pub where_there : {X : Type 0} → (List ℕ → Option X) → Option (List ℕ) → Option (Option X)

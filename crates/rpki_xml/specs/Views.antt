@@ -9,7 +9,7 @@ use Rattle.rpki_xml.specs.declared.element.Rest.TheVariants as rest
 use Rattle.rpki_xml.specs.declared.kept.Named.{Named}
 use Rattle.rpki_xml.specs.declared.kept.Text.{Text}
 use Rattle.rpki_xml.specs.Element.{Attribute, Head}
-use Rattle.rpki_xml.specs.Kept.{name_from, part_of, text_of, attributes_of}
+use Rattle.rpki_xml.specs.Kept.{name_from, part_of, kept_text, attributes_of}
 use Rattle.rpki_xml.specs.Nodes.{Slot}
 
 -- the text of a node
@@ -17,8 +17,8 @@ abbrev pub text_in : List ℕ → Rest → List ℕ
 text_in source (rest.Plain start end) = part_of start end source
 text_in source (rest.Own octets) = octets.value.items
 text_in source (rest.Bare attributes) = []
-text_in source (rest.Attributed more) = text_of source more.value.text
-text_in source (rest.Namespaced more) = text_of source more.value.text
+text_in source (rest.Attributed more) = kept_text source more.value.text
+text_in source (rest.Namespaced more) = kept_text source more.value.text
 
 -- the namespace of a node, where it has one
 abbrev pub namespace_in : List ℕ → Rest → Option (List ℕ)
@@ -26,7 +26,7 @@ namespace_in source (rest.Plain start end) = None
 namespace_in source (rest.Own octets) = None
 namespace_in source (rest.Bare attributes) = None
 namespace_in source (rest.Attributed more) = None
-namespace_in source (rest.Namespaced more) = Some (text_of source more.value.namespace)
+namespace_in source (rest.Namespaced more) = Some (kept_text source more.value.namespace)
 
 -- the attributes of a node
 abbrev pub attributes_in : List ℕ → Rest → List Attribute
@@ -45,8 +45,8 @@ pub record Parts : Type 0 where
 -- text, namespace and attributes that are kept as places of a document, or by themselves
 abbrev pub parts_of : List ℕ → Text → Option Text → List Named → Parts
 parts_of source text namespace attributes = record {
-  text = text_of source text;
-  namespace = option_map (text_of source) namespace;
+  text = kept_text source text;
+  namespace = option_map (kept_text source) namespace;
   attributes = attributes_of source attributes;
 }
 

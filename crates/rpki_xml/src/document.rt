@@ -3,7 +3,7 @@
 ghost use Rattle.std.specs.Prelude.{◌≡◌, [], OnOk, IfOk, MatchResult, is_some, true};
 ghost use Rattle.std.specs.List.{list_all};
 ghost use Rattle.std.specs.Option.{option_copied};
-ghost use Rattle.rpki_xml.specs.Answers.{IsRefused};
+ghost use Rattle.rpki_xml.specs.Answers.{IsDocumentRefused};
 ghost use Rattle.rpki_xml.specs.Stack.{bare_head};
 ghost use Rattle.rpki_xml.specs.Lexing.{is_octet, IsDocument};
 ghost use Rattle.rpki_xml.specs.Name.{local_name};
@@ -11,8 +11,8 @@ ghost use Rattle.rpki_xml.specs.Nodes.{IsFlat, tree_of};
 ghost use Rattle.rpki_xml.specs.Pieces.{piece as piece_of};
 ghost use Rattle.rpki_xml.specs.Answers.{Gives};
 ghost use Rattle.rpki_xml.specs.Tables.{the_child};
-ghost use Rattle.rpki_xml.specs.DocumentNodes.{root_element, root_of, root_in, IsWhole, IsWholeIn};
-ghost use Rattle.rpki_xml.specs.Stack.{held, IsHeld, step};
+ghost use Rattle.rpki_xml.specs.DocumentNodes.{root_of_opens, root_of, root_of_document, IsWholeDocument, IsWholeIn};
+ghost use Rattle.rpki_xml.specs.Stack.{held, AreOpensHeld, step};
 ghost use Rattle.rpki_xml.specs.Views.{head_of, slots};
 
 use crate::distinct::is_distinct;
@@ -48,22 +48,22 @@ impl<'a> Model for Element<'a> {
     ghost use Rattle.rpki_xml.specs.Element.{Element as Tree, alone};
     ghost use Rattle.rpki_xml.specs.Lettered.{AreLettered};
     ghost use Rattle.rpki_xml.specs.Nodes.{element_code};
-    ghost use Rattle.rpki_xml.specs.DocumentNodes.{root_in, IsWholeIn};
+    ghost use Rattle.rpki_xml.specs.DocumentNodes.{root_of_document, IsWholeIn};
 
     ghost Value = { Tree };
 
     ghost coded = { element_code };
 
-    ghost view = { λ e. root_in e.document.value };
+    ghost view = { λ e. root_of_document e.document.value };
 
     ghost invariant = { λ e. IsWholeIn e.document.value
-        × AreLettered (alone (root_in e.document.value)) };
+        × AreLettered (alone (root_of_document e.document.value)) };
 }
 
 /// Reads a document: the element that the octets are a document of, which goes on lending the octets that were read. Malformed exactly
 /// where they are no document; 2^32 octets or more are refused as want of memory.
 pub fn read_document(alloc: Global, octets: &[u8]) -> Result<Element<'_>, XmlError>
-    ensures { MatchResult result (IsDocument octets.now) (λ e. IsRefused e octets.now) }
+    ensures { MatchResult result (IsDocument octets.now) (λ e. IsDocumentRefused e octets.now) }
 {
     if !are_octets(octets) {
         return Err(XmlError::Malformed);
@@ -77,8 +77,8 @@ pub fn read_document(alloc: Global, octets: &[u8]) -> Result<Element<'_>, XmlErr
 // The document, with its nodes.
 fn document_of(alloc: Global, octets: &[u8]) -> Result<Document<'_>, XmlError>
     requires { list_all is_octet octets.now ≡ true }
-    ensures value { MatchResult result (λ d. IsDocument octets.now (root_in d))
-        (λ e. IsRefused e octets.now) }
+    ensures value { MatchResult result (λ d. IsDocument octets.now (root_of_document d))
+        (λ e. IsDocumentRefused e octets.now) }
     ensures whole { IfOk result IsWholeIn }
 {
     let nodes = nodes_of(alloc, octets)?;
@@ -92,8 +92,8 @@ fn document_of(alloc: Global, octets: &[u8]) -> Result<Document<'_>, XmlError>
 fn nodes_of(alloc: Global, octets: &[u8]) -> Result<Vec<Node>, XmlError>
     requires { list_all is_octet octets.now ≡ true }
     ensures value { MatchResult result (λ v. IsDocument octets.now (root_of octets.now v.items))
-        (λ e. IsRefused e octets.now) }
-    ensures whole { IfOk result (λ v. IsWhole octets.now v.items) }
+        (λ e. IsDocumentRefused e octets.now) }
+    ensures whole { IfOk result (λ v. IsWholeDocument octets.now v.items) }
 {
     let mut nodes = Vec::with_capacity(alloc, starts_in(octets).saturating_add(1))?;
     let own = own_node(octets)?;
@@ -143,11 +143,11 @@ fn take(
     places: &mut Vec<u32>,
     piece: Piece<'_>,
 ) -> Result<(), XmlError>
-    requires { IsHeld source.now nodes.old.items places.old.items }
+    requires { AreOpensHeld source.now nodes.old.items places.old.items }
     ensures given { Gives
         (step (piece_of source.now piece.entry) (held source.now nodes.old.items places.old.items))
         (λ _. held source.now nodes.new.items places.new.items) result }
-    ensures kept { OnOk result (IsHeld source.now nodes.new.items places.new.items) }
+    ensures kept { OnOk result (AreOpensHeld source.now nodes.new.items places.new.items) }
 {
     match piece {
         Piece::Run(text) => add_run(alloc, source, nodes, places, text),
@@ -172,10 +172,10 @@ fn take(
 
 // The nodes, where no element but the document itself is open, which holds one element and white space.
 fn finished(source: &[u8], nodes: Vec<Node>, places: &[u32]) -> Result<Vec<Node>, XmlError>
-    requires { IsHeld source.now nodes.items places.now }
-    ensures value { Gives (root_element (held source.now nodes.items places.now))
+    requires { AreOpensHeld source.now nodes.items places.now }
+    ensures value { Gives (root_of_opens (held source.now nodes.items places.now))
         (λ v. root_of source.now v.items) result }
-    ensures whole { IfOk result (λ v. IsWhole source.now v.items) }
+    ensures whole { IfOk result (λ v. IsWholeDocument source.now v.items) }
 {
     if places.len() != 1 {
         return Err(XmlError::Malformed);

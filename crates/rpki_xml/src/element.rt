@@ -5,11 +5,11 @@ ghost use Rattle.std.specs.Option.{option_copied, option_map};
 ghost use Rattle.std.specs.Prelude.{◌≡◌, ℕ, List, Option, Some, None};
 ghost use Rattle.rpki_xml.specs.Answers.{Gives, Matches};
 ghost use Rattle.rpki_xml.specs.Element.{is_none, is_nil};
-ghost use Rattle.rpki_xml.specs.Kept.{text_of, attributes_of};
+ghost use Rattle.rpki_xml.specs.Kept.{kept_text, attributes_of};
 ghost use Rattle.rpki_xml.specs.Lettered.{AreLettered, AreOctets};
 ghost use Rattle.rpki_xml.specs.Name.{local_name};
 ghost use Rattle.rpki_xml.specs.Nodes.{IsFlat, tree_of};
-ghost use Rattle.rpki_xml.specs.Tables.{is_named, is_first_named, is_empty, optional, required, only, optional_by, given_or_absent, is_or_absent, the_child, at_most_one_child, no_child};
+ghost use Rattle.rpki_xml.specs.Tables.{is_named, is_first_named, is_empty, optional, required, only_listed, optional_by, given_or_absent, is_or_absent, the_child, at_most_one_child, no_child};
 ghost use Rattle.rpki_xml.specs.Texts.{texts};
 ghost use Rattle.rpki_xml.specs.Views.{slots, text_in, namespace_in, attributes_in, parts_of, parts_in};
 
@@ -130,7 +130,7 @@ impl Rest {
     /// The namespace, where there is one.
     fn namespace(&self) -> Option<&Text>
         ensures { (source : List ℕ)
-            → option_map (λ t. text_of source t.now) result ≡ namespace_in source self.now }
+            → option_map (λ t. kept_text source t.now) result ≡ namespace_in source self.now }
     {
         match self {
             Rest::Plain { start: _, end: _ } => None,
@@ -471,9 +471,9 @@ impl<'a> ElementRef<'a> {
     }
 
     /// Nothing. Mismatch where there is an attribute with none of these local names.
-    #[tactic(auto, unfolding(crate::specs::Tables::only))]
+    #[tactic(auto, unfolding(crate::specs::Tables::only_listed))]
     pub fn only(&self, locals: &[&str]) -> Result<(), Mismatch>
-        ensures { Matches (only (texts locals.now) self.now.head) (λ _. tt) result }
+        ensures { Matches (only_listed (texts locals.now) self.now.head) (λ _. tt) result }
     {
         only_among(self.source, self.head.rest.attributes(), locals)
     }

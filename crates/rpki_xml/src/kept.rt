@@ -2,7 +2,7 @@
 
 ghost use Rattle.std.specs.Prelude.{◌≡◌, ◌++◌, Some};
 ghost use Rattle.rpki_xml.specs.Answers.{Gives};
-ghost use Rattle.rpki_xml.specs.Kept.{name_from, part_of, text_of, attribute_of};
+ghost use Rattle.rpki_xml.specs.Kept.{name_from, part_of, kept_text, attribute_of};
 
 use crate::error::XmlError;
 use crate::lexing::split_name;
@@ -70,7 +70,7 @@ pub(crate) fn part_of(source: &[u8], start: u32, end: u32) -> &[u8]
 
 /// A part of a document that has so many octets behind it, as a text. Malformed never comes.
 pub(crate) fn placed(source: &[u8], part: &[u8], behind: usize) -> Result<Text, XmlError>
-    ensures { Gives (Some part.now) (text_of source.now) result }
+    ensures { Gives (Some part.now) (kept_text source.now) result }
 {
     let until = source.len().saturating_sub(behind);
     let start = narrow(until.saturating_sub(part.len()))?;
@@ -84,7 +84,7 @@ pub(crate) fn placed(source: &[u8], part: &[u8], behind: usize) -> Result<Text, 
 impl Text {
     /// The octets, lent.
     pub(crate) fn octets<'a>(&'a self, source: &'a [u8]) -> &'a [u8]
-        ensures { result.now ≡ text_of source.now self.now }
+        ensures { result.now ≡ kept_text source.now self.now }
     {
         match self {
             Text::At { start, end } => part_of(source, *start, *end),
@@ -94,7 +94,7 @@ impl Text {
 
     /// An equal text. Malformed never comes.
     pub(crate) fn clone_of(&self, alloc: Global, source: &[u8]) -> Result<Text, XmlError>
-        ensures { Gives (Some (text_of source.now self.now)) (text_of source.now) result }
+        ensures { Gives (Some (kept_text source.now self.now)) (kept_text source.now) result }
     {
         match self {
             Text::At { start, end } => Ok(Text::At {
@@ -110,8 +110,8 @@ impl Text {
 
     /// The text with one more run. Malformed never comes.
     pub(crate) fn with(self, alloc: Global, source: &[u8], run: Text) -> Result<Text, XmlError>
-        ensures { Gives (Some (text_of source.now self ++ text_of source.now run))
-            (text_of source.now) result }
+        ensures { Gives (Some (kept_text source.now self ++ kept_text source.now run))
+            (kept_text source.now) result }
     {
         match self {
             Text::At { start, end } => {
@@ -139,7 +139,7 @@ impl Text {
         part: &[u8],
         behind: usize,
     ) -> Result<Text, XmlError>
-        ensures { Gives (Some part.now) (text_of source.now) result }
+        ensures { Gives (Some part.now) (kept_text source.now) result }
     {
         match self {
             Text::At { start: _, end } => {

@@ -4,7 +4,7 @@ ghost use Rattle.std.specs.Prelude.{◌≡◌, ◌↔◌, ◌++◌, ℕ, List, B
 ghost use Rattle.rpki_xml.specs.AttributeSpelling.{IsAttributeSpelling};
 ghost use Rattle.rpki_xml.specs.Content.{Piece};
 ghost use Rattle.rpki_xml.specs.Draft.{Draft, empty_draft, with_attributes, with_element, with_elements, written};
-ghost use Rattle.rpki_xml.specs.Element.{Attribute, Element, Elements, alone, joined};
+ghost use Rattle.rpki_xml.specs.Element.{Attribute, Element, Elements, alone, joined_elements};
 ghost use Rattle.rpki_xml.specs.Lettered.{AreLettered};
 ghost use Rattle.rpki_xml.specs.Lexing.{IsDocument, attribute_at, character_at, ends_at, no_attribute, piece_at, until};
 ghost use Rattle.rpki_xml.specs.PieceSpelling.{BeginsWithAttribute, BeginsWithPiece, IsDocumentSpelling};
@@ -40,7 +40,7 @@ pub fn calls_spell()
 /// The calls for elements one after the other leave what the elements are spelled as together.
 pub fn calls_follow()
     ensures { (front back : Elements) (d : Draft)
-        → with_elements back (with_elements front d) ≡ with_elements (joined front back) d }
+        → with_elements back (with_elements front d) ≡ with_elements (joined_elements front back) d }
 {}
 
 /// What was written once the calls for one element are over is its spelling.

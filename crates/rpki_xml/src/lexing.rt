@@ -4,7 +4,7 @@ ghost use Rattle.std.specs.Prelude.{◌≡◌, ◌<◌, ◌≤◌, length, IfSom
 ghost use Rattle.std.specs.List.{list_all};
 ghost use Rattle.std.specs.Option.{option_copied, option_map};
 ghost use Rattle.rpki_xml.specs.Content.{behind, end, passed_over};
-ghost use Rattle.rpki_xml.specs.Kept.{text_of, attribute_of, attributes_of};
+ghost use Rattle.rpki_xml.specs.Kept.{kept_text, attribute_of, attributes_of};
 ghost use Rattle.rpki_xml.specs.Lexing.{ends_at, until, value_in, quoted_at, attribute_at, begins_white, begins_close, no_attribute, past_next, passed_at, run_at, front_of, back_of, past_white, any_entity_at, character_at, name_at, end_at, tag_at, markup_at, piece_at, is_octet};
 ghost use Rattle.rpki_xml.specs.Name.{is_letter, is_name_octet, ends_name, is_name};
 ghost use Rattle.rpki_xml.specs.Pieces.{piece};
@@ -216,7 +216,7 @@ fn characters_until<'a>(
     b: &'a [u8],
 ) -> Result<(Text, &'a [u8]), XmlError>
     ensures value { Gives (until (ends_at at_end stop) character_at b.now)
-        (λ x. (text_of source.now x.0, x.1.now)) result }
+        (λ x. (kept_text source.now x.0, x.1.now)) result }
     ensures shorter { IfOk result (λ x. length x.1.now ≤ length b.now) }
     ensures moved { IfOk result (λ x. ends_at at_end stop b.now ≡ false
         → length x.1.now < length b.now) }
@@ -266,7 +266,7 @@ fn value_in<'a>(
     quote: u8,
     b: &'a [u8],
 ) -> Result<(Text, &'a [u8]), XmlError>
-    ensures value { Gives (value_in quote b.now) (λ x. (text_of source.now x.0, x.1.now)) result }
+    ensures value { Gives (value_in quote b.now) (λ x. (kept_text source.now x.0, x.1.now)) result }
     ensures shorter { IfOk result (λ x. length x.1.now ≤ length b.now) }
 {
     let (value, rest) = characters_until(alloc, source, false, quote, b)?;
@@ -278,7 +278,7 @@ fn value_in<'a>(
 
 #[tactic(auto, unfolding(crate::specs::Lexing::quoted_at))]
 fn quoted_at<'a>(alloc: Global, source: &[u8], b: &'a [u8]) -> Result<(Text, &'a [u8]), XmlError>
-    ensures value { Gives (quoted_at b.now) (λ x. (text_of source.now x.0, x.1.now)) result }
+    ensures value { Gives (quoted_at b.now) (λ x. (kept_text source.now x.0, x.1.now)) result }
     ensures shorter { IfOk result (λ x. length x.1.now < length b.now) }
 {
     match b {

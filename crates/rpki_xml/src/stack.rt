@@ -4,8 +4,8 @@ ghost use Rattle.std.specs.Prelude.{◌≡◌, ◌↔◌, ◌≤◌, IsTrue, OnO
 ghost use Rattle.std.specs.List.{list_all};
 ghost use Rattle.rpki_xml.specs.Content.{is_white, trimmed, without_white};
 ghost use Rattle.rpki_xml.specs.Answers.{Gives};
-ghost use Rattle.rpki_xml.specs.Kept.{text_of};
-ghost use Rattle.rpki_xml.specs.Stack.{held, IsHeld, settled, settled_parts, with_more_text, add_element, begin_element, end_element, add_run};
+ghost use Rattle.rpki_xml.specs.Kept.{kept_text};
+ghost use Rattle.rpki_xml.specs.Stack.{held, AreOpensHeld, open_text, settled_parts, with_more_text, add_element, begin_element, end_element, add_run};
 ghost use Rattle.rpki_xml.specs.Views.{head_of, parts_in};
 
 use crate::element::{Node, Rest, rest_of, taken_apart};
@@ -22,11 +22,11 @@ pub(crate) fn add_run(
     places: &[u32],
     run: Text,
 ) -> Result<(), XmlError>
-    requires { IsHeld source.now nodes.old.items places.now }
+    requires { AreOpensHeld source.now nodes.old.items places.now }
     ensures given { Gives
-        (add_run (text_of source.now run) (held source.now nodes.old.items places.now))
+        (add_run (kept_text source.now run) (held source.now nodes.old.items places.now))
         (λ _. held source.now nodes.new.items places.now) result }
-    ensures kept { OnOk result (IsHeld source.now nodes.new.items places.now) }
+    ensures kept { OnOk result (AreOpensHeld source.now nodes.new.items places.now) }
 {
     let Some((place, _)) = places.split_last() else {
         return Err(XmlError::Malformed);
@@ -45,12 +45,12 @@ pub(crate) fn add_element(
     places: &[u32],
     node: Node,
 ) -> Result<(), XmlError>
-    requires held { IsHeld source.now nodes.old.items places.now }
+    requires held { AreOpensHeld source.now nodes.old.items places.now }
     requires below { node.below ≡ 0 }
     ensures given { Gives
         (add_element (head_of source.now node) (held source.now nodes.old.items places.now))
         (λ _. held source.now nodes.new.items places.now) result }
-    ensures kept { OnOk result (IsHeld source.now nodes.new.items places.now) }
+    ensures kept { OnOk result (AreOpensHeld source.now nodes.new.items places.now) }
 {
     if places.is_empty() {
         return Err(XmlError::Malformed);
@@ -66,12 +66,12 @@ pub(crate) fn begin_element(
     places: &mut Vec<u32>,
     node: Node,
 ) -> Result<(), XmlError>
-    requires held { IsHeld source.now nodes.old.items places.old.items }
+    requires held { AreOpensHeld source.now nodes.old.items places.old.items }
     requires below { node.below ≡ 0 }
     ensures given { Gives
         (begin_element (head_of source.now node) (held source.now nodes.old.items places.old.items))
         (λ _. held source.now nodes.new.items places.new.items) result }
-    ensures kept { OnOk result (IsHeld source.now nodes.new.items places.new.items) }
+    ensures kept { OnOk result (AreOpensHeld source.now nodes.new.items places.new.items) }
 {
     if places.is_empty() {
         return Err(XmlError::Malformed);
@@ -103,10 +103,10 @@ pub(crate) fn end_element(
     places: &mut Vec<u32>,
     name: &[u8],
 ) -> Result<(), XmlError>
-    requires { IsHeld source.now nodes.old.items places.old.items }
+    requires { AreOpensHeld source.now nodes.old.items places.old.items }
     ensures given { Gives (end_element name.now (held source.now nodes.old.items places.old.items))
         (λ _. held source.now nodes.new.items places.new.items) result }
-    ensures kept { OnOk result (IsHeld source.now nodes.new.items places.new.items) }
+    ensures kept { OnOk result (AreOpensHeld source.now nodes.new.items places.new.items) }
 {
     let Some(place) = places.pop() else {
         return Err(XmlError::Malformed);
@@ -128,7 +128,7 @@ pub(crate) fn end_element(
 
 // What an element has beside its name, after one more run.
 fn with_run(alloc: Global, source: &[u8], rest: Rest, run: Text) -> Result<Rest, XmlError>
-    ensures { Gives (Some (with_more_text (text_of source.now run) (parts_in source.now rest)))
+    ensures { Gives (Some (with_more_text (kept_text source.now run) (parts_in source.now rest)))
         (parts_in source.now) result }
 {
     let (text, namespace, attributes) = taken_apart(alloc, rest);
@@ -147,7 +147,7 @@ fn with_settled(alloc: Global, source: &[u8], below: u32, rest: Rest) -> Result<
 
 // The text of an element with so many elements below it.
 fn settled(alloc: Global, source: &[u8], below: u32, text: Text) -> Result<Text, XmlError>
-    ensures { Gives (settled below (text_of source.now text)) (text_of source.now) result }
+    ensures { Gives (open_text below (kept_text source.now text)) (kept_text source.now) result }
 {
     if below == 0 {
         return trimmed_of(alloc, source, &text);
@@ -160,7 +160,7 @@ fn settled(alloc: Global, source: &[u8], below: u32, text: Text) -> Result<Text,
 
 #[tactic(auto, unfolding(crate::specs::Content::trimmed))]
 fn trimmed_of(alloc: Global, source: &[u8], text: &Text) -> Result<Text, XmlError>
-    ensures { Gives (Some (trimmed (text_of source.now text.now))) (text_of source.now) result }
+    ensures { Gives (Some (trimmed (kept_text source.now text.now))) (kept_text source.now) result }
 {
     let begun = without_leading(text.octets(source));
     let trimmed = without_trailing(begun);

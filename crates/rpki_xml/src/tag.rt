@@ -2,8 +2,8 @@
 
 ghost use Rattle.std.specs.Prelude.{◌≡◌, Some, [], IfOk};
 ghost use Rattle.std.specs.Option.{option_copied, option_map};
-ghost use Rattle.rpki_xml.specs.Content.{declares, declared, is_declaration, handed_on, namespace_of, head_of as tag_head};
-ghost use Rattle.rpki_xml.specs.Kept.{text_of, attribute_of, attributes_of};
+ghost use Rattle.rpki_xml.specs.Content.{declares, declared, is_declaration, handed_on, namespace_of, head_of_tag as tag_head};
+ghost use Rattle.rpki_xml.specs.Kept.{kept_text, attribute_of, attributes_of};
 ghost use Rattle.rpki_xml.specs.Name.{prefix_of};
 ghost use Rattle.rpki_xml.specs.Pieces.{tag as tag_of};
 ghost use Rattle.rpki_xml.specs.Answers.{Gives};
@@ -51,7 +51,7 @@ fn is_declaration(source: &[u8], attribute: &Named) -> bool
 
 // The first value that declares the namespace of a name. The name is looked through once, for all attributes.
 fn declared<'a>(source: &[u8], name: &[u8], attributes: &'a [Named]) -> Option<&'a Text>
-    ensures { option_map (λ t. text_of source.now t.now) result
+    ensures { option_map (λ t. kept_text source.now t.now) result
         ≡ declared (prefix_of name.now) (attributes_of source.now attributes.now) }
 {
     let prefix = prefix_of(name);
@@ -66,7 +66,7 @@ fn declared<'a>(source: &[u8], name: &[u8], attributes: &'a [Named]) -> Option<&
 #[tactic(auto, unfolding(crate::specs::Content::namespace_of))]
 fn namespace_of(alloc: Global, source: &[u8], tag: &Tag) -> Result<Option<Text>, XmlError>
     ensures { Gives (Some (namespace_of (tag_of source.now tag.now)))
-        (option_map (text_of source.now)) result }
+        (option_map (kept_text source.now)) result }
 {
     let name = name_from(source, tag.name);
     match declared(source, name, tag.attributes.as_slice()) {

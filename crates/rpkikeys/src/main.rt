@@ -1,9 +1,9 @@
-//! The program: its words, standard input and standard output are handed to `rpki_answers::run_keys`.
+//! The program: its words, standard input and standard output are handed to `rpki_external::run_keys`.
 #![tactic(auto)]
 
 use command_line::{Own, own_text, words_of, write_text};
-use rpki_answers::run_keys;
 use rpki_ca::{Status, refuse};
+use rpki_external::run_keys;
 use rpki_text::{StdSink, StdSource};
 use std::process::ExitCode;
 

@@ -5,7 +5,7 @@ ghost use Rattle.std.specs.Prelude.{◌≡◌, ℤ, IfOk, OnErr};
 ghost use Rattle.rpki_base.specs.PublicKey.{KeyFields};
 ghost use Rattle.rpki_ca.specs.Seen.{seen};
 ghost use Rattle.rpki_upserver.specs.ProgramIssuer.{IsProgramRun};
-ghost use Rattle.rpki_upserver.specs.Running.{AreWords};
+ghost use Rattle.rpki_upserver.specs.Running.{AreParentWords};
 
 use command_line::{Own, own_text, program_signer, signer_of, words_of, write_text};
 use rpki_ca::{Refusal, Status, Words, refuse};
@@ -81,7 +81,7 @@ fn run<I: Source, O: Sink>(
 ) -> Result<Status, Refusal>
     // The issuer and the signer of replies are those of the program.
     ensures ran { IfOk result (λ status. (when : ℤ) (child : KeyFields)
-        → AreWords words.now when child → IsProgramRun when child status.0
+        → AreParentWords words.now when child → IsProgramRun when child status.0
         (seen I.rest I.faults input.old input.new)
         (seen O.written O.faults output.old output.new)) }
 

@@ -1,6 +1,6 @@
 use Rattle.std.proofs.Common.{rules}
 use Rattle.rpki_common.specs.Chaining.{◌>>=◌}
-use Rattle.rpki_message.specs.Parts.{required_by}
+use Rattle.rpki_xmltext.specs.Parts.{required_by}
 use Rattle.rpki_provisioning.proofs.attributes.payload_type_in.Goals as goal
 
 pub returns-in_err-text : goal.returns-in_err-text

@@ -2,7 +2,7 @@ use Rattle.std.proofs.Common.{◌≡◌, Some, refl, sym, ap}
 use Rattle.std.proofs.lemmas.Result.{err_from_is_err_and}
 use Rattle.std.specs.Prelude.{codes}
 use Rattle.rpki_common.specs.Chaining.{◌>>=◌}
-use Rattle.rpki_message.proofs.Read.{none_through}
+use Rattle.rpki_xmltext.proofs.Read.{none_through}
 use Rattle.rpki_sets.specs.AsNumbers.{as_blocks}
 use Rattle.rpki_sets.specs.Ipv4Addresses.{ipv4_blocks}
 use Rattle.rpki_sets.specs.Ipv6Addresses.{ipv6_blocks}

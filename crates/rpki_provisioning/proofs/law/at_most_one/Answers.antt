@@ -1,4 +1,4 @@
-use Rattle.rpki_message.proofs.Read.{one_message}
+use Rattle.rpki_xmltext.proofs.Read.{one_message}
 use Rattle.rpki_provisioning.specs.Message.{shape_in, message_of}
 use Rattle.rpki_provisioning.proofs.law.at_most_one.Goals as goal
 

@@ -1,6 +1,6 @@
 use Rattle.std.proofs.Common.{sym, ◌∙◌}
 use Rattle.std.proofs.lemmas.Result.{err_from_is_err_and}
-use Rattle.rpki_message.proofs.Read.{none_through}
+use Rattle.rpki_xmltext.proofs.Read.{none_through}
 use Rattle.rpki_xml.specs.Element.{listed}
 use Rattle.rpki_provisioning.specs.Class.{is_certificate, certificate_in}
 use Rattle.rpki_provisioning.specs.Gathering.{each_slot}

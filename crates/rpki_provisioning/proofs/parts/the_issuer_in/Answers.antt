@@ -3,7 +3,7 @@ use Rattle.std.proofs.lemmas.Result.{err_from_is_err_and}
 use Rattle.rpki_common.specs.Chaining.{◌>>=◌}
 use Rattle.rpki_common.specs.Collecting.{slot, collect}
 use Rattle.rpki_common.proofs.Collected.{collect_the_one}
-use Rattle.rpki_message.proofs.Read.{none_through}
+use Rattle.rpki_xmltext.proofs.Read.{none_through}
 use Rattle.rpki_xml.specs.Element.{Element, listed}
 use Rattle.rpki_provisioning.specs.Class.{is_issuer, issuer_in}
 use Rattle.rpki_provisioning.proofs.Collects.{step_more, step_none, step_done}

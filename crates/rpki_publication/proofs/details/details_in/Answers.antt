@@ -1,6 +1,6 @@
 use Rattle.std.proofs.lemmas.Result.{err_from_is_err_and}
 use Rattle.rpki_xml.specs.Element.{listed}
-use Rattle.rpki_message.proofs.Read.{none_through}
+use Rattle.rpki_xmltext.proofs.Read.{none_through}
 use Rattle.rpki_publication.specs.Details.{details_step}
 use Rattle.rpki_publication.proofs.Reports.{step_more, step_none, none_read, all_read}
 use Rattle.rpki_publication.proofs.details.details_in.Goals as goal

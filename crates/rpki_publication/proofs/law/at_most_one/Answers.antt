@@ -1,4 +1,4 @@
-use Rattle.rpki_message.proofs.Read.{one_message}
+use Rattle.rpki_xmltext.proofs.Read.{one_message}
 use Rattle.rpki_publication.specs.Message.{message_of}
 use Rattle.rpki_publication.proofs.law.at_most_one.Goals as goal
 

@@ -2,7 +2,7 @@ use Rattle.std.proofs.Common.{◌++◌, rules}
 use Rattle.std.proofs.Output.{has_written_append}
 use Rattle.rpki_xml.specs.Spelling.{spelled}
 use Rattle.rpki_publication.specs.ReportError.{report_error_element}
-use Rattle.rpki_message.proofs.Elements.{loop_step}
+use Rattle.rpki_xmltext.proofs.Elements.{loop_step}
 use Rattle.rpki_publication.proofs.writing.write_errors.Goals as goal
 
 pub items-preserved : goal.items-preserved

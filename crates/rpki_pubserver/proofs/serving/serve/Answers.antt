@@ -2,7 +2,7 @@ use Rattle.std.proofs.Common.{ℕ, List, inr, refl, subst}
 use Rattle.rpki_ca.specs.Lines.{lines_of}
 use Rattle.rpki_ca.specs.Seen.{seen, seen_signer}
 use Rattle.rpki_ca.proofs.Ended.{ends_read}
-use Rattle.rpki_pubserver.specs.Running.{EndsServed, new_server}
+use Rattle.rpki_pubserver.specs.Running.{EndsServerServed, new_server}
 use Rattle.rpki_pubserver.specs.Server.{ServerFields}
 use Rattle.rpki_pubserver.proofs.Words.{ends_by}
 use Rattle.rpki_pubserver.proofs.serving.serve.Goals as goal
@@ -25,12 +25,12 @@ returns-in-Ok-clause-ends g c = λ when base publisher are.
     let source = seen g.I.Source.rest g.I.Source.faults c.args.input.now c.read_input.new.input in
     let signer = seen_signer c.args.key.now (g.S.Signer.state c.args.signer.now) (g.S.Signer.state c.serve_lines.new.signer) in
     let terms = c.in-Ok-Some.terms in
-    let ends = subst (λ (s : ServerFields). EndsServed g.P.Scheme.checks terms.when signer s (lines_of c.deref.result.now) c.serve_lines.result.0 sink) c.in-Some.ensures.server
-    (subst (λ (l : List (List ℕ)). EndsServed g.P.Scheme.checks terms.when signer c.in-Some.server l c.serve_lines.result.0 sink) c.new-lines.ensures c.serve_lines.ensures.ends) in
+    let ends = subst (λ (s : ServerFields). EndsServerServed g.P.Scheme.checks terms.when signer s (lines_of c.deref.result.now) c.serve_lines.result.0 sink) c.in-Some.ensures.server
+    (subst (λ (l : List (List ℕ)). EndsServerServed g.P.Scheme.checks terms.when signer c.in-Some.server l c.serve_lines.result.0 sink) c.new-lines.ensures c.serve_lines.ensures.ends) in
     ends_by g.P.Scheme.checks signer c.serve_lines.result.0 source sink c.args.words.now terms.when when terms.base base terms.publisher publisher (rw c.in-Ok-Some.field-0-is at c.in-Ok-Some.ensures.some) are (inr (record {
       steady = c.in-Ok.ensures.steady;
       whole = c.in-Ok.ensures.end;
-      ends = ends_read (λ octets. EndsServed g.P.Scheme.checks terms.when signer (new_server terms.base terms.publisher) (lines_of octets) c.serve_lines.result.0 sink) (g.I.Source.rest c.args.input.now) c.in-Ok.octets.items c.deref.result.now c.deref.ensures.value c.in-Ok.ensures.short c.in-Ok.ensures.ok ends;
+      ends = ends_read (λ octets. EndsServerServed g.P.Scheme.checks terms.when signer (new_server terms.base terms.publisher) (lines_of octets) c.serve_lines.result.0 sink) (g.I.Source.rest c.args.input.now) c.in-Ok.octets.items c.deref.result.now c.deref.ensures.value c.in-Ok.ensures.short c.in-Ok.ensures.ok ends;
     }))
 
 pub returns-clause-usage : goal.returns-clause-usage

@@ -2,7 +2,7 @@ use Rattle.rpki_setup.specs.ChildRequest.{child_request_in}
 use Rattle.rpki_setup.specs.ParentResponse.{parent_response_in}
 use Rattle.rpki_setup.specs.PublisherRequest.{publisher_request_in}
 use Rattle.rpki_setup.specs.RepositoryResponse.{repository_response_in}
-use Rattle.rpki_message.proofs.Read.{one_message}
+use Rattle.rpki_xmltext.proofs.Read.{one_message}
 use Rattle.rpki_setup.proofs.law.at_most_one.Goals as goal
 
 pub returns-clause-child_request : goal.returns-clause-child_request

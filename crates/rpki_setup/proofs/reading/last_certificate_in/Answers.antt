@@ -2,7 +2,7 @@ use Rattle.std.proofs.Common.{◌∙◌}
 use Rattle.std.proofs.lemmas.Result.{err_from_is_err_and}
 use Rattle.rpki_xml.specs.Element.{listed}
 use Rattle.rpki_setup.specs.ResponseStep.{response_step}
-use Rattle.rpki_message.proofs.Read.{none_through}
+use Rattle.rpki_xmltext.proofs.Read.{none_through}
 use Rattle.rpki_setup.proofs.Responses.{step_more, step_none, none_read, all_read}
 use Rattle.rpki_setup.proofs.reading.last_certificate_in.Goals as goal
 

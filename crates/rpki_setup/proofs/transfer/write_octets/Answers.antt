@@ -1,5 +1,5 @@
 use Rattle.std.proofs.lemmas.Result.{err_from_is_err_and}
-use Rattle.rpki_message.proofs.Transfers.{written, unwritten}
+use Rattle.rpki_xmltext.proofs.Transfers.{written, unwritten}
 use Rattle.rpki_setup.specs.Answers.{cause_of}
 use Rattle.rpki_setup.proofs.Causes.{caused}
 use Rattle.rpki_setup.proofs.transfer.write_octets.Goals as goal

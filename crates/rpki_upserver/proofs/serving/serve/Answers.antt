@@ -2,7 +2,7 @@ use Rattle.std.proofs.Common.{ℕ, List, inr, refl, subst}
 use Rattle.rpki_ca.specs.Lines.{lines_of}
 use Rattle.rpki_ca.specs.Seen.{seen, seen_signer}
 use Rattle.rpki_ca.proofs.Ended.{ends_read}
-use Rattle.rpki_upserver.specs.Running.{EndsServed, run_of}
+use Rattle.rpki_upserver.specs.Running.{EndsParentServed, run_of}
 use Rattle.rpki_upserver.proofs.Words.{ends_by}
 use Rattle.rpki_upserver.proofs.serving.serve.Goals as goal
 
@@ -33,9 +33,9 @@ returns-in-Ok-clause-ends g c = λ when key are.
     let two = g.N.Issuer.state c.serve_lines.new.issuer in
     let terms = c.in-Ok-Some.terms in
     let run = run_of terms.when terms.child c.args.signing.now one two signer in
-    let ends = subst (λ (l : List (List ℕ)). EndsServed g.P.Scheme.checks run l c.serve_lines.result.0 sink) c.new-lines.ensures c.serve_lines.ensures.ends in
+    let ends = subst (λ (l : List (List ℕ)). EndsParentServed g.P.Scheme.checks run l c.serve_lines.result.0 sink) c.new-lines.ensures c.serve_lines.ensures.ends in
     ends_by g.P.Scheme.checks c.args.signing.now one two signer c.serve_lines.result.0 source sink c.args.words.now terms.when when terms.child key (rw c.in-Ok-Some.field-0-is at c.in-Ok-Some.ensures.some) are (inr (record {
       steady = c.in-Ok.ensures.steady;
       whole = c.in-Ok.ensures.end;
-      ends = ends_read (λ octets. EndsServed g.P.Scheme.checks run (lines_of octets) c.serve_lines.result.0 sink) (g.I.Source.rest c.args.input.now) c.in-Ok.octets.items c.deref.result.now c.deref.ensures.value c.in-Ok.ensures.short c.in-Ok.ensures.ok ends;
+      ends = ends_read (λ octets. EndsParentServed g.P.Scheme.checks run (lines_of octets) c.serve_lines.result.0 sink) (g.I.Source.rest c.args.input.now) c.in-Ok.octets.items c.deref.result.now c.deref.ensures.value c.in-Ok.ensures.short c.in-Ok.ensures.ok ends;
     }))

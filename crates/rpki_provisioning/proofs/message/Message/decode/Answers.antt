@@ -1,5 +1,5 @@
 use Rattle.rpki_updown.specs.Answers.{cause_of}
-use Rattle.rpki_message.proofs.Transfers.{all_taken}
+use Rattle.rpki_xmltext.proofs.Transfers.{all_taken}
 use Rattle.rpki_provisioning.specs.Answers.{RefusesMessage}
 use Rattle.rpki_provisioning.specs.Message.{Reads}
 use Rattle.rpki_provisioning.proofs.Readings.{blames}

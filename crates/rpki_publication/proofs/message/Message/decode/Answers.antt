@@ -1,6 +1,6 @@
 use Rattle.rpki_publication.specs.Answers.{cause_of}
 use Rattle.rpki_publication.specs.Message.{message_of}
-use Rattle.rpki_message.proofs.Transfers.{taken}
+use Rattle.rpki_xmltext.proofs.Transfers.{taken}
 use Rattle.rpki_publication.proofs.message.Message.decode.Goals as goal
 
 pub returns : goal.returns

@@ -1,5 +1,5 @@
 use Rattle.std.proofs.lemmas.Result.{err_from_is_err_and}
-use Rattle.rpki_message.proofs.Transfers.{written, unwritten}
+use Rattle.rpki_xmltext.proofs.Transfers.{written, unwritten}
 use Rattle.rpki_publication.specs.Answers.{cause_of}
 use Rattle.rpki_publication.proofs.Causes.{caused}
 use Rattle.rpki_publication.proofs.message.Message.write_xml.Goals as goal

@@ -1,6 +1,6 @@
 use Rattle.std.proofs.Common.{◌∙◌}
 use Rattle.rpki_publication.specs.Change.{change_element}
-use Rattle.rpki_message.proofs.Elements.{none_is}
+use Rattle.rpki_xmltext.proofs.Elements.{none_is}
 use Rattle.rpki_publication.proofs.query.Query.has_no_element.Goals as goal
 
 pub returns-in-Delta : goal.returns-in-Delta

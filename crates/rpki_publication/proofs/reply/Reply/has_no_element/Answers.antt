@@ -1,7 +1,7 @@
 use Rattle.std.proofs.Common.{◌∙◌}
 use Rattle.rpki_publication.specs.ListReply.{list_element}
 use Rattle.rpki_publication.specs.ReportError.{report_error_element}
-use Rattle.rpki_message.proofs.Elements.{none_is}
+use Rattle.rpki_xmltext.proofs.Elements.{none_is}
 use Rattle.rpki_publication.proofs.reply.Reply.has_no_element.Goals as goal
 
 pub returns-in-List : goal.returns-in-List

@@ -1,6 +1,6 @@
 use Rattle.rpki_setup.specs.Answers.{cause_of}
 use Rattle.rpki_setup.specs.ChildRequest.{child_request_in}
-use Rattle.rpki_message.proofs.Transfers.{taken}
+use Rattle.rpki_xmltext.proofs.Transfers.{taken}
 use Rattle.rpki_setup.proofs.child_request.ChildRequest.parse.Goals as goal
 
 pub returns : goal.returns

@@ -2,7 +2,7 @@ use Rattle.std.proofs.Common.{refl}
 use Rattle.std.proofs.lemmas.Result.{err_from_is_err_and}
 use Rattle.rpki_common.specs.Chaining.{◌>>=◌}
 use Rattle.rpki_setup.specs.ParentResponse.{parent_response_in}
-use Rattle.rpki_message.proofs.Read.{none_through}
+use Rattle.rpki_xmltext.proofs.Read.{none_through}
 use Rattle.rpki_setup.proofs.parent_response.ParentResponse.of_element.Goals as goal
 
 pub returns-in_err-root_in : goal.returns-in_err-root_in

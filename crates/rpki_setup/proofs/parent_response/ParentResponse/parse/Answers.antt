@@ -1,6 +1,6 @@
 use Rattle.rpki_setup.specs.Answers.{cause_of}
 use Rattle.rpki_setup.specs.ParentResponse.{parent_response_in}
-use Rattle.rpki_message.proofs.Transfers.{taken}
+use Rattle.rpki_xmltext.proofs.Transfers.{taken}
 use Rattle.rpki_setup.proofs.parent_response.ParentResponse.parse.Goals as goal
 
 pub returns : goal.returns

@@ -1,6 +1,6 @@
 use Rattle.rpki_setup.specs.Answers.{cause_of}
 use Rattle.rpki_setup.specs.PublisherRequest.{publisher_request_in}
-use Rattle.rpki_message.proofs.Transfers.{taken}
+use Rattle.rpki_xmltext.proofs.Transfers.{taken}
 use Rattle.rpki_setup.proofs.publisher_request.PublisherRequest.parse.Goals as goal
 
 pub returns : goal.returns

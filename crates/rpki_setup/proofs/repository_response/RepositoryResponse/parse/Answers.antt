@@ -1,6 +1,6 @@
 use Rattle.rpki_setup.specs.Answers.{cause_of}
 use Rattle.rpki_setup.specs.RepositoryResponse.{repository_response_in}
-use Rattle.rpki_message.proofs.Transfers.{taken}
+use Rattle.rpki_xmltext.proofs.Transfers.{taken}
 use Rattle.rpki_setup.proofs.repository_response.RepositoryResponse.parse.Goals as goal
 
 pub returns : goal.returns

@@ -1,5 +1,5 @@
 use Rattle.std.proofs.lemmas.Result.{err_from_is_err_and}
-use Rattle.rpki_message.proofs.Read.{no_document, no_message}
+use Rattle.rpki_xmltext.proofs.Read.{no_document, no_message}
 use Rattle.rpki_setup.specs.RepositoryResponse.{repository_response_in}
 use Rattle.rpki_setup.specs.Answers.{cause_of}
 use Rattle.rpki_setup.proofs.Causes.{xml_caused}

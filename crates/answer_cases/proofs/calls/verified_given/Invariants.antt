@@ -1,5 +1,0 @@
-use Rattle.answer_cases.proofs.calls.verified_given.Given as goal
-
--- the questions and the answers that it is given
-abbrev pub ghosts-verified : goal.ghosts-verified
-ghosts-verified a = record { questions = a.questions.now; answers = a.answers.now }

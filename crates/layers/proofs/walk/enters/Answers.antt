@@ -1,5 +1,0 @@
-use Rattle.layers.proofs.Onwards.{into}
-use Rattle.layers.proofs.walk.enters.Goals as goal
-
-pub returns-in-Ok-clause-gone : goal.returns-in-Ok-clause-gone
-returns-in-Ok-clause-gone c = λ e. into _ _ _ c.in-Ok.ensures.place

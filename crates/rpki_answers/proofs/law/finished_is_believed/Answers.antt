@@ -1,5 +1,0 @@
-use Rattle.rpki_answers.proofs.Finishing.{finished_believed}
-use Rattle.rpki_answers.proofs.law.finished_is_believed.Goals as goal
-
-pub returns : goal.returns
-returns g c = finished_believed g.P.Scheme.checks
