@@ -1,5 +1,5 @@
 #!/usr/bin/env python3
-"""Says whether README.md, CONTRIBUTING.md and docs/ speak of what is there.
+"""Says whether README.md, the other documents beside it and docs/ speak of what is there.
 
     tools/documents.py
 
@@ -8,17 +8,20 @@ Asked is, and what is not so is printed:
 - that each name in backquotes stands in the tree: a path leads to a file; `A::b` is a function or a variant of a type A; an option is one
   of the program or script that it stands behind; any other name is a word of the sources (comments left out), of a script or of a file's
   name, or one of ELSEWHERE below, with where it comes from. Words in capitals stand for something, and so do single letters.
-- that what README's table of promises and the table of laws in docs/READING.md name as clauses are functions, types or clauses of the
-  crate of that row; and that a clause stands behind a function that has it;
+- that what the tables of promises in docs/PROMISES.md and the table of laws in docs/READING.md name as clauses are functions, types or
+  clauses of the crate of that row; that a clause stands behind a function that has it; and that each crate of the library has promises,
+  but for UNPROMISED below;
 - that the definitions that are listed behind the name of a crate's specs/ are files there, and that the head of each specs/Lib.antt names
   each file of its folder;
-- that the commands, and the statuses with their lines, are those of rpki_ca, and in the help of rpkica; that the examples which a help
-  names are there, and that the line of `make` that README shows is its stored case's;
+- that the commands in docs/PROGRAMS.md, and the statuses with their lines there and in README, are those of rpki_ca, and in the help of
+  rpkica, and that README's checks are those of docs/PROGRAMS.md; that the examples which a help names are there, that the line of `make` in
+  docs/PROGRAMS.md is its stored case's, and that the lines which README shows of a trial are written so;
 - that docs/ARCHITECTURE.md has each crate of crates.txt, lowest first, and says of none that it stands on a crate which it doesn't use;
-  that the crates that are trusted are those that are used;
+  that the crates that are trusted, by docs/PROMISES.md and by README, are those that are used;
 - that a number that NUMBERS below knows is what is counted, that a number in front of what figures.py counts is one of its counts, and that
   any other number above fourteen, and any power of two, is one that is counted, or one of SAID below, with where it comes from;
-- that no line but of a table, a link or a block of code has more than 140 characters, and no name in backquotes goes over a line's end.
+- that no line but of a table, a link or a block of code has more than 140 characters, and no name in backquotes goes over a line's end;
+- that README is short and plain: at most 250 lines, 30 words a sentence and 15 words a cell, and no word of PLAIN below.
 
 The first column of docs/DIFFERENCES.md speaks of the Rust crate, and is left out; tools/quotations.py looks at blocks of code. The exit
 status is 0 where all is so, else 1."""
@@ -32,7 +35,24 @@ from sources import CRATES, TOP, Tree, crates_in_order, definitions
 from stored import SIZES
 
 MOST = 140
-DOCUMENTS = [TOP / "README.md", TOP / "CONTRIBUTING.md", *sorted((TOP / "docs").glob("*.md"))]
+# Of README: lines, words of a sentence, words of a cell.
+MOST_LINES, MOST_WORDS, MOST_OF_CELL = 250, 30, 15
+# Words that README does without, and what it says.
+PLAIN = {
+    "octets?": "bytes",
+    "moments?": "time",
+    "believed": "accepted",
+    "exactly where": "exactly when",
+    "behind": "after",
+    "anew": "again",
+    "want of memory": "out of memory",
+    "is none": "is not a",
+}
+# Crates of the library of which nothing is promised but that they are safe.
+UNPROMISED = {"rpki_vectors"}
+README = TOP / "README.md"
+PROMISES, PROGRAMS = TOP / "docs" / "PROMISES.md", TOP / "docs" / "PROGRAMS.md"
+DOCUMENTS = [*sorted(TOP.glob("*.md")), *sorted((TOP / "docs").glob("*.md"))]
 FENCE = re.compile(r"^ *```.*?^ *```$", re.MULTILINE | re.DOTALL)
 SPAN = re.compile(r"`([^`\n]+)`")
 NAME = re.compile(r"[A-Za-z_][\w']*")
@@ -164,7 +184,7 @@ NUMBERS = [
     (r"(\w+) further programs", "programs"),
     (r"one to (\w+) (?:such )?(?:keys|KEYs|of them)|There are one to (\w+)\b", "keys"),
     (r"a line for each question of the message, at most (\d+)", "questions"),
-    (r"[Ff]rom (\d+) seconds before (?:the moment|it|MOMENT) to (\d+) seconds after", "window"),
+    (r"[Ff]rom (\d+) seconds before (?:the moment|it|MOMENT|the (?:given )?time(?: at which it was made)?) to (\d+) seconds after", "window"),
     (r"at each second from (\d+) before the moment to (\d+) after", "window"),
     (r"at each second from (\d+) before (\d+) to (\d+) after", "window of make"),
     (r"below (\d+) or above (\d+)", "moments with a window"),
@@ -195,6 +215,7 @@ SAID = {
     "of a word on Linux": "131071",
     "minutes that a gate took, on the machines that CONTRIBUTING.md tells of": "21 45 46 53 55 106 130 244 320 472",
     "the status of a trial that can't be made, by tools/trial.py": "125",
+    "of a first run and a trial, by bench/first_run.py": "30 40 71",
     "instructions an octet, by bench/instructions.py": "22 48 49 82 88 97 142 147",
 }
 OUTSIDE = {int(number): place for place, numbers in SAID.items() for number in numbers.split()}
@@ -274,6 +295,7 @@ class Looker:
     def __init__(self):
         self.names = Names()
         self.wrong = []
+        self.promised = set()  # the crates that have rows in docs/PROMISES.md
 
     def say(self, document, line, what):
         self.wrong.append(f"{document.relative_to(TOP)}:{line}: {what}")
@@ -316,14 +338,15 @@ class Looker:
                 self.say(document, number, f"{path} is not there")
 
     def row(self, document, number, line, crate):
-        """The names of clauses in a row of the table of promises, or of that of laws."""
+        """The names of clauses in a row of a table of promises, or of that of laws."""
         cells = [cell.strip() for cell in re.split(r"(?<!\\)\|", line)[1:-1]]
         if len(cells) != 3:
             return crate
-        if document.name == "README.md":
+        if document == PROMISES:
             crate = cells[0] if cells[0] in self.names.of_crate else crate if cells[0] == "" else None
             crates = [crate, *re.findall(r"\((rpki_\w+)\)", cells[2])] if crate else []
             asked = cells[2] if crate else ""
+            self.promised.add(crate)
         else:
             crates = re.findall(r"\b(rpki_\w+)", cells[0] + cells[1])
             asked = cells[1] if crates and document.name == "READING.md" else ""
@@ -333,7 +356,7 @@ class Looker:
             name = re.sub(r"\(.*", "", span).split("::")[-1].split(" ")[0]
             if not any(name in self.names.of_crate.get(one, ()) for one in crates):
                 self.say(document, number, f"`{span}` is no function, type or clause of {' or '.join(crates)}")
-        for part in asked.split(";") if document.name == "README.md" else []:
+        for part in asked.split(";") if document == PROMISES else []:
             self.clause_of_function(document, number, crates, part)
         return crate
 
@@ -487,41 +510,67 @@ def allowed(figures, what):
 # ---- tables
 
 
+def cells_of(row):
+    return [cell.strip() for cell in re.split(r"(?<!\\)\|", row)[1:-1]]
+
+
 def statuses(looker):
-    """README's table of statuses, and the help of rpkica."""
-    readme = TOP / "README.md"
-    rows = re.findall(r"^\| (\d+) \| `([A-Z]\w+)[^`]*` \|", readme.read_text(encoding="utf-8"), re.MULTILINE)
-    told = {name: int(status) for status, name in rows}
+    """The tables of statuses in README and docs/PROGRAMS.md, and the help of rpkica."""
     here = refusals()
-    for name in sorted(set(told) | set(here)):
-        if told.get(name) != here.get(name):
-            looker.say(readme, 0, f"status of {name}: {told.get(name)} in the table, {here.get(name)} in rpki_ca")
+    for document in (README, PROGRAMS):
+        rows = re.findall(r"^\| (\d+) \| `([A-Z]\w+)[^`]*` \|", document.read_text(encoding="utf-8"), re.MULTILINE)
+        told = {name: int(status) for status, name in rows}
+        for name in sorted(set(told) | set(here)):
+            if told.get(name) != here.get(name):
+                looker.say(document, 0, f"status of {name}: {told.get(name)} in the table, {here.get(name)} in rpki_ca")
     program = source("rpkica", "main.rt")
     for name, status in here.items():
         if not re.search(rf"^ *{status}  (?:[\w, ]*\b)?{name}\b|^        (?:[\w, ]*\b)?{name}\b", program, re.MULTILINE):
-            looker.say(readme, 0, f"the help of rpkica doesn't have {status} {name}")
-    checks = re.findall(r"^\| (\d+) \| .* \| (?:inspection|verification) \|", readme.read_text(encoding="utf-8"), re.MULTILINE)
-    if checks != checks_in_help():
-        looker.say(readme, 0, "the checks are not numbered as in the help of rpkica")
+            looker.say(PROGRAMS, 0, f"the help of rpkica doesn't have {status} {name}")
+
+
+def checks(looker):
+    """The checks are numbered as in the help of rpkica, and README's rows are those of docs/PROGRAMS.md without the standards' sections."""
+    found = {}
+    for document in (README, PROGRAMS):
+        text = document.read_text(encoding="utf-8")
+        found[document] = [cells_of(row) for row in re.findall(r"^\| \d+ \| .* \| (?:inspection|verification) \|.*$", text, re.MULTILINE)]
+        if [cells[0] for cells in found[document]] != checks_in_help():
+            looker.say(document, 0, "the checks are not numbered as in the help of rpkica")
+    for short, whole in zip(found[README], found[PROGRAMS]):
+        if short != whole[:3] + whole[4:]:
+            looker.say(README, 0, f"check {short[0]} is another than in docs/PROGRAMS.md")
 
 
 def summary(looker):
-    """The line of `make` that README shows is the one of its stored case."""
-    readme = TOP / "README.md"
+    """The line of `make` that docs/PROGRAMS.md shows is the one of its stored case."""
     cases = (CRATES / "test_run" / "data" / "cases.txt").read_text(encoding="utf-8")
-    for count, seed, line in re.findall(r"`make (\d+) (\d+)` writes\s+`([^`]*)\.\.`", readme.read_text(encoding="utf-8")):
+    shown = re.findall(r"`make (\d+) (\d+)` writes\s+`([^`]*)\.\.`", PROGRAMS.read_text(encoding="utf-8"))
+    if not shown:
+        looker.say(PROGRAMS, 0, "no line of make is shown")
+    for count, seed, line in shown:
         if not re.search(rf"^make-{count}-{seed} 0 {line.encode().hex()}", cases, re.MULTILINE):
-            looker.say(readme, 0, f"make {count} {seed} is stored with another line than {line}")
+            looker.say(PROGRAMS, 0, f"make {count} {seed} is stored with another line than {line}")
+
+
+def trial(looker):
+    """What README shows of a trial is the content of the example, and the line that tools/trial.py writes."""
+    text = README.read_text(encoding="utf-8")
+    for line in re.findall(r"^```xml\n(.*?)\n```$", text, re.MULTILINE | re.DOTALL) or ["no line of XML"]:
+        if line.encode() not in octets_of("query-list.hex"):
+            looker.say(README, line_of(text, line), f"{line} is not the content of examples/query-list.hex")
+    said = re.search(r'print\(f"([^"]*a trial[^"]*)"', (TOP / "tools" / "trial.py").read_text(encoding="utf-8"))
+    if said is None or said[1].replace("{program}", "rpkica") not in text.splitlines():
+        looker.say(README, 0, "it shows another line of a trial than tools/trial.py writes")
 
 
 def commands(looker):
-    """README's table of words has each command, and no other."""
-    readme = TOP / "README.md"
-    table = readme.read_text(encoding="utf-8").partition("| Words | Input |")[2].partition("\n\n")[0]
+    """The table of rpkica's words in docs/PROGRAMS.md has each command, and no other."""
+    table = PROGRAMS.read_text(encoding="utf-8").partition("| Words | Input |")[2].partition("\n\n")[0]
     told = set(re.findall(r"^\| `(\w+)", table, re.MULTILINE))
     here = set(re.findall(r'^verb_word \S+ = codes "(\w+)"', (CRATES / "rpki_ca/specs/Command.antt").read_text(encoding="utf-8"), re.M))
     for name in sorted(told ^ here):
-        looker.say(readme, 0, f"{name} is a row of the table of words, or a command, and not the other")
+        looker.say(PROGRAMS, 0, f"{name} is a row of the table of words, or a command, and not the other")
 
 
 def helps(looker):
@@ -539,7 +588,7 @@ def helps(looker):
 
 
 def crates(looker):
-    """The table of crates in docs/ARCHITECTURE.md, and README's list of what is trusted."""
+    """The table of crates in docs/ARCHITECTURE.md, and the crates that are trusted, by docs/PROMISES.md and README."""
     document = TOP / "docs" / "ARCHITECTURE.md"
     uses, named, last = crates_in_order(), set(), []
     for number, line in enumerate(document.read_text(encoding="utf-8").splitlines(), 1):
@@ -557,13 +606,62 @@ def crates(looker):
                 looker.say(document, number, f"{' and '.join(last)} doesn't use {name}")
     for name in sorted(set(uses) ^ named):
         looker.say(document, 0, f"{name} is no row of the table, or no crate")
-    readme = TOP / "README.md"
-    text = readme.read_text(encoding="utf-8")
-    trusted = re.search(r"those of the crates (.*?)\), the C library", text, re.DOTALL)
-    listed = set(SPAN.findall(trusted[1])) if trusted else set()
     used = {name for all_used in uses.values() for name in all_used if name not in uses}
-    for name in sorted(listed ^ used):
-        looker.say(readme, line_of(text, "those of the crates"), f"{name} is trusted, or used, and not the other")
+    for trusting, start, end in ((PROMISES, "those of the crates", r"\), the C library"), (README, "what is stated of the crates", ";")):
+        text = trusting.read_text(encoding="utf-8")
+        trusted = re.search(rf"{start} (.*?){end}", text, re.DOTALL)
+        listed = set(SPAN.findall(trusted[1])) if trusted else set()
+        for name in sorted(listed ^ used):
+            looker.say(trusting, line_of(text, start), f"{name} is trusted, or used, and not the other")
+
+
+def promises(looker):
+    """Each crate of the library has rows in docs/PROMISES.md."""
+    library = {name for name in crates_in_order() if name.startswith("rpki_")} - UNPROMISED
+    for name in sorted(library - looker.promised):
+        looker.say(PROMISES, 0, f"{name} has no row")
+
+
+# ---- README
+
+
+def sentences(text):
+    """The sentences of what is no table and no code, and the line of each paragraph."""
+    text = FENCE.sub(lambda match: "\n" * match[0].count("\n"), text)
+    paragraph, first = [], 0
+    for number, line in enumerate([*text.splitlines(), ""], 1):
+        line = re.sub(r"^> ?", "", line)
+        ends = not line.strip() or line.startswith(("|", "#", "<!--", "- "))
+        if ends and paragraph:
+            for sentence in re.split(r"(?<=[.!?])[*)]*\s+", " ".join(paragraph)):
+                yield first, sentence
+            paragraph = []
+        if line.strip() and not line.startswith(("|", "#", "<!--")):
+            first = first if paragraph else number
+            paragraph.append(line.removeprefix("- ").strip())
+
+
+def words_in(text):
+    return [word for word in re.sub(r"\]\([^)]*\)", "]", text).split() if re.search(r"\w", word)]
+
+
+def plain(looker):
+    """README is short and plain."""
+    text = README.read_text(encoding="utf-8")
+    if len(text.splitlines()) > MOST_LINES:
+        looker.say(README, 0, f"it has {len(text.splitlines())} lines")
+    for number, sentence in sentences(text):
+        if len(words_in(sentence)) > MOST_WORDS:
+            looker.say(README, number, f"a sentence of {len(words_in(sentence))} words: {sentence[:50]}..")
+    for number, line in enumerate(text.splitlines(), 1):
+        for cell in cells_of(line) if line.startswith("|") else []:
+            if len(words_in(cell)) > MOST_OF_CELL:
+                looker.say(README, number, f"a cell of {len(words_in(cell))} words: {cell[:50]}..")
+    without = SPAN.sub("`", FENCE.sub(lambda match: "\n" * match[0].count("\n"), text))
+    for number, line in enumerate(without.splitlines(), 1):
+        for word, better in PLAIN.items():
+            if re.search(rf"\b{word}\b", line):
+                looker.say(README, number, f"it has `{word}`; say {better}")
 
 
 def definition_files(looker):
@@ -584,10 +682,14 @@ def main():
     for document in DOCUMENTS:
         looker.document(document)
     statuses(looker)
+    checks(looker)
     summary(looker)
+    trial(looker)
     commands(looker)
     helps(looker)
     crates(looker)
+    promises(looker)
+    plain(looker)
     definition_files(looker)
     for line in looker.wrong:
         print(line)
