@@ -8,8 +8,8 @@ runs, with the program's start), the microseconds for each line, and the most me
 how the seconds grow where there are ten times as many lines, which is 10 where each costs the same.
 
 - `rpkiarch batch` and `explain` on an archive of as many messages as an input may hold, and on a tenth of it;
-- `rpkiarch batch` on COUNT messages, 100000 if it isn't said, split by lines over four processes, as README.md shows it: the archive is
-  larger than one input may be. Over the largest that is not, the four have to write the lines of one: if they don't, this ends with 1;
+- `rpkiarch batch` on COUNT messages, 100000 if it isn't said, split by lines over four processes, as docs/PROGRAMS.md shows it: the archive
+  is larger than one input may be. Over the largest that is not, the four have to write the lines of one: if they don't, this ends with 1;
 - `rpkiguard` on messages of as many peers, each under a key of its own, and on a tenth of it; and on COUNT lines without a message
   behind the state of COUNT peers."""
 import os

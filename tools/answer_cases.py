@@ -584,7 +584,8 @@ ANSWERED_ERRORS = (
     b"out of memory Receive(OutOfMemory)")
 
 
-# What errors are passed on as: a malformed message, want of memory twice; and the refusals of README for the errors of the lists above.
+# What errors are passed on as: a malformed message, want of memory twice; and, for the errors of the lists above, the refusals of
+# docs/PROGRAMS.md.
 PASSED_ON = b"Receive(CmsDecode)", b"Receive(OutOfMemory)", b"OutOfMemory"
 REFUSALS = (
     b"Moment", b"TooLong", b"IncompatibleKey", b"KeyReused", b"OutOfMemory", b"Usage", b"CmsDecode", b"Validation(8)", b"OutOfMemory")

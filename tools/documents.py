@@ -15,7 +15,8 @@ Asked is, and what is not so is printed:
   each file of its folder;
 - that the commands in docs/PROGRAMS.md, and the statuses with their lines there and in README, are those of rpki_ca, and in the help of
   rpkica, and that README's checks are those of docs/PROGRAMS.md; that the examples which a help names are there, that the line of `make` in
-  docs/PROGRAMS.md is its stored case's, and that the lines which README shows of a trial are written so;
+  docs/PROGRAMS.md is its stored case's, that the lines which README shows of a trial are written so, and that stored cases answer what
+  README says of the message of OpenSSL;
 - that docs/ARCHITECTURE.md has each crate of crates.txt, lowest first, and says of none that it stands on a crate which it doesn't use;
   that the crates that are trusted, by docs/PROMISES.md and by README, are those that are used;
 - that a number that NUMBERS below knows is what is counted, that a number in front of what figures.py counts is one of its counts, and that
@@ -184,7 +185,7 @@ NUMBERS = [
     (r"(\w+) further programs", "programs"),
     (r"one to (\w+) (?:such )?(?:keys|KEYs|of them)|There are one to (\w+)\b", "keys"),
     (r"a line for each question of the message, at most (\d+)", "questions"),
-    (r"[Ff]rom (\d+) seconds before (?:the moment|it|MOMENT|the (?:given )?time(?: at which it was made)?) to (\d+) seconds after", "window"),
+    (r"[Ff]rom (\d+) seconds before (?:the moment|it|MOMENT|the given time|the time at which it was made) to (\d+) seconds", "window"),
     (r"at each second from (\d+) before the moment to (\d+) after", "window"),
     (r"at each second from (\d+) before (\d+) to (\d+) after", "window of make"),
     (r"below (\d+) or above (\d+)", "moments with a window"),
@@ -564,6 +565,19 @@ def trial(looker):
         looker.say(README, 0, "it shows another line of a trial than tools/trial.py writes")
 
 
+def real_message(looker):
+    """The times at which README receives the message of OpenSSL are those of stored cases, with what README says of them."""
+    query, key = ((TOP / "examples" / name).read_text(encoding="ascii").strip() for name in ("rsa-query.hex", "rsa-key.hex"))
+    cases = (CRATES / "test_external" / "data" / "cases.txt").read_text(encoding="utf-8").splitlines()
+    shown = re.findall(r"rsa-key\.pem --at (\d+) < examples/rsa-query\.der", README.read_text(encoding="utf-8"))
+    for at, answer in zip(shown, ("0 ", "6 'Validation|20350a ")):
+        end = f"{query} receive publication {at} 111 {key}"
+        if not any(re.match(rf"\S+ keys {re.escape(answer)}", case) and case.endswith(end) for case in cases):
+            looker.say(README, line_of(README.read_text(encoding="utf-8"), f"--at {at}"), f"no stored case answers {answer}at {at}")
+    if len(shown) != 2:
+        looker.say(README, 0, f"{len(shown)} times at which the message of OpenSSL is received, and not two")
+
+
 def commands(looker):
     """The table of rpkica's words in docs/PROGRAMS.md has each command, and no other."""
     table = PROGRAMS.read_text(encoding="utf-8").partition("| Words | Input |")[2].partition("\n\n")[0]
@@ -685,6 +699,7 @@ def main():
     checks(looker)
     summary(looker)
     trial(looker)
+    real_message(looker)
     commands(looker)
     helps(looker)
     crates(looker)

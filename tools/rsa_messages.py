@@ -153,7 +153,7 @@ def made(folder, name, kind, text, named=RSA, second=False):
 
 
 def examples(moment, key, message):
-    """The first message and its key, for README's first page."""
+    """The first message and its key, which README shows."""
     (EXAMPLES / "rsa-query.der").write_bytes(message)
     (EXAMPLES / "rsa-query.hex").write_text(message.hex() + "\n")
     (EXAMPLES / "rsa-key.hex").write_text(key.hex() + "\n")
