@@ -1,5 +1,5 @@
 //! How a caller receives a message: a signature scheme of its own, a verifier that decides it, and one call of
-//! [`rpki_ca::receive`]. README.md quotes the code from the scheme on.
+//! [`rpki_ca::receive`]. docs/READING.md quotes the code from the scheme on.
 #![tactic(auto)]
 
 mod written;
