@@ -55,7 +55,7 @@ fn want_of_memory_is_printed(rt: HostRuntime) -> Result<(), Fail> {
 }
 
 #[test]
-fn want_of_memory_is_printed(rt: HostRuntime) -> Result<(), Fail> {
+fn want_of_memory_of_messages_is_printed(rt: HostRuntime) -> Result<(), Fail> {
     let text = format!(in rt.alloc();
         "{}/{}",
         rpki_publication::Error::OutOfMemory,

@@ -46,7 +46,9 @@ fn octets_shown(alloc: Global, answer: Result<Vec<u8>, Refusal>) -> io::Result<S
 
 // The line of the first word.
 fn line(alloc: Global, words: &Words) -> io::Result<String> {
-    let line = line_of(alloc, word(words, 0)?.as_bytes()).map_err(out_of_memory)?;
+    let mut text = Vec::new(alloc);
+    text.extend_from_slice(word(words, 0)?.as_bytes())?;
+    let line = line_of(text).map_err(out_of_memory)?;
     digits_of(alloc, &line)
 }
 

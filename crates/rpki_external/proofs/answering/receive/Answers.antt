@@ -15,7 +15,7 @@ returns-in_err-message-clause-err c =
 
 pub returns-clause-ok : goal.returns-clause-ok
 returns-clause-ok c =
-    rw (c.in_ok-line_of.ensures, c.as_slice.ensures)
+    rw c.in_ok-line_of.ensures
     (spelled (λ octets. IsAnsweredReceipt c.args.kind octets c.args.keys.now c.args.when c.args.answers.now) (hexadecimal c.args.input.items) c.deref.result.now
-    (Ok (c.in_ok-text.text ++ 10 ∷ [])) (c.in_ok-octets.ensures.ok ∙ ap Some (sym c.deref.ensures.value))
-    (text_received c.args.kind c.deref.result.now c.args.keys.now c.args.when c.args.answers.now c.in_ok-message.message c.in_ok-message.field-0-1 c.in_ok-text.text c.in_ok-message.ensures c.in_ok-text.ensures))
+    (Ok (c.in_ok-to_xml_vec.field-0.items ++ 10 ∷ [])) (c.in_ok-octets.ensures.ok ∙ ap Some (sym c.deref.ensures.value))
+    (text_received c.args.kind c.deref.result.now c.args.keys.now c.args.when c.args.answers.now c.in_ok-message.message c.in_ok-message.field-0-1 c.in_ok-to_xml_vec.field-0.items c.in_ok-message.ensures c.in_ok-to_xml_vec.ensures))
