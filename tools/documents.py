@@ -214,7 +214,7 @@ SAID = {
     "years": "1970 9999",
     "bits of numbers, and of RSA keys": "32 2048",
     "of a word on Linux": "131071",
-    "minutes that a gate took, on the machines that CONTRIBUTING.md tells of": "21 45 46 53 55 106 130 244 320 472",
+    "minutes that a gate took, on the machines that CONTRIBUTING.md tells of": "21 45 46 53 55 84 106 110 130 197 244 320 472",
     "the status of a trial that can't be made, by tools/trial.py": "125",
     "of a first run and a trial, by bench/first_run.py": "30 40 71",
     "instructions an octet, by bench/instructions.py": "22 48 49 82 88 97 142 147",
