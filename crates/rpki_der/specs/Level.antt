@@ -28,7 +28,8 @@ behind_level Marked = 0
 
 -- the level's octets from here on are these values, and rest stands behind the level
 abbrev pub LevelHolds : Mode → Level → List ℕ → Values → List ℕ → Type 0
-LevelHolds mode (Sized after) here vs rest = AreValues mode vs × (here ≡ spellings vs) × (after ≡ rest)
+LevelHolds mode (Sized after) here vs rest =
+    AreValues mode vs × (here ≡ spellings vs) × (after ≡ rest)
 LevelHolds mode Marked here vs rest = AreValues mode vs × (here ≡ spellings vs ++ 0 ∷ 0 ∷ rest)
 
 -- the level ends here, and rest stands behind it

@@ -20,7 +20,8 @@ unfoldable mutual
 
   pub joined_all : Values → Option (List ℕ)
   joined_all End = Some []
-  joined_all (v ▸ vs) = joined_pieces octet_string_tag v >>= λ a. joined_all vs >>= λ b. Some (a ++ b)
+  joined_all (v ▸ vs) =
+      joined_pieces octet_string_tag v >>= λ a. joined_all vs >>= λ b. Some (a ++ b)
 
 -- an octet string under this tag; in DER it is primitive (X.690, 10.2)
 unfoldable pub octets_under : List ℕ → Mode → Value → Option (List ℕ)

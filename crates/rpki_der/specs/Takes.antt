@@ -142,7 +142,8 @@ Decodes grammar view mode octets result =
 -- ---- what is left of a level, up to its end
 
 -- What is left of the level at p, fields reads as y, and q is behind the level.
-pub record ReadsFields {Y : Type 0} (fields : Values → Option Y) (p q : Position) (y : Y) : Type 0 where
+pub record ReadsFields {Y : Type 0} (fields : Values → Option Y) (p q : Position) (y : Y)
+    : Type 0 where
   pub values : Values
   pub holds : LevelHolds p.mode (top p.levels) p.here values q.here
   pub reads : fields values ≡ Some y

@@ -75,7 +75,8 @@ TakesCounted c grammar view old new before after result =
 pub record CountedFields {X : Type 0} (c k : ℕ) (fields : Values → Option (X × Values))
     (old new : Position) (before after : ℕ) (x : X) : Type 0 where
   pub takes : TakesFields fields old new x
-  pub least : (vs : Values) (rest : List ℕ) (h : LevelHolds new.mode (top new.levels) new.here vs rest)
+  pub least : (vs : Values) (rest : List ℕ)
+      (h : LevelHolds new.mode (top new.levels) new.here vs rest)
       → before + all_nodes (takes.reads vs rest h).0 ≤ after + all_nodes vs
   pub later : before ≤ after
   pub on : left new ≤ left old

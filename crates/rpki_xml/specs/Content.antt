@@ -137,8 +137,8 @@ elements_in (and_run text more) = elements_in more
 elements_in (and_passed_over more) = elements_in more
 elements_in (and_leaf tag more) = first (head_of_tag tag []) none (elements_in more)
 elements_in (and_element tag inside more) =
-    first (head_of_tag tag (text_of_content (elements_in inside) (characters inside))) (elements_in inside)
-    (elements_in more)
+    first (head_of_tag tag (text_of_content (elements_in inside) (characters inside)))
+    (elements_in inside) (elements_in more)
 
 -- beside a child element all runs are white space
 abbrev pub fits : Elements → List ℕ → Bool

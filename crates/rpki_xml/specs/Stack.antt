@@ -45,7 +45,8 @@ and_more text children o = record {
 
 -- an open element at its end: the text it has then, and its children
 abbrev pub open_ended : Open → Element
-open_ended o = record { head = head_with_text (text_of_content o.done o.head.text) o.head; children = o.done }
+open_ended o =
+    record { head = head_with_text (text_of_content o.done o.head.text) o.head; children = o.done }
 
 -- the open elements, the innermost first, after one run more
 unfoldable pub add_run : List ℕ → List Open → Option (List Open)

@@ -40,7 +40,8 @@ pub fn calls_spell()
 /// The calls for elements one after the other leave what the elements are spelled as together.
 pub fn calls_follow()
     ensures { (front back : Elements) (d : Draft)
-        → with_elements back (with_elements front d) ≡ with_elements (joined_elements front back) d }
+        → with_elements back (with_elements front d)
+        ≡ with_elements (joined_elements front back) d }
 {}
 
 /// What was written once the calls for one element are over is its spelling.
