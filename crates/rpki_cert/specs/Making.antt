@@ -231,7 +231,8 @@ IsFirstRequestRefusal {E = E} scheme id repository before after csr.TooLong =
     RefusesInTurn {E = E} scheme id repository before after make.TooLong
 IsFirstRequestRefusal scheme id repository before after (csr.Signing error) =
     RefusesInTurn scheme id repository before after (make.Signing error)
-IsFirstRequestRefusal scheme id repository before after csr.OutOfMemory = after.faults ≡ before.faults
+IsFirstRequestRefusal scheme id repository before after csr.OutOfMemory =
+    after.faults ≡ before.faults
 
 -- ---- errors that become others
 

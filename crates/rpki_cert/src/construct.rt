@@ -336,8 +336,8 @@ pub fn construct_rpki_ca<P: Scheme, S: Signer<P>>(
 
     // The signer gives the key, then the URI is tested, and then the signer signs; the first refusal
     // decides.
-    ensures first_refusal { IfErr result (spec.IsFirstRequestRefusal P.checks key.now ca_repository.now
-        (S.state signer.old) (S.state signer.new)) }
+    ensures first_refusal { IfErr result (spec.IsFirstRequestRefusal P.checks key.now
+        ca_repository.now (S.state signer.old) (S.state signer.new)) }
 
     // No request is made of an unlawful URI.
     ensures lawful { OnOk result (fault_of rsync (spec.slashed ca_repository.now) ≡ None) }

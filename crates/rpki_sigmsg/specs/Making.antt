@@ -172,8 +172,8 @@ pub record IsMessageMade (scheme : Relation) (content : List ℕ) (when : ℤ)
 -- The signer holds the issuing key alone under this identifier. The key for this one use is the one
 -- that it drew, and not the issuing key; the serial number is what it drew last. The keys and the
 -- signatures have at most 2^16 octets each; that of the certificate's signature is in `IsIssued`.
-pub record IsMessageCreated {Id : Type 0} (scheme : Relation) (content : List ℕ) (when : ℤ) (id : Id)
-    (before after : SignerState Id) (m : MessageFields) : Type 0 where
+pub record IsMessageCreated {Id : Type 0} (scheme : Relation) (content : List ℕ) (when : ℤ)
+    (id : Id) (before after : SignerState Id) (m : MessageFields) : Type 0 where
   pub window_is : HasWindow when
   pub issuing : KeyFields
   pub holds : HoldsKey before.keyring id issuing
