@@ -5,4 +5,5 @@ use Rattle.rpki_signer.specs.Toy.{ToyChecks}
 
 -- The key has 16 octets or more, and the signature is one of the toy scheme.
 abbrev pub LongChecks : Relation
-LongChecks kind key message signature = (16 ≤ length key.bits) × ToyChecks kind key message signature
+LongChecks kind key message signature =
+    (16 ≤ length key.bits) × ToyChecks kind key message signature

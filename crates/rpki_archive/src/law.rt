@@ -36,8 +36,8 @@ pub fn digits_tell_the_answer<P: Scheme>()
 /// and the input is within the limit.
 pub fn ends_with_0_or_12<P: Scheme>()
     ensures { (task : TaskOf) (status : ℕ) (source sink : Seen) (input : List ℕ) →
-        EndsRun (λ octets. EndsArchiveTask P.checks task (lines_of octets) status sink) status source
-        sink → source.before ≡ Some input → length input ≤ most_input
+        EndsRun (λ octets. EndsArchiveTask P.checks task (lines_of octets) status sink) status
+        source sink → source.before ≡ Some input → length input ≤ most_input
         → ¬ (HasFailed source) → ¬ (HasFailed sink) →
         (status ≡ 0) ⊎ (status ≡ 12) }
 {}
@@ -45,15 +45,15 @@ pub fn ends_with_0_or_12<P: Scheme>()
 /// With 0 the verdicts on all lines were written, and their total.
 pub fn batch_writes_all<P: Scheme>()
     ensures { (source sink : Seen) (input : List ℕ) →
-        EndsRun (λ octets. EndsArchiveTask P.checks tasks.Batch (lines_of octets) 0 sink) 0 source sink →
-        source.before ≡ Some input →
+        EndsRun (λ octets. EndsArchiveTask P.checks tasks.Batch (lines_of octets) 0 sink) 0 source
+        sink → source.before ≡ Some input →
         WroteAll (AreAllVerdicts P.checks (lines_of input)) sink }
 {}
 
 /// With 0 the explanations of all lines were written.
 pub fn explain_writes_all<P: Scheme>()
     ensures { (source sink : Seen) (input : List ℕ) →
-        EndsRun (λ octets. EndsArchiveTask P.checks tasks.Explain (lines_of octets) 0 sink) 0 source sink →
-        source.before ≡ Some input →
+        EndsRun (λ octets. EndsArchiveTask P.checks tasks.Explain (lines_of octets) 0 sink) 0 source
+        sink → source.before ≡ Some input →
         WroteAll (AreAllExplanations P.checks (lines_of input)) sink }
 {}

@@ -76,7 +76,8 @@ IsReceivable scheme kind octets message when signer =
 pub record AreCreated {Id : Type 0} (scheme : Relation) (kind : Kind) (message : Received)
     (when : ℤ) (signer : SignerSeen Id) (octets : List ℕ) : Type 0 where
   pub signed : MessageFields
-  pub created : IsMessageCreated scheme (accepted_text message) when signer.id signer.before signer.after signed
+  pub created : IsMessageCreated scheme (accepted_text message) when signer.id signer.before
+      signer.after signed
   pub are : octets ≡ rewritten signed
   pub receivable : IsReceivable scheme kind octets message when signer
 

@@ -26,7 +26,8 @@ use Rattle.rpki_ca.specs.Seen.{SignerSeen}
 pub record IsSentAs {Id : Type 0} (scheme : Relation) (when : ℤ) (signer : SignerSeen Id)
     (message : Received) (signed : MessageFields) : Type 0 where
   pub fits : length (accepted_text message) ≤ most_content
-  pub created : IsMessageCreated scheme (accepted_text message) when signer.id signer.before signer.after signed
+  pub created : IsMessageCreated scheme (accepted_text message) when signer.id signer.before
+      signer.after signed
   pub receivable : CanSpellMessage signed
       → IsReceivable scheme (protocol_of message) (rewritten signed) message when signer
 
@@ -36,7 +37,8 @@ pub record FailsToSign {Id E : Type 0} (scheme : Relation) (when : ℤ) (signer 
     (message : Received) (error : CreateError E) : Type 0 where
   pub cause : CreateFails (accepted_text message) when signer.id signer.before signer.after error
   pub moment : (HasWindow when → ⊥) → error ≡ create.Moment
-  pub too_long : HasWindow when → most_content < length (accepted_text message) → error ≡ create.TooLong
+  pub too_long : HasWindow when → most_content < length (accepted_text message)
+      → error ≡ create.TooLong
   pub first_refusal : IsFirstRefusal scheme (accepted_text message) when signer.id signer.before
       signer.after error
 
@@ -44,7 +46,8 @@ pub record FailsToSign {Id E : Type 0} (scheme : Relation) (when : ℤ) (signer 
 abbrev pub IsSigningCause : {Id : Type 0} → ℤ → SignerSeen Id → Received → Refusal → Type 0
 IsSigningCause when signer message refusals.Moment = HasWindow when → ⊥
 IsSigningCause when signer message refusals.TooLong =
-    Rose signer.before.overlong signer.after.overlong ⊎ (most_content < length (accepted_text message))
+    Rose signer.before.overlong signer.after.overlong
+    ⊎ (most_content < length (accepted_text message))
 IsSigningCause when signer message refusals.KeyReused =
     IsReused signer.id signer.before signer.after
 IsSigningCause when signer message refusals.KeyNotFound = LacksKey signer.before.keyring signer.id

@@ -111,7 +111,8 @@ pub fn accepted_moments_are_one_span<P: Scheme>()
 pub fn created_is_received<P: Scheme, S: Signer<P>>()
     ensures { (message : Received) (when : ℤ) (signer : SignerSeen S.KeyId) (m : MessageFields)
         → IsWritable message
-        → IsMessageCreated P.checks (accepted_text message) when signer.id signer.before signer.after m
+        → IsMessageCreated P.checks (accepted_text message) when signer.id signer.before
+        signer.after m
         → CanSpellMessage m
         → IsReceivable P.checks (protocol_of message) (rewritten m) message when signer }
 {}

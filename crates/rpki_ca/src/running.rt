@@ -217,8 +217,8 @@ pub fn run<P: Scheme, I: Source, O: Sink, V: Verifier<P>, S: Signer<P>>(
     // source and sink.
     ensures accepted { (kind : Kind) (when : ℤ) (keys : List KeyFields)
         → IsReceive words.now kind when keys
-        → IfSome (I.rest input.old) (λ rest. BringsAccepted P.checks kind keys when rest → Succeeds result.0
-        (seen I.rest I.faults input.old input.new)
+        → IfSome (I.rest input.old) (λ rest. BringsAccepted P.checks kind keys when rest
+        → Succeeds result.0 (seen I.rest I.faults input.old input.new)
         (seen O.written O.faults output.old output.new)) }
 
     // `create` ends with 0 only where the input reads as a message, and what was written is received

@@ -50,7 +50,8 @@ abbrev pub IsReceivedByAnswers : Kind → List ℕ → List KeyFields → ℤ �
     → Result (Received × ℕ) AnsweredError → Type 0
 IsReceivedByAnswers kind octets keys when answers (Ok received) =
     IsReceivedBy kind octets keys when answers (Ok received)
-IsReceivedByAnswers kind octets keys when answers (Err errors.Number) = HasOtherNumber octets keys answers
+IsReceivedByAnswers kind octets keys when answers (Err errors.Number) =
+    HasOtherNumber octets keys answers
 IsReceivedByAnswers kind octets keys when answers (Err (errors.Receive receive.CmsDecode)) =
     HoldsNoSigned octets
 IsReceivedByAnswers kind octets keys when answers (Err (errors.Receive receive.OutOfMemory)) = ⊤

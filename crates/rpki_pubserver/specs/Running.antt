@@ -32,7 +32,8 @@ pub record AreServerWords (words : List (List ℕ)) (when : ℤ) (base : List �
 -- the words are not a moment, a base URI and a publisher's key
 abbrev pub AreNoServerWords : List (List ℕ) → Type 0
 AreNoServerWords words =
-    (when : ℤ) (base : List ℕ) (publisher : KeyFields) → AreServerWords words when base publisher → ⊥
+    (when : ℤ) (base : List ℕ) (publisher : KeyFields) → AreServerWords words when base publisher
+    → ⊥
 
 -- the server at first
 abbrev pub new_server : List ℕ → KeyFields → ServerFields
@@ -71,4 +72,5 @@ abbrev pub EndsServerRun : {Id : Type 0} → Relation → ℤ → SignerSeen Id 
     → Seen → Type 0
 EndsServerRun scheme when signer server status source sink =
     (EndsUnread status source sink × IsIdle signer)
-    ⊎ EndsRead (λ input. EndsServerServed scheme when signer server (lines_of input) status sink) source
+    ⊎ EndsRead (λ input. EndsServerServed scheme when signer server (lines_of input) status sink)
+    source

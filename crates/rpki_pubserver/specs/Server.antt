@@ -51,8 +51,9 @@ pub record IsSignedReply {Id : Type 0} (scheme : Relation) (when : ℤ) (signer 
   pub signed : IsSentAs scheme when signer (received.Publication message) c.signed
 
 -- the signed message holds the reply to octets, and the server has the objects behind it
-pub record IsQueryAnswered {Id : Type 0} (scheme : Relation) (server : ServerFields) (octets : List ℕ)
-    (when : ℤ) (signer : SignerSeen Id) (c : CmsFields) (next : ServerFields) : Type 0 where
+pub record IsQueryAnswered {Id : Type 0} (scheme : Relation) (server : ServerFields)
+    (octets : List ℕ) (when : ℤ) (signer : SignerSeen Id) (c : CmsFields) (next : ServerFields)
+    : Type 0 where
   pub reply : Reply
   pub is : IsReply scheme server octets when reply
   pub signed : IsSignedReply scheme when signer reply.message c

@@ -49,8 +49,8 @@ pub fn objects_stay_in_order<P: Scheme>()
 /// The changes that withdraw each listed object are all made, and leave none.
 pub fn withdrawn_list_leaves_none()
     ensures { (base : List ℕ) (store : Store) → LieUnder base store →
-        after_all base (Ok store) (map (λ e. change.Withdraw (withdrawal_of e)) (listed_store store))
-        ≡ Ok [] }
+        after_all base (Ok store) (map (λ e. change.Withdraw (withdrawal_of e))
+        (listed_store store)) ≡ Ok [] }
 {}
 
 /// With 0 the replies to all lines were written.

@@ -9,7 +9,8 @@ use Rattle.rpki_replay.specs.Messages.{AreNotSent, AreSent, HasNoState, OpensWit
 
 -- the input begins with a state, all lines behind it are messages, and the answers to all of them
 -- and the new state were written
-pub record GuardAnswersAll (scheme : Relation) (when : ℤ) (input : List ℕ) (sink : Seen) : Type 0 where
+pub record GuardAnswersAll (scheme : Relation) (when : ℤ) (input : List ℕ) (sink : Seen)
+    : Type 0 where
   pub peers : List Peer
   pub lines : List (List ℕ)
   pub messages : List Sent

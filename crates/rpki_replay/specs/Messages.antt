@@ -34,14 +34,16 @@ dash = codes "-"
 
 -- the input begins with the lines of the state's text and the line with a dash, and these lines are
 -- behind it
-pub record OpensWithState (input : List ℕ) (peers : List Peer) (behind : List (List ℕ)) : Type 0 where
+pub record OpensWithState (input : List ℕ) (peers : List Peer) (behind : List (List ℕ))
+    : Type 0 where
   pub state : IsState peers
   pub lines : lines_of input ≡ map peer_line peers ++ dash ∷ behind
 
 -- no input of the program: there is no line with a dash, or what stands before the first is no
 -- state's text
 abbrev pub HasNoState : List ℕ → Type 0
-HasNoState input = (peers : List Peer) (behind : List (List ℕ)) → OpensWithState input peers behind → ⊥
+HasNoState input =
+    (peers : List Peer) (behind : List (List ℕ)) → OpensWithState input peers behind → ⊥
 
 -- each line is a message
 abbrev pub AreSent : List (List ℕ) → List Sent → Type 0

@@ -24,8 +24,8 @@ abbrev pub bad_state : List ℕ
 bad_state = codes "BadState" ++ 10 ∷ []
 
 -- How it ends where these lines are all messages: they are answered one behind the other.
-pub record EndsGuardAnswered (scheme : Relation) (when : ℤ) (peers : List Peer) (lines : List (List ℕ))
-    (status : ℕ) (sink : Seen) : Type 0 where
+pub record EndsGuardAnswered (scheme : Relation) (when : ℤ) (peers : List Peer)
+    (lines : List (List ℕ)) (status : ℕ) (sink : Seen) : Type 0 where
   pub messages : List Sent
   pub are : AreSent lines messages
   pub ends : EndsLines (AreAllAnswered scheme when peers messages)

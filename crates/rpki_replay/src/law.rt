@@ -24,7 +24,8 @@ pub fn one_state()
 /// An input begins with one state at most, and one list of lines is behind it.
 pub fn one_opening()
     ensures { (input : List ℕ) (one other : List HeldPeer) (behind more : List (List ℕ)) →
-        OpensWithState input one behind → OpensWithState input other more → (one ≡ other) × (behind ≡ more) }
+        OpensWithState input one behind → OpensWithState input other more →
+        (one ≡ other) × (behind ≡ more) }
 {}
 
 /// Over every list of calls the times that are admitted under one key rise strictly, from the time that

@@ -65,7 +65,8 @@ abbrev pub is_revoked_by : List ℕ → List ℕ → KeyElementFields → Bool
 is_revoked_by name key k = bytes_eq k.class_name name && bytes_eq k.key key
 
 -- the certificate of a class and a key behind a reply, where this stood before it
-abbrev pub last_issued_behind : List ℕ → List ℕ → Payload → Option IssuedFields → Option IssuedFields
+abbrev pub last_issued_behind : List ℕ → List ℕ → Payload → Option IssuedFields
+    → Option IssuedFields
 last_issued_behind name key (payloads.IssueResponse r) before =
     if is_certified_by name key r then Some r.issued_cert else before
 last_issued_behind name key (payloads.RevokeResponse k) before =

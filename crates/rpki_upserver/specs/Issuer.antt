@@ -35,8 +35,8 @@ pub record IssuedNothing (before after : IssuerState) : Type 0 where
 
 -- The certificate was issued in this class on this request, for these resources and until then,
 -- without a fault. It has the request's key.
-pub record IsCertificateIssued (class_name : List ℕ) (csr : CaRequest) (set : Resources) (not_after : ℤ)
-    (before after : IssuerState) (cert : CertFields) : Type 0 where
+pub record IsCertificateIssued (class_name : List ℕ) (csr : CaRequest) (set : Resources)
+    (not_after : ℤ) (before after : IssuerState) (cert : CertFields) : Type 0 where
   pub made : after.made ≡ before.made ++ (record {
     class_name = class_name;
     key = sha1 csr.tbs.key.bits;
@@ -60,5 +60,6 @@ pub record IsRevoked (class_name key : List ℕ) (before after : IssuerState) : 
 -- what an IssuerError says: Failed, that nothing was issued or revoked, and the count of faults
 -- rose or is at its end; OutOfMemory, that nothing changed
 abbrev pub IssuerFails : IssuerState → IssuerState → IssuerError → Type 0
-IssuerFails before after errors.Failed = IssuedNothing before after × Rose before.faults after.faults
+IssuerFails before after errors.Failed =
+    IssuedNothing before after × Rose before.faults after.faults
 IssuerFails before after errors.OutOfMemory = after ≡ before

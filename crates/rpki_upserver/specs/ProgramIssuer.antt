@@ -64,7 +64,8 @@ pub record IsProgramRun (when : ℤ) (child : KeyFields) (status : ℕ) (source 
     pub issuing_key : ℕ
     pub issuer : ToyIssuerState
     pub signing : SigningFields
-    pub issuer_is : IsProgramIssuer (after_creating Rsa (toy_signer 3 [])) issuing_key issuer signing
+    pub issuer_is : IsProgramIssuer (after_creating Rsa (toy_signer 3 [])) issuing_key issuer
+        signing
     pub key : ℕ
     pub held : KeyFields
     pub holds : HoldsKey (state_of first_signer).keyring key held

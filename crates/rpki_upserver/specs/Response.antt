@@ -97,8 +97,8 @@ published c request cert = record {
 pub record Issues (table : Table) (c : ClassState) (request : IssuanceRequestFields) (o : Outcome)
     : Type 0 where
   pub cert : CertFields
-  pub issued : IsCertificateIssued request.class_name request.csr (limited_set request.limit c.resource_set)
-      c.not_after o.before o.after cert
+  pub issued : IsCertificateIssued request.class_name request.csr
+      (limited_set request.limit c.resource_set) c.not_after o.before o.after cert
   pub payload : o.payload
       ≡ payloads.IssueResponse (issuance (entitled c) (published c request cert))
   pub next : o.next ≡ change request.class_name (with_issued (published c request cert)) table

@@ -95,8 +95,8 @@ EndsFrom scheme run parent messages status sink = EndsLines
 
 -- How it ends where each line is that of octets, and the moment has a window: they are answered
 -- from the parent at first.
-pub record EndsParentAnswered {Id : Type 0} (scheme : Relation) (run : Run Id) (lines : List (List ℕ))
-    (status : ℕ) (sink : Seen) : Type 0 where
+pub record EndsParentAnswered {Id : Type 0} (scheme : Relation) (run : Run Id)
+    (lines : List (List ℕ)) (status : ℕ) (sink : Seen) : Type 0 where
   pub messages : List (List ℕ)
   pub are : AreSent lines messages
   pub window_is : HasWindow run.when

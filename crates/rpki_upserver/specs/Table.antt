@@ -142,7 +142,8 @@ AreWritable table = AllByRecursion (λ c. IsWritableClass (entitled c)) table
 -- no two classes have one name
 abbrev pub AreDistinctClasses : Table → Type 0
 AreDistinctClasses [] = Unit {0}
-AreDistinctClasses (c ∷ more) = (list_any (is_named c.class_name) more ≡ false) × AreDistinctClasses more
+AreDistinctClasses (c ∷ more) =
+    (list_any (is_named c.class_name) more ≡ false) × AreDistinctClasses more
 
 -- The handle of the parent and that of the child, the child's key, and the table.
 pub record ParentState : Type 0 where

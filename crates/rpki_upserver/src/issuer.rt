@@ -46,7 +46,8 @@ pub trait Issuer {
         not_after: Time,
     ) -> Result<Cert, IssuerError>
         ensures { MatchResult result
-            (IsCertificateIssued class_name.now csr.now set.now not_after (state self.old) (state self.new))
+            (IsCertificateIssued class_name.now csr.now set.now not_after (state self.old)
+            (state self.new))
             (IssuerFails (state self.old) (state self.new)) };
 
     /// Revokes the certificates of the key with this identifier in this class. Failed only where its count rose; whatever the error,

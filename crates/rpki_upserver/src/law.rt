@@ -67,5 +67,6 @@ pub fn runs_end_for_cause<P: Scheme, S: Signer<P>>()
     ensures { (run : Run S.KeyId) (status : ℕ) (source sink : Seen) (input : List ℕ) →
         EndsParentRun P.checks run status source sink →
         source.before ≡ Some input → length input ≤ most_input → ¬ (HasFailed source) →
-        ¬ (HasFailed sink) → ParentCanServe P.checks run input → ParentEndsForCause run input status }
+        ¬ (HasFailed sink) → ParentCanServe P.checks run input →
+        ParentEndsForCause run input status }
 {}
