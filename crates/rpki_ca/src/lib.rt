@@ -58,5 +58,5 @@ pub use receiving::{
 pub use refusals::Refusal;
 pub use running::{Status, refuse, run};
 pub use sent::messages_in;
-pub use setup_message::SetupKind;
+pub use setup_message::{SetupKind, SetupMessage};
 pub use words::Words;

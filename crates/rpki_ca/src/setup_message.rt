@@ -24,10 +24,14 @@ pub enum SetupKind {
 
 /// A setup message.
 #[derive(Debug, Drop)]
-pub(crate) enum SetupMessage {
+pub enum SetupMessage {
+    /// From a child to its parent.
     ChildRequest(ChildRequest),
+    /// From a parent to its child.
     ParentResponse(ParentResponse),
+    /// From a publisher to a repository.
     PublisherRequest(PublisherRequest),
+    /// From a repository to a publisher.
     RepositoryResponse(RepositoryResponse),
 }
 
@@ -45,8 +49,8 @@ impl From<Error> for Refusal {
 }
 
 impl SetupMessage {
-    /// The message of this kind that the input reads as.
-    pub(crate) fn parse(
+    /// The message of this kind that the input reads as; XmlError where it is none.
+    pub fn parse(
         alloc: Global,
         kind: SetupKind,
         input: &[u8],
@@ -71,8 +75,8 @@ impl SetupMessage {
         }
     }
 
-    /// The octets that stand for its certificate.
-    pub(crate) fn id_cert(&self) -> &Base64
+    /// The octets that stand for the certificate of its sender's trust anchor.
+    pub fn id_cert(&self) -> &Base64
         ensures { result.now ≡ certificate_octets self.now }
     {
         match self {
@@ -84,7 +88,7 @@ impl SetupMessage {
     }
 
     /// The octets of its text, a document of XML.
-    pub(crate) fn to_xml_vec(&self, alloc: Global) -> Result<Vec<u8>, OutOfMemory>
+    pub fn to_xml_vec(&self, alloc: Global) -> Result<Vec<u8>, OutOfMemory>
         ensures { IfOk result (λ octets. octets.items ≡ setup_text self.now) }
     {
         match self {

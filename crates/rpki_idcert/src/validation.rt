@@ -60,7 +60,9 @@ impl TbsIdCert {
         }
     }
 
-    fn names_itself(&self) -> bool
+    /// Whether the authority key identifier is there and is the subject's: the certificate names itself as its issuer. Then a trust
+    /// anchor's certificate is asked for its own signature ([`IdCert::validate_ta_at`]). It takes no memory.
+    pub fn names_itself(&self) -> bool
         ensures { result ≡ spec.names_itself self.now }
     {
         match self.authority_key_id() {
