@@ -141,8 +141,9 @@ impl Words {
         }
     }
 
-    // The setup message that the word at `index` names.
-    fn setup_kind(&self, index: usize) -> Option<SetupKind>
+    /// The setup message that the word at `index` names, such as `child_request`. None exactly where no
+    /// such word is there.
+    pub fn setup_kind(&self, index: usize) -> Option<SetupKind>
         ensures { result ≡ setup_kind_at self.now index }
     {
         match self.get(index) {
