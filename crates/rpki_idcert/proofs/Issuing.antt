@@ -145,7 +145,7 @@ true_is false t = absurd t
 within : (v : ValidityFields) (when : ℤ) → v.not_before ≤ℤ when → when ≤ℤ v.not_after → is_within v when ≡ true
 within v when p q = are_true (int_le v.not_before when) (int_le when v.not_after) (true_is (int_le v.not_before when) p.le) (true_is (int_le when v.not_after) q.le)
 
-anchor_passes : (c : CertificateFields) (key : KeyFields) (serial : List ℕ) (validity : ValidityFields) (when : ℤ) → c.tbs ≡ made_fields true key key serial validity → validity.not_before ≤ℤ when → when ≤ℤ validity.not_after → first_failure 1 (ta_checks c when true) ≡ Ok tt
+pub anchor_passes : (c : CertificateFields) (key : KeyFields) (serial : List ℕ) (validity : ValidityFields) (when : ℤ) → c.tbs ≡ made_fields true key key serial validity → validity.not_before ≤ℤ when → when ≤ℤ validity.not_after → first_failure 1 (ta_checks c when true) ≡ Ok tt
 anchor_passes c key serial validity when e p q =
     let own : has_own_identifier c.tbs ≡ true = subst (λ (t : TbsFields). has_own_identifier t ≡ true) (sym e) (equal_octets (sha1 key.bits)) in
     let there : is_some c.tbs.basic_ca ≡ true = ap (λ (t : TbsFields). is_some t.basic_ca) e in
@@ -154,12 +154,12 @@ anchor_passes c key serial validity when e p q =
     let last : (not (names_itself c.tbs) || true) ≡ true = ap (λ (t : TbsFields). not (names_itself t) || true) e in
     passes 1 (ta_checks c when true) (All-from_recursion (λ b. b ≡ true) (ta_checks c when true) (own, (there, (ca, (w, (last, tt))))))
 
-unasked : (c : CertificateFields) (key : KeyFields) (serial : List ℕ) (validity : ValidityFields) → c.tbs ≡ made_fields true key key serial validity → names_itself c.tbs ≡ true → ⊥
-unasked c key serial validity e n = let no : names_itself c.tbs ≡ false = ap (λ (t : TbsFields). names_itself t) e in cc
+pub never_itself : (c : CertificateFields) (key : KeyFields) (serial : List ℕ) (validity : ValidityFields) → c.tbs ≡ made_fields true key key serial validity → names_itself c.tbs ≡ true → ⊥
+never_itself c key serial validity e n = let no : names_itself c.tbs ≡ false = ap (λ (t : TbsFields). names_itself t) e in cc
 
 anchor_believed : {I : Type 0} (scheme : Relation) (id : I) (validity : ValidityFields) (a b : SignerState I) (c : CertificateFields) → IsAnchorMade scheme id validity a b c → (when : ℤ) → validity.not_before ≤ℤ when → when ≤ℤ validity.not_after → IsTaBelieved scheme c when
 anchor_believed scheme id validity a b c m when p q = record {
-  signed = λ n. absurd (unasked c m.key (serial_of 1) validity m.fields n);
+  signed = λ n. absurd (never_itself c m.key (serial_of 1) validity m.fields n);
   passes = anchor_passes c m.key (serial_of 1) validity when m.fields p q;
 }
 
