@@ -11,7 +11,8 @@ use Rattle.rpki_base.specs.ObjectIdentifiers.{basic_constraints as basic_constra
 use Rattle.rpki_base.specs.PublicKey.{KeyFields, spelled_key}
 use Rattle.rpki_base.specs.RpkiSignatureAlgorithm.{RpkiAlgorithm, x509_algorithm, spelled_x509}
 use Rattle.rpki_base.specs.Scheme.{Relation}
-use Rattle.rpki_base.specs.SignedData.{SignedParts, Signed, spelled_data, CanSpellSigned}
+use Rattle.rpki_base.specs.Signature.{SignatureParts}
+use Rattle.rpki_base.specs.SignedData.{Signed, spelled_data}
 use Rattle.rpki_text.specs.Uri.{rsync, https, fault_of, path_of, names_directory, joined}
 use Rattle.rpki_text.specs.declared.uri.Error.{Error}
 use Rattle.rpki_text.specs.declared.uri.Error.TheVariants as uri
@@ -19,7 +20,7 @@ use Rattle.rpki_signer.specs.declared.errors.MakeError.{MakeError}
 use Rattle.rpki_signer.specs.declared.errors.MakeError.TheVariants as make
 use Rattle.rpki_signer.specs.declared.errors.SigningError.TheVariants as signing
 use Rattle.rpki_signer.specs.Errors.{signing_text}
-use Rattle.rpki_signer.specs.Limits.{IsShort, IsShortSignature, RefusesKey, RefusesSignature, StopsBehindKey, default_algorithm}
+use Rattle.rpki_signer.specs.Limits.{IsShort, RefusesKey, StopsBehindKey, default_algorithm}
 use Rattle.rpki_signer.specs.Signer.{SignerState, HoldsKey, Stays, SigningFails}
 use Rattle.rpki_idcert.specs.Making.{name_of_key}
 use Rattle.rpki_cert.specs.declared.construct.CsrError.{CsrError}
@@ -145,16 +146,21 @@ spelled_info key places = der_constructed sequence (spelled_version
 
 -- ---- the request
 
--- what is signed, with a signature of the default algorithm
-abbrev pub request_signed : KeyFields → Places → List ℕ → SignedParts RpkiAlgorithm
-request_signed key places value = record {
-  slice = spelled_info key places;
-  signature = record { algorithm = default_algorithm; value = value };
-}
-
 -- the request of an authority: what it says, the octets that are signed, and their signature
 abbrev pub CaRequest : Type 0
 CaRequest = Signed RpkiAlgorithm (RequestFields CaAttributes)
+
+-- what is to be signed: for which key, and where the authority publishes
+pub record UnsignedRequest : Type 0 where
+  pub key : KeyFields
+  pub places : Places
+
+-- the request with a signature (RFC 2986, 4.2)
+abbrev pub signed_request_of : UnsignedRequest → SignatureParts RpkiAlgorithm → CaRequest
+signed_request_of u signature = record {
+  signed = record { slice = spelled_info u.key u.places; signature = signature };
+  tbs = asked_of u.key u.places;
+}
 
 -- The octets are a request for the identifier's key, signed under it. Whatever stands behind them,
 -- they are read as that request.
@@ -175,26 +181,6 @@ pub record IsRequestMade {Id : Type 0} (scheme : Relation) (id : Id) (places : P
       request
   pub stays : Stays before after
   pub no_fault : after.faults ≡ before.faults
-
--- the octets are a request for a key that is given, with the signature that the signer's call gives
--- under the identifier
-pub record IsSignedFor {Id : Type 0} (scheme : Relation) (id : Id) (key : KeyFields)
-    (places : Places) (before after : SignerState Id) (octets : List ℕ) : Type 0 where
-  pub value : List ℕ
-  pub is : octets ≡ spelled_data spelled_x509 (request_signed key places value)
-  pub spelled : CanSpellSigned spelled_x509 (request_signed key places value)
-  pub signed : IsShortSignature scheme RsaSha256 id (spelled_info key places) before after value
-
--- the signature was refused, or memory ran out and the signer didn't fail
-abbrev pub SigningOnly : {Id E : Type 0} → Relation → Id → SignerState Id → SignerState Id
-    → CsrError E → Type 0
-SigningOnly scheme id before after (csr.Uri error) = ⊥
-SigningOnly {E = E} scheme id before after csr.TooLong =
-    RefusesSignature {E = E} scheme id before after make.TooLong
-SigningOnly scheme id before after (csr.Signing error) =
-    RefusesSignature scheme id before after (make.Signing error)
-SigningOnly scheme id before after csr.OutOfMemory =
-    Stays before after × (after.faults ≡ before.faults)
 
 -- the signer held a key for the identifier, which was not too long
 pub record IsKeyFound {Id : Type 0} (id : Id) (before : SignerState Id) : Type 0 where

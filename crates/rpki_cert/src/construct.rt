@@ -1,15 +1,23 @@
 //! Making requests.
 
-ghost use Rattle.std.specs.Prelude.{◌≡◌, ◌≢◌, ◌≤◌, ◌↔◌, ◌++◌, true, Some, None, length, IfOk, IfErr, IsErrOf, IsOk, OnOk, MatchResult};
+ghost use Rattle.std.specs.Prelude.{◌≡◌, ◌≢◌, ◌≤◌, ◌↔◌, ◌++◌, ℕ, List, true, Some, None, length, IfOk, IfErr, IsErrOf, OnOk, MatchResult};
 ghost use Rattle.std.specs.Option.{option_copied};
+ghost use Rattle.rpki_der.specs.declared.mode.Mode.TheVariants.{Der};
 ghost use Rattle.rpki_der.specs.Tags.{sequence, set};
+ghost use Rattle.rpki_der.specs.Takes.{BeginsAs};
+ghost use Rattle.rpki_der.specs.Whole.{whole_of};
 ghost use Rattle.rpki_der.specs.Writing.{der_primitive, der_constructed};
-ghost use Rattle.rpki_signer.specs.Signer.{AreDistinct, Stays};
+ghost use Rattle.rpki_base.specs.declared.rpki_algorithm.RsaIdentifier.TheVariants.{RsaEncryption};
+ghost use Rattle.rpki_base.specs.RpkiSignatureAlgorithm.{x509_algorithm, spelled_x509};
+ghost use Rattle.rpki_base.specs.SignedData.{spelled_data, CanSpellSigned};
+ghost use Rattle.rpki_signer.specs.Signer.{Stays};
 ghost use Rattle.rpki_signer.specs.declared.errors.MakeError.TheVariants as make;
 ghost use Rattle.rpki_text.specs.Uri.{rsync, fault_of};
 ghost use Rattle.rpki_text.specs.declared.uri.Error.TheVariants as fault;
 ghost use Rattle.rpki_cert.specs.declared.construct.CsrError.{CsrError};
 ghost use Rattle.rpki_cert.specs.declared.construct.CsrError.TheVariants as variant;
+ghost use Rattle.rpki_cert.specs.Csr.{certification_request};
+ghost use Rattle.rpki_cert.specs.CsrAttributes.{ca_attributes};
 ghost use Rattle.rpki_cert.specs.Making as spec;
 
 use crate::access::uri_tag;
@@ -18,7 +26,8 @@ use crate::object_identifiers::{
 };
 use bytes::Bytes;
 use rpki_base::{
-    BASIC_CONSTRAINTS, Name, PublicKey, Scheme, SignedData, write_constructed, write_primitive,
+    BASIC_CONSTRAINTS, Name, PublicKey, RpkiSignatureAlgorithm, Scheme, Signature, SignedData,
+    write_constructed, write_primitive,
 };
 use rpki_der::{Captured, OutOfMemory, Tag, Writer};
 use rpki_signer::{MakeError, Signer, SigningError, key_within_limit, sign_within_limit};
@@ -193,26 +202,58 @@ fn write_notify(uri: Option<&Https>, out: &mut Writer) -> Result<(), OutOfMemory
 //
 // In a clause it is the record of the three.
 #[derive(Drop)]
-struct Places<'a> {
+struct Places {
     ca_repository: Rsync,
-    rpki_manifest: &'a Rsync,
-    rpki_notify: Option<&'a Https>,
+    rpki_manifest: Rsync,
+    rpki_notify: Option<Https>,
 }
 
-impl<'a> Model for Places<'a> {
-    ghost use Rattle.std.specs.Option.{option_copied};
+impl Model for Places {
     ghost use Rattle.rpki_cert.specs.Making.{Places as PlacesFields};
 
     ghost Value = { PlacesFields };
 
     ghost view = { λ p. record {
       ca_repository = p.ca_repository;
-      rpki_manifest = p.rpki_manifest.now;
-      rpki_notify = option_copied p.rpki_notify;
+      rpki_manifest = p.rpki_manifest;
+      rpki_notify = p.rpki_notify;
     } };
 }
 
-impl<'a> Places<'a> {
+impl Places {
+    // These places, with a slash behind the first where its path names no directory.
+    fn new(
+        alloc: Global,
+        ca_repository: &Rsync,
+        rpki_manifest: &Rsync,
+        rpki_notify: Option<&Https>,
+    ) -> Result<Places, uri::Error>
+        ensures places { IfOk result (λ p. p ≡ record {
+          ca_repository = spec.slashed ca_repository.now;
+          rpki_manifest = rpki_manifest.now;
+          rpki_notify = option_copied rpki_notify.entry;
+        }) }
+        ensures lawful { OnOk result (fault_of rsync (spec.slashed ca_repository.now) ≡ None) }
+        ensures fault { IfErr result (λ e.
+            e ≢ fault.OutOfMemory → fault_of rsync (spec.slashed ca_repository.now) ≡ Some e) }
+        ensures memory { IsErrOf result fault.OutOfMemory
+            → length (spec.slashed ca_repository.now) ≤ 65535 }
+    {
+        let ca_repository = slashed(alloc, ca_repository)?;
+        // For the proof: the URI is lawful, so it is short.
+        let _uri = ca_repository.as_str();
+        let rpki_manifest = rpki_manifest.clone(alloc)?;
+        let rpki_notify = match rpki_notify {
+            None => None,
+            Some(uri) => Some(uri.clone(alloc)?),
+        };
+        Ok(Places {
+            ca_repository,
+            rpki_manifest,
+            rpki_notify,
+        })
+    }
+
     // Appends the descriptions in a SEQUENCE.
     fn write_access(&self, out: &mut Writer) -> Result<(), OutOfMemory>
         ensures ok { OnOk result (out.new ≡ out.old ++ spec.spelled_access self.now) }
@@ -220,7 +261,7 @@ impl<'a> Places<'a> {
         let mut inner = out.inner();
         write_description(&CA_REPOSITORY, self.ca_repository.as_str(), &mut inner)?;
         write_description(&RPKI_MANIFEST, self.rpki_manifest.as_str(), &mut inner)?;
-        write_notify(self.rpki_notify, &mut inner)?;
+        write_notify(self.rpki_notify.as_ref(), &mut inner)?;
         write_constructed(Tag::SEQUENCE, &inner, out)
     }
 
@@ -259,19 +300,19 @@ impl<'a> Places<'a> {
 }
 
 // For the proof: each of the places is a lawful URI, by its type.
-fn are_lawful(places: &Places<'_>)
+fn are_lawful(places: &Places)
     ensures { spec.AreLawful places.now }
 {
     let _ = places.ca_repository.as_str();
     let _ = places.rpki_manifest.as_str();
-    if let Some(uri) = places.rpki_notify {
+    if let Some(uri) = &places.rpki_notify {
         let _ = uri.as_str();
     }
 }
 
 // What is to be signed of the request for this key.
 #[tactic(auto, unfolding(crate::specs::Making::spelled_info))]
-fn request_info(alloc: Global, key: &PublicKey, places: &Places<'_>) -> Result<Bytes, OutOfMemory>
+fn request_info(alloc: Global, key: &PublicKey, places: &Places) -> Result<Bytes, OutOfMemory>
     ensures { IfOk result (λ b. b ≡ spec.spelled_info key.now places.now) }
 {
     let mut fields = Writer::new(alloc);
@@ -286,26 +327,121 @@ fn request_info(alloc: Global, key: &PublicKey, places: &Places<'_>) -> Result<B
     Ok(out.into_captured()?.into_bytes())
 }
 
-// The request, signed.
-fn sign_request<P: Scheme, S: Signer<P>>(
-    alloc: Global,
-    signer: &mut S,
-    key: &S::KeyId,
-    public_key: &PublicKey,
-    places: &Places<'_>,
-) -> Result<Captured, CsrError<S::Error>>
-    ensures signed { MatchResult result
-        (spec.IsSignedFor P.checks key.now public_key.now places.now
-        (S.state signer.old) (S.state signer.new))
-        (spec.SigningOnly P.checks key.now (S.state signer.old) (S.state signer.new)) }
-    ensures distinct { IsOk result → AreDistinct (S.state signer.new).keyring }
-{
-    let info = request_info(alloc, public_key, places)?;
-    let signature = sign_within_limit(alloc, key, info.as_slice(), signer)?;
-    let signed = SignedData::new(info, signature);
-    let mut out = Writer::new(alloc);
-    signed.encode_ref(&mut out)?;
-    Ok(out.into_captured()?)
+/// A request that is to be signed: its key and places, and the octets that the signature covers. In a clause it is the record of the key
+/// and the places.
+pub struct UnsignedCsr {
+    key: PublicKey,
+    places: Places,
+    octets: Bytes,
+}
+
+impl Drop for UnsignedCsr {
+    fn drop(self) {
+        let UnsignedCsr {
+            key,
+            places,
+            octets,
+        } = self;
+    }
+}
+
+impl Model for UnsignedCsr {
+    ghost use Rattle.std.specs.Prelude.{◌≡◌};
+    ghost use Rattle.rpki_cert.specs.Making.{UnsignedRequest, spelled_info};
+
+    ghost Value = { UnsignedRequest };
+
+    ghost view = { λ u. record { key = u.key; places = u.places } };
+
+    ghost invariant = { λ u. u.octets ≡ spelled_info u.key u.places };
+}
+
+impl UnsignedCsr {
+    /// The request (RFC 6487, 6) of an authority for this key: with its objects at `ca_repository`, to which a slash is added where its
+    /// path is no directory, its manifest at `rpki_manifest`, and its changes notified at `rpki_notify`, if that is there.
+    ///
+    /// Refused where the URI with its slash is unlawful, by the first rule that it breaks; want of memory too where the key is too long
+    /// for length octets.
+    pub fn new(
+        alloc: Global,
+        key: &PublicKey,
+        ca_repository: &Rsync,
+        rpki_manifest: &Rsync,
+        rpki_notify: Option<&Https>,
+    ) -> Result<UnsignedCsr, uri::Error>
+        ensures fields { IfOk result (λ u. u ≡ record {
+          key = key.now;
+          places = record {
+            ca_repository = spec.slashed ca_repository.now;
+            rpki_manifest = rpki_manifest.now;
+            rpki_notify = option_copied rpki_notify.entry;
+          };
+        }) }
+
+        // No request is made of an unlawful URI.
+        ensures lawful { OnOk result (fault_of rsync (spec.slashed ca_repository.now) ≡ None) }
+        ensures fault { IfErr result (λ e.
+            e ≢ fault.OutOfMemory → fault_of rsync (spec.slashed ca_repository.now) ≡ Some e) }
+
+        // A URI that its slash makes too long is not told as want of memory.
+        ensures memory { IsErrOf result fault.OutOfMemory
+            → length (spec.slashed ca_repository.now) ≤ 65535 }
+    {
+        let places = Places::new(alloc, ca_repository, rpki_manifest, rpki_notify)?;
+        let octets = request_info(alloc, key, &places)?;
+        let key = key.clone(alloc)?;
+        Ok(UnsignedCsr {
+            key,
+            places,
+            octets,
+        })
+    }
+
+    /// The key for which a certificate is requested.
+    pub fn public_key(&self) -> &PublicKey
+        ensures { result.now ≡ self.now.key }
+    {
+        &self.key
+    }
+
+    /// The octets that are to be signed: CertificationRequestInfo in DER (RFC 2986, 4.1).
+    pub fn as_slice(&self) -> &[u8]
+        ensures { result.now ≡ spec.spelled_info self.now.key self.now.places }
+    {
+        self.octets.as_slice()
+    }
+
+    /// The request with this signature, which isn't looked at, in DER (RFC 2986, 4.2); want of memory too where both are longer than
+    /// length octets can say.
+    pub fn with_signature(
+        self,
+        alloc: Global,
+        signature: Signature<RpkiSignatureAlgorithm>,
+    ) -> Result<Captured, OutOfMemory>
+        ensures octets { IfOk result (λ octets.
+            octets ≡ spelled_data spelled_x509 (spec.signed_request_of self signature).signed) }
+        ensures spelled { OnOk result
+            (CanSpellSigned spelled_x509 (spec.signed_request_of self signature).signed) }
+
+        // Whatever stands behind them, the octets are read as that request, where the signature's
+        // algorithm has the identifier that is read in requests.
+        ensures again { IfOk result (λ octets. signature.algorithm.identifier ≡ RsaEncryption
+            → (rest : List ℕ) → BeginsAs
+            (certification_request ca_attributes (whole_of x509_algorithm) Der) Der
+            (octets ++ rest) (spec.signed_request_of self signature)) }
+    {
+        let UnsignedCsr {
+            key,
+            places,
+            octets,
+        } = self;
+        // For the proof: each place is a lawful URI.
+        are_lawful(&places);
+        let signed = SignedData::new(octets, signature);
+        let mut out = Writer::new(alloc);
+        signed.encode_ref(&mut out)?;
+        out.into_captured()
+    }
 }
 
 /// The request (RFC 6487, 6) of an authority for the signer's RSA key `key`, in DER: with its objects at `ca_repository`, to which a
@@ -343,13 +479,13 @@ pub fn construct_rpki_ca<P: Scheme, S: Signer<P>>(
     ensures lawful { OnOk result (fault_of rsync (spec.slashed ca_repository.now) ≡ None) }
 {
     let public_key = key_within_limit(alloc, key, signer)?;
-    let ca_repository = slashed(alloc, ca_repository)?;
-    let places = Places {
+    let unsigned = UnsignedCsr::new(
+        alloc,
+        &public_key,
         ca_repository,
         rpki_manifest,
         rpki_notify,
-    };
-    // For the proof: each place is a lawful URI.
-    are_lawful(&places);
-    sign_request(alloc, signer, key, &public_key, &places)
+    )?;
+    let signature = sign_within_limit(alloc, key, unsigned.as_slice(), signer)?;
+    Ok(unsigned.with_signature(alloc, signature)?)
 }

@@ -3,6 +3,7 @@
 //! - [`Cert`] is a resource certificate: its exact octets and the key of its subject.
 //! - [`Csr`] is a request: [`RpkiCaCsr`] that of an authority, [`BgpsecCsr`] that of a router. It is decoded in DER, and keeps the
 //!   exact octets that are signed. [`Csr::from_json`] and [`Csr::to_json`]: a request as base64 text in a JSON text.
+//! - [`UnsignedCsr`] is an authority's request that is to be signed elsewhere; [`construct_rpki_ca`] makes one with a signer.
 //! - [`CsrAttributes`] says what the attributes of a kind of requests hold.
 #![tactic(auto)]
 
@@ -21,7 +22,7 @@ mod law;
 mod object_identifiers;
 
 pub use cert::{Cert, equal_certs_have_the_same_octets};
-pub use construct::{CsrError, construct_rpki_ca, equal_request_errors_are_the_same};
+pub use construct::{CsrError, UnsignedCsr, construct_rpki_ca, equal_request_errors_are_the_same};
 pub use csr::{BgpsecCsr, Csr, RpkiCaCsr};
 pub use csr_attributes::{BgpsecCsrAttributes, CsrAttributes, RpkiCaCsrAttributes};
 pub use extended_key_usage::ExtendedKeyUsage;
