@@ -32,6 +32,13 @@ A line is `NAME MODE OCTETS STEP..`, with the steps of tools/stored.py; MODE is 
         failed
     made_long,'COUNT REPOSITORY
         the same under a signer of which each signature is COUNT zeros; and how many of its signatures were too long
+    to_be_signed,'..
+        the key of toy_key(1, 0) as above, and the octets that are to be signed of the request for it with the places of an argument as
+        in made; or which rule the repository breaks with its slash
+    with_signature,'..
+        the request with the octets as its signature
+    self_signed,'..
+        the request with that key's own signature, which is the one that the toy signer makes
     capture
         the octets of the value that stands next
 """
@@ -688,8 +695,10 @@ def made(label, repository, slashed, manifest="rsync://localhost/repo/ca.mft", n
     places = [description(method, location.encode()) for method, location in places]
     o = options_of(extensions=[constraints(TRUE), usage(), extension(SUBJECT_INFO_ACCESS, seq(*places), FALSE)],
         found=(slashed.encode(), manifest.encode(), notify.encode() if notify else None))
+    asked = asked_for(repository, manifest, notify)
     yield line(f"made-{label}", "der", request(o), step("made", request(o), 0,
         argument=asked_for(repository, manifest, notify, failing=failing)),
+        step("to_be_signed", *key_fields(0), info(o), argument=asked), step("self_signed", request(o), argument=asked),
         answered("authority", fields(o)), step("router", MALFORMED), step("authority_holds", True))
 
 
@@ -738,12 +747,15 @@ def long_cases():
     asked = [constraints(TRUE), usage(), extension(SUBJECT_INFO_ACCESS, seq(*places), FALSE)]
     for count in (0, 127, 128, 255, 256, 65535, 65536):
         octets = request(options_of(extensions=asked, signature=bytes(count)))
-        yield line(f"made-with-a-signature-of-{count}", "der", b"", step("made_long", octets, 0, argument=f"{count} {here}".encode()))
+        yield line(f"made-with-a-signature-of-{count}", "der", bytes(count), step("made_long", octets, 0, argument=f"{count} {here}".encode()),
+            step("with_signature", octets, argument=asked_for(here)))
     yield line("unmade-signature-too-long", "der", b"", step("made_long", "too long", "key or signature too long", 1,
         argument=f"65537 {here}".encode()))
     for count in (0, 65537):
         yield line(f"unmade-uri-before-a-signature-of-{count}", "der", b"", step("made_long", "uri too long", REFUSALS["uri too long"], 0,
             argument=f"{count} {long}".encode()))
+    for call in "to_be_signed", "with_signature", "self_signed":
+        yield line(f"uri-too-long-{call}", "der", b"", step(call, "uri too long", argument=asked_for(long)))
 
 
 def unmade_cases():

@@ -11,6 +11,7 @@ mod long;
 mod making;
 mod reading;
 mod shown;
+mod unsigned;
 
 use rpki_der::{Cursor, DecodeError, Steps};
 use std::alloc::Global;
@@ -34,6 +35,9 @@ impl Calls for Requests {
             return Some(answer);
         }
         if let Some(answer) = certificates::answer(alloc, cursor.here(), step) {
+            return Some(answer);
+        }
+        if let Some(answer) = unsigned::answer(alloc, cursor.here(), step) {
             return Some(answer);
         }
         making::answer(alloc, step)

@@ -9,10 +9,10 @@ use rpki_text::uri::{Error, Https, Rsync, Uri, UriKind};
 use std::alloc::Global;
 use test_stored::{Fields, Step};
 
-// The parts of an argument `FORMAT KEY FAILING REPOSITORY MANIFEST NOTIFY`: the format of the signer's key, the identifier of the key
-// that is asked for, the call that fails, and the three locations; `-` where there is none.
+/// The parts of an argument `FORMAT KEY FAILING REPOSITORY MANIFEST NOTIFY`: the format of the signer's key, the identifier of the key
+/// that is asked for, the call that fails, and the three locations; `-` where there is none.
 #[derive(Drop)]
-struct Asked<'a> {
+pub struct Asked<'a> {
     format: PublicKeyFormat,
     key: u64,
     failing: Option<u64>,
@@ -29,7 +29,8 @@ fn format_of(word: &str) -> Option<PublicKeyFormat> {
     }
 }
 
-fn asked_of<'a>(argument: &'a [u8]) -> Option<Asked<'a>> {
+/// The parts of an argument, if it has that form.
+pub fn asked_of<'a>(argument: &'a [u8]) -> Option<Asked<'a>> {
     let mut words = std::str::from_utf8(argument).ok()?.split(' ');
     let format = format_of(words.next()?)?;
     let key = words.next()?.parse::<u64>().ok()?;
@@ -83,7 +84,8 @@ fn notify_of<K: UriKind>(alloc: Global, text: Option<&str>) -> Result<Option<Uri
     }
 }
 
-fn uri_refusal(error: Error) -> &'static str {
+/// The name of what a URI breaks.
+pub fn uri_refusal(error: Error) -> &'static str {
     match error {
         Error::TooLong => "uri too long",
         Error::BadCharacter => "uri character",
@@ -112,11 +114,14 @@ fn refusal(error: &CsrError<ToyFault>) -> Result<&'static str, DecodeError> {
     }
 }
 
-// Where the objects and the manifest are to be, and where changes are notified.
-struct Places {
-    repository: Rsync,
-    manifest: Rsync,
-    notify: Option<Https>,
+/// Where the objects and the manifest are to be, and where changes are notified.
+pub struct Places {
+    /// The directory of the objects.
+    pub repository: Rsync,
+    /// The manifest.
+    pub manifest: Rsync,
+    /// Where changes are notified, if that is said.
+    pub notify: Option<Https>,
 }
 
 impl Drop for Places {
@@ -129,7 +134,8 @@ impl Drop for Places {
     }
 }
 
-fn places_of(alloc: Global, asked: &Asked<'_>) -> Result<Places, DecodeError> {
+/// The places that were asked for.
+pub fn places_of(alloc: Global, asked: &Asked<'_>) -> Result<Places, DecodeError> {
     let repository = uri_of(alloc, asked.repository)?;
     let manifest = uri_of(alloc, asked.manifest)?;
     let notify = notify_of(alloc, asked.notify)?;
