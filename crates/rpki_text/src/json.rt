@@ -1,11 +1,11 @@
 //! JSON texts, and those that are one string.
 
-ghost use Rattle.std.specs.Prelude.{◌≡◌, Some, None, IfOk, IsErrOf, string_bytes};
+ghost use Rattle.std.specs.Prelude.{◌≡◌, ◌<◌, Some, None, IfOk, IsErrOf, length, string_bytes};
 ghost use Rattle.serde_json.specs.Data.{string};
 ghost use Rattle.serde_json.specs.Read.{read};
 ghost use Rattle.serde_json.specs.View.{view};
 ghost use Rattle.serde_json.specs.Written.{compact_text};
-ghost use Rattle.rpki_text.specs.Json.{string_of_json};
+ghost use Rattle.rpki_text.specs.Json.{IsCauseOf, string_of_json};
 ghost use Rattle.rpki_text.specs.declared.json.JsonError.TheVariants as variant;
 
 use rpki_common::OutOfMemory;
@@ -48,18 +48,27 @@ impl<T: Drop> From<AllocFailed<T>> for JsonError {
     }
 }
 
+impl From<serde_json::Error> for JsonError {
+    ghost from_gives = { IsCauseOf };
+
+    fn from(error: serde_json::Error) -> JsonError {
+        if error.is_memory() {
+            JsonError::OutOfMemory
+        } else {
+            JsonError::Malformed
+        }
+    }
+}
+
 /// The value of a JSON text (RFC 8259), in which arrays and objects nest up to 127 deep. Of members
 /// of one name the last counts. Malformed exactly where the text is none, a number in it is larger than a
-/// float can hold, or a surrogate stands alone in it.
+/// float can hold, or a surrogate stands alone in it. The empty text takes no memory.
 pub fn read_value(alloc: Global, text: &str) -> Result<Value, JsonError>
     ensures ok { IfOk result (λ v. read text.now ≡ Some (view v)) }
     ensures malformed { IsErrOf result JsonError.Malformed → read text.now ≡ None }
+    ensures memory { IsErrOf result JsonError.OutOfMemory → 0 < length text.now }
 {
-    match Value::from_str(alloc, text) {
-        Ok(value) => Ok(value),
-        Err(error) if error.is_memory() => Err(JsonError::OutOfMemory),
-        Err(_) => Err(JsonError::Malformed),
-    }
+    Ok(Value::from_str(alloc, text)?)
 }
 
 /// The string that a JSON text is. Malformed exactly where it is none, or a surrogate stands alone in it.

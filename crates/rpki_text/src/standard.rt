@@ -1,14 +1,55 @@
 //! A source and a sink over what `std` reads and writes.
 
-ghost use Rattle.std.specs.Prelude.{◌≡◌, ◌<◌, length, IfOk, OnOk, OnErr, None};
+ghost use Rattle.std.specs.Prelude.{◌≡◌, ◌⊎◌, ◌<◌, length, Ok, IfOk, OnOk, OnErr, IsErr, None};
 ghost use Rattle.std.specs.Io.{ReadsAtMost, WritesAtMost};
 ghost use Rattle.std.specs.Io.KnownBytes.{ReadConsumes, WriteAppends};
 ghost use Rattle.rpki_common.specs.Causes.{HasCause};
 ghost use Rattle.rpki_text.specs.Counts.{count_after};
 
 use crate::traits::{Failed, Sink, Source};
+use std::io;
 use std::io::{Read, Write};
 use std::marker::Model;
+
+// What a source answers where its reader answers this, and how many calls failed then.
+fn counted_read(answer: io::Result<usize>, faults: &mut u64) -> Result<usize, Failed>
+    ensures given { IfOk answer (λ count. result ≡ Ok count) }
+    ensures failed { OnErr answer (IsErr result) }
+    ensures cause { HasCause faults.old faults.new result }
+    ensures same { OnOk result (faults.new ≡ faults.old) }
+    ensures counted { OnErr result (faults.new ≡ count_after faults.old) }
+{
+    match answer {
+        Ok(count) => Ok(count),
+        Err(_) => {
+            *faults = faults.saturating_add(1);
+            Err(Failed)
+        }
+    }
+}
+
+// What a sink answers where its writer answers this for so many octets, and how many calls failed
+// then.
+fn counted_write(
+    answer: io::Result<usize>,
+    offered: usize,
+    faults: &mut u64,
+) -> Result<usize, Failed>
+    ensures given { IfOk answer (λ count. (0 < count) ⊎ (offered ≡ 0) → result ≡ Ok count) }
+    ensures nothing { IfOk answer (λ count. count ≡ 0 → 0 < offered → IsErr result) }
+    ensures failed { OnErr answer (IsErr result) }
+    ensures cause { HasCause faults.old faults.new result }
+    ensures same { OnOk result (faults.new ≡ faults.old) }
+    ensures counted { OnErr result (faults.new ≡ count_after faults.old) }
+{
+    match answer {
+        Ok(count) if count > 0 || offered == 0 => Ok(count),
+        _ => {
+            *faults = faults.saturating_add(1);
+            Err(Failed)
+        }
+    }
+}
 
 /// A source over a reader of `std`. It doesn't tell the octets still to come.
 ///
@@ -61,13 +102,7 @@ impl<R: Read> Source for StdSource<R> {
             (R.remaining self.new.reader) result into.new }
         ensures err { OnErr result (self.new.faults ≡ count_after self.old.faults) }
     {
-        match self.reader.read(into) {
-            Ok(count) => Ok(count),
-            Err(_) => {
-                self.faults = self.faults.saturating_add(1);
-                Err(Failed)
-            }
-        }
+        counted_read(self.reader.read(into), &mut self.faults)
     }
 }
 
@@ -124,12 +159,6 @@ impl<W: Write> Sink for StdSink<W> {
             (W.contents self.new.writer) result from.now }
         ensures err { OnErr result (self.new.faults ≡ count_after self.old.faults) }
     {
-        match self.writer.write(from) {
-            Ok(count) if count > 0 || from.is_empty() => Ok(count),
-            _ => {
-                self.faults = self.faults.saturating_add(1);
-                Err(Failed)
-            }
-        }
+        counted_write(self.writer.write(from), from.len(), &mut self.faults)
     }
 }
