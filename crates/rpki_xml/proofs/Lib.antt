@@ -1,5 +1,6 @@
 pub mod Apart
 pub mod AttributeSpellings
+pub mod Backs
 pub mod Contents
 pub mod Documents
 pub mod Drafts

@@ -1,11 +1,16 @@
 -- What stands at places of a document that is lent: a means for the document in memory.
-use Rattle.std.specs.Prelude.{ℕ, List, map, take, drop}
+use Rattle.std.specs.Prelude.{◌≡◌, ◌++◌, ℕ, List, map, take, drop}
 use Rattle.rpki_xml.specs.declared.kept.Text.{Text}
 use Rattle.rpki_xml.specs.declared.kept.Text.TheVariants as variant
 use Rattle.rpki_xml.specs.declared.kept.Named.{Named}
 use Rattle.rpki_xml.specs.Element.{Attribute}
 use Rattle.rpki_xml.specs.Lexing.{front_of}
 use Rattle.rpki_xml.specs.Name.{is_name_octet}
+
+-- the document ends with these octets
+pub record HasBack (source back : List ℕ) : Type 0 where
+  pub front : List ℕ
+  pub is : source ≡ front ++ back
 
 -- the name that begins at a place of a document
 abbrev pub name_from : List ℕ → ℕ → List ℕ

@@ -129,7 +129,7 @@ fn own_node(source: &[u8]) -> Result<Node, XmlError>
     ensures below { IfOk result (λ n. n.below ≡ 0) }
 {
     Ok(Node {
-        name: name_place(source, &[], 0)?,
+        name: name_place(source, &[], &[])?,
         below: 0,
         rest: Rest::Plain { start: 0, end: 0 },
     })

@@ -1,8 +1,10 @@
 //! Places in the document that is lent, and the texts that stand there.
 
-ghost use Rattle.std.specs.Prelude.{◌≡◌, ◌++◌, Some};
+ghost use Rattle.std.specs.Prelude.{◌≡◌, ◌≤◌, ◌^◌, ◌++◌, Some, OnErr, length};
 ghost use Rattle.rpki_xml.specs.Answers.{Gives};
-ghost use Rattle.rpki_xml.specs.Kept.{name_from, part_of, kept_text, attribute_of};
+ghost use Rattle.rpki_xml.specs.Kept.{HasBack, name_from, part_of, kept_text, attribute_of};
+ghost use Rattle.rpki_xml.specs.Lexing.{front_of};
+ghost use Rattle.rpki_xml.specs.Name.{is_name_octet};
 
 use crate::error::XmlError;
 use crate::lexing::split_name;
@@ -22,9 +24,10 @@ pub(crate) struct Named {
     pub(crate) value: Text,
 }
 
-/// A number in 32 bits. Malformed never comes.
+/// A number in 32 bits, if it is below 2^32. Malformed never comes.
 pub(crate) fn narrow(number: usize) -> Result<u32, XmlError>
-    ensures { Gives (Some number) (λ n. n) result }
+    ensures value { Gives (Some number) (λ n. n) result }
+    ensures memory { OnErr result (2 ^ 32 ≤ number) }
 {
     match u32::try_from(number) {
         Ok(narrow) => Ok(narrow),
@@ -42,16 +45,16 @@ pub(crate) fn name_from(source: &[u8], start: u32) -> &[u8]
     }
 }
 
-/// Where a name begins in a document that has so many octets behind it. Malformed never comes.
-pub(crate) fn name_place(source: &[u8], name: &[u8], behind: usize) -> Result<u32, XmlError>
-    ensures { Gives (Some name.now) (name_from source.now) result }
+/// Where a name begins in a document that ends with the name and this rest. Only a document of 2^32 octets or
+/// more has no such place. Malformed never comes.
+pub(crate) fn name_place(source: &[u8], name: &[u8], rest: &[u8]) -> Result<u32, XmlError>
+    requires back { HasBack source.now (name.now ++ rest.now) }
+    requires whole { front_of is_name_octet (name.now ++ rest.now) ≡ name.now }
+    ensures value { Gives (Some name.now) (name_from source.now) result }
+    ensures memory { OnErr result (2 ^ 32 ≤ length source.now) }
 {
-    let end = source.len().saturating_sub(behind);
-    let start = narrow(end.saturating_sub(name.len()))?;
-    if name_from(source, start) != name {
-        return Err(XmlError::OutOfMemory);
-    }
-    Ok(start)
+    let end = source.len().saturating_sub(rest.len());
+    narrow(end.saturating_sub(name.len()))
 }
 
 /// The octets between two places of a document, those of it that are there.
@@ -68,16 +71,16 @@ pub(crate) fn part_of(source: &[u8], start: u32, end: u32) -> &[u8]
     }
 }
 
-/// A part of a document that has so many octets behind it, as a text. Malformed never comes.
-pub(crate) fn placed(source: &[u8], part: &[u8], behind: usize) -> Result<Text, XmlError>
-    ensures { Gives (Some part.now) (kept_text source.now) result }
+/// A part of a document that ends with the part and this rest, as a text. Only a document of 2^32 octets or more
+/// has no places for it. Malformed never comes.
+pub(crate) fn placed(source: &[u8], part: &[u8], rest: &[u8]) -> Result<Text, XmlError>
+    requires { HasBack source.now (part.now ++ rest.now) }
+    ensures value { Gives (Some part.now) (kept_text source.now) result }
+    ensures memory { OnErr result (2 ^ 32 ≤ length source.now) }
 {
-    let until = source.len().saturating_sub(behind);
+    let until = source.len().saturating_sub(rest.len());
     let start = narrow(until.saturating_sub(part.len()))?;
     let end = narrow(until)?;
-    if part_of(source, start, end) != part {
-        return Err(XmlError::OutOfMemory);
-    }
     Ok(Text::At { start, end })
 }
 
@@ -131,20 +134,22 @@ impl Text {
         }
     }
 
-    /// A part of the text, which ends so many octets before its end. Malformed never comes.
+    /// A part of the text, which ends with the part and this rest. Malformed never comes.
     pub(crate) fn part(
         &self,
         alloc: Global,
         source: &[u8],
         part: &[u8],
-        behind: usize,
+        rest: &[u8],
     ) -> Result<Text, XmlError>
+        requires { HasBack (kept_text source.now self.now) (part.now ++ rest.now) }
         ensures { Gives (Some part.now) (kept_text source.now) result }
     {
         match self {
             Text::At { start: _, end } => {
-                let past = source.len().saturating_sub(*end as usize);
-                placed(source, part, past.saturating_add(behind))
+                let until = source.len().min(*end as usize).saturating_sub(rest.len());
+                let (_, behind) = source.split_at(until);
+                placed(source, part, behind)
             }
             Text::Own(_) => {
                 let copy = Vec::from_slice(alloc, part)?;

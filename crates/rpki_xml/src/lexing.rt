@@ -4,7 +4,7 @@ ghost use Rattle.std.specs.Prelude.{◌≡◌, ◌<◌, ◌≤◌, length, IfSom
 ghost use Rattle.std.specs.List.{list_all};
 ghost use Rattle.std.specs.Option.{option_copied, option_map};
 ghost use Rattle.rpki_xml.specs.Content.{behind, end, passed_over};
-ghost use Rattle.rpki_xml.specs.Kept.{kept_text, attribute_of, attributes_of};
+ghost use Rattle.rpki_xml.specs.Kept.{HasBack, kept_text, attribute_of, attributes_of};
 ghost use Rattle.rpki_xml.specs.Lexing.{ends_at, until, value_in, quoted_at, attribute_at, begins_white, begins_close, no_attribute, past_next, passed_at, run_at, front_of, back_of, past_white, any_entity_at, character_at, name_at, end_at, tag_at, markup_at, piece_at, is_octet};
 ghost use Rattle.rpki_xml.specs.Name.{is_letter, is_name_octet, ends_name, is_name};
 ghost use Rattle.rpki_xml.specs.Pieces.{piece};
@@ -215,6 +215,7 @@ fn characters_until<'a>(
     stop: u8,
     b: &'a [u8],
 ) -> Result<(Text, &'a [u8]), XmlError>
+    requires { HasBack source.now b.now }
     ensures value { Gives (until (ends_at at_end stop) character_at b.now)
         (λ x. (kept_text source.now x.0, x.1.now)) result }
     ensures shorter { IfOk result (λ x. length x.1.now ≤ length b.now) }
@@ -223,7 +224,7 @@ fn characters_until<'a>(
 {
     let (front, rest) = split_plain(stop, b);
     if ends_at(at_end, stop, rest) {
-        return Ok((placed(source, front, rest.len())?, rest));
+        return Ok((placed(source, front, rest)?, rest));
     }
     let (value, rest) = resolved_until(alloc, at_end, stop, b)?;
     Ok((Text::Own(Box::new(alloc, value)?), rest))
@@ -266,6 +267,7 @@ fn value_in<'a>(
     quote: u8,
     b: &'a [u8],
 ) -> Result<(Text, &'a [u8]), XmlError>
+    requires { HasBack source.now b.now }
     ensures value { Gives (value_in quote b.now) (λ x. (kept_text source.now x.0, x.1.now)) result }
     ensures shorter { IfOk result (λ x. length x.1.now ≤ length b.now) }
 {
@@ -278,6 +280,7 @@ fn value_in<'a>(
 
 #[tactic(auto, unfolding(crate::specs::Lexing::quoted_at))]
 fn quoted_at<'a>(alloc: Global, source: &[u8], b: &'a [u8]) -> Result<(Text, &'a [u8]), XmlError>
+    requires { HasBack source.now b.now }
     ensures value { Gives (quoted_at b.now) (λ x. (kept_text source.now x.0, x.1.now)) result }
     ensures shorter { IfOk result (λ x. length x.1.now < length b.now) }
 {
@@ -298,6 +301,7 @@ fn attribute_at<'a>(
     source: &[u8],
     b: &'a [u8],
 ) -> Result<(Named, &'a [u8]), XmlError>
+    requires { HasBack source.now b.now }
     ensures value { Gives (attribute_at b.now)
         (λ x. (attribute_of source.now x.0, x.1.now)) result }
     ensures shorter { IfOk result (λ x. length x.1.now < length b.now) }
@@ -309,7 +313,7 @@ fn attribute_at<'a>(
         return Err(XmlError::Malformed);
     };
     let (value, rest) = quoted_at(alloc, source, past_white(rest))?;
-    let name = name_place(source, name, behind_name.len())?;
+    let name = name_place(source, name, behind_name)?;
     Ok((Named { name, value }, rest))
 }
 
@@ -342,6 +346,7 @@ fn attributes_at<'a>(
     source: &[u8],
     b: &'a [u8],
 ) -> Result<(Vec<Named>, &'a [u8]), XmlError>
+    requires { HasBack source.now b.now }
     ensures value { Gives (until no_attribute attribute_at b.now)
         (λ x. (attributes_of source.now x.0.items, x.1.now)) result }
     ensures shorter { IfOk result (λ x. length x.1.now ≤ length b.now) }
@@ -359,13 +364,14 @@ fn attributes_at<'a>(
 }
 
 fn tag_at<'a>(alloc: Global, source: &[u8], b: &'a [u8]) -> Result<(Piece<'a>, &'a [u8]), XmlError>
+    requires { HasBack source.now b.now }
     ensures value { Gives (tag_at b.now) (λ x. (piece source.now x.0, x.1.now)) result }
     ensures shorter { IfOk result (λ x. length x.1.now ≤ length b.now) }
 {
     let Some((name, rest)) = name_at(b) else {
         return Err(XmlError::Malformed);
     };
-    let name = name_place(source, name, rest.len())?;
+    let name = name_place(source, name, rest)?;
     let (attributes, rest) = attributes_at(alloc, source, rest)?;
     let rest = past_white(rest);
     let tag = Tag { name, attributes };
@@ -404,6 +410,7 @@ fn passed_at<'a>(close: &[u8], b: &'a [u8]) -> Result<&'a [u8], XmlError>
 }
 
 fn run_at<'a>(alloc: Global, source: &[u8], b: &'a [u8]) -> Result<(Piece<'a>, &'a [u8]), XmlError>
+    requires { HasBack source.now b.now }
     ensures value { Gives (run_at b.now) (λ x. (piece source.now x.0, x.1.now)) result }
     ensures moved { IfOk result (λ x. ends_at true 60 b.now ≡ false
         → length x.1.now < length b.now) }
@@ -418,6 +425,7 @@ fn markup_at<'a>(
     source: &[u8],
     b: &'a [u8],
 ) -> Result<(Piece<'a>, &'a [u8]), XmlError>
+    requires { HasBack source.now b.now }
     ensures value { Gives (markup_at b.now) (λ x. (piece source.now x.0, x.1.now)) result }
     ensures shorter { IfOk result (λ x. length x.1.now ≤ length b.now) }
 {
@@ -434,13 +442,14 @@ fn markup_at<'a>(
     tag_at(alloc, source, b)
 }
 
-/// The piece at the front of `b`, and what follows it. Its texts are places in `source` where they stand in it.
+/// The piece at the front of `b`, with which `source` ends, and what follows it. Its texts are places in `source` where they stand in it.
 #[tactic(auto, unfolding(crate::specs::Lexing::piece_at))]
 pub(crate) fn piece_at<'a>(
     alloc: Global,
     source: &[u8],
     b: &'a [u8],
 ) -> Result<(Piece<'a>, &'a [u8]), XmlError>
+    requires { HasBack source.now b.now }
     ensures value { Gives (piece_at b.now) (λ x. (piece source.now x.0, x.1.now)) result }
     ensures shorter { IfOk result (λ x. length x.1.now < length b.now) }
 {

@@ -164,7 +164,8 @@ fn trimmed_of(alloc: Global, source: &[u8], text: &Text) -> Result<Text, XmlErro
 {
     let begun = without_leading(text.octets(source));
     let trimmed = without_trailing(begun);
-    text.part(alloc, source, trimmed, begun.len() - trimmed.len())
+    let (_, rest) = begun.split_at(trimmed.len());
+    text.part(alloc, source, trimmed, rest)
 }
 
 /// Whether a text has no outer white space, so that an element's text is read as it is.

@@ -6,6 +6,7 @@ use Rattle.rpki_xml.specs.Pieces.{piece}
 use Rattle.rpki_xml.specs.Stack.{held}
 use Rattle.rpki_xml.proofs.Documents.{one_more}
 use Rattle.rpki_xml.proofs.Roots.{own_head, whole_held, starts, piece_refused, step_refused, answered}
+use Rattle.rpki_xml.proofs.Backs.{reached_back}
 use Rattle.rpki_xml.proofs.document.nodes_of.Goals as goal
 
 pub loop-rest-init : goal.loop-rest-init
@@ -33,3 +34,6 @@ loop-rest-preserved c = record {
 pub returns-clause-value : goal.returns-clause-value
 returns-clause-value c =
     answered (λ (v : Vec Node). root_of c.args.octets.now v.items) c.finished.result c.args.octets.now c.loop-rest.rest.now (held c.args.octets.now c.loop-rest.nodes.items c.loop-rest.places.items) c.requires c.loop-rest.invariant.reached c.loop-rest-test.ensures (rw c.deref.ensures.value at c.finished.ensures.value)
+
+pub piece_at-requires : goal.piece_at-requires
+piece_at-requires c = reached_back c.args.octets.now c.loop-rest.rest.now _ c.loop-rest.invariant.reached

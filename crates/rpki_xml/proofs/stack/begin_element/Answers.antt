@@ -11,11 +11,11 @@ returns-then-is_empty-clause-given c = let zero : length c.args.places.now.items
 pub returns-clause-given : goal.returns-clause-given
 returns-clause-given c =
     let more : 0 < length c.args.places.now.items = grind arith in
-    let count : c.in_ok-place.place ≡ length c.args.nodes.now.items = omega (arith, same_some _ _ c.in_ok-place.ensures) in
+    let count : c.in_ok-place.place ≡ length c.args.nodes.now.items = omega (arith, same_some _ _ c.in_ok-place.ensures.value) in
     rw (c.in_ok-push-2.ensures.items, c.in_ok-push.ensures.items, c.in_ok-make_room.ensures.kept) (element_begun_in c.args.source.now c.args.nodes.now.items c.args.places.now.items c.in_ok-place.place c.args.node more c.requires.held c.requires.below count).0
 
 pub returns-clause-kept : goal.returns-clause-kept
 returns-clause-kept c =
     let more : 0 < length c.args.places.now.items = grind arith in
-    let count : c.in_ok-place.place ≡ length c.args.nodes.now.items = omega (arith, same_some _ _ c.in_ok-place.ensures) in
+    let count : c.in_ok-place.place ≡ length c.args.nodes.now.items = omega (arith, same_some _ _ c.in_ok-place.ensures.value) in
     rw (c.in_ok-push-2.ensures.items, c.in_ok-push.ensures.items, c.in_ok-make_room.ensures.kept) (element_begun_in c.args.source.now c.args.nodes.now.items c.args.places.now.items c.in_ok-place.place c.args.node more c.requires.held c.requires.below count).1

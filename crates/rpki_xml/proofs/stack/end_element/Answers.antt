@@ -41,14 +41,14 @@ pub returns-in_err-rest-clause-given : goal.returns-in_err-rest-clause-given
 returns-in_err-rest-clause-given c =
     let p = err_from_is_err_and c.from_residual-in_err-rest.result c.from_residual-in_err-rest.ensures.1 in
     let more : 0 < length c.pop.new.self.items = grind arith in
-    let count : c.in_ok-below.below ≡ length c.args.nodes.now.items - c.in-Some.place - 1 = omega (arith, same_some _ _ c.in_ok-below.ensures) in
+    let count : c.in_ok-below.below ≡ length c.args.nodes.now.items - c.in-Some.place - 1 = omega (arith, same_some _ _ c.in_ok-below.ensures.value) in
     rw (p.1, p.2) (unsettled_fails c.args.source.now c.in_err-rest.field-0.0 c.args.nodes.now.items c.args.places.now.items c.pop.new.self.items c.in-Some.place c.in_ok-below.below c.index_mut-node.result.now c.args.name.now
     c.in-Some.ensures.items c.requires more c.index_mut-node.ensures.value count (fails_at_end c.in_err-rest.field-0.0 c.args.source.now c.index_mut-node.result.now c.replace-so_far.result c.in_ok-below.below c.replace-so_far.ensures.value c.in_err-rest.ensures))
 
 pub returns-clause-given : goal.returns-clause-given
 returns-clause-given c =
     let more : 0 < length c.pop.new.self.items = grind arith in
-    let count : c.in_ok-below.below ≡ length c.args.nodes.now.items - c.in-Some.place - 1 = omega (arith, same_some _ _ c.in_ok-below.ensures) in
+    let count : c.in_ok-below.below ≡ length c.args.nodes.now.items - c.in-Some.place - 1 = omega (arith, same_some _ _ c.in_ok-below.ensures.value) in
     let settled-is = at_end c.args.source.now c.index_mut-node.result.now c.replace-so_far.result c.in_ok-rest.rest c.in_ok-below.below c.replace-so_far.ensures.value c.in_ok-rest.ensures in
     let same : bytes_eq (name_from c.args.source.now c.index_mut-node.result.now.name) c.args.name.now ≡ true = rw c.name_from.ensures at (is_true (bytes_eq c.name_from.result.now c.args.name.now) c.if-ne.ensures) in
     (element_ended c.args.source.now c.args.nodes.now.items c.args.places.now.items c.pop.new.self.items c.in-Some.place c.in_ok-below.below c.index_mut-node.result.now
@@ -58,7 +58,7 @@ returns-clause-given c =
 pub returns-clause-kept : goal.returns-clause-kept
 returns-clause-kept c =
     let more : 0 < length c.pop.new.self.items = grind arith in
-    let count : c.in_ok-below.below ≡ length c.args.nodes.now.items - c.in-Some.place - 1 = omega (arith, same_some _ _ c.in_ok-below.ensures) in
+    let count : c.in_ok-below.below ≡ length c.args.nodes.now.items - c.in-Some.place - 1 = omega (arith, same_some _ _ c.in_ok-below.ensures.value) in
     let settled-is = at_end c.args.source.now c.index_mut-node.result.now c.replace-so_far.result c.in_ok-rest.rest c.in_ok-below.below c.replace-so_far.ensures.value c.in_ok-rest.ensures in
     let same : bytes_eq (name_from c.args.source.now c.index_mut-node.result.now.name) c.args.name.now ≡ true = rw c.name_from.ensures at (is_true (bytes_eq c.name_from.result.now c.args.name.now) c.if-ne.ensures) in
     (element_ended c.args.source.now c.args.nodes.now.items c.args.places.now.items c.pop.new.self.items c.in-Some.place c.in_ok-below.below c.index_mut-node.result.now
