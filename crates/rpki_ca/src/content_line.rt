@@ -1,6 +1,7 @@
 //! The command `content`.
 
-ghost use Rattle.std.specs.Prelude.{◌≡◌, ◌≢◌, ℕ, Ok, Err, IfOk, IfErr};
+ghost use Rattle.std.specs.Prelude.{◌≡◌, ◌≢◌, ℕ, Ok, Err, IfOk, IfErr, IsErrOf};
+ghost use Rattle.sha2.specs.Sha256.{sha256};
 ghost use Rattle.rpki_sigmsg.specs.Beginning.{BeginsSigned};
 ghost use Rattle.rpki_ca.specs.Answer.{IsContentAnswer, IsLineOf};
 
@@ -19,6 +20,8 @@ fn content_line_of(
     ensures ok { IfOk result (λ line. IsLineOf (IsContentAnswer octets.now) line.items) }
     ensures err { IfErr result (λ e.
         e ≢ Refusal.OutOfMemory → IsContentAnswer octets.now (Err e)) }
+    ensures memory { IsErrOf result Refusal.OutOfMemory
+        → sha256 message.now.content ≡ message.now.digest }
 {
     if !message.digest_holds() {
         return Err(Refusal::Validation(2));
