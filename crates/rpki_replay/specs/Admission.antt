@@ -33,6 +33,12 @@ pub record IsAdmission (scheme : Relation) (peers : List Peer) (key : KeyFields)
   pub validates : IsValidation scheme m key when validation
   pub is : answer ≡ answer_behind validation (last_of peers key) m.signing_time
 
+-- the answer to a message of the peer with this key, at a moment, is that it is admitted
+pub record WouldBeAdmitted (scheme : Relation) (peers : List Peer) (key : KeyFields)
+    (m : MessageFields) (when : ℤ) : Type 0 where
+  pub time : ℤ
+  pub admits : IsAdmission scheme peers key m when (Ok time)
+
 -- the state behind the answer: every refusal leaves it
 abbrev pub state_behind : List Peer → KeyFields → Result ℤ GuardError → List Peer
 state_behind peers key (Ok time) = put peers key time

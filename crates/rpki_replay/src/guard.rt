@@ -1,7 +1,7 @@
 //! The guard.
 
-ghost use Rattle.std.specs.Prelude.{◌≡◌, ◌≢◌, [], Err, IfOk, OnErr, Some};
-ghost use Rattle.rpki_replay.specs.Admission.{IsAdmission};
+ghost use Rattle.std.specs.Prelude.{◌≡◌, ◌≢◌, [], Err, IfOk, IsErrOf, OnErr, Some};
+ghost use Rattle.rpki_replay.specs.Admission.{IsAdmission, WouldBeAdmitted};
 ghost use Rattle.rpki_replay.specs.Shown.{error_text};
 ghost use Rattle.rpki_replay.specs.State.{AreDistinctPeers, last_of, put};
 ghost use Rattle.rpki_replay.specs.declared.guard.GuardError.TheVariants as errors;
@@ -110,7 +110,7 @@ impl Guard {
     /// Admits a message of the peer with this key, if all fourteen checks hold under the key at the
     /// moment, it says when it was signed, and that is later than of the last message that was admitted
     /// under the key: then it answers the time of signing, which is held from now on. Every refusal
-    /// leaves the guard as it was.
+    /// leaves the guard as it was, and memory is wanting only for a message that would be admitted.
     pub fn admit<P: Scheme, V: Verifier<P>>(
         &mut self,
         peer: &PublicKey,
@@ -120,6 +120,8 @@ impl Guard {
     ) -> Result<Time, GuardError>
         ensures answer { result ≢ Err errors.OutOfMemory
             → IsAdmission P.checks self.old peer.now message.now when result }
+        ensures memory { IsErrOf result errors.OutOfMemory → WouldBeAdmitted P.checks self.old
+            peer.now message.now when }
         ensures admitted { IfOk result (λ time. self.new ≡ put self.old peer.now time) }
         ensures refused { OnErr result (self.new ≡ self.old) }
     {
