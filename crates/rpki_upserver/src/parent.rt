@@ -1,6 +1,6 @@
 //! A parent.
 
-ghost use Rattle.std.specs.Prelude.{◌≡◌, ◌≢◌, ◌↔◌, ◌<◌, ◌∷◌, [], length, map, slice_get, IfErr, IfOk, IfSome, IsErrOf, IsSome, IsTrue, OnErr, Some};
+ghost use Rattle.std.specs.Prelude.{◌≡◌, ◌≢◌, ◌↔◌, ◌<◌, ◌∷◌, [], length, map, slice_get, IfErr, IfOk, IfSome, IsErrOf, IsSome, IsTrue, OnErr, OnOk, Some};
 ghost use Rattle.rpki_signer.specs.Limits.{Keeps};
 ghost use Rattle.rpki_sigmsg.specs.declared.create_error.CreateError.TheVariants as create;
 ghost use Rattle.rpki_provisioning.specs.Writable.{IsWritable, IsWritableKey, IsWritableRequest};
@@ -374,6 +374,8 @@ impl Parent {
             (seen_signer key.now (S.state signer.old) (S.state signer.new))
             (received.Provisioning (reply self.now payload)) e) }
         ensures keeps { Keeps (S.state signer.old) (S.state signer.new) }
+        ensures kept { OnOk result
+            ((S.state signer.new).faults ≡ (S.state signer.old).faults) }
     {
         let reply = self.reply(decision)?;
         signed(self.alloc, reply, when, key, signer)
@@ -417,7 +419,11 @@ impl Parent {
         ensures refused { IfErr result (λ e. AreOctetsRefused e → (issuer.new ≡ issuer.old)
             × (signer.new ≡ signer.old)) }
         ensures unsigned { IsErrOf result answers.OutOfMemory → signer.new ≡ signer.old }
+
+        // The signer holds the same keys, whatever the answer, and where there is a reply, it didn't fail.
         ensures keeps { Keeps (S.state signer.old) (S.state signer.new) }
+        ensures kept { OnOk result
+            ((S.state signer.new).faults ≡ (S.state signer.old).faults) }
     {
         let message = match self.received(octets, when, verifier) {
             Ok(message) => message,

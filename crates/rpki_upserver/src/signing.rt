@@ -1,6 +1,6 @@
 //! Messages that are signed.
 
-ghost use Rattle.std.specs.Prelude.{◌≢◌, IfErr, IfOk};
+ghost use Rattle.std.specs.Prelude.{◌≡◌, ◌≢◌, IfErr, IfOk, OnOk};
 ghost use Rattle.rpki_signer.specs.Limits.{Keeps};
 ghost use Rattle.rpki_sigmsg.specs.declared.create_error.CreateError.TheVariants as create;
 ghost use Rattle.rpki_provisioning.specs.Writable.{IsWritable};
@@ -30,6 +30,8 @@ pub(crate) fn signed<P: Scheme, S: Signer<P>>(
         (seen_signer key.now (S.state signer.old) (S.state signer.new))
         (received.Provisioning message) e) }
     ensures keeps { Keeps (S.state signer.old) (S.state signer.new) }
+    ensures kept { OnOk result
+        ((S.state signer.new).faults ≡ (S.state signer.old).faults) }
 {
     ProvisioningCms::create(alloc, message, when, key, signer)
 }
