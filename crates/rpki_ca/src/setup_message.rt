@@ -50,11 +50,7 @@ impl From<Error> for Refusal {
 
 impl SetupMessage {
     /// The message of this kind that the input reads as; XmlError where it is none.
-    pub fn parse(
-        alloc: Global,
-        kind: SetupKind,
-        input: &[u8],
-    ) -> Result<SetupMessage, Refusal>
+    pub fn parse(alloc: Global, kind: SetupKind, input: &[u8]) -> Result<SetupMessage, Refusal>
         ensures ok { IfOk result (λ m. ReadsSetup kind input.now m) }
         ensures err { IfErr result (λ e. e ≢ Refusal.OutOfMemory
             → (e ≡ Refusal.XmlError) × IsNoSetup kind input.now) }
