@@ -12,72 +12,55 @@ A case of a folder is case-N.words (one word a line), case-N.in (the input) and 
 then what is written); they come from a model that was written apart. Those whose first word isn't `receive` are left out.
 
 A line is `NAME HOW STATUS OUTPUT INPUT WORD..`: HOW is `keys` where the words are the program's own, `whole` where they are and the input
-isn't handed in an octet at a time too, and `toy` where they are those of `receive` without answers, which the toy scheme gives. The status is in decimal, what is written and the input are stored octets, and
-the words are as they are, or behind a `#` in hexadecimal. A `-` stands for an empty field.
+isn't handed in an octet at a time too, and `toy` where they are those of `receive` without last time, digest and answers, which the toy
+scheme gives. The status is in decimal, what is written and the input are stored octets, and the words are as they are, or behind a `#` in
+hexadecimal. A `-` stands for an empty field.
 
 Or it is `NAME CALL ANSWER INPUT WORD..`, with a public call that the program is made of, and the fields that it answers, with `;` between
 them, each of them stored octets:
 
-    asked     ANSWERS KEY..         of each question its part, and a digit for what the answers say of it under each of two algorithms
-    received  KIND MOMENT ANSWERS KEY..                                the message's text and the key's place
+    asked     ANSWERS KEY..         the text of the questions and its digest; of each question its part, and a digit for what the answers
+                                    say of it under each of two algorithms
+    held      KEY..                 part, octets and signature of the own question and of each part, behind the own one its key; and the
+                                    keys: of a key its bits
+    inspected                       what is in the message, as a JSON text, which the script reads from the octets by itself
+    told                            the same of a message that was read in DER
+    received  KIND MOMENT LAST DIGEST ANSWERS KEY..                    the message's text, the key's place, and the signing time, if any
+    checked   MOMENT DIGEST ANSWERS KEY                                a digit for each of the fourteen checks
+    guarded   MOMENT ANSWERS KEY                                       the same, and what a guard says to the message, twice
     prepared  MOMENT SERIAL ISSUER-KEY ONE-OFF-KEY                     attributes, CRL and certificate; INPUT is the content
     finished  MOMENT SERIAL ISSUER-KEY ONE-OFF-KEY SIGNATURE..         the message
-    printed   WORD                  the errors and parts that the word names, as they are printed and shown, or which of them are equal;
-                                    or as what they are passed on
+    printed   WORD                  the errors, parts and refusals that the word names, as they are printed and shown, or which of them
+                                    are equal; or as what they are passed on
 
-or `refused` and the error as it is printed.
+or one of tools/anchor_cases.py; or `refused` and the error as it is printed.
 """
 
 import hashlib
 import pathlib
-import re
 import subprocess
 import sys
-import tempfile
 from unittest import mock
 
-import line_cases
+import anchor_cases
 import messages
+import printed_cases
+import questions
+from answer_lines import MOST, USAGE, case, of_call, row
+from inspection import inspected
 from messages import NOW, NULL, QUERY, RSA, bits, indefinite, key_bits, numbered, segmented, seq, sign
-from rpkikeys import in_pem
+from questions import header_of, inner, openssl_says, parts_of
 from rsa_messages import values
 from run_cases import NO_VALUE, asked, issued, issuer, resource_class, updown
-from stored import SIZES, terms, write
+from stored import SIZES, write
 
 ROOT = pathlib.Path(__file__).resolve().parent.parent
 CRATE = ROOT / "crates" / "test_external"
 INPUT = (ROOT / "examples" / "query-list.hex").read_bytes()
 SETS = "ber", "two", "pub", "prov"
-USAGE = 2, b"Usage"
 SERIAL = 0x0123456789abcdef0123456789abcdef01234567
-MOST = 1 << 16
 LONGEST = 1 << 26
-
-
-def octets(field):
-    """Octets as terms, where what is repeated stands once; or terms as they are."""
-    if isinstance(field, str):
-        return field
-    return terms(field) if re.search(rb"(..)\1{99}", field, re.DOTALL) else line_cases.octets(field)
-
-
-def word(text):
-    """A word; a long one in hexadecimal, where what is repeated stands once."""
-    return "#" + terms(text.encode()) if len(text) > 2000 else line_cases.word(text)
-
-
-def case(name, how, words, field, status, output):
-    return " ".join([name, how, str(status), octets(output), octets(field), *map(word, words)])
-
-
-def row(name, words, field, answer):
-    status, output = answer
-    return case(f"keys-{name}", "keys", words, field, status, output + b"\n")
-
-
-def of_call(call, name, words, field, *answer):
-    """A case of a public call, and the fields that it answers."""
-    return " ".join([f"call-{call}-{name}", call, ";".join(map(octets, answer)), octets(field), *map(word, words)])
+NO_DIGEST = "00" * 32
 
 
 def cases_of(name, folder):
@@ -89,64 +72,92 @@ def cases_of(name, folder):
         if name in ("ber", "two") and words[1:2] == ["provisioning"] and file.with_suffix(".expected").read_bytes() == b"2\nUsage\n":
             continue
         if words[:1] == ["receive"]:
-            yield case(f"{name}-{file.stem[5:]}", "toy", words, file.read_bytes(), int(status), output)
+            yield toy_case(f"{name}-{file.stem[5:]}", words, file.read_bytes(), int(status), output)
 
 
-# ---- the parts of a message of definite lengths, in the places in which RFC 5652, 5.1 has them
+def toy_case(name, words, field, status, output):
+    """A case of `receive` without answers; what is received has its receipt's line before it."""
+    return case(name, "toy", words, field, status, toy_line(words, field) + output if status == 0 else output)
 
 
-def inner(octets_of_value):
-    (_, contents), = values(octets_of_value)
-    return contents
+def toy_line(words, field):
+    """The place of the first key that signed a SEQUENCE of the message by the toy scheme, and the signing time."""
+    message = bytes.fromhex(field.decode().removesuffix("\n"))
+    sequences = [message[at:questions.end_of(message, at)] for at in range(len(message)) if message[at] == 0x30]
+    for place, key in enumerate(words[3:]):
+        held = values(inner(bytes.fromhex(key)))[1][1][1:]
+        if any(hashlib.sha256(held + part).digest() in message for part in sequences):
+            return receipt_line(place, questions.signing_time(message))
+    raise AssertionError(words)
 
 
-def header_of(tag, contents):
-    return messages.value(tag, contents)
+# ---- what is asked, and what is received by answers
 
 
-def signed_parts(octets_of_value):
-    """What is signed of a certificate or a CRL, and the signature."""
-    (tag, tbs), _, (_, signature) = values(inner(octets_of_value))
-    return header_of(tag, tbs), signature[1:]
+def of_questions(name, message, *keys, field=None):
+    """The program's questions of a message, which may be spelled in another way."""
+    lines = questions.asked_lines(questions.of_message(message, *keys))
+    return row(name, ("questions", "message", *keys), field or message.hex().encode(), (0, lines))
 
 
-def parts_of(message):
-    """What the signatures cover, and these: of the attributes, with the certificate's key; of the certificate; of each CRL."""
-    (_, _), (_, held) = values(inner(message))
-    _, _, _, (_, certificate), (_, lists), (_, signers) = values(inner(held))
-    fields = values(inner(signers))
-    tbs = values(values(inner(certificate))[0][1])
-    key = header_of(*tbs[6])
-    attributes = key, header_of(0x31, fields[3][1]), fields[5][1]
-    return attributes, signed_parts(certificate), [signed_parts(header_of(*crl)) for crl in values(lists)]
+def by_answers(kind, moment, message, digits, *keys, last="-", digest=None):
+    """The words behind `receive`, or those of the call."""
+    return kind, str(moment), last, digest or questions.digest_of(questions.of_message(message, *keys)), digits, *keys
 
 
-def questions_of(message, keys):
-    """Name, key, octets and signature of each question."""
-    attributes, certificate, lists = parts_of(message)
-    yield "attributes", *attributes
-    for place, key in enumerate(keys):
-        yield f"certificate-{place}", key, *certificate
-        for number, crl in enumerate(lists):
-            yield f"crl-{place}-{number}", key, *crl
+def receipt_line(place, time):
+    return f"{place} {'-' if time is None else time}\n".encode()
 
 
-def question_lines(message, keys):
-    return "\n".join(" ".join((name, *(field.hex() for field in fields))) for name, *fields in questions_of(message, keys)).encode()
+def receipt(message, place, text):
+    """What is written of a message that is received."""
+    return 0, receipt_line(place, questions.signing_time(message)) + text
 
 
-def openssl_says(message, keys):
-    """A digit for each question, as OpenSSL answers it."""
-    digits = ""
-    with tempfile.TemporaryDirectory() as folder:
-        for _, key, signed, signature in questions_of(message, keys):
-            pathlib.Path(folder, "key.pem").write_text(in_pem(key))
-            pathlib.Path(folder, "signature").write_bytes(signature)
-            words = ["openssl", "dgst", "-sha256", "-verify", "key.pem", "-signature", "signature"]
-            ended = subprocess.run(words, cwd=folder, input=signed, capture_output=True)
-            assert ended.stdout in (b"Verified OK\n", b"Verification failure\n") or b"error" in ended.stderr, ended
-            digits += "1" if ended.returncode == 0 else "0"
-    return digits
+def receipt_fields(message, place, text):
+    time = questions.signing_time(message)
+    return text, str(place).encode(), *([] if time is None else [str(time).encode()])
+
+
+def validation(check):
+    return 6, b"Validation %d" % check
+
+
+# ---- what is in a message
+
+
+def inspected_rows():
+    """Messages of OpenSSL, and toy messages of which each has a part in another way; and what is none."""
+    example = (ROOT / "examples" / "rsa-query.der").read_bytes()
+    for call in "inspected", "told":
+        yield of_call(call, "example", (), example, inspected(example))
+    for name, _, _, _, _, message, _ in stored():
+        yield of_call("inspected", name, (), message, inspected(message))
+        yield of_call("inspected", f"{name}-in-ber", (), in_ber(message), inspected(message))
+        yield row(f"inspect-{name}", ("inspect",), message.hex().encode(), (0, inspected(message)))
+    alone = seq(messages.RSA_SHA256)
+    for label, message in (
+            ("toy", numbered(QUERY, NOW, SERIAL)), ("no-content", numbered(b"", NOW, 1)), ("serial-0", messages.message(serial=0)),
+            ("first-bit-of-the-serial", messages.message(serial=0x80)), ("longest-serial", messages.message(serial=(1 << 160) - 1)),
+            ("two-crls", messages.two_crls({}, dict(entries=(2, 3), crl_number=0, updates=(NOW + 1, NOW + 2)))),
+            ("no-list-of-entries", messages.message(entries=None)), ("revoked", messages.message(entries=(1, 2, 1 << 64))),
+            ("no-authority", messages.message(authority_key=None, crl_authority=None)),
+            ("of-an-authority", messages.message(constraints=True)), ("of-no-authority", messages.message(constraints=False)),
+            ("no-signing-time", messages.message(attributes=messages.without(messages.SIGNING_TIME))),
+            ("before-1970", messages.message(signed_at=-1, validity=(-62135596800, -1), updates=(-2, -1))),
+            ("late", messages.message(validity=(NOW, 253402300799))),
+            ("no-crl-number", messages.message(crl_extensions=messages.without(messages.CRL_NUMBER))),
+            ("inner-algorithm-alone", messages.message(crl_inner=alone)), ("outer-algorithm-alone", messages.message(crl_outer=alone)),
+            ("signer-sha256-with-rsa", messages.message(signer_algorithm=messages.ALGORITHM)),
+            ("signer-sha256-with-rsa-alone", messages.message(signer_algorithm=alone)),
+            ("signer-rsa-alone", messages.message(signer_algorithm=seq(messages.RSA))),
+            ("another-digest", messages.message(digested=b"another content")), ("another-signer", messages.message(signer_id=messages.OTHER)),
+            ("without-signature", messages.message(signature=lambda x: b""))):
+        yield of_call("inspected", label, (), message, inspected(message))
+    message = numbered(QUERY, NOW, SERIAL)
+    yield of_call("inspected", "octets-behind", (), message + b"\0\xff\x30", inspected(message))
+    for label, octets_of_none in ("no-message", message[:-1]), ("no-octets", b""), ("text", QUERY):
+        yield of_call("inspected", label, (), octets_of_none, b"refused", b"malformed value")
 
 
 # ---- messages under RSA keys
@@ -188,7 +199,7 @@ def alterations(message):
         yield f"crl-{number}", changed(message, crl)
 
 
-def altered_rows(name, words, key, message, text):
+def altered_rows(name, kind, moment, key, message, text):
     """One bit of each part changed: the check is the first that OpenSSL's answers, and Python's digest of the content, make false."""
     digest = hashlib.sha256(text).digest()
     other_digest = bytes([digest[0] ^ 1]) + digest[1:]
@@ -198,14 +209,15 @@ def altered_rows(name, words, key, message, text):
             *((label, altered, text, digest) for label, altered in alterations(message)),
             ("content", changed(message, text, text.index(told)), other_text, digest),
             ("digest", changed(message, digest, 0), text, other_digest)):
-        digits = openssl_says(altered, (key,))
+        digits = openssl_says(questions.of_message(altered, key))
         check = first_failing(held, named, digits)
         assert openssl_receives(altered) == (check > 3), (name, label)
         # Of the list alone no bit can be changed so that it is a message still, and that comes before all checks.
-        answer = (5, b"XmlError") if label == "content" and told == text else (6, b"Validation %d" % check)
-        yield row(f"{name}-changed-{label}", (*words, digits, key.hex()), altered.hex().encode(), answer)
-        yield row(f"{name}-changed-{label}-questions", ("questions", key.hex()), altered.hex().encode(),
-            (0, question_lines(altered, (key,))))
+        answer = (5, b"XmlError") if label == "content" and told == text else validation(check)
+        words = by_answers(kind, moment, altered, digits, key)
+        yield row(f"{name}-changed-{label}", ("receive", *words), altered.hex().encode(), answer)
+        yield of_questions(f"{name}-changed-{label}-questions", altered, key)
+        yield from explained(f"{name}-changed-{label}", moment, altered, digits, key, all_failing(held, named, digits))
 
 
 def in_ber(message):
@@ -225,58 +237,130 @@ def in_ber(message):
     return indefinite(0x30, header_of(*kind) + indefinite(0xA0, indefinite(0x30, data)))
 
 
-def ber_rows(name, words, key, message, text):
+def ber_rows(name, kind, moment, key, message, text):
     """The same message in BER: the questions are the same, and so is what is received."""
     spelled = in_ber(message)
     assert openssl_receives(spelled), name
     field = spelled.hex().encode()
-    yield row(f"{name}-questions-in-ber", ("questions", key.hex()), field, (0, question_lines(message, (key,))))
-    answers = openssl_says(message, (key,))
-    yield row(f"{name}-received-in-ber", (*words, answers, key.hex()), field, (0, text))
-    yield row(f"{name}-no-in-ber", (*words, "0" + answers[1:], key.hex()), field, (6, b"Validation 3"))
-    yield row(f"{name}-broken-in-ber", (*words, answers, key.hex()), field[:-4], (4, b"CmsDecode"))
+    yield of_questions(f"{name}-questions-in-ber", message, key, field=field)
+    answers = openssl_says(questions.of_message(message, key))
+    words = "receive", *by_answers(kind, moment, message, answers, key)
+    yield row(f"{name}-received-in-ber", words, field, receipt(message, 0, text))
+    yield row(f"{name}-broken-in-ber", words, field[:-4], (4, b"CmsDecode"))
+    words = by_answers(kind, moment, message, "0" + answers[1:], key)
+    yield row(f"{name}-no-in-ber", ("receive", *words), field, validation(3))
 
 
-def places_rows(name, words, key, other, message, text):
+def places_rows(name, kind, moment, key, other, message, text):
     """The key at each place of one to eight, as OpenSSL answers."""
     field = message.hex().encode()
-    of_key, of_other = openssl_says(message, (key,)), openssl_says(message, (other,))
+    of_key, of_other = (openssl_says(questions.of_message(message, held)) for held in (key, other))
     for count in range(1, 9):
         for place in range(count) if count in (3, 8) else sorted({0, count - 1}):
             keys = [other] * count
             keys[place] = key
             digits = of_key[0] + "".join((of_key if held is key else of_other)[1:] for held in keys)
-            yield row(f"{name}-at-{place}-of-{count}", (*words, digits, *(held.hex() for held in keys)), field, (0, text))
-            yield of_call("received", f"{name}-at-{place}-of-{count}", (*words[1:], digits, *(held.hex() for held in keys)), message,
-                text, str(keys.index(key)).encode())
-    yield row(f"{name}-questions-of-a-key-twice", ("questions", key.hex(), key.hex()), field, (0, question_lines(message, (key, key))))
-    yield row(f"{name}-eight-others", (*words, of_other[0] + of_other[1:] * 8, *[other.hex()] * 8), field, (6, b"Validation 6"))
+            words = by_answers(kind, moment, message, digits, *keys)
+            yield row(f"{name}-at-{place}-of-{count}", ("receive", *words), field, receipt(message, place, text))
+            yield of_call("received", f"{name}-at-{place}-of-{count}", words, message, *receipt_fields(message, place, text))
+    yield of_questions(f"{name}-questions-of-a-key-twice", message, key, key)
+    words = by_answers(kind, moment, message, of_other[0] + of_other[1:] * 8, *[other] * 8)
+    yield row(f"{name}-eight-others", ("receive", *words), field, validation(6))
+
+
+def all_failing(text, digest, answers):
+    """All checks that fail, by the digest that Python has of the content, and by OpenSSL's answers."""
+    found = {2} if hashlib.sha256(text).digest() != digest else set()
+    return found | {check for check, answer in zip((3, 8, 10, 10), answers) if answer == "0"}
+
+
+def digits_but(failing):
+    return "".join("0" if check in failing else "1" for check in range(1, 15)).encode()
+
+
+def explained(name, moment, message, digits, key, failing):
+    """The fourteen checks of a message, by the program and by the call."""
+    digest = questions.digest_of(questions.of_message(message, key))
+    words = str(moment), digest, digits, key
+    yield row(f"explain-{name}", ("explain", *words), message.hex().encode(), (0, digits_but(failing)))
+    yield of_call("checked", name, words, message, digits_but(failing))
 
 
 def stored():
     for line in (CRATE / "data" / "messages.txt").read_text().splitlines():
         name, kind, moment, key, other, message, text = line.split(" ", 6)
-        yield name, kind, moment, bytes.fromhex(key), bytes.fromhex(other), bytes.fromhex(message), text.encode()
+        yield name, kind, moment, key, other, bytes.fromhex(message), text.encode()
 
 
 def real_rows():
     for name, kind, moment, key, other, message, text in stored():
-        field, words = message.hex().encode(), ("receive", kind, moment)
-        yield row(f"{name}-questions", ("questions", key.hex()), field, (0, question_lines(message, (key,))))
-        answers = openssl_says(message, (key,))
+        field, by = message.hex().encode(), (kind, moment, message)
+        yield of_questions(f"{name}-questions", message, key)
+        answers = openssl_says(questions.of_message(message, key))
         assert set(answers) == {"1"}, (name, answers)
-        yield row(f"{name}-received", (*words, answers, key.hex()), field, (0, text))
+        yield row(f"{name}-received", ("receive", *by_answers(*by, answers, key)), field, receipt(message, 0, text))
         for label, keys in ("second", (other, key)), ("first", (key, other)), ("of-eight", (other,) * 7 + (key,)):
-            yield row(f"{name}-questions-{label}", ("questions", *(k.hex() for k in keys)), field, (0, question_lines(message, keys)))
-            yield row(f"{name}-received-{label}", (*words, openssl_says(message, keys), *(k.hex() for k in keys)), field, (0, text))
-        yield row(f"{name}-other-key", (*words, openssl_says(message, (other,)), other.hex()), field, (6, b"Validation 6"))
-        yield row(f"{name}-later", ("receive", kind, str(int(moment) + 301), answers, key.hex()), field, (6, b"Validation 5"))
+            digits = openssl_says(questions.of_message(message, *keys))
+            yield of_questions(f"{name}-questions-{label}", message, *keys)
+            words = by_answers(*by, digits, *keys)
+            yield row(f"{name}-received-{label}", ("receive", *words), field, receipt(message, keys.index(key), text))
+        of_other = openssl_says(questions.of_message(message, other))
+        yield row(f"{name}-other-key", ("receive", *by_answers(*by, of_other, other)), field, validation(6))
+        failing = {6, 13, *all_failing(text, hashlib.sha256(text).digest(), of_other)}
+        yield from explained(f"{name}-other-key", moment, message, of_other, other, failing)
+        later = kind, int(moment) + 301, message
+        yield row(f"{name}-later", ("receive", *by_answers(*later, answers, key)), field, validation(5))
+        yield from explained(f"{name}-later", int(moment) + 301, message, answers, key, {5, 12})
+        yield from explained(name, moment, message, answers, key, set())
         for place, check in enumerate((3, 8, 10, 10)[:len(answers)]):
             digits = answers[:place] + "0" + answers[place + 1:]
-            yield row(f"{name}-no-to-{place}", (*words, digits, key.hex()), field, (6, b"Validation %d" % check))
-        yield from altered_rows(name, words, key, message, text)
-        yield from ber_rows(name, words, key, message, text)
-        yield from places_rows(name, words, key, other, message, text)
+            yield row(f"{name}-no-to-{place}", ("receive", *by_answers(*by, digits, key)), field, validation(check))
+        yield from altered_rows(name, kind, moment, key, message, text)
+        yield from ber_rows(name, kind, moment, key, message, text)
+        yield from places_rows(name, kind, moment, key, other, message, text)
+        yield from bound_rows(name, *by, answers, text, key, other)
+        yield from last_rows(name, *by, answers, text, key)
+
+
+def bound_rows(name, kind, moment, message, answers, text, key, other):
+    """Answers to other questions: those of another key, of more keys and of another message; and answers of another number."""
+    field = message.hex().encode()
+    elsewhere = next(held for _, _, _, _, _, held, _ in stored() if held != message)
+    apart = (14, b"OtherQuestions"), b"the answers are to other questions"
+    number = USAGE, b"not as many answers as questions"
+    for label, digits, digest, (answer, said) in (
+            ("another-key", answers, questions.of_message(message, other), apart),
+            ("two-keys", answers, questions.of_message(message, key, other), apart),
+            ("another-message", answers, questions.of_message(elsewhere, key), apart),
+            ("another-key-and-number", answers + "1", questions.of_message(message, other), apart),
+            ("no-answers", "", questions.of_message(message, key), number),
+            ("one-answer-less", answers[1:], questions.of_message(message, key), number),
+            ("one-answer-more", answers + "1", questions.of_message(message, key), number)):
+        digest = questions.digest_of(digest)
+        words = by_answers(kind, moment, message, digits, key, digest=digest)
+        yield row(f"{name}-of-{label}", ("receive", *words), field, answer)
+        yield of_call("received", f"{name}-of-{label}", words, message, b"refused", said)
+        words = moment, digest, digits, key
+        yield row(f"explain-{name}-of-{label}", ("explain", *words), field, answer)
+        yield of_call("checked", f"{name}-of-{label}", words, message, b"refused", said)
+
+
+def last_rows(name, kind, moment, message, answers, text, key):
+    """A last time a second earlier, the same, and later; it is asked of what is accepted alone, and behind all else."""
+    field, seen = message.hex().encode(), questions.signing_time(message)
+    for label, last in ("earlier", seen - 1), ("far-earlier", 0), ("equal", seen), ("later", seen + 1), ("far-later", 253402300799):
+        words = by_answers(kind, moment, message, answers, key, last=str(last))
+        is_later = seen > last
+        replayed = 15, f"Replayed {last} {seen}".encode()
+        yield row(f"{name}-last-{label}", ("receive", *words), field, receipt(message, 0, text) if is_later else replayed)
+        fields = receipt_fields(message, 0, text) if is_later else (b"refused", b"the message is not signed later than the last one")
+        yield of_call("received", f"{name}-last-{label}", words, message, *fields)
+    no = "0" + answers[1:]
+    for label, digits, digest, answer in (
+            ("check", no, None, validation(3)), ("number", answers[1:], None, USAGE),
+            ("other-questions", answers, NO_DIGEST, (14, b"OtherQuestions"))):
+        words = by_answers(kind, moment, message, digits, key, last=str(seen), digest=digest)
+        yield row(f"{name}-{label}-before-last", ("receive", *words), field, answer)
 
 
 # ---- words and inputs
@@ -284,37 +368,48 @@ def real_rows():
 
 def word_rows():
     name, kind, moment, key, other, message, text = next(stored())
-    field, key, other = message.hex().encode(), key.hex(), other.hex()
-    received, words = (0, text), ("receive", kind, moment)
+    field, of_key = message.hex().encode(), questions.digest_of(questions.of_message(message, key))
+    received = receipt(message, 0, text)
+    words = lambda digits, *keys, **more: ("receive", *by_answers(more.pop("kind", kind), moment, message, digits, *keys, **more))
     for label, digits in ("none", ""), ("two", "11"), ("four", "1111"), ("twenty-five", "1" * 25), ("thousand", "1" * 1000):
-        yield row(f"answers-{label}", (*words, digits, key), field, USAGE)
-    yield row("answers-for-two-keys", (*words, "11100", key, other), field, received)
-    yield row("answers-for-one-of-two-keys", (*words, "111", key, other), field, USAGE)
+        yield row(f"answers-{label}", words(digits, key), field, USAGE)
+    yield row("answers-for-two-keys", words("11100", key, other), field, received)
+    yield row("answers-for-one-of-two-keys", words("111", key, other), field, USAGE)
     for label, digits in ("letter", "11y"), ("two", "112"), ("blank", "11 "), ("feed", "11\n"), ("minus", "-11"):
-        yield row(f"answers-with-a-{label}", (*words, digits, key), field, USAGE)
-    yield row("answers-before-the-message", (*words, "11", key), b"00", (4, b"CmsDecode"))
-    yield row("answers-before-digits", (*words, "11", key), b"0", (3, b"Hex"))
-    yield row("answers-before-the-content", ("receive", "provisioning", moment, "11", key), field, USAGE)
-    yield row("another-protocol", ("receive", "provisioning", moment, "111", key), field, (5, b"XmlError"))
+        yield row(f"answers-with-a-{label}", words(digits, key), field, USAGE)
+    yield row("answers-before-the-message", words("11", key), b"00", (4, b"CmsDecode"))
+    yield row("answers-before-digits", words("11", key), b"0", (3, b"Hex"))
+    yield row("answers-before-the-content", words("11", key, kind="provisioning"), field, USAGE)
+    yield row("another-protocol", words("111", key, kind="provisioning"), field, (5, b"XmlError"))
     # The answers to a key's questions are one behind the other, and a question that comes twice has its first answer.
-    yield row("same-key-twice", (*words, "11100", key, key), field, received)
-    yield row("same-key-twice-no-first", (*words, "10111", key, key), field, (6, b"Validation 8"))
+    yield row("same-key-twice", words("11100", key, key), field, received)
+    yield row("same-key-twice-no-first", words("10111", key, key), field, validation(8))
     for label, more in ("no-keys", ()), ("nine-keys", (key,) * 9), ("no-key", ("00",)), ("key-with-more", (key + "00",)):
-        yield row(f"questions-{label}", ("questions", *more), field, USAGE)
-        yield row(f"receive-{label}", (*words, "111", *more), field, USAGE)
-    for label, more in ("none", ()), ("unknown", ("content",)), ("upper-case", ("Questions", key)), ("help", ("--help", key)):
+        yield row(f"questions-{label}", ("questions", "message", *more), field, USAGE)
+        yield row(f"receive-{label}", ("receive", kind, moment, "-", of_key, "111", *more), field, USAGE)
+    for label, more in (
+            ("none", ()), ("unknown", ("content",)), ("upper-case", ("Questions", "message", key)), ("help", ("--help", key)),
+            ("questions", ("questions", key)), ("questions-alone", ("questions",)), ("questions-of-a-list", ("questions", "Message", key)),
+            ("inspect", ("inspect", key)), ("explain", ("explain", moment, of_key, "111", key, key)),
+            ("explain-alone", ("explain", moment, of_key, "111")), ("explain-at-no-moment", ("explain", "-", of_key, "111", key))):
         yield row(f"words-{label}", more, field, USAGE)
-    for label, more in ("kind", ("receive", "setup", moment, "111", key)), ("moment", ("receive", kind, "0" + moment, "111", key)):
+    for label, change in (
+            ("kind", {1: "setup"}), ("moment", {2: "0" + moment}), ("last", {3: ""}), ("last-time", {3: "0" + moment}),
+            ("digest", {4: ""}), ("digest-of-63", {4: of_key[1:]}), ("digest-of-65", {4: of_key + "0"}), ("digits-of-digest", {4: "g" * 64})):
+        more = [change.get(place, held) for place, held in enumerate(words("111", key))]
         yield row(f"receive-no-{label}", more, field, USAGE)
     for label, held, answer in (
             ("odd", field[:-1], (3, b"Hex")), ("two-feeds", field + b"\n\n", (3, b"Hex")), ("empty", b"", (4, b"CmsDecode")),
             ("broken", field[:-2], (4, b"CmsDecode"))):
-        yield row(f"questions-{label}", ("questions", key), held, answer)
-        yield row(f"receive-{label}", (*words, "111", key), held, answer)
-    lines = question_lines(message, (bytes.fromhex(key),))
+        for call, more in (
+                ("questions", ("questions", "message", key)), ("receive", words("111", key)), ("inspect", ("inspect",)),
+                ("explain", ("explain", moment, of_key, "111", key)), ("receive-unbound", words("1", key, digest=NO_DIGEST))):
+            yield row(f"{call}-{label}", more, held, answer)
     for label, held in ("feed", field + b"\n"), ("upper-case", field.upper()), ("more", field + b"00"):
-        yield row(f"questions-{label}", ("questions", key), held, (0, lines))
-        yield row(f"received-{label}", (*words, "111", key), held, received)
+        yield of_questions(f"questions-{label}", message, key, field=held)
+        yield row(f"received-{label}", words("111", key), held, received)
+        yield row(f"inspect-{label}", ("inspect",), held, (0, inspected(message)))
+    yield row("received-digest-in-upper-case", words("111", key, digest=of_key.upper()), field, received)
 
 
 # ---- what is made
@@ -361,7 +456,15 @@ def listed(*signatures):
 
 
 def lines(signed):
-    return "\n".join(part.hex() for part in signed).encode()
+    return "\n".join(f"{name} {part.hex()}" for name, part in zip(SIGNED, signed)).encode()
+
+
+SIGNED = "attributes", "crl", "certificate"
+
+
+def named(*digits):
+    """The words of signatures."""
+    return [f"{name}={held}" for name, held in zip(SIGNED, digits)]
 
 
 def make_rows():
@@ -373,10 +476,10 @@ def make_rows():
             ("at-300", 300, SERIAL, toy), ("at-the-end", 253402300499, SERIAL, toy),
             ("of-other-lengths", NOW, SERIAL, listed(b"\1" * 256, b"", b"\2" * 700))):
         signed, signatures, message = made(text, moment, serial, signature)
-        yield row(f"prepare-{label}", ("prepare", *words(moment, serial)), text, (0, lines(signed)))
-        digits = [signature_octets.hex() for signature_octets in signatures]
-        yield row(f"finish-{label}", ("finish", *words(moment, serial), *digits), text, (0, message.hex().encode()))
-    three = ("00", "01", "02")
+        yield row(f"prepare-{label}", ("prepare", "message", *words(moment, serial)), text, (0, lines(signed)))
+        digits = named(*(signature_octets.hex() for signature_octets in signatures))
+        yield row(f"finish-{label}", ("finish", "message", *words(moment, serial), *digits), text, (0, message.hex().encode()))
+    three = named("00", "01", "02")
     ec = seq(seq(messages.oid("1.2.840.10045.2.1"), messages.oid("1.2.840.10045.3.1.7")), bits(b"\4" + bytes(64))).hex()
     long_key = seq(seq(RSA, NULL), bits(bytes((1 << 16) + 1))).hex()
     most_key = seq(seq(RSA, NULL), bits(bytes(1 << 16))).hex()
@@ -406,17 +509,16 @@ def make_rows():
             ("publication-of-a-request", words(), NO_REQUEST, (5, b"XmlError")),
             ("text-before-moment", words(moment=0), b"<msg/>", (5, b"XmlError")),
             ("one-long-key", words(keys=(most_key, most_key)), text, (7, b"KeyReused"))):
-        yield row(f"prepare-{label}", ("prepare", *more), field, answer)
-        yield row(f"finish-{label}", ("finish", *more, *three), field, answer)
+        yield row(f"prepare-{label}", ("prepare", "message", *more), field, answer)
+        yield row(f"finish-{label}", ("finish", "message", *more, *three), field, answer)
     for place in range(3):
-        digits = [*three]
-        digits[place] = "00" * ((1 << 16) + 1)
-        yield row(f"finish-long-signature-{place}", ("finish", *words(), *digits), text, (9, b"TooLong"))
-    long_signatures = ("00" * (MOST + 1), "", "")
-    yield row("finish-moment-before-signature", ("finish", *words(moment=0), *long_signatures), text, (8, b"Moment"))
-    yield row("finish-format-before-signature", ("finish", *words(keys=(ec, 1)), *long_signatures), text, (7, b"IncompatibleKey"))
-    yield row("finish-text-before-signature", ("finish", *words(), *long_signatures), b"<msg/>", (5, b"XmlError"))
-    yield row("finish-key-before-signature", ("finish", *words(keys=(0, 0)), "00" * ((1 << 16) + 1), "", ""), text, (7, b"KeyReused"))
+        digits = named(*("00" * ((1 << 16) + 1 if place == number else 1) for number in range(3)))
+        yield row(f"finish-long-signature-{place}", ("finish", "message", *words(), *digits), text, (9, b"TooLong"))
+    long_signatures = named("00" * (MOST + 1), "", "")
+    yield row("finish-moment-before-signature", ("finish", "message", *words(moment=0), *long_signatures), text, (8, b"Moment"))
+    yield row("finish-format-before-signature", ("finish", "message", *words(keys=(ec, 1)), *long_signatures), text, (7, b"IncompatibleKey"))
+    yield row("finish-text-before-signature", ("finish", "message", *words(), *long_signatures), b"<msg/>", (5, b"XmlError"))
+    yield row("finish-key-before-signature", ("finish", "message", *words(keys=(0, 0)), *long_signatures), text, (7, b"KeyReused"))
     for label, change in (
             ("short", {2: "00" * 19}), ("long", {2: "00" * 21}), ("first-bit", {2: "80" + "00" * 19}), ("odd", {2: "0" * 39}),
             ("no-digits", {2: "g" * 40}), ("none", {2: ""}), ("most-bits", {2: "ff" * 20}), ("no-issuer", {3: "00"}),
@@ -424,14 +526,18 @@ def make_rows():
             ("more-of-issuer", {3: toy_key(0) + "00"}), ("issuer-none", {3: ""}), ("no-kind", {0: "setup"}), ("upper-kind", {0: "Publication"}),
             ("no-moment", {1: "-1"}), ("moment-from-zero", {1: "0" + str(NOW)}), ("late-moment", {1: "253402300800"})):
         more = [change.get(place, held) for place, held in enumerate(words())]
-        yield row(f"prepare-serial-{label}", ("prepare", *more), text, USAGE)
-        yield row(f"finish-serial-{label}", ("finish", *more, *three), text, USAGE)
-    yield row("prepare-more-words", ("prepare", *words(), "00"), text, USAGE)
-    yield row("prepare-fewer-words", ("prepare", *words()[:-1]), text, USAGE)
+        yield row(f"prepare-serial-{label}", ("prepare", "message", *more), text, USAGE)
+        yield row(f"finish-serial-{label}", ("finish", "message", *more, *three), text, USAGE)
+    yield row("prepare-more-words", ("prepare", "message", *words(), "00"), text, USAGE)
+    yield row("prepare-fewer-words", ("prepare", "message", *words()[:-1]), text, USAGE)
+    yield row("prepare-of-nothing", ("prepare", *words()), text, USAGE)
+    yield row("finish-of-nothing", ("finish", *words(), *three), text, USAGE)
     for label, more in (
-            ("two", three[:2]), ("four", (*three, "00")), ("no", ()), ("odd", ("00", "0", "00")), ("spelled-so", ("00", "01", "0g")),
-            ("blank", ("0 ", "01", "02"))):
-        yield row(f"finish-{label}-signatures", ("finish", *words(), *more), text, USAGE)
+            ("two", three[:2]), ("four", (*three, "certificate=00")), ("no", ()), ("odd", named("00", "0", "00")),
+            ("spelled-so", named("00", "01", "0g")), ("blank", named("0 ", "01", "02")), ("unnamed", ("00", "01", "02")),
+            ("swapped", (three[1], three[0], three[2])), ("upper-case", [held.upper() for held in three]),
+            ("spaced", [held.replace("=", " ") for held in three])):
+        yield row(f"finish-{label}-signatures", ("finish", "message", *words(), *more), text, USAGE)
 
 
 # Texts of the form of a message, in which a certificate and a request are none.
@@ -444,16 +550,43 @@ def syntax_rows():
     for label, content, answer in (
             ("no-certificate", NO_CERTIFICATE, (5, b"CertSyntax")), ("no-request", NO_REQUEST, (5, b"InvalidCsrSyntax")),
             ("no-message", b"<message/>", (5, b"XmlError")), ("nothing", b"", (5, b"XmlError"))):
-        field = numbered(content, NOW, SERIAL).hex().encode()
-        for digits in "000", "111":
-            yield row(f"receive-{label}-{digits}", ("receive", "provisioning", str(NOW), digits, toy_key(0)), field, answer)
-        yield row(f"receive-{label}-two-answers", ("receive", "provisioning", str(NOW), "11", toy_key(0)), field, USAGE)
+        message = numbered(content, NOW, SERIAL)
+        for digits, answer_to_digits in ("000", answer), ("111", answer), ("11", USAGE):
+            words = by_answers("provisioning", NOW, message, digits, toy_key(0))
+            yield row(f"receive-{label}-{digits}", ("receive", *words), message.hex().encode(), answer_to_digits)
     # One octet more than are read: digits where they are expected, and blanks.
     for label, words, octet in (
-            ("receive", ("receive", "publication", str(NOW), "111", toy_key(0)), b"0"),
-            ("prepare", ("prepare", "publication", str(NOW), f"{SERIAL:040x}", toy_key(0), toy_key(1)), b" ")):
+            ("receive", ("receive", "publication", str(NOW), "-", NO_DIGEST, "111", toy_key(0)), b"0"), ("inspect", ("inspect",), b"0"),
+            ("prepare", ("prepare", "message", "publication", str(NOW), f"{SERIAL:040x}", toy_key(0), toy_key(1)), b" ")):
         field = f"{(octet * 64).hex()}*{LONGEST // 64}|{octet.hex()}"
         yield case(f"keys-{label}-too-much", "whole", words, field, 9, b"TooLong\n")
+
+
+def toy_rows():
+    """Messages of the toy scheme that none is made of the others: without signing time, where a last time has to be refused."""
+    key = toy_key(0)
+    timeless = messages.message(attributes=messages.without(messages.SIGNING_TIME))
+    for label, message in ("timeless", timeless), ("toy", messages.message()):
+        digits = questions.toy_says(questions.of_message(message, key))
+        assert digits == "111", label
+        for last in "-", "0", str(NOW - 1), str(NOW):
+            words, refused = by_answers("publication", NOW, message, digits, key, last=last), None
+            if last != "-" and label == "timeless":
+                refused = (15, b"NoTime"), b"the message has no signing time"
+            elif last == str(NOW):
+                refused = (15, b"Replayed %d %d" % (NOW, NOW)), b"the message is not signed later than the last one"
+            answer = refused[0] if refused else receipt(message, 0, QUERY)
+            yield row(f"{label}-last-{last}", ("receive", *words), message.hex().encode(), answer)
+            fields = (b"refused", refused[1]) if refused else receipt_fields(message, 0, QUERY)
+            yield of_call("received", f"{label}-last-{last}", words, message, *fields)
+        said = (b"NoTime",) * 2 if label == "timeless" else (b"%d" % NOW, b"Replayed %d %d" % (NOW, NOW))
+        yield of_call("guarded", label, (str(NOW), digits, key), message, digits_but(()), *said)
+    for check in messages.BREAKS:
+        message = messages.broken(check)
+        digits = questions.toy_says(questions.of_message(message, key))
+        yield from explained(f"broken-{check}", NOW, message, digits, key, {check})
+        said = (b"Validation %d" % check,) * 2
+        yield of_call("guarded", f"broken-{check}", (str(NOW), digits, key), message, digits_but({check}), *said)
 
 
 # ---- sizes
@@ -480,17 +613,31 @@ def size_rows():
         signed, signatures, message = made_with(*held, QUERY, NOW, SERIAL, listed(b"\3" * n, b"\4" * n, b"\5" * n))
         words = "publication", str(NOW), f"{SERIAL:040x}", *keys
         field, digits = message.hex().encode(), [octets_of_signature.hex() for octets_of_signature in signatures]
-        yield row(f"prepare-keys-of-{n}", ("prepare", *words), QUERY, (0, lines(signed)))
-        yield row(f"finish-keys-and-signatures-of-{n}", ("finish", *words, *digits), QUERY, (0, field))
-        yield row(f"questions-of-{n}", ("questions", keys[0]), field, (0, question_lines(message, (bytes.fromhex(keys[0]),))))
-        yield row(f"received-of-{n}", ("receive", "publication", str(NOW), "111", keys[0]), field, (0, QUERY))
-        yield row(f"no-of-{n}", ("receive", "publication", str(NOW), "110", keys[0]), field, (6, b"Validation 10"))
-        yield of_call("asked", f"of-{n}", ("101", keys[0]), message,
-            b"attributes", b"10", b"certificate-0", b"00", b"crl-0-0", b"10")
+        yield row(f"prepare-keys-of-{n}", ("prepare", "message", *words), QUERY, (0, lines(signed)))
+        yield row(f"finish-keys-and-signatures-of-{n}", ("finish", "message", *words, *named(*digits)), QUERY, (0, field))
+        yield of_questions(f"questions-of-{n}", message, keys[0])
+        yield of_call("asked", f"of-{n}", ("101", keys[0]), message, *questions.shown(questions.of_message(message, keys[0]), "101"))
+        for name, answers, answer in (("received", "111", receipt(message, 0, QUERY)), ("no", "110", validation(10))):
+            words = by_answers("publication", NOW, message, answers, keys[0])
+            yield row(f"{name}-of-{n}", ("receive", *words), field, answer)
+        yield of_call("received", f"keys-of-{n}", by_answers("publication", NOW, message, "111", keys[0]), message,
+            *receipt_fields(message, 0, QUERY))
+        yield from explained(f"of-{n}", NOW, message, "101", keys[0], {8})
+        yield of_call("guarded", f"of-{n}", (str(NOW), "111", keys[0]), message, digits_but(()), b"%d" % NOW, b"Replayed %d %d" % (NOW, NOW))
+        yield of_call("held", f"of-{n}", keys, message, *held_fields(message, keys))
+        yield of_call("inspected", f"of-{n}", (), message, inspected(message))
+        yield of_call("told", f"of-{n}", (), message, inspected(message))
         plan = str(NOW), "77", *keys
         signed, signatures, message = made_with(*held, QUERY, NOW, 77, listed(b"\3" * n, b"\4" * n, b"\5" * n))
         yield of_call("prepared", f"keys-of-{n}", plan, QUERY, *signed)
         yield of_call("finished", f"keys-and-signatures-of-{n}", (*plan, *digits), QUERY, message)
+
+
+def held_fields(message, keys):
+    (name, key, *own), parts, _ = questions.of_message(message)
+    bits_of = lambda spelled: values(inner(spelled))[1][1][1:]
+    others = (field for part in parts for field in (part[0].encode(), *part[1:]))
+    return name.encode(), *own, bits_of(key), *others, *(bits_of(bytes.fromhex(held)) for held in keys)
 
 
 def varied_content(n):
@@ -507,22 +654,25 @@ def content_rows():
         yield of_call("prepared", f"content-of-{n}", plan, content, *signed)
         yield of_call("finished", f"content-of-{n}", (*plan, *(held.hex() for held in signatures)), content, message)
         yield of_call("asked", f"content-of-{n}", ("111", toy_key(0)), message,
-            b"attributes", b"10", b"certificate-0", b"10", b"crl-0-0", b"10")
+            *questions.shown(questions.of_message(message, toy_key(0)), "111"))
+        yield of_call("inspected", f"content-of-{n}", (), message, inspected(message))
     for n in SIZES:
         blank = QUERY.replace(b"<list/>", b" " * (n - len(QUERY)) + b"<list/>")
         assert len(blank) == n
         signed, signatures, message = made(QUERY, NOW, SERIAL, toy)
-        yield row(f"prepare-text-of-{n}", ("prepare", *words), blank, (0, lines(signed)))
+        yield row(f"prepare-text-of-{n}", ("prepare", "message", *words), blank, (0, lines(signed)))
         message = numbered(blank, NOW, SERIAL)
-        yield row(f"received-text-of-{n}", ("receive", "publication", str(NOW), "111", toy_key(0)), message.hex().encode(), (0, QUERY))
+        received = "receive", *by_answers("publication", NOW, message, "111", toy_key(0))
+        yield row(f"received-text-of-{n}", received, message.hex().encode(), receipt(message, 0, QUERY))
         text = text_of(n)
         kind = "provisioning" if b"<message" in text else "publication"
         signed, signatures, message = made(text, NOW, SERIAL, toy)
-        digits = [held.hex() for held in signatures]
-        yield row(f"prepare-{kind}-of-{n}", ("prepare", kind, *words[1:]), text, (0, lines(signed)))
-        yield row(f"finish-{kind}-of-{n}", ("finish", kind, *words[1:], *digits), text, (0, message.hex().encode()))
-        yield row(f"received-{kind}-of-{n}", ("receive", kind, str(NOW), "111", toy_key(0)), message.hex().encode(), (0, text))
-        yield of_call("received", f"{kind}-of-{n}", (kind, str(NOW), "111", toy_key(0)), message, text, b"0")
+        digits = named(*(held.hex() for held in signatures))
+        yield row(f"prepare-{kind}-of-{n}", ("prepare", "message", kind, *words[1:]), text, (0, lines(signed)))
+        yield row(f"finish-{kind}-of-{n}", ("finish", "message", kind, *words[1:], *digits), text, (0, message.hex().encode()))
+        received = by_answers(kind, NOW, message, "111", toy_key(0))
+        yield row(f"received-{kind}-of-{n}", ("receive", *received), message.hex().encode(), receipt(message, 0, text))
+        yield of_call("received", f"{kind}-of-{n}", received, message, *receipt_fields(message, 0, text))
 
 
 def text_of(n):
@@ -535,7 +685,7 @@ def text_of(n):
     return held % (b"a" * (size % 4), b"AAAA" * (size // 4))
 
 
-# ---- calls and what is printed
+# ---- calls
 
 
 def call_rows():
@@ -555,61 +705,37 @@ def call_rows():
     for place in range(3):
         signatures = ["00" * (MOST + (number == place)) for number in range(3)]
         yield of_call("finished", f"long-signature-{place}", (str(NOW), "1", *keys, *signatures), b"a", b"refused", texts["long"])
-    message = numbered(QUERY, NOW, 1)
-    receive = "publication", str(NOW)
-    yield of_call("asked", "no-message", ("1", toy_key(0)), message[:-1], b"refused", b"malformed value")
-    yield of_call("asked", "fewer-answers", ("1", toy_key(0)), message, b"attributes", b"10", b"certificate-0", b"00", b"crl-0-0", b"00")
-    yield of_call("asked", "a-key-twice", ("10011", toy_key(0), toy_key(0)), message,
-        b"attributes", b"10", b"certificate-0", b"00", b"crl-0-0", b"00", b"certificate-1", b"00", b"crl-1-0", b"00")
-    yield of_call("asked", "keys-on-a-curve", ("111", ec), message,
-        b"attributes", b"10", b"certificate-0", b"00", b"crl-0-0", b"00")
+    message, key = numbered(QUERY, NOW, 1), toy_key(0)
+    of_key = questions.of_message(message, key)
+    yield of_call("asked", "no-message", ("1", key), message[:-1], b"refused", b"malformed value")
+    for label, digits, more in ("fewer-answers", "1", (key,)), ("a-key-twice", "10011", (key, key)), ("keys-on-a-curve", "111", (ec,)):
+        yield of_call("asked", label, (digits, *more), message, *questions.shown(questions.of_message(message, *more), digits))
+    yield of_call("held", "a-key-twice", (key, key), message, *held_fields(message, (key, key)))
+    yield of_call("held", "two-crls", (key, ec), messages.two_crls({}, {}), *held_fields(messages.two_crls({}, {}), (key, ec)))
+    nothing = numbered(b"", NOW, 1)
     for label, digits, octets_of_message, text in (
             ("no-message", "11", message[:-1], b"Could not decode CMS"), ("number", "11", message, b"not as many answers as questions"),
             ("greater-number", "1111", message, b"not as many answers as questions"),
-            ("number-before-content", "11", numbered(b"", NOW, 1), b"not as many answers as questions"),
-            ("no-content", "000", numbered(b"", NOW, 1), b"malformed XML"), ("no", "011", message, b"CMS is not valid: check 3 failed")):
-        yield of_call("received", label, (*receive, digits, toy_key(0)), octets_of_message, b"refused", text)
-
-
-# The parts of which the program under test prints a table: as Rust's derived Debug shows them.
-PARTS = (
-    b"attributes Attributes", b"certificate-0 Certificate { key: 0 }", b"certificate-7 Certificate { key: 7 }",
-    b"crl-0-1 Crl { key: 0, crl: 1 }", b"crl-1-0 Crl { key: 1, crl: 0 }", b"crl-7-1 Crl { key: 7, crl: 1 }")
-PREPARE_ERRORS = (
-    b"the moment has no window Moment", b"content, key or signature too long TooLong", b"a key is no RSA key IncompatibleKey",
-    b"the one-off key is the issuing key KeyReused", b"out of memory OutOfMemory")
-ANSWERED_ERRORS = (
-    b"not as many answers as questions Number", b"Could not decode CMS Receive(CmsDecode)",
-    b"CMS is not valid: check 8 failed Receive(Validation(ValidationError { kind: Verification, check: 8 }))",
-    b"out of memory Receive(OutOfMemory)")
-
-
-# What errors are passed on as: a malformed message, want of memory twice; and, for the errors of the lists above, the refusals of
-# docs/PROGRAMS.md.
-PASSED_ON = b"Receive(CmsDecode)", b"Receive(OutOfMemory)", b"OutOfMemory"
-REFUSALS = (
-    b"Moment", b"TooLong", b"IncompatibleKey", b"KeyReused", b"OutOfMemory", b"Usage", b"CmsDecode", b"Validation(8)", b"OutOfMemory")
-
-
-def printed_rows():
-    yield of_call("printed", "passed-on", ("passed-on",), b"", *PASSED_ON)
-    yield of_call("printed", "refusals", ("refusals",), b"", *REFUSALS)
-    for label, listed_texts in ("parts", PARTS), ("prepare", PREPARE_ERRORS), ("answered", ANSWERED_ERRORS):
-        yield of_call("printed", label, (label,), b"", *listed_texts)
-        count = len(listed_texts)
-        alone = ("0" * place + "1" + "0" * (count - place - 1) for place in range(count))
-        yield of_call("printed", f"equal-{label}", (f"equal-{label}",), b"", *(digits.encode() for digits in alone))
+            ("number-before-content", "11", nothing, b"not as many answers as questions"),
+            ("no-content", "000", nothing, b"malformed XML"), ("no", "011", message, b"CMS is not valid: check 3 failed")):
+        asked_of = of_key if octets_of_message != nothing else questions.of_message(nothing, key)
+        words = by_answers("publication", NOW, message, digits, key, digest=questions.digest_of(asked_of))
+        yield of_call("received", label, words, octets_of_message, b"refused", text)
+    yield of_call("checked", "no-message", (str(NOW), NO_DIGEST, "1", key), message[:-1], b"refused", b"Could not decode CMS")
 
 
 def rows():
-    yield case("toy-example", "toy", ("receive", "publication", str(NOW), toy_key(0)), INPUT, 0, QUERY + b"\n")
+    yield toy_case("toy-example", ("receive", "publication", str(NOW), toy_key(0)), INPUT, 0, QUERY + b"\n")
     yield from word_rows()
     yield from make_rows()
     yield from syntax_rows()
     yield from size_rows()
     yield from content_rows()
     yield from call_rows()
-    yield from printed_rows()
+    yield from inspected_rows()
+    yield from toy_rows()
+    yield from anchor_cases.rows()
+    yield from printed_cases.rows()
     yield from real_rows()
 
 

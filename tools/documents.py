@@ -65,7 +65,7 @@ ELSEWHERE = {
     "OpenSSL prints": "eContent notBefore notAfter Nov GMT X509v3 Authority Subject lastUpdate nextUpdate signerInfos signedAttrs "
     "subjectKeyIdentifier messageDigest signingTime certificates crls cont d",
     "the standards": "sid cA thisUpdate",
-    "programs": "openssl cms asn1parse xxd rt ci",
+    "programs": "openssl cms asn1parse xxd sha256sum pkcs11-tool rt ci",
     "the toolchain": "rattle kit logic dac8208d650f15bf Lts antt goal Goals Given",
     "the surroundings": "RT_JOBS LD_PRELOAD kernel.sched_autogroup_enabled nice malloc ipaddress",
     "the Rust crate": "bcder chrono rpki crypto compat validate_ta validate_ee BufRead IntoSource src/ca/ "
@@ -134,6 +134,12 @@ def refusals():
     return {name: int(number) for name, number in re.findall(r"Refusal::(\w+)(?:\(_\))? => (\d+),", source("rpki_ca", "refusals.rt"))}
 
 
+def keys_refusals():
+    """The status of each refusal of rpkikeys."""
+    own = re.findall(r"KeysRefusal::(\w+)(?: { \.\. })? => (\d+),", source("rpki_external", "keys_refusal.rt"))
+    return refusals() | {name: int(number) for name, number in own}
+
+
 def checks_in_help():
     return re.findall(r"^ {4,5}(\d+)  \S", source("rpkica", "main.rt").partition("The checks of receive")[2], re.MULTILINE)
 
@@ -184,7 +190,7 @@ NUMBERS = [
     (r"\*\*(\w+) refusals share status 7\*\*", "status 7"),
     (r"(\w+) further programs", "programs"),
     (r"one to (\w+) (?:such )?(?:keys|KEYs|of them)|There are one to (\w+)\b", "keys"),
-    (r"a line for each question of the message, at most (\d+)", "questions"),
+    (r"with two CRLs under eight KEYs it has (\d+)", "questions"),
     (r"[Ff]rom (\d+) seconds before (?:the moment|it|MOMENT|the given time|the time at which it was made) to (\d+) seconds", "window"),
     (r"at each second from (\d+) before the moment to (\d+) after", "window"),
     (r"at each second from (\d+) before (\d+) to (\d+) after", "window of make"),
@@ -212,7 +218,9 @@ SAID = {
     "OpenSSL prints": "22 2023",
     "the standards": "20 60 256 2001",
     "years": "1970 9999",
-    "bits of numbers, and of RSA keys": "32 2048",
+    "bits of numbers, and of RSA keys": "32 2048 4096",
+    "the statuses of refusals, which are compared in statuses": "14 15",
+    "days of an anchor, by tools/rpkikeys.py": "365",
     "of a word on Linux": "131071",
     "minutes that a gate took, on the machines that CONTRIBUTING.md tells of": "21 45 46 53 55 84 106 110 130 197 244 320 472",
     "the status of a trial that can't be made, by tools/trial.py": "125",
@@ -383,7 +391,7 @@ class Looker:
             self.command(document, number, span, words)
             return
         if words[0].startswith("--"):
-            known = set().union(*RT.values()) | set(re.findall(r"--[a-z]+", self.scripts()))
+            known = set().union(*RT.values()) | set(re.findall(r"--[a-z]+(?:-[a-z]+)*", self.scripts()))
             self.options(document, number, span, known, words)
             return
         if PATH.fullmatch(span.rstrip("/")) or PATH.fullmatch(span):
@@ -516,16 +524,19 @@ def cells_of(row):
 
 
 def statuses(looker):
-    """The tables of statuses in README and docs/PROGRAMS.md, and the help of rpkica."""
-    here = refusals()
-    for document in (README, PROGRAMS):
-        rows = re.findall(r"^\| (\d+) \| `([A-Z]\w+)[^`]*` \|", document.read_text(encoding="utf-8"), re.MULTILINE)
-        told = {name: int(status) for status, name in rows}
+    """The tables of statuses in README and docs/PROGRAMS.md."""
+    of_ca, _, of_keys = PROGRAMS.read_text(encoding="utf-8").partition("## Under real keys")
+    without = "KeyNotFound", "Signer"
+    keys = {name: status for name, status in keys_refusals().items() if name not in without}
+    for document, text, here in (
+            (README, README.read_text(encoding="utf-8"), refusals()), (PROGRAMS, of_ca, refusals()), (PROGRAMS, of_keys, keys)):
+        rows = re.findall(r"^\| ([\d, ]+) \| ((?:`[A-Z][\w ]+`(?:, )?)+) \|", text, re.MULTILINE)
+        told = {name: int(status) for status, names in rows for name in re.findall(r"`(\w+)", names)}
         for name in sorted(set(told) | set(here)):
-            if told.get(name) != here.get(name):
-                looker.say(document, 0, f"status of {name}: {told.get(name)} in the table, {here.get(name)} in rpki_ca")
+            if told.get(name) != here.get(name) and not (text is of_keys and name in ("ReadFault", "OutOfMemory")):
+                looker.say(document, 0, f"status of {name}: {told.get(name)} in the table, {here.get(name)} in the code")
     program = source("rpkica", "main.rt")
-    for name, status in here.items():
+    for name, status in refusals().items():
         if not re.search(rf"^ *{status}  (?:[\w, ]*\b)?{name}\b|^        (?:[\w, ]*\b)?{name}\b", program, re.MULTILINE):
             looker.say(PROGRAMS, 0, f"the help of rpkica doesn't have {status} {name}")
 
@@ -569,9 +580,10 @@ def real_message(looker):
     """The times at which README receives the message of OpenSSL are those of stored cases, with what README says of them."""
     query, key = ((TOP / "examples" / name).read_text(encoding="ascii").strip() for name in ("rsa-query.hex", "rsa-key.hex"))
     cases = (CRATES / "test_external" / "data" / "cases.txt").read_text(encoding="utf-8").splitlines()
+    digest = re.search(r"receive publication (?:.*\n){1}\s+([0-9a-f]{64})", source("rpkikeys", "main.rt"))[1]
     shown = re.findall(r"rsa-key\.pem --at (\d+) < examples/rsa-query\.der", README.read_text(encoding="utf-8"))
     for at, answer in zip(shown, ("0 ", "6 'Validation|20350a ")):
-        end = f"{query} receive publication {at} 111 {key}"
+        end = f"{query} receive publication {at} #2d {digest} 111 {key}"
         if not any(re.match(rf"\S+ keys {re.escape(answer)}", case) and case.endswith(end) for case in cases):
             looker.say(README, line_of(README.read_text(encoding="utf-8"), f"--at {at}"), f"no stored case answers {answer}at {at}")
     if len(shown) != 2:
@@ -587,9 +599,24 @@ def commands(looker):
         looker.say(PROGRAMS, 0, f"{name} is a row of the table of words, or a command, and not the other")
 
 
+def keys_commands(looker):
+    """So has that of rpkikeys, and its help too."""
+    words = (CRATES / "rpki_external/specs/Words.antt").read_text(encoding="utf-8")
+    found = re.findall(r'IsOneWord words \d+ \(codes "(\w+)"\)()|AreTwoWords words \d+ \(codes "(\w+)"\) \(codes "(\w+)"\)', words)
+    found += re.findall(r'verb_is : HasWord words 0 \(codes "(\w+)"\)(?:\n +pub thing_is : HasWord words 1 \(codes "(\w+)"\))?', words)
+    here = {" ".join(filter(None, names)) for names in found}
+    verbs = {name.split(" ")[0] for name in here if " " in name}
+    table = PROGRAMS.read_text(encoding="utf-8").partition("## Under real keys")[2].partition("###")[0]
+    row = r"^(?:\| `|    rpkikeys )(\w+)(?: (\w+))?"
+    for where, text in (PROGRAMS, table), (CRATES / "rpkikeys/src/main.rt", source("rpkikeys", "main.rt")):
+        told = {f"{verb} {thing}" if verb in verbs else verb for verb, thing in re.findall(row, text, re.MULTILINE)}
+        for name in sorted(told ^ here):
+            looker.say(where, 0, f"{name} is told of rpkikeys, or a command, and not the other")
+
+
 def helps(looker):
     """What the programs' help names: examples that are there, and refusals under their statuses."""
-    known = refusals()
+    known = keys_refusals()
     for file in sorted(CRATES.glob("*/src/main.rt")):
         text = file.read_text(encoding="utf-8").partition("const HELP")[2].partition('";')[0]
         for path in re.findall(r"\bexamples/[\w.-]*\w", text):
@@ -701,6 +728,7 @@ def main():
     trial(looker)
     real_message(looker)
     commands(looker)
+    keys_commands(looker)
     helps(looker)
     crates(looker)
     promises(looker)

@@ -1,12 +1,16 @@
 #!/usr/bin/env python3
 """Makes signed messages with RSA keys of 2048 bits by the `openssl` command, and writes them and their keys:
-crates/test_external/data/messages.txt, and examples/rsa-query.der, rsa-query.hex, rsa-key.pem and rsa-key.hex.
+crates/test_external/data/messages.txt, and examples/rsa-query.der, rsa-query.hex, rsa-key.pem and rsa-key.hex. Of a key of its own it
+makes examples/rsa-child-request.xml, with the certificate of a trust anchor, rsa-request.hex, a certificate request, and rsa-issue.xml,
+an issue request with that.
 
     tools/rsa_messages.py
 
 It shows how the stored messages were made, with OpenSSL 3.0.19, and isn't part of the gate: keys are drawn anew each time, and so
 are the messages. Certificates and CRLs are those of `openssl ca`, messages those of `openssl cms -sign`. That has no word for CRLs,
-and names the signature's algorithm rsaEncryption; neither is signed, so the script puts in the CRLs, and the other name.
+and names the signature's algorithm rsaEncryption; neither is signed, so the script puts in the CRLs, and the other name. The trust
+anchor's certificate is that of `openssl req -x509`, which has ten years and names its own key as its issuer's; the request is that of
+`openssl req -new`.
 
 A line of messages.txt is `NAME KIND MOMENT KEY OTHER-KEY MESSAGE`: the protocol; a moment in seconds since 1970, at which certificate
 and CRLs are valid; the issuer's key and another in DER; and the message; the last three in hexadecimal. Behind it stands the text.
@@ -33,6 +37,11 @@ DELTA = (
     '<withdraw tag="second" uri="rsync://localhost/ca/f2.txt"'
     ' hash="3e23e8160039594a33894f6564e1b1348bbd7a0088d42c4acb73eeaed59c009d"/></msg>')
 CLASSES = f'<message {PROVISIONING} sender="child" recipient="parent" type="list"/>'
+
+CHILD_REQUEST = (
+    '<child_request xmlns="http://www.hactrn.net/uris/rpki/rpki-setup/" version="1" child_handle="Carol"><child_bpki_ta>\n'
+    "{}</child_bpki_ta></child_request>\n")
+ISSUE = f'<message {PROVISIONING} sender="child" recipient="parent" type="issue"><request class_name="all">\n{{}}</request></message>\n'
 
 CONFIG = """
 [ca]
@@ -62,6 +71,23 @@ x509_extensions = anchor
 [anchor]
 basicConstraints = critical, CA:TRUE
 subjectKeyIdentifier = hash
+"""
+
+OF_CHILD = """
+[req]
+distinguished_name = none
+x509_extensions = anchor
+req_extensions = authority
+[none]
+[anchor]
+subjectKeyIdentifier = hash
+authorityKeyIdentifier = keyid:always
+basicConstraints = critical, CA:TRUE
+[authority]
+basicConstraints = critical, CA:TRUE
+keyUsage = critical, keyCertSign, cRLSign
+subjectInfoAccess = caRepository;URI:rsync://localhost/repo/carol/, \\
+    1.3.6.1.5.5.7.48.10;URI:rsync://localhost/repo/carol/ca.mft, 1.3.6.1.5.5.7.48.13;URI:https://localhost/notify.xml
 """
 
 
@@ -163,7 +189,21 @@ def examples(moment, key, message):
     print(f"examples/rsa-query.der is valid at {moment}")
 
 
+def child(folder):
+    """A child's setup message, request and issue request, which the help of rpkikeys shows."""
+    (folder / "child.cnf").write_text(OF_CHILD)
+    key_of(folder, "child")
+    words = "-new", "-config", "child.cnf", "-key", "child.pem", "-subj", "/CN=Carol", "-outform", "DER"
+    anchor = openssl(folder, "req", "-x509", *words, "-days", "3650")
+    request = openssl(folder, "req", *words)
+    (EXAMPLES / "rsa-child-request.xml").write_text(CHILD_REQUEST.format(base64.encodebytes(anchor).decode()))
+    (EXAMPLES / "rsa-request.hex").write_text(request.hex() + "\n")
+    (EXAMPLES / "rsa-issue.xml").write_text(ISSUE.format(base64.encodebytes(request).decode()))
+
+
 def main():
+    with tempfile.TemporaryDirectory() as folder:
+        child(pathlib.Path(folder))
     wanted = (
         ("list", "publication", LIST, RSA, False),
         ("delta", "publication", DELTA, RSA_SHA256, True),

@@ -8,6 +8,7 @@
 //! are stated in the script.
 #![tactic(auto)]
 
+mod answered;
 mod faults;
 mod parts;
 mod signers;
@@ -82,10 +83,18 @@ fn is_answered(alloc: Global, case: &Case, piece: usize) -> io::Result<bool> {
     Ok(status == case.status && sink.written() == case.line.as_slice())
 }
 
-// Whether the case is answered as expected, whole and an octet at a time.
+// Whether the case is answered as expected, whole and an octet at a time; and where answers are put in for the toy scheme, if it is a
+// setup message.
 fn is_run(alloc: Global, line: &str) -> io::Result<bool> {
     let case = case_of(alloc, line)?;
-    Ok(is_answered(alloc, &case, 1 << 20)? && is_answered(alloc, &case, 1)?)
+    let is_set_up = answered::is_answered(
+        alloc,
+        &case.words,
+        &case.input,
+        case.status,
+        &case.line,
+    )?;
+    Ok(is_set_up && is_answered(alloc, &case, 1 << 20)? && is_answered(alloc, &case, 1)?)
 }
 
 // What a call over words says; None where there is none of its name.
