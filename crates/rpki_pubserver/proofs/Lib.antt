@@ -1,6 +1,6 @@
 pub mod Live
 pub mod Placing
-pub mod Counting
+pub mod Emptying
 pub mod Listing
 pub mod Undoing
 pub mod Making

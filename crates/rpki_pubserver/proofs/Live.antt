@@ -67,6 +67,11 @@ none_among uri [] behind = refl
 none_among uri ((key, None) ∷ places) behind = none_among uri places behind.1
 none_among uri ((key, Some octets) ∷ places) behind = rw (other_before uri key behind.0) (none_among uri places behind.1)
 
+-- a text that is before all of these has no place among them
+pub no_place_among : (uri : List ℕ) (places : Places) → AreBehind uri places → lookup (bytes_eq uri) places ≡ None
+no_place_among uri [] behind = refl
+no_place_among uri ((key, there) ∷ places) behind = rw (other_before uri key behind.0) (no_place_among uri places behind.1)
+
 kept_without : (uri : List ℕ) (places : Places) → AreBehind uri places → without (live places) uri ≡ live places
 kept_without uri [] behind = refl
 kept_without uri ((key, None) ∷ places) behind = kept_without uri places behind.1

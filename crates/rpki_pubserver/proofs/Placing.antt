@@ -79,7 +79,7 @@ not_nowhere uri places has none = let no : false ≡ true = ap is_some (sym none
 
 -- ---- a new place
 
-equal_text : (uri key : List ℕ) → slice_cmp nat_cmp uri key ≡ Equal → bytes_eq uri key ≡ true
+pub equal_text : (uri key : List ℕ) → slice_cmp nat_cmp uri key ≡ Equal → bytes_eq uri key ≡ true
 equal_text uri key e = sym (is_eq-slice_cmp uri key) ∙ ap is_eq e
 
 pub new_place : (uri : List ℕ) (places : Places) (object : Option (List ℕ)) → HasPlace (insert_entry (slice_cmp nat_cmp) places uri object) uri

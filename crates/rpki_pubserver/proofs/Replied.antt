@@ -1,5 +1,6 @@
 -- What a reply leaves.
 use Rattle.std.proofs.Common.{◌≡◌, ℕ, ℤ, Option, None, Some, Result, Ok, Err, List, [], ◌∷◌, refl, sym, ap, subst, ◌∙◌}
+use Rattle.std.specs.Prelude.{OnErr, OnOk}
 use Rattle.rpki_base.specs.Scheme.{Relation}
 use Rattle.rpki_publication.specs.declared.message.Message.TheVariants as messages
 use Rattle.rpki_publication.specs.declared.publish_delta_element.PublishDeltaElement.{PublishDeltaElement}
@@ -13,7 +14,7 @@ use Rattle.rpki_ca.specs.declared.receiving.ReceiveError.{ReceiveError}
 use Rattle.rpki_ca.specs.declared.receiving.ReceiveError.TheVariants as errors
 use Rattle.rpki_ca.proofs.Laws.{one_received}
 use Rattle.rpki_pubserver.specs.Changes.{Refused, after_all, changed, code_of, refused_or}
-use Rattle.rpki_pubserver.specs.Replies.{Reply, reply_to, reply_to_changes}
+use Rattle.rpki_pubserver.specs.Replies.{Reply, reply_to, reply_to_changes, reply_to_delta}
 use Rattle.rpki_pubserver.specs.Server.{IsReply, ServerFields}
 use Rattle.rpki_pubserver.specs.Store.{IsStore, LieUnder, Store}
 use Rattle.rpki_pubserver.proofs.Lying.{lie_made}
@@ -60,6 +61,17 @@ module _ (base : List ℕ) (P : Store → Type 0) (keeps : (store : Store) (e : 
 -- behind changes that were all made, objects lie under the base as before
 pub lie_all : (base : List ℕ) (store next : Store) (elements : List PublishDeltaElement) → after_all base (Ok store) elements ≡ Ok next → LieUnder base store → LieUnder base next
 lie_all base store next elements made lie = kept_all base (LieUnder base) (lie_made base) store elements next made lie
+
+-- behind changes, made or not, objects lie under the base as before
+lie_behind : (base : List ℕ) (store : Store) (elements : List PublishDeltaElement) → LieUnder base store → LieUnder base (reply_to_delta base store elements).next
+lie_behind base store elements lie =
+    kept_changes base (LieUnder base) (lie_made base) store (after_all base (Ok store) elements) (λ next made. kept_all base (LieUnder base) (lie_made base) store elements next made lie) lie
+
+-- so do they where the reply is signed, and the changes are made, and where it isn't
+pub lie_answered : {X E : Type 0} (base : List ℕ) (store next : Store) (elements : List PublishDeltaElement) (answer : Result X E)
+    → OnOk answer (next ≡ (reply_to_delta base store elements).next) → OnErr answer (next ≡ store) → LieUnder base store → LieUnder base next
+lie_answered base store next elements (Ok x) made kept lie = subst (LieUnder base) (sym made) (lie_behind base store elements lie)
+lie_answered base store next elements (Err e) made kept lie = subst (LieUnder base) (sym kept) lie
 
 kept_still : (scheme : Relation) (server : ServerFields) (octets : List ℕ) (when : ℤ) (reply : Reply) (P : Store → Type 0) → ((store : Store) (e : PublishDeltaElement) → code_of server.base store e ≡ None → P store → P (changed store e))
     → IsReply scheme server octets when reply → P server.store → P reply.next

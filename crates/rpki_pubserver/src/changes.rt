@@ -1,10 +1,10 @@
 //! What a query changes, one change behind the other, all of them or none (RFC 8181, 2.2).
 
-ghost use Rattle.std.specs.Prelude.{◌≡◌, ◌≤◌, IfOk, IfErr, Ok, OnErr, OnOk, length, map};
+ghost use Rattle.std.specs.Prelude.{◌≡◌, ◌≤◌, ℕ, IfOk, IfErr, List, Ok, OnErr, OnOk, length, map, true};
 ghost use Rattle.std.specs.Option.{option_map};
 ghost use Rattle.std.specs.Rc.{rc_str_bytes};
 ghost use Rattle.rpki_pubserver.specs.Changes as definitions;
-ghost use Rattle.rpki_pubserver.specs.Places.{HavePlaces, live, object_of, undone};
+ghost use Rattle.rpki_pubserver.specs.Places.{HavePlaces, IsEmptyAt, IsSameElsewhere, has_change, live, object_of, undone};
 ghost use Rattle.rpki_pubserver.specs.Refusals.{IsChangeRefused};
 
 use crate::object::Object;
@@ -101,6 +101,7 @@ pub(crate) fn prepare(
 ) -> Result<Vec<Option<Object>>, OutOfMemory>
     ensures next { IfOk result (λ next. next.items ≡ map object_of changes.now) }
     ensures places { OnOk result (HavePlaces objects.new changes.now) }
+    ensures elsewhere { IsSameElsewhere changes.now objects.old objects.new }
     ensures live { live objects.new ≡ live objects.old }
 {
     let mut next = Vec::with_capacity(alloc, changes.len())?;
@@ -135,6 +136,7 @@ pub(crate) fn change_all(
         ≡ Ok (live objects.new)) }
     ensures undone { OnOk result (undone changes.now next.new objects.new ≡ objects.old) }
     ensures places { OnOk result (HavePlaces objects.new changes.now) }
+    ensures elsewhere { OnOk result (IsSameElsewhere changes.now objects.old objects.new) }
     ensures length { length next.new ≡ length changes.now }
 
     // An error tells the first one that isn't made, and all is as it was.
@@ -174,7 +176,10 @@ pub(crate) fn undo(
 
 /// Takes out the places of these changes that are empty.
 pub(crate) fn drop_places(objects: &mut Objects, changes: &[PublishDeltaElement])
-    ensures { live objects.new ≡ live objects.old }
+    ensures dropped { (uri : List ℕ) → has_change changes.now uri ≡ true
+        → IsEmptyAt objects.new uri → ⊥ }
+    ensures elsewhere { IsSameElsewhere changes.now objects.old objects.new }
+    ensures live { live objects.new ≡ live objects.old }
 {
     for change in changes {
         objects.drop_place(uri_of(change).as_str());

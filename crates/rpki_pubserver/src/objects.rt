@@ -1,12 +1,12 @@
 //! The objects that are kept, each at its URI.
 
-ghost use Rattle.std.specs.Prelude.{◌≡◌, ℕ, [], IfOk, List, OnOk, Some, length};
+ghost use Rattle.std.specs.Prelude.{◌≡◌, ℕ, [], IfOk, List, OnOk, Some, false, length};
 ghost use Rattle.std.specs.Option.{option_map};
 ghost use Rattle.std.specs.List.{AllByRecursion};
 ghost use Rattle.std.specs.Map.{lookup};
 ghost use Rattle.std.specs.Str.{bytes_eq};
 ghost use Rattle.rpki_publication.specs.ListReply.{IsWritableListElement};
-ghost use Rattle.rpki_pubserver.specs.Places.{HasPlace, live, with_object, with_octets};
+ghost use Rattle.rpki_pubserver.specs.Places.{HasPlace, IsEmptyAt, IsSameAt, NoneIsEmpty, live, with_object, with_octets};
 ghost use Rattle.rpki_pubserver.specs.Store.{IsStore, listed_store, octets_at};
 
 use crate::object::Object;
@@ -55,18 +55,13 @@ impl Objects {
         self.places.get(uri)?.as_ref()
     }
 
-    /// How many objects there are.
+    /// How many objects there are, which is how many places, since none is empty.
     pub(crate) fn len(&self) -> usize
+        requires { NoneIsEmpty self.now }
         ensures number { result ≡ length (live self.now) }
         ensures ordered { IsStore (live self.now) }
     {
-        let mut number = 0;
-        for place in self.places.values() {
-            if place.is_some() {
-                number += 1;
-            }
-        }
-        number
+        self.places.len()
     }
 
     /// The list of all objects, by their URIs and digests. The keys are the texts of URIs, so memory
@@ -91,6 +86,8 @@ impl Objects {
     pub(crate) fn make_place(&mut self, alloc: Global, uri: &str) -> Result<(), OutOfMemory>
         ensures here { OnOk result (HasPlace self.new uri.now) }
         ensures others { (other : List ℕ) → HasPlace self.old other → HasPlace self.new other }
+        ensures elsewhere { (other : List ℕ) → bytes_eq other uri.now ≡ false
+            → IsSameAt other self.old self.new }
         ensures live { live self.new ≡ live self.old }
     {
         if self.places.contains_key(uri) {
@@ -115,10 +112,17 @@ impl Objects {
 
     /// Takes a place out if it is empty.
     pub(crate) fn drop_place(&mut self, uri: &str)
-        ensures { live self.new ≡ live self.old }
+        ensures dropped { IsEmptyAt self.new uri.now → ⊥ }
+        ensures elsewhere { (other : List ℕ) → bytes_eq other uri.now ≡ false
+            → IsSameAt other self.old self.new }
+        ensures live { live self.new ≡ live self.old }
     {
-        if let Some(None) = self.places.get(uri) {
-            self.places.remove(uri);
+        match self.places.get(uri) {
+            Some(None) => {
+                self.places.remove(uri);
+            }
+            Some(Some(_)) => {}
+            None => {}
         }
     }
 }

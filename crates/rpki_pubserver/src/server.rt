@@ -11,6 +11,7 @@ ghost use Rattle.rpki_sigmsg.specs.declared.create_error.CreateError.TheVariants
 ghost use Rattle.rpki_ca.specs.declared.receiving.Received.TheVariants as received;
 ghost use Rattle.rpki_ca.specs.Seen.{seen_signer};
 ghost use Rattle.rpki_ca.specs.Sending.{FailsToSign};
+ghost use Rattle.rpki_pubserver.specs.Places.{IsSameElsewhere, live};
 ghost use Rattle.rpki_pubserver.specs.Replies.{reply_to_delta};
 ghost use Rattle.rpki_pubserver.specs.Running.{new_server};
 ghost use Rattle.rpki_pubserver.specs.Server.{FailsReply, IsQueryAnswered, IsSignedReply, with_store};
@@ -54,7 +55,7 @@ impl Drop for Server {
 }
 
 impl Model for Server {
-    ghost use Rattle.rpki_pubserver.specs.Places.{live};
+    ghost use Rattle.rpki_pubserver.specs.Places.{NoneIsEmpty, live};
     ghost use Rattle.rpki_pubserver.specs.Server.{ServerFields};
     ghost use Rattle.rpki_pubserver.specs.Store.{LieUnder};
 
@@ -66,7 +67,7 @@ impl Model for Server {
       store = live s.objects;
     } };
 
-    ghost invariant = { λ s. LieUnder s.base (live s.objects) };
+    ghost invariant = { λ s. LieUnder s.base (live s.objects) × NoneIsEmpty s.objects };
 }
 
 impl Server {
@@ -196,46 +197,56 @@ impl Server {
         ensures unchanged { OnErr result (self.new ≡ self.old) }
         ensures keeps { Keeps (S.state signer.old) (S.state signer.new) }
     {
-        let answer = self.answer_changes(delta, when, signer, key);
+        let answer = answer_changes(
+            self.alloc,
+            &self.base,
+            &mut self.objects,
+            delta,
+            when,
+            signer,
+            key,
+        );
         drop_places(&mut self.objects, delta.elements());
         answer
     }
+}
 
-    // The signed reply to changes, behind which places may be left where no object is.
-    fn answer_changes<P: Scheme, S: Signer<P>>(
-        &mut self,
-        delta: &PublishDelta,
-        when: Time,
-        signer: &mut S,
-        key: &S::KeyId,
-    ) -> Result<PublicationCms, CreateError<S::Error>>
-        requires { AllByRecursion IsWritableChange delta.now }
-        ensures signed { IfOk result (IsSignedReply P.checks when
-            (seen_signer key.now (S.state signer.old) (S.state signer.new))
-            (reply_to_delta self.old.base self.old.store delta.now).message) }
-        ensures fails { IfErr result (λ e. e ≢ create.OutOfMemory → FailsToSign P.checks when
-            (seen_signer key.now (S.state signer.old) (S.state signer.new))
-            (received.Publication
-            (reply_to_delta self.old.base self.old.store delta.now).message) e) }
-        ensures changed { OnOk result (self.new ≡ with_store self.old
-            (reply_to_delta self.old.base self.old.store delta.now).next) }
-        ensures unchanged { OnErr result (self.new ≡ self.old) }
-        ensures keeps { Keeps (S.state signer.old) (S.state signer.new) }
-    {
-        let changes = delta.elements();
-        let mut next = prepare(self.alloc, &mut self.objects, changes)?;
-        match change_all(&self.base, &mut self.objects, changes, &mut next) {
-            Ok(()) => {
-                let answer = signed(self.alloc, Message::success(), when, key, signer);
-                if answer.is_err() {
-                    undo(&mut self.objects, changes, &mut next);
-                }
-                answer
+// The signed reply to changes, behind which places may be left where no object is, at their URIs alone.
+fn answer_changes<P: Scheme, S: Signer<P>>(
+    alloc: Global,
+    base: &uri::Rsync,
+    objects: &mut Objects,
+    delta: &PublishDelta,
+    when: Time,
+    signer: &mut S,
+    key: &S::KeyId,
+) -> Result<PublicationCms, CreateError<S::Error>>
+    requires { AllByRecursion IsWritableChange delta.now }
+    ensures signed { IfOk result (IsSignedReply P.checks when
+        (seen_signer key.now (S.state signer.old) (S.state signer.new))
+        (reply_to_delta base.now (live objects.old) delta.now).message) }
+    ensures fails { IfErr result (λ e. e ≢ create.OutOfMemory → FailsToSign P.checks when
+        (seen_signer key.now (S.state signer.old) (S.state signer.new))
+        (received.Publication (reply_to_delta base.now (live objects.old) delta.now).message) e) }
+    ensures changed { OnOk result (live objects.new
+        ≡ (reply_to_delta base.now (live objects.old) delta.now).next) }
+    ensures unchanged { OnErr result (live objects.new ≡ live objects.old) }
+    ensures elsewhere { IsSameElsewhere delta.now objects.old objects.new }
+    ensures keeps { Keeps (S.state signer.old) (S.state signer.new) }
+{
+    let changes = delta.elements();
+    let mut next = prepare(alloc, objects, changes)?;
+    match change_all(base, objects, changes, &mut next) {
+        Ok(()) => {
+            let answer = signed(alloc, Message::success(), when, key, signer);
+            if answer.is_err() {
+                undo(objects, changes, &mut next);
             }
-            Err(refused) => {
-                let reply = error_of(self.alloc, &changes[refused.place], refused.code)?;
-                signed(self.alloc, reply, when, key, signer)
-            }
+            answer
+        }
+        Err(refused) => {
+            let reply = error_of(alloc, &changes[refused.place], refused.code)?;
+            signed(alloc, reply, when, key, signer)
         }
     }
 }

@@ -5,6 +5,7 @@ use Rattle.std.proofs.lemmas.List.{get_or-map, length-set}
 use Rattle.std.proofs.lemmas.Option.{slice_get-get_or}
 use Rattle.rpki_pubserver.specs.Changes.{changed, uri_of}
 use Rattle.rpki_pubserver.specs.Places.{Places, live, object_of, with_object, with_octets}
+use Rattle.rpki_pubserver.proofs.Emptying.{same_by_object, same_still}
 use Rattle.rpki_pubserver.proofs.Live.{octets_changed}
 use Rattle.rpki_pubserver.proofs.Making.{one_made, one_refused}
 use Rattle.rpki_pubserver.proofs.Undoing.{get_any, get_behind, have_still, same_keys, undone_made}
@@ -43,6 +44,9 @@ making-preserved c =
       rest = λ k le. get_behind c.making.next i k c.exchange.new.object None (omega (arith, le)) ∙ so_far.rest k (omega (arith, le));
       made = one_made c.args.base.now (Ok (live c.args.objects.now)) c.args.changes.now i e (live c.making.objects) (live c.exchange.new.self) lt c.index-changes-place.is so_far.made (sym c.in_default.is ∙ c.code_of.ensures) next;
       back = undone_made c.args.changes.now i e c.making.next _ c.args.objects.now c.making.objects c.exchange.new.self (object_of e) c.exchange.new.object lt c.index-changes-place.is size so_far.back put was refl;
+      elsewhere = same_still c.args.changes.now i e (uri_of e) c.making.objects c.exchange.new.self lt c.index-changes-place.is refl
+          (λ other apart. ap (λ (p : Places). lookup (bytes_eq other) p) put ∙ same_by_object other (uri_of e) apart c.making.objects (object_of e))
+          c.args.objects.now so_far.elsewhere;
       keys = ap (λ (p : Places). keys_of p) put ∙ same_keys (uri_of e) c.making.objects (object_of e) ∙ so_far.keys;
     }
 

@@ -3,6 +3,7 @@ use Rattle.std.proofs.lemmas.List.{map-append}
 use Rattle.rpki_publication.specs.declared.publish_delta_element.PublishDeltaElement.{PublishDeltaElement}
 use Rattle.rpki_pubserver.specs.Places.{HasPlace, HavePlaces, object_of}
 use Rattle.rpki_ca.proofs.Stepping.{take_more}
+use Rattle.rpki_pubserver.proofs.Emptying.{same_still}
 use Rattle.rpki_pubserver.proofs.Undoing.{have_more, one_place_more}
 use Rattle.rpki_pubserver.proofs.changes.prepare.Goals as goal
 
@@ -21,5 +22,18 @@ loop-change-preserved c =
       places = subst (λ (l : List PublishDeltaElement). HavePlaces c.make_place.new.self l) (sym more)
           (one_place_more c.make_place.new.self _ e (have_more c.loop-change.objects c.make_place.new.self _ c.make_place.ensures.others so_far.places)
           (subst (λ (u : List ℕ). HasPlace c.make_place.new.self u) uri c.in_ok-make_place.ensures.here));
+      elsewhere = same_still c.args.changes.now c.loop-change.change-index e c.as_str.result.now c.loop-change.objects c.make_place.new.self c.loop-change-test.true c.change-item.is uri c.make_place.ensures.elsewhere c.args.objects.now so_far.elsewhere;
       same = c.make_place.ensures.live ∙ so_far.same;
     }
+
+pub returns-in_err-make_place-clause-elsewhere : goal.returns-in_err-make_place-clause-elsewhere
+returns-in_err-make_place-clause-elsewhere c =
+    same_still c.args.changes.now c.loop-change.change-index c.change-item.result c.as_str.result.now c.loop-change.objects c.make_place.new.self c.loop-change-test.true c.change-item.is (c.as_str.ensures.text ∙ c.uri_of.ensures) c.make_place.ensures.elsewhere c.args.objects.now c.loop-change.invariant.elsewhere
+
+pub returns-in_err-object_of-clause-elsewhere : goal.returns-in_err-object_of-clause-elsewhere
+returns-in_err-object_of-clause-elsewhere c =
+    same_still c.args.changes.now c.loop-change.change-index c.change-item.result c.as_str.result.now c.loop-change.objects c.make_place.new.self c.loop-change-test.true c.change-item.is (c.as_str.ensures.text ∙ c.uri_of.ensures) c.make_place.ensures.elsewhere c.args.objects.now c.loop-change.invariant.elsewhere
+
+pub returns-in_err-push-clause-elsewhere : goal.returns-in_err-push-clause-elsewhere
+returns-in_err-push-clause-elsewhere c =
+    same_still c.args.changes.now c.loop-change.change-index c.change-item.result c.as_str.result.now c.loop-change.objects c.make_place.new.self c.loop-change-test.true c.change-item.is (c.as_str.ensures.text ∙ c.uri_of.ensures) c.make_place.ensures.elsewhere c.args.objects.now c.loop-change.invariant.elsewhere
