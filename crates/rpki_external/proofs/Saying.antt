@@ -1,78 +1,28 @@
 -- What is answered to an input, and why nothing is.
-use Rattle.std.proofs.Common.{◌≡◌, ◌≢◌, inl, inr, ℕ, ℤ, Bool, Option, Some, Result, Ok, Err, List, [], ◌∷◌, ◌++◌, length, refl, sym, subst, ◌∙◌}
+use Rattle.std.proofs.Common.{◌≡◌, ◌≢◌, inr, ℕ, ℤ, Result, Ok, Err, List, [], ◌∷◌, ◌++◌, refl, sym, ap, subst, ◌∙◌}
 use Rattle.hex.specs.Hex.{encode_lower}
 use Rattle.rpki_base.specs.PublicKey.{KeyFields}
-use Rattle.rpki_der.specs.declared.error.DecodeError.{DecodeError}
-use Rattle.rpki_der.specs.declared.error.DecodeError.TheVariants as decode
+use Rattle.rpki_base.specs.RpkiSignatureAlgorithm.{spelled_x509}
+use Rattle.rpki_base.specs.SignedData.{CanSpellSigned, spelled_data}
+use Rattle.rpki_base.specs.Validity.{ValidityFields}
+use Rattle.rpki_idcert.specs.IdCert.{CertificateFields}
+use Rattle.rpki_sigmsg.specs.Making.{UnsignedFields}
 use Rattle.rpki_sigmsg.specs.Message.{MessageFields}
 use Rattle.rpki_sigmsg.specs.Spelling.{CanSpellMessage, rewritten}
-use Rattle.rpki_ca.specs.Acceptance.{HoldsNoSigned, IsReceivedUnder, ReadsAs, accepted_text}
-use Rattle.rpki_ca.specs.declared.receiving.Kind.{Kind}
-use Rattle.rpki_ca.specs.declared.receiving.ReceiveError.{ReceiveError}
-use Rattle.rpki_ca.specs.declared.receiving.ReceiveError.TheVariants as receive
-use Rattle.rpki_ca.specs.declared.receiving.Received.{Received}
-use Rattle.rpki_ca.specs.declared.refusals.Refusal.{Refusal}
+use Rattle.rpki_signer.specs.Limits.{IsShort}
+use Rattle.rpki_der.specs.declared.error.DecodeError.{DecodeError}
+use Rattle.rpki_der.specs.declared.error.DecodeError.TheVariants as decode
+use Rattle.rpki_ca.specs.Acceptance.{HoldsNoSigned, ReadsAs, accepted_text}
 use Rattle.rpki_ca.specs.declared.refusals.Refusal.TheVariants as refusals
-use Rattle.rpki_ca.proofs.Accepting.{refusal, under_some}
-use Rattle.rpki_external.specs.Answers.{by_answers}
-use Rattle.rpki_external.specs.Making.{AreShort, CanPrepare, FinishFails, PrepareFails, finished}
-use Rattle.rpki_external.specs.Output.{lines_to_sign}
-use Rattle.rpki_external.specs.Question.{QuestionFields}
-use Rattle.rpki_external.specs.Receiving.{HoldsQuestions, IsReceivedByAnswers, IsReceivedBy, of_decode}
-use Rattle.rpki_external.specs.Running.{IsAnsweredReceipt, IsFinishAnswer, IsPrepareAnswer, OfSpelled, refusal_of_answered, refusal_of_prepare}
+use Rattle.rpki_ca.specs.declared.receiving.Kind.{Kind}
+use Rattle.rpki_ca.specs.declared.receiving.Received.{Received}
+use Rattle.rpki_external.specs.Making.{AreShort, CanPrepare, CanPrepareAnchor, CanPrepareRequest, FinishFails, PrepareFails, finished, finished_anchor, finished_request}
+use Rattle.rpki_external.specs.Running.{IsFinishAnchorAnswer, IsFinishAnswer, IsFinishRequestAnswer, IsInspectAnswer, IsPrepareAnswer, IsQuestionsAnswer, lines_to_sign, refusal_of_no_message, refusal_of_prepare}
+use Rattle.rpki_external.specs.declared.keys_refusal.KeysRefusal.TheVariants as keys
 use Rattle.rpki_external.specs.declared.preparing.Plan.{Plan}
 use Rattle.rpki_external.specs.declared.preparing.PrepareError.{PrepareError}
 use Rattle.rpki_external.specs.declared.preparing.Signatures.{Signatures}
-use Rattle.rpki_external.specs.declared.receiving.AnsweredError.{AnsweredError}
-use Rattle.rpki_external.specs.declared.receiving.AnsweredError.TheVariants as answered
-
--- ---- what is received by answers
-
-module _ (kind : Kind) (octets : List ℕ) (keys : List KeyFields) (when : ℤ) (answers : List Bool) where
-  -- no signed message
-  pub none_begins : (e : DecodeError) → (e ≡ decode.Malformed → HoldsNoSigned octets) → IsReceivedByAnswers kind octets keys when answers (Err (of_decode e))
-  none_begins decode.Malformed none = none refl
-  none_begins decode.OutOfMemory none = tt
-
-  -- an error of receipt
-  pub receipt_fails : (list : List QuestionFields) → HoldsQuestions octets keys list → length answers ≡ length list → (e : ReceiveError)
-      → IsReceivedUnder (by_answers list answers) kind octets keys when (Err e) → IsReceivedByAnswers kind octets keys when answers (Err (answered.Receive e))
-  receipt_fails list holds number receive.CmsDecode r = r
-  receipt_fails list holds number receive.XmlError r = record { list = list; holds = holds; number = number; is = r }
-  receipt_fails list holds number receive.CertSyntax r = record { list = list; holds = holds; number = number; is = r }
-  receipt_fails list holds number receive.InvalidCsrSyntax r = record { list = list; holds = holds; number = number; is = r }
-  receipt_fails list holds number (receive.Validation v) r = record { list = list; holds = holds; number = number; is = r }
-  receipt_fails list holds number receive.OutOfMemory r = tt
-
-  -- the text of a message, on a line
-  pub text_received : (m : Received) (place : ℕ) (text : List ℕ) → IsReceivedBy kind octets keys when answers (Ok (m, place)) → text ≡ accepted_text m
-      → IsAnsweredReceipt kind octets keys when answers (Ok (text ++ 10 ∷ []))
-  text_received m place text r is = inr (inr (record {
-    list = r.list;
-    holds = r.holds;
-    number = r.number;
-    is = (text, record { message = m; accepted = under_some (by_answers r.list answers) kind octets keys when m place r.is; written = is }, refl);
-  }))
-
-  -- why there is none
-  by_answers_too : (e : ReceiveError) → IsReceivedBy kind octets keys when answers (Err e) → refusal_of_answered (answered.Receive e) ≢ refusals.OutOfMemory
-      → IsAnsweredReceipt kind octets keys when answers (Err (refusal_of_answered (answered.Receive e)))
-  by_answers_too e r other = inr (inr (record { list = r.list; holds = r.holds; number = r.number; is = refusal (by_answers r.list answers) kind octets keys when e r.is other }))
-
-  pub none_received : (e : AnsweredError) → IsReceivedByAnswers kind octets keys when answers (Err e) → refusal_of_answered e ≢ refusals.OutOfMemory
-      → IsAnsweredReceipt kind octets keys when answers (Err (refusal_of_answered e))
-  none_received answered.Number h other = inr (inl (h, refl))
-  none_received (answered.Receive receive.CmsDecode) h other = inl (h, refl)
-  none_received (answered.Receive receive.XmlError) h other = by_answers_too receive.XmlError h other
-  none_received (answered.Receive receive.CertSyntax) h other = by_answers_too receive.CertSyntax h other
-  none_received (answered.Receive receive.InvalidCsrSyntax) h other = by_answers_too receive.InvalidCsrSyntax h other
-  none_received (answered.Receive (receive.Validation v)) h other = by_answers_too (receive.Validation v) h other
-  none_received (answered.Receive receive.OutOfMemory) h other = absurd (other refl)
-
--- ---- an input that is spelled
-
-pub spelled : (is_answer : List ℕ → Result (List ℕ) Refusal → Type 0) (o : Option (List ℕ)) (octets : List ℕ) (answer : Result (List ℕ) Refusal) → o ≡ Some octets → is_answer octets answer → OfSpelled is_answer o answer
-spelled is_answer o octets answer e a = subst (λ (x : Option (List ℕ)). OfSpelled is_answer x answer) (sym e) a
+use Rattle.rpki_external.specs.declared.preparing_requests.RequestPlan.{RequestPlan}
 
 -- ---- messages that are prepared and finished
 
@@ -113,3 +63,29 @@ module _ (kind : Kind) (input : List ℕ) (p : Plan) (m : Received) (text : List
     fails_so = subst (λ (t : List ℕ). FinishFails t p s e) is fails;
     is = refl;
   })
+
+-- ---- an anchor and a request that are finished
+
+pub anchor_line : (validity : ValidityFields) (key : KeyFields) (signature : List ℕ) (c : CertificateFields) (octets output : List ℕ) → c ≡ finished_anchor key validity signature
+    → CanPrepareAnchor key → IsShort signature → CanSpellSigned spelled_x509 c.signed → octets ≡ spelled_data spelled_x509 c.signed → output ≡ encode_lower octets ++ 10 ∷ []
+    → IsFinishAnchorAnswer validity key signature (Ok output)
+anchor_line validity key signature c octets output is can short fits are written =
+    let same : octets ≡ spelled_data spelled_x509 (finished_anchor key validity signature).signed = are ∙ ap (λ (x : CertificateFields). spelled_data spelled_x509 x.signed) is in
+    (can, short, subst (λ (x : CertificateFields). CanSpellSigned spelled_x509 x.signed) is fits, written ∙ ap (λ (o : List ℕ). encode_lower o ++ 10 ∷ []) same)
+
+pub request_line : (plan : RequestPlan) (signature octets output : List ℕ) → octets ≡ spelled_data spelled_x509 (finished_request plan signature).signed
+    → CanPrepareRequest plan → IsShort signature → CanSpellSigned spelled_x509 (finished_request plan signature).signed → output ≡ encode_lower octets ++ 10 ∷ []
+    → IsFinishRequestAnswer plan signature (Ok output)
+request_line plan signature octets output are can short fits written = (can, short, fits, written ∙ ap (λ (o : List ℕ). encode_lower o ++ 10 ∷ []) are)
+
+-- ---- octets that begin with no signed message
+
+pub none_asked : (octets : List ℕ) (list : List KeyFields) (e : DecodeError) → (e ≡ decode.Malformed → HoldsNoSigned octets) → refusal_of_no_message e ≢ keys.General refusals.OutOfMemory
+    → IsQuestionsAnswer octets list (Err (refusal_of_no_message e))
+none_asked octets list decode.Malformed none other = none refl
+none_asked octets list decode.OutOfMemory none other = absurd (other refl)
+
+pub none_inspected : (octets : List ℕ) (e : DecodeError) → (e ≡ decode.Malformed → HoldsNoSigned octets) → refusal_of_no_message e ≢ keys.General refusals.OutOfMemory
+    → IsInspectAnswer octets (Err (refusal_of_no_message e))
+none_inspected octets decode.Malformed none other = none refl
+none_inspected octets decode.OutOfMemory none other = absurd (other refl)

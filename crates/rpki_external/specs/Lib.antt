@@ -1,9 +1,12 @@
--- Said in contracts, and to be believed: Question, Answers, Receiving, Making, Words, Output,
--- Running.
+-- Said in contracts, and to be believed: Question, Spelling, Answers, Receiving, Verifying, Making,
+-- Inspection, KeysRefusal, Words, Running.
 pub mod Question
+pub mod Spelling
 pub mod Answers
 pub mod Receiving
+pub mod Verifying
 pub mod Making
+pub mod Inspection
+pub mod KeysRefusal
 pub mod Words
-pub mod Output
 pub mod Running

@@ -1,22 +1,32 @@
--- What is to be signed of a message, and the message with its signatures (RFC 5652, 5.4; RFC 5280,
--- 4.1 and 5.1; RFC 6492, 3.1).
-use Rattle.std.specs.Prelude.{false, ◌≡◌, ◌≢◌, ◌≤ℤ◌, ◌≤◌, ◌^◌, ◌⊎◌, ℕ, ℤ, List, length, ⊤}
+-- What is to be signed of a message, of an own trust anchor and of a request, and what they are
+-- with their signatures (RFC 5652, 5.4; RFC 5280, 4.1 and 5.1; RFC 6492, 3.1; RFC 8183, 5).
+use Rattle.std.specs.Prelude.{true, false, ◌≡◌, ◌≢◌, ◌≤ℤ◌, ◌≤◌, ◌^◌, ◌⊎◌, ℕ, ℤ, None, Some, List, length, ⊤}
 use Rattle.rpki_common.specs.Limits.{most_content}
 use Rattle.rpki_base.specs.RpkiSignatureAlgorithm.{RpkiAlgorithm}
 use Rattle.rpki_base.specs.Scheme.{Relation}
+use Rattle.rpki_base.specs.PublicKey.{KeyFields}
+use Rattle.rpki_base.specs.Serial.{serial_of}
 use Rattle.rpki_base.specs.Signature.{SignatureParts}
+use Rattle.rpki_base.specs.Validity.{ValidityFields}
 use Rattle.rpki_base.specs.declared.algorithm.PublicKeyFormat.TheVariants.{Rsa}
 use Rattle.rpki_base.specs.declared.algorithm.SigningAlgorithm.TheVariants.{RsaSha256}
+use Rattle.rpki_cert.specs.Making.{CaRequest, UnsignedRequest, signed_request_of, slashed, spelled_info}
+use Rattle.rpki_idcert.specs.IdCert.{CertificateFields}
 use Rattle.rpki_idcert.specs.Making.{made_fields}
 use Rattle.rpki_idcert.specs.Spelling.{spelled_tbs}
+use Rattle.rpki_idcert.specs.TbsIdCert.{TbsFields}
 use Rattle.rpki_sigmsg.specs.Making.{HasWindow, UnsignedFields, window, made_covered, made_crl, signed_message_of}
 use Rattle.rpki_sigmsg.specs.Message.{MessageFields}
 use Rattle.rpki_sigmsg.specs.Spelling.{spelled_tbs_crl}
 use Rattle.rpki_signer.specs.Limits.{IsShort, default_algorithm}
+use Rattle.rpki_text.specs.Uri.{fault_of, rsync}
+use Rattle.rpki_text.specs.declared.uri.Error.{Error}
+use Rattle.rpki_text.specs.declared.uri.Error.TheVariants as uri
 use Rattle.rpki_external.specs.declared.preparing.Plan.{Plan}
 use Rattle.rpki_external.specs.declared.preparing.Signatures.{Signatures}
 use Rattle.rpki_external.specs.declared.preparing.PrepareError.{PrepareError}
 use Rattle.rpki_external.specs.declared.preparing.PrepareError.TheVariants as errors
+use Rattle.rpki_external.specs.declared.preparing_requests.RequestPlan.{RequestPlan}
 
 -- ---- what is to be signed
 
@@ -72,6 +82,7 @@ PrepareFails content p errors.IncompatibleKey =
     HasWindow p.when × AreWithinLimits content p × (AreRsa p → ⊥)
 PrepareFails content p errors.KeyReused =
     HasWindow p.when × AreWithinLimits content p × AreRsa p × (p.key ≡ p.issuing_key)
+PrepareFails content p (errors.Uri error) = ⊥
 PrepareFails content p errors.OutOfMemory = ⊤
 
 -- ---- the message
@@ -108,3 +119,86 @@ pub record AreSignatures (scheme : Relation) (content : List ℕ) (p : Plan) (s 
 pub record IsInWindow (p : Plan) (when : ℤ) : Type 0 where
   pub from : (window p.when).not_before ≤ℤ when
   pub to : when ≤ℤ (window p.when).not_after
+
+-- ---- the own trust anchor
+
+-- the fields of a key's own certificate: serial number 1, cA true, and this validity
+abbrev pub anchor_fields : KeyFields → ValidityFields → TbsFields
+anchor_fields key validity = made_fields true key key (serial_of 1) validity
+
+-- the key is an RSA key, and has at most 2^16 octets
+pub record CanPrepareAnchor (key : KeyFields) : Type 0 where
+  pub within : IsShort key.bits
+  pub format : key.format ≡ Rsa
+
+-- when each error comes, and none before it; OutOfMemory says nothing
+abbrev pub PrepareAnchorFails : KeyFields → PrepareError → Type 0
+PrepareAnchorFails key errors.TooLong = IsShort key.bits → ⊥
+PrepareAnchorFails key errors.IncompatibleKey = IsShort key.bits × (key.format ≢ Rsa)
+PrepareAnchorFails key errors.OutOfMemory = ⊤
+PrepareAnchorFails key other = ⊥
+
+-- the certificate with this signature
+abbrev pub finished_anchor : KeyFields → ValidityFields → List ℕ → CertificateFields
+finished_anchor key validity signature = record {
+  signed = record {
+    slice = spelled_tbs (anchor_fields key validity);
+    signature = signature_of signature;
+  };
+  tbs = anchor_fields key validity;
+}
+
+-- why there is no certificate: nothing is prepared, or the signature has more than 2^16 octets
+abbrev pub FinishAnchorFails : KeyFields → List ℕ → PrepareError → Type 0
+FinishAnchorFails key signature errors.TooLong =
+    PrepareAnchorFails key errors.TooLong ⊎ (CanPrepareAnchor key × (IsShort signature → ⊥))
+FinishAnchorFails key signature error = PrepareAnchorFails key error
+
+-- ---- a certificate request
+
+-- of whose key, and where the authority publishes: at the repository's URI with a slash behind it
+abbrev pub unsigned_request : RequestPlan → UnsignedRequest
+unsigned_request p = record {
+  key = p.key;
+  places = record {
+    ca_repository = slashed p.ca_repository;
+    rpki_manifest = p.rpki_manifest;
+    rpki_notify = p.rpki_notify;
+  };
+}
+
+-- the octets of the request's fields
+abbrev pub request_to_sign : RequestPlan → List ℕ
+request_to_sign p = spelled_info p.key (unsigned_request p).places
+
+-- the key is an RSA key of at most 2^16 octets, and the repository's URI with its slash is lawful
+pub record CanPrepareRequest (p : RequestPlan) : Type 0 where
+  pub within : IsShort p.key.bits
+  pub format : p.key.format ≡ Rsa
+  pub lawful : fault_of rsync (slashed p.ca_repository) ≡ None
+
+-- when each error comes, and none before it; OutOfMemory says nothing
+abbrev pub PrepareRequestFails : RequestPlan → PrepareError → Type 0
+PrepareRequestFails p errors.TooLong = IsShort p.key.bits → ⊥
+PrepareRequestFails p errors.IncompatibleKey = IsShort p.key.bits × (p.key.format ≢ Rsa)
+PrepareRequestFails p (errors.Uri e) =
+    IsShort p.key.bits × (p.key.format ≡ Rsa) × (e ≢ uri.OutOfMemory)
+    × (fault_of rsync (slashed p.ca_repository) ≡ Some e)
+PrepareRequestFails p errors.OutOfMemory = ⊤
+PrepareRequestFails p other = ⊥
+
+-- the request with this signature
+abbrev pub finished_request : RequestPlan → List ℕ → CaRequest
+finished_request p signature =
+    signed_request_of (unsigned_request p) (signature_of signature)
+
+-- why there is no request: nothing is prepared, or the signature has more than 2^16 octets
+abbrev pub FinishRequestFails : RequestPlan → List ℕ → PrepareError → Type 0
+FinishRequestFails p signature errors.TooLong =
+    PrepareRequestFails p errors.TooLong ⊎ (CanPrepareRequest p × (IsShort signature → ⊥))
+FinishRequestFails p signature error = PrepareRequestFails p error
+
+-- want of memory stands beside what a URI breaks
+abbrev pub prepare_error_of_uri : Error → PrepareError
+prepare_error_of_uri uri.OutOfMemory = errors.OutOfMemory
+prepare_error_of_uri error = errors.Uri error

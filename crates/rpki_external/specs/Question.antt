@@ -1,15 +1,19 @@
--- What the checks of a signed message ask of a scheme, as data: of the attributes (RFC 5652, 5.4
--- and 5.6), of the certificate (RFC 5280, 4.1.1.3) and of each CRL (RFC 5280, 5.1.1.3).
-use Rattle.std.specs.Prelude.{ℕ, ◌+◌, List, [], ◌∷◌, ◌++◌}
+-- What is asked of a scheme, as data: whether signatures are those of octets under keys.
+use Rattle.std.specs.Prelude.{ℕ, Bool, true, false, Option, None, Some, List, [], ◌∷◌, ◌++◌, map}
 use Rattle.rpki_base.specs.PublicKey.{KeyFields}
+use Rattle.rpki_base.specs.RpkiSignatureAlgorithm.{RpkiAlgorithm}
 use Rattle.rpki_base.specs.Scheme.{Relation}
+use Rattle.rpki_base.specs.SignedData.{Signed}
 use Rattle.rpki_base.specs.declared.algorithm.SigningAlgorithm.TheVariants.{RsaSha256}
+use Rattle.rpki_cert.specs.Csr.{RequestFields}
+use Rattle.rpki_idcert.specs.Checks.{names_itself}
+use Rattle.rpki_idcert.specs.IdCert.{CertificateFields}
 use Rattle.rpki_sigmsg.specs.Crl.{CrlFields}
 use Rattle.rpki_sigmsg.specs.Message.{MessageFields}
 use Rattle.rpki_external.specs.declared.question.Part.{Part}
 use Rattle.rpki_external.specs.declared.question.Part.TheVariants as parts
 
--- of which part of the message it is, under which key, for which octets, and by which signature
+-- of which part it is, under which key, for which octets, and by which signature
 pub record QuestionFields : Type 0 where
   pub part : Part
   pub key : KeyFields
@@ -20,6 +24,40 @@ pub record QuestionFields : Type 0 where
 abbrev pub SignatureHolds : Relation → QuestionFields → Type 0
 SignatureHolds scheme q = scheme RsaSha256 q.key q.octets q.signature
 
+-- a part, the octets of it that are signed, and their signature, under whatever key
+pub record SignedPartFields : Type 0 where
+  pub part : Part
+  pub octets : List ℕ
+  pub signature : List ℕ
+
+-- the question whether it is signed under this key
+abbrev pub under : KeyFields → SignedPartFields → QuestionFields
+under key p = record { part = p.part; key = key; octets = p.octets; signature = p.signature }
+
+-- Questions: what is asked under a key that stands in what is verified, if something is; and the
+-- parts that are asked under each of the keys that are handed in.
+pub record QuestionsFields : Type 0 where
+  pub own : Option QuestionFields
+  pub parts : List SignedPartFields
+  pub keys : List KeyFields
+
+-- the question of its own, if there is one
+abbrev pub own_question : Option QuestionFields → List QuestionFields
+own_question None = []
+own_question (Some q) = q ∷ []
+
+-- each part under one key after the other
+abbrev pub under_each : List SignedPartFields → List KeyFields → List QuestionFields
+under_each parts [] = []
+under_each parts (key ∷ keys) = map (under key) parts ++ under_each parts keys
+
+-- the questions one by one, in their order: that of its own, and the parts under one key after the
+-- other
+abbrev pub listed : QuestionsFields → List QuestionFields
+listed q = own_question q.own ++ under_each q.parts q.keys
+
+-- ---- a signed message (RFC 5652, 5.4 and 5.6; RFC 5280, 4.1.1.3 and 5.1.1.3)
+
 -- the attributes, under the certificate's key
 abbrev pub attributes_question : MessageFields → QuestionFields
 attributes_question m = record {
@@ -29,42 +67,62 @@ attributes_question m = record {
   signature = m.signature.value;
 }
 
--- the certificate, under the key at this place
-abbrev pub certificate_question : MessageFields → ℕ → KeyFields → QuestionFields
-certificate_question m place key = record {
-  part = parts.Certificate place;
-  key = key;
-  octets = m.certificate.signed.slice;
-  signature = m.certificate.signed.signature.value;
+-- the certificate
+abbrev pub certificate_part : CertificateFields → SignedPartFields
+certificate_part c = record {
+  part = parts.Certificate;
+  octets = c.signed.slice;
+  signature = c.signed.signature.value;
 }
 
--- a CRL, by its place, under the key at this place
-abbrev pub crl_question : ℕ → KeyFields → ℕ → CrlFields → QuestionFields
-crl_question place key number crl = record {
-  part = parts.Crl place number;
-  key = key;
-  octets = crl.signed.slice;
-  signature = crl.signed.signature.value;
+-- a CRL
+abbrev pub crl_part : CrlFields → SignedPartFields
+crl_part c = record {
+  part = parts.Crl;
+  octets = c.signed.slice;
+  signature = c.signed.signature.value;
 }
 
--- the question of each CRL, from this number on
-abbrev pub crl_questions : ℕ → KeyFields → ℕ → List CrlFields → List QuestionFields
-crl_questions place key number [] = []
-crl_questions place key number (crl ∷ crls) =
-    crl_question place key number crl ∷ crl_questions place key (number + 1) crls
+-- what the checks under these keys ask: of the attributes once, and under each key of the
+-- certificate and of each CRL
+abbrev pub message_questions : MessageFields → List KeyFields → QuestionsFields
+message_questions m keys = record {
+  own = Some (attributes_question m);
+  parts = certificate_part m.certificate ∷ map crl_part m.crls;
+  keys = keys;
+}
 
--- what is asked under the key at this place
-abbrev pub key_questions : MessageFields → ℕ → KeyFields → List QuestionFields
-key_questions m place key =
-    certificate_question m place key ∷ crl_questions place key 0 m.crls
+-- ---- a trust anchor's certificate (RFC 8183, 5; RFC 5280, 4.1.1.3)
 
--- what is asked under each key, from this place on
-abbrev pub keys_questions : MessageFields → ℕ → List KeyFields → List QuestionFields
-keys_questions m place [] = []
-keys_questions m place (key ∷ keys) =
-    key_questions m place key ++ keys_questions m (place + 1) keys
+-- the certificate, under its own key
+abbrev pub anchor_question : CertificateFields → QuestionFields
+anchor_question c = record {
+  part = parts.Anchor;
+  key = c.tbs.key;
+  octets = c.signed.slice;
+  signature = c.signed.signature.value;
+}
 
--- all that the checks under a list of keys ask, in their order: 3 once, and 8 and 10 under one key
--- after the other
-abbrev pub questions : MessageFields → List KeyFields → List QuestionFields
-questions m keys = attributes_question m ∷ keys_questions m 0 keys
+-- its own signature is asked where it names itself as its issuer
+abbrev pub anchor_asked : Bool → CertificateFields → Option QuestionFields
+anchor_asked true c = Some (anchor_question c)
+anchor_asked false c = None
+
+-- what the checks of a trust anchor's certificate ask
+abbrev pub anchor_questions : CertificateFields → QuestionsFields
+anchor_questions c = record { own = anchor_asked (names_itself c.tbs) c; parts = []; keys = [] }
+
+-- ---- a certificate request (RFC 2986, 4.2)
+
+-- the request, under the key that it names
+abbrev pub request_question : {T : Type 0} → Signed RpkiAlgorithm (RequestFields T) → QuestionFields
+request_question r = record {
+  part = parts.Request;
+  key = r.tbs.key;
+  octets = r.signed.slice;
+  signature = r.signed.signature.value;
+}
+
+-- what the check of a request asks
+abbrev pub request_questions : {T : Type 0} → Signed RpkiAlgorithm (RequestFields T) → QuestionsFields
+request_questions r = record { own = Some (request_question r); parts = []; keys = [] }

@@ -1,102 +1,115 @@
-//! The scheme that answers to questions are, and who decides it.
+//! Answers to questions.
 
-ghost use Rattle.std.specs.Prelude.{◌≡◌};
-ghost use Rattle.rpki_external.specs.Answers.{answer_to, by_answers};
+ghost use Rattle.std.specs.Prelude.{◌≡◌, ◌≢◌, IfErr, IfOk, length};
+ghost use Rattle.rpki_external.specs.Answers.{AreTo, RefusesAnswers};
+ghost use Rattle.rpki_external.specs.Question.{listed};
+ghost use Rattle.rpki_external.specs.Spelling.{digest_of};
+ghost use Rattle.rpki_external.specs.declared.answers.AnswersError.TheVariants as variant;
 
 use crate::question::Question;
-use rpki_base::{PublicKey, Scheme, SigningAlgorithm, Verifier};
-use std::marker::{Brand, PhantomData};
+use crate::question_list::Questions;
+use rpki_common::{OutOfMemory, Sequence};
+use rpki_text::Hash;
+use std::alloc::Global;
+use std::marker::Model;
+use thiserror::Error;
 
-/// Questions with answers to them, for which a type stands. It has no code.
-pub trait Answers {
-    ghost use Rattle.std.specs.Prelude.{Bool, List};
-    ghost use Rattle.rpki_external.specs.Question.{QuestionFields};
-
-    /// The questions.
-    ghost questions: { List QuestionFields };
-
-    /// The answer to each of them.
-    ghost answers: { List Bool };
+/// Why answers don't count for questions.
+#[derive(Clone, Copy, Debug, PartialEq, Eq, Error)]
+pub enum AnswersError {
+    /// They are answers to other questions.
+    #[error("the answers are to other questions")]
+    OtherQuestions,
+    /// There are more or fewer of them than questions.
+    #[error("not as many answers as questions")]
+    Number,
+    /// Memory ran out.
+    #[error("out of memory")]
+    OutOfMemory,
 }
 
-// Stands for the questions and answers of one call. They are empty here; where a call is made at `Brand`, its proof names the values
-// that are meant (`ghosts-receive_by` in proofs/receiving/receive_given/Invariants.antt).
-impl Answers for Brand {
-    ghost use Rattle.std.specs.Prelude.{[]};
+impl From<OutOfMemory> for AnswersError {
+    ghost from_gives = { λ _ e. e ≡ variant.OutOfMemory };
 
-    ghost questions = { [] };
-
-    ghost answers = { [] };
-}
-
-/// The scheme that answers are: under RSA keys those signatures hold of which a question asks, where the first that does was answered
-/// with yes. It has no value.
-pub struct AnswerScheme<A: Answers> {
-    of: PhantomData<A>,
-}
-
-impl<A: Answers> Scheme for AnswerScheme<A> {
-    ghost checks = { by_answers A.questions A.answers };
-
-    ghost fits = { λ kind key message signature h. h.0 };
-}
-
-// The answer to the first question that asks for this; no where there is none, or no answer to it.
-fn answer_to(
-    questions: &[Question],
-    answers: &[bool],
-    key: &PublicKey,
-    message: &[u8],
-    signature: &[u8],
-) -> bool
-    ensures { result ≡ answer_to questions.now answers.now key.now message.now signature.now }
-{
-    for (number, question) in questions.iter().enumerate() {
-        if question.asks(key, message, signature) {
-            return number < answers.len() && answers[number];
-        }
+    fn from(_: OutOfMemory) -> AnswersError {
+        AnswersError::OutOfMemory
     }
-    false
 }
 
-/// Decides signatures by the given answers.
+/// Answers to questions: the digest of the text of these questions, and a truth value for each of them, in their order: whether the
+/// signature that it asks for holds. They count for these questions alone.
+///
+/// In a clause it is the record of the two.
 #[derive(Drop)]
-pub struct AnswerVerifier<'a, A: Answers> {
-    questions: &'a [Question],
-    answers: &'a [bool],
-    of: PhantomData<A>,
-    ghost questions_are: { questions.now ≡ A.questions },
-    ghost answers_are: { answers.now ≡ A.answers },
+pub struct Answers {
+    digest: Hash,
+    values: Sequence<bool>,
 }
 
-impl<'a, A: Answers> AnswerVerifier<'a, A> {
-    /// The verifier of the scheme of `A`: the questions and the answers have to be those of `A`, in their order. It takes no memory.
-    pub fn new(questions: &'a [Question], answers: &'a [bool]) -> AnswerVerifier<'a, A>
-        requires questions { questions.now ≡ A.questions }
-        requires answers { answers.now ≡ A.answers }
+impl Model for Answers {
+    ghost use Rattle.rpki_external.specs.Answers.{AnswersFields};
+
+    ghost Value = { AnswersFields };
+
+    ghost view = { λ a. record { digest = a.digest; values = a.values } };
+}
+
+impl Answers {
+    /// These answers to the questions whose text has this SHA-256, in their order. It takes no memory.
+    pub fn new(digest: Hash, values: Vec<bool>) -> Answers
+        ensures { result ≡ record { digest = digest; values = values.items } }
     {
-        AnswerVerifier {
-            questions,
-            answers,
-            of: PhantomData,
+        Answers {
+            digest,
+            values: Sequence::from_vec(values),
         }
     }
-}
 
-impl<'a, A: Answers> Verifier<AnswerScheme<A>> for AnswerVerifier<'a, A> {
-    fn verify(
+    /// These answers to the questions, in the order of [`Questions::list`].
+    pub fn to(
+        alloc: Global,
+        questions: &Questions,
+        values: Vec<bool>,
+    ) -> Result<Answers, OutOfMemory>
+        ensures { IfOk result (λ a. a ≡ record {
+          digest = digest_of questions.now;
+          values = values.items;
+        }) }
+    {
+        Ok(Answers::new(questions.digest(alloc)?, values))
+    }
+
+    /// The SHA-256 of the text of the questions that they answer.
+    pub fn digest(&self) -> Hash
+        ensures { result ≡ self.now.digest }
+    {
+        self.digest
+    }
+
+    /// The answers, in the order of the questions.
+    pub fn values(&self) -> &[bool]
+        ensures { result.now ≡ self.now.values }
+    {
+        self.values.as_slice()
+    }
+
+    // The questions one by one, if the answers are to them.
+    pub(crate) fn matched(
         &self,
-        kind: SigningAlgorithm,
-        key: &PublicKey,
-        message: &[u8],
-        signature: &[u8],
-    ) -> bool {
-        if kind != SigningAlgorithm::RsaSha256 {
-            return false;
+        alloc: Global,
+        questions: &Questions,
+    ) -> Result<Vec<Question>, AnswersError>
+        ensures list { IfOk result (λ list. list.items ≡ listed questions.now) }
+        ensures to { IfOk result (λ _. AreTo self.now questions.now) }
+        ensures err { IfErr result (RefusesAnswers self.now questions.now) }
+    {
+        if self.digest != questions.digest(alloc)? {
+            return Err(AnswersError::OtherQuestions);
         }
-        if key.format() != kind.public_key_format() {
-            return false;
+        let list = questions.list(alloc)?;
+        if self.values.len() != list.len() {
+            return Err(AnswersError::Number);
         }
-        answer_to(self.questions, self.answers, key, message, signature)
+        Ok(list)
     }
 }

@@ -1,14 +1,17 @@
-//! The questions of a signed message.
+//! What is asked of signed messages, of trust anchors' certificates and of certificate requests.
 
-ghost use Rattle.std.specs.Prelude.{◌≡◌, ◌++◌, IfErr, IfOk, OnOk};
+ghost use Rattle.std.specs.Prelude.{◌≡◌, ◌++◌, ◌∷◌, IfErr, IfOk, OnOk, map};
 ghost use Rattle.rpki_der.specs.declared.error.DecodeError.TheVariants as decode;
 ghost use Rattle.rpki_ca.specs.Acceptance.{HoldsNoSigned};
 ghost use Rattle.rpki_external.specs.Question as spec;
-ghost use Rattle.rpki_external.specs.Receiving.{HoldsQuestions};
+ghost use Rattle.rpki_external.specs.Receiving.{AreAskedOf};
 
-use crate::question::{Part, Question};
+use crate::question::{Part, Question, SignedPart};
+use crate::question_list::Questions;
 use rpki_base::{PublicKey, RpkiSignatureAlgorithm, SignedData};
+use rpki_cert::RpkiCaCsr;
 use rpki_der::{DecodeError, OutOfMemory};
+use rpki_idcert::IdCert;
 use rpki_sigmsg::{SignedMessage, SignedMessageCrl};
 use std::alloc::Global;
 
@@ -42,90 +45,106 @@ fn signed_question(
     Ok(Question::new(part, key, octets, signature))
 }
 
-// Appends the questions of CRLs under the key at this place.
-fn push_crls(
-    alloc: Global,
-    crls: &[SignedMessageCrl],
-    place: usize,
-    key: &PublicKey,
-    list: &mut Vec<Question>,
-) -> Result<(), OutOfMemory>
-    ensures { OnOk result (list.new.items
-        ≡ list.old.items ++ spec.crl_questions place key.now 0 crls.now) }
+// A part that is signed data.
+fn signed_part(
+    part: Part,
+    signed: &SignedData<RpkiSignatureAlgorithm>,
+) -> Result<SignedPart, OutOfMemory>
+    ensures { IfOk result (λ p. p ≡ record {
+      part = part;
+      octets = signed.now.slice;
+      signature = signed.now.signature.value;
+    }) }
 {
-    for (number, crl) in crls.iter().enumerate() {
-        let part = Part::Crl {
-            key: place,
-            crl: number,
-        };
-        let question = signed_question(alloc, part, key, crl.signed_data())?;
-        list.push(question)?;
+    let octets = signed.slice().clone()?;
+    let signature = signed.signature().value().clone()?;
+    Ok(SignedPart::new(part, octets, signature))
+}
+
+// Appends the parts that CRLs are.
+fn push_crls(crls: &[SignedMessageCrl], parts: &mut Vec<SignedPart>) -> Result<(), OutOfMemory>
+    ensures { OnOk result
+        (parts.new.items ≡ parts.old.items ++ map spec.crl_part crls.now) }
+{
+    for crl in crls {
+        parts.push(signed_part(Part::Crl, crl.signed_data())?)?;
     }
     Ok(())
 }
 
-// Appends the questions under the key at this place.
-fn push_key(
-    alloc: Global,
-    message: &SignedMessage,
-    place: usize,
-    key: &PublicKey,
-    list: &mut Vec<Question>,
-) -> Result<(), OutOfMemory>
-    ensures { OnOk result (list.new.items
-        ≡ list.old.items ++ spec.key_questions message.now place key.now) }
+// The parts of a message that are asked under each key: the certificate and each CRL.
+fn parts_of(alloc: Global, message: &SignedMessage) -> Result<Vec<SignedPart>, OutOfMemory>
+    ensures { IfOk result (λ parts. parts.items
+        ≡ spec.certificate_part message.now.certificate ∷ map spec.crl_part message.now.crls) }
 {
-    let part = Part::Certificate { key: place };
-    let certificate = message.ee_cert().signed_data();
-    list.push(signed_question(alloc, part, key, certificate)?)?;
-    push_crls(alloc, message.crls(), place, key, list)
+    let mut parts = Vec::new(alloc);
+    parts.push(signed_part(Part::Certificate, message.ee_cert().signed_data())?)?;
+    push_crls(message.crls(), &mut parts)?;
+    Ok(parts)
 }
 
-// Appends the questions under each key.
-fn push_keys(
-    alloc: Global,
-    message: &SignedMessage,
-    keys: &[PublicKey],
-    list: &mut Vec<Question>,
-) -> Result<(), OutOfMemory>
-    ensures { OnOk result (list.new.items
-        ≡ list.old.items ++ spec.keys_questions message.now 0 keys.now) }
+// The same keys.
+fn cloned(alloc: Global, keys: &[PublicKey]) -> Result<Vec<PublicKey>, OutOfMemory>
+    ensures { IfOk result (λ list. list.items ≡ keys.now) }
 {
-    for (place, key) in keys.iter().enumerate() {
-        push_key(alloc, message, place, key, list)?;
+    let mut list = Vec::with_capacity(alloc, keys.len())?;
+    for key in keys {
+        list.push(key.clone(alloc)?)?;
     }
-    Ok(())
-}
-
-// All questions of a message.
-fn questions_of(
-    alloc: Global,
-    message: &SignedMessage,
-    keys: &[PublicKey],
-) -> Result<Vec<Question>, OutOfMemory>
-    ensures { IfOk result (λ list. list.items ≡ spec.questions message.now keys.now) }
-{
-    let mut list = Vec::new(alloc);
-    list.push(attributes_question(alloc, message)?)?;
-    push_keys(alloc, message, keys, &mut list)?;
     Ok(list)
 }
 
-/// The questions that the checks of the signed message at the beginning of the octets, in BER, ask under these keys, in the order in
-/// which they ask them: whether the signature of the attributes holds under the certificate's key, and then, under one key after the
-/// other, that of the certificate and that of each CRL.
-///
-/// Malformed exactly where no beginning of the octets is a signed message. What stands behind it isn't read, nor is its content.
-pub fn questions(
+/// What the checks of a signed message ask under these keys: whether the signature of the attributes holds under the certificate's
+/// key, and under each of the keys that of the certificate and that of each CRL.
+pub fn message_questions(
     alloc: Global,
-    octets: &[u8],
+    message: &SignedMessage,
     keys: &[PublicKey],
-) -> Result<Vec<Question>, DecodeError>
-    ensures ok { IfOk result (λ list. HoldsQuestions octets.now keys.now list.items) }
+) -> Result<Questions, OutOfMemory>
+    ensures { IfOk result (λ q. q ≡ spec.message_questions message.now keys.now) }
+{
+    let own = attributes_question(alloc, message)?;
+    let parts = parts_of(alloc, message)?;
+    Ok(Questions::new(Some(own), parts, cloned(alloc, keys)?))
+}
+
+/// As [`message_questions`], of the signed message at the beginning of the octets, in BER. What stands behind it isn't read, nor is
+/// its content.
+///
+/// Malformed exactly where no beginning of the octets is a signed message.
+pub fn questions(alloc: Global, octets: &[u8], keys: &[PublicKey]) -> Result<Questions, DecodeError>
+    ensures ok { IfOk result (AreAskedOf octets.now keys.now) }
     ensures err { IfErr result (λ e. e ≡ decode.Malformed → HoldsNoSigned octets.now) }
 {
     match SignedMessage::decode(alloc, octets, false) {
-        Ok(message) => Ok(questions_of(alloc, &message, keys)?),
+        Ok(message) => Ok(message_questions(alloc, &message, keys)?),
         Err(error) => Err(error),
     }
+}
+
+/// What the checks of a trust anchor's certificate ask: whether its signature holds under its own key, where it names itself as its
+/// issuer; else nothing.
+pub fn anchor_questions(alloc: Global, certificate: &IdCert) -> Result<Questions, OutOfMemory>
+    ensures { IfOk result (λ q. q ≡ spec.anchor_questions certificate.now) }
+{
+    let own = if certificate.tbs().names_itself() {
+        let key = certificate.tbs().public_key();
+        Some(signed_question(alloc, Part::Anchor, key, certificate.signed_data())?)
+    } else {
+        None
+    };
+    Ok(Questions::new(own, Vec::new(alloc), Vec::new(alloc)))
+}
+
+/// What the check of a certificate request asks: whether its signature holds under the key that it names.
+pub fn request_questions(alloc: Global, request: &RpkiCaCsr) -> Result<Questions, OutOfMemory>
+    ensures { IfOk result (λ q. q ≡ spec.request_questions request.now) }
+{
+    let own = signed_question(
+        alloc,
+        Part::Request,
+        request.public_key(),
+        request.signed_data(),
+    )?;
+    Ok(Questions::new(Some(own), Vec::new(alloc), Vec::new(alloc)))
 }

@@ -1,68 +1,117 @@
 //! What holds of all answers, and of all that is made.
 
-ghost use Rattle.std.specs.Prelude.{◌≡◌, ◌↔◌, ◌⊎◌, ℕ, ℤ, Bool, List, Result, true};
+ghost use Rattle.std.specs.Prelude.{◌≡◌, ◌↔◌, ◌⊎◌, ◌≤ℤ◌, ℕ, ℤ, List, Option, Result, true};
 ghost use Rattle.rpki_base.specs.PublicKey.{KeyFields};
+ghost use Rattle.rpki_base.specs.Validity.{ValidityFields};
+ghost use Rattle.rpki_base.specs.declared.algorithm.SigningAlgorithm.TheVariants.{RsaSha256};
+ghost use Rattle.rpki_base.specs.declared.validation.ValidationError.{ValidationError};
 ghost use Rattle.rpki_ca.specs.Acceptance.{IsReceivedUnder};
-ghost use Rattle.rpki_ca.specs.Answer.{Delivers, BringsAccepted};
-ghost use Rattle.rpki_ca.specs.Seen.{HasFailed, Seen};
 ghost use Rattle.rpki_ca.specs.declared.receiving.Kind.{Kind};
 ghost use Rattle.rpki_ca.specs.declared.receiving.ReceiveError.{ReceiveError};
 ghost use Rattle.rpki_ca.specs.declared.receiving.Received.{Received};
-ghost use Rattle.rpki_sigmsg.specs.Checks.{IsBelieved};
+ghost use Rattle.rpki_base.specs.RpkiSignatureAlgorithm.{spelled_x509};
+ghost use Rattle.rpki_base.specs.SignedData.{spelled_data};
+ghost use Rattle.rpki_cert.specs.Making.{CaRequest, IsRequestMade};
+ghost use Rattle.rpki_idcert.specs.Checks.{IsTaBelieved};
+ghost use Rattle.rpki_idcert.specs.IdCert.{CertificateFields};
+ghost use Rattle.rpki_idcert.specs.Making.{IsIssued};
+ghost use Rattle.rpki_idcert.specs.Spelling.{spelled_tbs};
+ghost use Rattle.rpki_replay.specs.declared.guard.GuardError.{GuardError};
+ghost use Rattle.rpki_sigmsg.specs.Checks.{IsBelieved, SameAnswersUnder};
 ghost use Rattle.rpki_sigmsg.specs.Making.{IsMessageMade};
 ghost use Rattle.rpki_sigmsg.specs.Message.{MessageFields};
-ghost use Rattle.rpki_external.specs.Answers.{AreRight, by_answers};
-ghost use Rattle.rpki_external.specs.Making.{AreShort, AreSignatures, CanPrepare, IsInWindow, finished};
-ghost use Rattle.rpki_external.specs.Question.{QuestionFields};
-ghost use Rattle.rpki_external.specs.Receiving.{HoldsQuestions};
-ghost use Rattle.rpki_external.specs.Running.{AreRightIn, EndsAsReceived, EndsKeysTask, Finishes};
+ghost use Rattle.rpki_external.specs.Answers.{AnswersFields, AreRight, AreTo, answered_scheme};
+ghost use Rattle.rpki_external.specs.Making.{AreShort, AreSignatures, CanPrepare, IsInWindow, anchor_fields, finished, finished_anchor, finished_request, request_to_sign, unsigned_request};
+ghost use Rattle.rpki_external.specs.Question.{QuestionsFields, anchor_questions, listed, message_questions, request_questions};
+ghost use Rattle.rpki_external.specs.Receiving.{AreAskedOf, IsGuardRefusal, IsReceipt};
+ghost use Rattle.rpki_external.specs.Spelling.{AreWritable, Collide, questions_text};
+ghost use Rattle.rpki_external.specs.Verifying.{IsRequestSigned, IsTaValidation};
+ghost use Rattle.rpki_external.specs.declared.answers.AnswersError.{AnswersError};
 ghost use Rattle.rpki_external.specs.declared.preparing.Plan.{Plan};
 ghost use Rattle.rpki_external.specs.declared.preparing.PrepareError.{PrepareError};
 ghost use Rattle.rpki_external.specs.declared.preparing.Signatures.{Signatures};
+ghost use Rattle.rpki_external.specs.declared.preparing_requests.RequestPlan.{RequestPlan};
+ghost use Rattle.rpki_signer.specs.Signer.{SignerState};
 ghost use Rattle.rpki_external.specs.declared.question.Part.{Part};
-ghost use Rattle.rpki_external.specs.declared.task.Task.TheVariants as tasks;
+ghost use Rattle.rpki_external.specs.declared.receiving.AnsweredError.{AnsweredError};
+ghost use Rattle.rpki_external.specs.declared.receiving.Receipt.{Receipt};
+ghost use Rattle.rpki_external.specs.declared.setting_up.SetupError.{SetupError};
+ghost use Rattle.rpki_external.specs.declared.verifying.VerifyError.{VerifyError};
 
+use crate::answers::AnswersError;
 use crate::preparing::PrepareError;
 use crate::question::Part;
+use crate::receiving::AnsweredError;
+use crate::setting_up::SetupError;
+use crate::verifying::VerifyError;
 use rpki_base::Scheme;
+use rpki_signer::Signer;
 
-/// `==` holds exactly between the same parts, and between the same errors of what is prepared.
+/// `==` holds exactly between the same parts, and between the same errors.
 pub fn equal_values_are_the_same()
     ensures part { (a b : Part) → (⟦<Part as PartialEq>⟧.eq a b ≡ true) ↔ (a ≡ b) }
+    ensures answers { (a b : AnswersError)
+        → (⟦<AnswersError as PartialEq>⟧.eq a b ≡ true) ↔ (a ≡ b) }
+    ensures answered { (a b : AnsweredError)
+        → (⟦<AnsweredError as PartialEq>⟧.eq a b ≡ true) ↔ (a ≡ b) }
+    ensures verify { (a b : VerifyError)
+        → (⟦<VerifyError as PartialEq>⟧.eq a b ≡ true) ↔ (a ≡ b) }
+    ensures setup { (a b : SetupError)
+        → (⟦<SetupError as PartialEq>⟧.eq a b ≡ true) ↔ (a ≡ b) }
     ensures prepare { (a b : PrepareError)
         → (⟦<PrepareError as PartialEq>⟧.eq a b ≡ true) ↔ (a ≡ b) }
 {}
 
-/// Receiving by answers gives what receiving under a scheme gives, for every scheme under which the answers are right.
-pub fn right_answers_decide<P: Scheme>()
-    ensures { (kind : Kind) (octets : List ℕ) (keys : List KeyFields) (when : ℤ)
-        (list : List QuestionFields) (answers : List Bool)
-        (answer : Result (Received × ℕ) ReceiveError)
-        → HoldsQuestions octets keys list → AreRight P.checks list answers
-        → (IsReceivedUnder (by_answers list answers) kind octets keys when answer
-        ↔ IsReceivedUnder P.checks kind octets keys when answer) }
+/// Answers count for one value of questions: where they are to two, these are the same, or their texts, which differ, have one SHA-256.
+/// So no answer that was given for one key, message or part counts for another.
+pub fn answers_are_to_one_value()
+    ensures { (answers : AnswersFields) (a b : QuestionsFields) → AreWritable a → AreWritable b
+        → AreTo answers a → AreTo answers b
+        → (a ≡ b) ⊎ Collide (questions_text a) (questions_text b) }
 {}
 
-/// Under each scheme for which the answers are right, `receive` ends with the answer that `receive` of `rpki_ca::run` has there, each
-/// refusal among them, or for want of memory. With 0 it wrote the text of a message that is accepted; and where one is accepted it
-/// ends with 0, but for want of memory and a fault of the sink.
-pub fn right_answers_deliver<P: Scheme>()
-    ensures answered { (kind : Kind) (when : ℤ) (answers : List Bool) (keys : List KeyFields)
-        (input : List ℕ) (status : ℕ) (sink : Seen)
-        → EndsKeysTask (tasks.Receive kind when answers keys) input status sink
-        → AreRightIn P.checks input keys answers
-        → EndsAsReceived P.checks kind when keys input status sink }
-    ensures received { (kind : Kind) (when : ℤ) (answers : List Bool) (keys : List KeyFields)
-        (input : List ℕ) (sink : Seen)
-        → EndsKeysTask (tasks.Receive kind when answers keys) input 0 sink
-        → AreRightIn P.checks input keys answers
-        → Delivers P.checks kind keys when input sink }
-    ensures accepted { (kind : Kind) (when : ℤ) (answers : List Bool) (keys : List KeyFields)
-        (input : List ℕ) (status : ℕ) (sink : Seen)
-        → EndsKeysTask (tasks.Receive kind when answers keys) input status sink
-        → AreRightIn P.checks input keys answers
-        → BringsAccepted P.checks kind keys when input
-        → (status ≡ 0) ⊎ ((status ≡ 12) ⊎ ((status ≡ 11) × HasFailed sink)) }
+/// Each question that the checks of a message ask under the keys has the same answer under the scheme that right answers are as under
+/// the scheme for which they are right. So whatever asks a verifier of answers ([`crate::AnswerVerifier`]) about the message, the checks, the
+/// guard or the archive, does what it does under that scheme.
+pub fn right_answers_are_the_schemes<P: Scheme>()
+    ensures { (m : MessageFields) (keys : List KeyFields) (answers : AnswersFields)
+        → AreRight P.checks (listed (message_questions m keys)) answers.values
+        → SameAnswersUnder (answered_scheme (message_questions m keys) answers) P.checks m keys }
+{}
+
+/// What is received by answers is what is received under each scheme for which the answers are right; so is each receipt, and each
+/// refusal of the guard.
+pub fn right_answers_decide<P: Scheme>()
+    ensures received { (kind : Kind) (octets : List ℕ) (keys : List KeyFields) (when : ℤ)
+        (q : QuestionsFields) (answers : AnswersFields)
+        (answer : Result (Received × ℕ) ReceiveError)
+        → AreAskedOf octets keys q → AreRight P.checks (listed q) answers.values
+        → (IsReceivedUnder (answered_scheme q answers) kind octets keys when answer
+        ↔ IsReceivedUnder P.checks kind octets keys when answer) }
+    ensures receipt { (kind : Kind) (octets : List ℕ) (keys : List KeyFields) (when : ℤ)
+        (last : Option ℤ) (q : QuestionsFields) (answers : AnswersFields) (r : Receipt)
+        → AreAskedOf octets keys q → AreRight P.checks (listed q) answers.values
+        → IsReceipt (answered_scheme q answers) kind octets keys when last r
+        → IsReceipt P.checks kind octets keys when last r }
+    ensures guard { (kind : Kind) (octets : List ℕ) (keys : List KeyFields) (when : ℤ)
+        (last : Option ℤ) (q : QuestionsFields) (answers : AnswersFields) (error : GuardError)
+        → AreAskedOf octets keys q → AreRight P.checks (listed q) answers.values
+        → IsGuardRefusal (answered_scheme q answers) kind octets keys when last error
+        → IsGuardRefusal P.checks kind octets keys when last error }
+{}
+
+/// What the checks of a trust anchor's certificate, and that of a request, answer by answers is what they answer under each scheme for
+/// which the answers are right.
+pub fn right_answers_verify<P: Scheme>()
+    ensures anchor { (c : CertificateFields) (when : ℤ) (answers : AnswersFields)
+        (answer : Result (Unit {0}) ValidationError)
+        → AreRight P.checks (listed (anchor_questions c)) answers.values
+        → (IsTaValidation (answered_scheme (anchor_questions c) answers) c when answer
+        ↔ IsTaValidation P.checks c when answer) }
+    ensures request { (r : CaRequest) (answers : AnswersFields)
+        → AreRight P.checks (listed (request_questions r)) answers.values
+        → (IsRequestSigned (answered_scheme (request_questions r) answers) r
+        ↔ IsRequestSigned P.checks r) }
 {}
 
 /// A message with three signatures of what is prepared of it is believed under the issuing key, at each second from 300 before the
@@ -74,18 +123,45 @@ pub fn finished_is_believed<P: Scheme>()
         → IsBelieved P.checks (finished content plan signatures) plan.issuing_key when }
 {}
 
-/// With 0 `finish` wrote a signed message that is accepted, under each scheme in which the signatures hold for what `prepare` writes and
-/// each list of keys that holds the issuing key, as the normal form of the message that the input is.
-pub fn finished_is_accepted<P: Scheme>()
-    ensures { (kind : Kind) (plan : Plan) (signatures : Signatures) (input : List ℕ) (sink : Seen)
-        → EndsKeysTask (tasks.Finish kind plan signatures) input 0 sink
-        → Finishes P.checks kind plan signatures input sink }
-{}
-
 /// What is made with a signer is what is finished with the signatures that it gave, by the plan with its keys and its serial number.
 pub fn made_is_finished<P: Scheme>()
     ensures { (content : List ℕ) (plan : Plan) (m : MessageFields)
         → IsMessageMade P.checks content plan.when plan.issuing_key plan.key plan.serial m
         → (signatures : Signatures) × AreSignatures P.checks content plan signatures
         × (m ≡ finished content plan signatures) }
+{}
+
+/// A key's own certificate is believed as a trust anchor's at each second of its validity, whatever its signature: it doesn't name
+/// itself as its issuer, so its signature isn't asked.
+pub fn finished_anchor_is_believed<P: Scheme>()
+    ensures { (key : KeyFields) (validity : ValidityFields) (signature : List ℕ) (when : ℤ)
+        → validity.not_before ≤ℤ when → when ≤ℤ validity.not_after
+        → IsTaBelieved P.checks (finished_anchor key validity signature) when }
+{}
+
+/// What is made of a trust anchor's certificate with a signer is what is finished with the signature that it gave.
+pub fn made_anchor_is_finished<P: Scheme>()
+    ensures { (validity : ValidityFields) (c : CertificateFields) (key : KeyFields)
+        → c.tbs ≡ anchor_fields key validity → IsIssued P.checks key c
+        → (signature : List ℕ)
+        × P.checks RsaSha256 key (spelled_tbs (anchor_fields key validity)) signature
+        × (c ≡ finished_anchor key validity signature) }
+{}
+
+/// A certificate request with a signature of what is prepared of it is verified, under each scheme in which the signature holds.
+pub fn finished_request_is_verified<P: Scheme>()
+    ensures { (plan : RequestPlan) (signature : List ℕ)
+        → P.checks RsaSha256 plan.key (request_to_sign plan) signature
+        → IsRequestSigned P.checks (finished_request plan signature) }
+{}
+
+/// What is made of a certificate request with a signer is what is finished with the signature that it gave, by the plan with its key and
+/// its places.
+pub fn made_request_is_finished<P: Scheme, S: Signer<P>>()
+    ensures { (id : S.KeyId) (before after : SignerState S.KeyId) (octets : List ℕ)
+        (plan : RequestPlan)
+        (m : IsRequestMade P.checks id (unsigned_request plan).places before after octets)
+        → m.key ≡ plan.key → (signature : List ℕ)
+        × P.checks RsaSha256 plan.key (request_to_sign plan) signature
+        × (octets ≡ spelled_data spelled_x509 (finished_request plan signature).signed) }
 {}

@@ -16,23 +16,43 @@
 mod answering;
 mod answers;
 mod asked;
+mod inspecting;
+mod keys_refusal;
 mod law;
 mod output;
 mod preparing;
+mod preparing_anchors;
+mod preparing_requests;
 mod question;
+mod question_list;
+mod question_text;
 mod receiving;
 mod running;
+mod scheme;
+mod setting_up;
 mod task;
 mod task_words;
+mod verifying;
+mod word_parts;
 
-pub use answers::{AnswerScheme, AnswerVerifier, Answers};
-pub use asked::questions;
+pub use answers::{Answers, AnswersError};
+pub use asked::{anchor_questions, message_questions, questions, request_questions};
+pub use inspecting::{inspect, inspection_text};
+pub use keys_refusal::KeysRefusal;
 pub use law::{
-    equal_values_are_the_same, finished_is_accepted, finished_is_believed, made_is_finished,
-    right_answers_decide, right_answers_deliver,
+    answers_are_to_one_value, equal_values_are_the_same, finished_anchor_is_believed,
+    finished_is_believed, finished_request_is_verified, made_anchor_is_finished, made_is_finished,
+    made_request_is_finished, right_answers_are_the_schemes, right_answers_decide,
+    right_answers_verify,
 };
 pub use preparing::{Plan, PrepareError, Signatures, finish, prepare};
-pub use question::{Part, Question};
-pub use receiving::{AnsweredError, receive_answered};
+pub use preparing_anchors::{finish_anchor, prepare_anchor};
+pub use preparing_requests::{RequestPlan, finish_request, prepare_request};
+pub use question::{Part, Question, SignedPart};
+pub use question_list::Questions;
+pub use receiving::{AnsweredError, Receipt, receive_answered};
 pub use running::run_keys;
-pub use task::Task;
+pub use scheme::{AnswerScheme, AnswerVerifier, AnsweredQuestions};
+pub use setting_up::{SetupError, setup_answered, setup_questions};
+pub use task::{Asked, Finished, Prepared, Task, Verified};
+pub use verifying::{VerifyError, anchor_answered, checks_answered, request_answered};

@@ -13,6 +13,7 @@ use rpki_base::{PublicKey, PublicKeyFormat, RpkiSignatureAlgorithm, Serial, Sign
 use rpki_common::OutOfMemory;
 use rpki_sigmsg::{SignedMessage, UnsignedMessage, Window, content_is_within_limit};
 use rpki_signer::is_within_limit;
+use rpki_text::uri;
 use std::alloc::Global;
 use thiserror::Error;
 
@@ -55,6 +56,9 @@ pub enum PrepareError {
     /// The key for one use is the issuing key.
     #[error("the one-off key is the issuing key")]
     KeyReused,
+    /// The URI of a request's repository with a slash behind it is unlawful. What is inside is never `OutOfMemory`.
+    #[error("the URI with its slash is unlawful")]
+    Uri(uri::Error),
     /// Memory ran out.
     #[error("out of memory")]
     OutOfMemory,
@@ -138,8 +142,8 @@ pub fn prepare(alloc: Global, content: Bytes, plan: &Plan) -> Result<UnsignedMes
     )?)
 }
 
-// A signature of these octets, under rsaEncryption with NULL.
-fn signature_of(octets: Bytes) -> Signature<RpkiSignatureAlgorithm>
+/// A signature of these octets, under rsaEncryption with NULL.
+pub(crate) fn signature_of(octets: Bytes) -> Signature<RpkiSignatureAlgorithm>
     ensures { result ≡ spec.signature_of octets }
 {
     Signature::new(RpkiSignatureAlgorithm::default(), octets)

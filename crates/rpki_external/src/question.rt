@@ -1,49 +1,49 @@
-//! A question to a scheme.
+//! Questions to a scheme, one by one.
 
-ghost use Rattle.std.specs.Prelude.{◌≡◌, Some};
+ghost use Rattle.std.specs.Prelude.{◌≡◌, IfOk, Some};
 ghost use Rattle.rpki_external.specs.Answers.{asks};
-ghost use Rattle.rpki_external.specs.Output.{part_name};
+ghost use Rattle.rpki_external.specs.Question.{under};
+ghost use Rattle.rpki_external.specs.Spelling.{part_name};
 
 use bytes::Bytes;
 use rpki_base::PublicKey;
+use rpki_common::OutOfMemory;
+use std::alloc::Global;
 use std::fmt;
 use std::marker::Model;
 
-/// The part of a signed message that a question is of. It prints as its name: `attributes`; `certificate-0` and `crl-0-1` with the
-/// place of the key and of the CRL.
+/// The part whose signature a question is of. It prints as its name, which is the variant's in small letters.
 #[derive(Clone, Copy, Debug, PartialEq, Eq)]
 pub enum Part {
-    /// The signed attributes.
+    /// The signed attributes of a signed message.
     Attributes,
-    /// The certificate.
-    Certificate {
-        /// The place of the key under which it is asked, from 0.
-        key: usize,
-    },
-    /// A CRL.
-    Crl {
-        /// The place of the key under which it is asked, from 0.
-        key: usize,
-        /// The place of the CRL, from 0.
-        crl: usize,
-    },
+    /// The certificate of a signed message.
+    Certificate,
+    /// A CRL of a signed message.
+    Crl,
+    /// A trust anchor's certificate.
+    Anchor,
+    /// A certificate request.
+    Request,
 }
 
 impl fmt::Display for Part {
     ghost output = { λ part. Some (part_name part) };
 
     fn fmt<W: fmt::Write>(&self, f: &mut fmt::Formatter<W>) -> fmt::Result {
-        match self {
-            Part::Attributes => f.write_str("attributes"),
-            Part::Certificate { key } => write!(f, "certificate-{key}"),
-            Part::Crl { key, crl } => write!(f, "crl-{key}-{crl}"),
-        }
+        f.write_str(match self {
+            Part::Attributes => "attributes",
+            Part::Certificate => "certificate",
+            Part::Crl => "crl",
+            Part::Anchor => "anchor",
+            Part::Request => "request",
+        })
     }
 }
 
 /// A question to a scheme: whether a signature of RSA with SHA-256 is one of these octets under a key (RFC 7935, 2).
 ///
-/// In a clause it is the record of these, with the part of the message that they are of.
+/// In a clause it is the record of these, with the part that they are of.
 #[derive(Drop)]
 pub struct Question {
     part: Part,
@@ -83,7 +83,7 @@ impl Question {
         }
     }
 
-    /// The part of the message that it is of.
+    /// The part that it is of.
     pub fn part(&self) -> Part
         ensures { result ≡ self.now.part }
     {
@@ -111,6 +111,16 @@ impl Question {
         &self.signature
     }
 
+    /// An equal question, which shares the octets.
+    pub fn clone(&self, alloc: Global) -> Result<Question, OutOfMemory>
+        ensures { IfOk result (λ q. q ≡ self.now) }
+    {
+        let key = self.key.clone(alloc)?;
+        let octets = self.octets.clone()?;
+        let signature = self.signature.clone()?;
+        Ok(Question::new(self.part, key, octets, signature))
+    }
+
     /// Whether it asks for this.
     pub(crate) fn asks(&self, key: &PublicKey, message: &[u8], signature: &[u8]) -> bool
         ensures { result ≡ asks self.now key.now message.now signature.now }
@@ -118,5 +128,74 @@ impl Question {
         self.key() == key
             && self.octets.as_slice() == message
             && self.signature.as_slice() == signature
+    }
+}
+
+/// A part that is signed: the octets of it that the signature covers, and the signature. In a clause it is the record of these, with
+/// the part that they are of.
+#[derive(Drop)]
+pub struct SignedPart {
+    part: Part,
+    octets: Bytes,
+    signature: Bytes,
+}
+
+impl Model for SignedPart {
+    ghost use Rattle.rpki_external.specs.Question.{SignedPartFields};
+
+    ghost Value = { SignedPartFields };
+
+    ghost view = { λ p. record {
+      part = p.part;
+      octets = p.octets;
+      signature = p.signature;
+    } };
+}
+
+impl SignedPart {
+    /// These octets of the part, with this signature.
+    pub(crate) fn new(part: Part, octets: Bytes, signature: Bytes) -> SignedPart
+        ensures { result ≡ record {
+          part = part;
+          octets = octets;
+          signature = signature;
+        } }
+    {
+        SignedPart {
+            part,
+            octets,
+            signature,
+        }
+    }
+
+    /// Which part it is.
+    pub fn part(&self) -> Part
+        ensures { result ≡ self.now.part }
+    {
+        self.part
+    }
+
+    /// The exact octets that are signed.
+    pub fn octets(&self) -> &Bytes
+        ensures { result.now ≡ self.now.octets }
+    {
+        &self.octets
+    }
+
+    /// The octets of the signature.
+    pub fn signature(&self) -> &Bytes
+        ensures { result.now ≡ self.now.signature }
+    {
+        &self.signature
+    }
+
+    /// The question whether it is signed under this key.
+    pub(crate) fn under(&self, alloc: Global, key: &PublicKey) -> Result<Question, OutOfMemory>
+        ensures { IfOk result (λ q. q ≡ under key.now self.now) }
+    {
+        let key = key.clone(alloc)?;
+        let octets = self.octets.clone()?;
+        let signature = self.signature.clone()?;
+        Ok(Question::new(self.part, key, octets, signature))
     }
 }

@@ -1,31 +1,59 @@
 //! What is received by answers.
 
-ghost use Rattle.std.specs.Prelude.{◌≡◌, ◌≤◌, length};
+ghost use Rattle.std.specs.Prelude.{◌≡◌, ◌≤◌, MatchResult, length};
 ghost use Rattle.rpki_common.specs.Limits.{most_keys};
 ghost use Rattle.rpki_external.specs.Answers.{by_answers};
-ghost use Rattle.rpki_external.specs.Receiving.{IsReceivedByAnswers};
+ghost use Rattle.rpki_external.specs.Receiving.{IsReceiptBy, RefusesByAnswers, guarded, judged_answered, receipt_of};
 ghost use Rattle.rpki_external.specs.declared.receiving.AnsweredError.TheVariants as variant;
 ghost use Rattle.rpki_ca.specs.Acceptance.{IsReceivedUnder};
 
-use crate::answers::{AnswerScheme, AnswerVerifier, Answers};
-use crate::asked::questions;
+use crate::answers::{Answers, AnswersError};
+use crate::asked::message_questions;
 use crate::question::Question;
+use crate::scheme::{AnswerScheme, AnswerVerifier, AnsweredQuestions};
 use rpki_base::{PublicKey, Time};
 use rpki_ca::{Kind, ReceiveError, Received, receive_any};
+use rpki_common::OutOfMemory;
 use rpki_der::DecodeError;
+use rpki_sigmsg::SignedMessage;
 use std::alloc::Global;
 use std::marker::Brand;
 use thiserror::Error;
 
+/// What was received.
+#[derive(Drop)]
+pub struct Receipt {
+    /// The message.
+    pub message: Received,
+    /// The place of the first key, from 0, that issued its certificate for the moment.
+    pub place: usize,
+    /// When the message says that it was signed, in seconds since 1970, if it does.
+    pub signing_time: Option<Time>,
+}
+
 /// Why nothing was received by answers.
 #[derive(Clone, Copy, Debug, PartialEq, Eq, Error)]
 pub enum AnsweredError {
+    /// The answers are to other questions.
+    #[error("the answers are to other questions")]
+    OtherQuestions,
     /// There are more or fewer answers than questions.
     #[error("not as many answers as questions")]
     Number,
     /// The message is not received.
     #[error("{0}")]
     Receive(ReceiveError),
+    /// A last time was handed in, and the message doesn't say when it was signed.
+    #[error("the message has no signing time")]
+    NoTime,
+    /// The message was signed at `seen`, which isn't later than the last time that was handed in.
+    #[error("the message is not signed later than the last one")]
+    Replayed {
+        /// The last time.
+        last: Time,
+        /// The message's.
+        seen: Time,
+    },
 }
 
 impl From<ReceiveError> for AnsweredError {
@@ -33,6 +61,16 @@ impl From<ReceiveError> for AnsweredError {
 
     fn from(error: ReceiveError) -> AnsweredError {
         AnsweredError::Receive(error)
+    }
+}
+
+impl From<OutOfMemory> for AnsweredError {
+    ghost use Rattle.rpki_ca.specs.declared.receiving.ReceiveError.TheVariants as receive;
+
+    ghost from_gives = { λ _ e. e ≡ variant.Receive receive.OutOfMemory };
+
+    fn from(_: OutOfMemory) -> AnsweredError {
+        AnsweredError::Receive(ReceiveError::OutOfMemory)
     }
 }
 
@@ -49,8 +87,22 @@ impl From<DecodeError> for AnsweredError {
     }
 }
 
+impl From<AnswersError> for AnsweredError {
+    ghost use Rattle.rpki_external.specs.Receiving.{of_answers};
+
+    ghost from_gives = { λ error e. e ≡ of_answers error };
+
+    fn from(error: AnswersError) -> AnsweredError {
+        match error {
+            AnswersError::OtherQuestions => AnsweredError::OtherQuestions,
+            AnswersError::Number => AnsweredError::Number,
+            AnswersError::OutOfMemory => AnsweredError::Receive(ReceiveError::OutOfMemory),
+        }
+    }
+}
+
 // What is received under the scheme that the answers to these questions are.
-fn receive_by<A: Answers>(
+fn receive_by<A: AnsweredQuestions>(
     alloc: Global,
     kind: Kind,
     octets: &[u8],
@@ -88,32 +140,85 @@ fn receive_given(
     receive_by::<Brand>(alloc, kind, octets, keys, when, questions, answers)
 }
 
-/// As [`rpki_ca::receive_any`], by answers: whether what each of [`crate::questions`] asks is so, in their order.
+// Whether a message with this signing time passes a guard whose last time this is, if one is handed in.
+fn pass_guard(last: Option<Time>, signing_time: Option<Time>) -> Result<(), AnsweredError>
+    ensures { result ≡ judged_answered last signing_time }
+{
+    let Some(last) = last else {
+        return Ok(());
+    };
+    let Some(seen) = signing_time else {
+        return Err(AnsweredError::NoTime);
+    };
+    if seen <= last {
+        return Err(AnsweredError::Replayed { last, seen });
+    }
+    Ok(())
+}
+
+// The receipt of what was received of this message.
+fn receipt_of(
+    received: Result<(Received, usize), ReceiveError>,
+    signed: &SignedMessage,
+) -> Result<Receipt, ReceiveError>
+    ensures { result ≡ receipt_of received signed.now.signing_time }
+{
+    match received {
+        Ok((message, place)) => Ok(Receipt {
+            message,
+            place,
+            signing_time: signed.signing_time(),
+        }),
+        Err(error) => Err(error),
+    }
+}
+
+// The receipt, if there is one and it passes a guard whose last time this is, if one is handed in.
+fn guarded(
+    receipt: Result<Receipt, ReceiveError>,
+    last: Option<Time>,
+    signed: &SignedMessage,
+) -> Result<Receipt, AnsweredError>
+    ensures { result ≡ guarded receipt (judged_answered last signed.now.signing_time) }
+{
+    match receipt {
+        Ok(receipt) => match pass_guard(last, signed.signing_time()) {
+            Ok(()) => Ok(receipt),
+            Err(error) => Err(error),
+        },
+        Err(error) => Err(AnsweredError::from(error)),
+    }
+}
+
+/// As [`rpki_ca::receive_any`], by answers to the [`crate::questions`] of the octets under the keys, with the place of the key and the
+/// signing time. Where a last time is handed in, the message has to be signed later, as [`rpki_replay::Guard::admit`] of a guard
+/// asks that has this last time for the key: who keeps the signing time of each receipt as the next last time admits no message twice.
 ///
-/// CmsDecode comes first, where no beginning of the octets is a signed message; then Number, where there are more or fewer answers
-/// than questions; then what `receive_any` answers under the scheme that the answers are, which is what it answers under each for which
-/// they are right ([`crate::right_answers_decide`]).
+/// CmsDecode comes first, where no beginning of the octets is a signed message; then OtherQuestions, where the answers are to other
+/// questions, and Number, where there are more or fewer of them; then what `receive_any` answers under the scheme that the answers are,
+/// which is what it answers under each for which they are right ([`crate::right_answers_decide`]); then NoTime and Replayed, of a
+/// message that is accepted.
 pub fn receive_answered(
     alloc: Global,
     kind: Kind,
     octets: &[u8],
     keys: &[PublicKey],
     when: Time,
-    answers: &[bool],
-) -> Result<(Received, usize), AnsweredError>
+    answers: &Answers,
+    last: Option<Time>,
+) -> Result<Receipt, AnsweredError>
     requires some { 1 ≤ length keys.now }
     requires few { length keys.now ≤ most_keys }
-    ensures { IsReceivedByAnswers kind octets.now keys.now when answers.now result }
+    ensures { MatchResult result
+        (IsReceiptBy kind octets.now keys.now when answers.now last)
+        (RefusesByAnswers kind octets.now keys.now when answers.now last) }
 {
-    let list = match questions(alloc, octets, keys) {
-        Ok(list) => list,
-        Err(error) => return Err(AnsweredError::from(error)),
-    };
-    if answers.len() != list.len() {
-        return Err(AnsweredError::Number);
-    }
-    match receive_given(alloc, kind, octets, keys, when, &list, answers) {
-        Ok(received) => Ok(received),
-        Err(error) => Err(AnsweredError::from(error)),
-    }
+    let signed = SignedMessage::decode(alloc, octets, false)?;
+    let questions = message_questions(alloc, &signed, keys)?;
+    let list = answers.matched(alloc, &questions)?;
+    let receipt = receipt_of(
+        receive_given(alloc, kind, octets, keys, when, &list, answers.values()),
+        &signed,
+    );
+    guarded(receipt, last, &signed)
 }

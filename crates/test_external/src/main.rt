@@ -1,21 +1,25 @@
 //! Runs the program that takes answers on stored cases, in memory, and says how many answers differ from the expected.
 //!
 //! A line of data/cases.txt is `NAME HOW STATUS OUTPUT INPUT WORD..`. With HOW `keys` the words are the program's own. With `toy` they
-//! are those of the command `receive` without answers: what the questions of the input are, the toy scheme answers, and these answers
-//! are put in. Both are run whole and an octet at a time; `whole` is `keys` that is only run whole. OUTPUT is what has to be written,
-//! and it and INPUT are octets as in other stored cases; `-` is an empty field.
-//! Or a line is `NAME CALL ANSWER INPUT WORD..`: CALL is `asked`, `received`, `prepared` or `finished` for the public call that the
-//! program is made of, and ANSWER the fields that it has to answer; or `printed`, where the word says what.
-//! tools/answer_cases.py writes the file; its expected answers come from OpenSSL, from a model that was written apart from this tree,
-//! or are stated in the script.
+//! are those of the command `receive` without last time, digest and answers: what the questions of the input are, the toy scheme
+//! answers, and these answers are put in. Both are run whole and an octet at a time; `whole` is `keys` that is only run whole. OUTPUT
+//! is what has to be written, and it and INPUT are octets as in other stored cases; `-` is an empty field.
+//! Or a line is `NAME CALL ANSWER INPUT WORD..`: CALL is a public call that the program is made of, as `called` names them, and ANSWER
+//! the fields that it has to answer; or `printed`, where the word says what.
+//! tools/cases/answer_cases.py writes the file, and says what each call takes and answers; its expected answers come from OpenSSL, from a
+//! model that was written apart from this tree, or are stated in the script.
 #![tactic(auto)]
 
+mod callers;
 mod calls;
+mod parts;
 mod printed;
+mod verifying;
 
 use rpki_base::{PublicKey, SigningAlgorithm, Verifier};
 use rpki_ca::{Status, Words, spelled_octets};
-use rpki_external::{questions, run_keys};
+use rpki_common::OutOfMemory;
+use rpki_external::{Question, questions, run_keys};
 use rpki_signer::ToyVerifier;
 use rpki_text::{MemorySink, MemorySource};
 use std::alloc::Global;
@@ -43,6 +47,10 @@ impl Drop for Case {
 
 fn out_of_memory() -> io::Error {
     io::Error::from(ErrorKind::OutOfMemory)
+}
+
+fn memory(_: OutOfMemory) -> io::Error {
+    out_of_memory()
 }
 
 fn text_of(field: &str) -> &str {
@@ -103,46 +111,67 @@ fn keys_in(alloc: Global, words: &Words) -> io::Result<Vec<PublicKey>> {
     Ok(keys)
 }
 
-// A digit for each question of the input's message under these keys, as the toy scheme answers it; one where there is no message.
-fn toy_answers(alloc: Global, input: &[u8], keys: &[PublicKey]) -> io::Result<String> {
-    let digits = input.strip_suffix(b"\n").unwrap_or(input);
-    let Ok(octets) = spelled_octets(alloc, digits) else {
-        return Err(out_of_memory());
-    };
-    let mut answers = String::new(alloc);
-    let octets = octets.unwrap_or(Vec::new(alloc));
-    let Ok(list) = questions(alloc, &octets, keys) else {
-        answers.push_str("0")?;
-        return Ok(answers);
-    };
+// A digit for each question, as the toy scheme answers it.
+fn toy_digits(alloc: Global, list: &[Question]) -> io::Result<String> {
     let verifier = ToyVerifier::new();
-    for question in &list {
+    let mut digits = String::new(alloc);
+    for question in list {
         let holds = verifier.verify(
             SigningAlgorithm::RsaSha256,
             question.key(),
             question.octets().as_slice(),
             question.signature().as_slice(),
         );
-        answers.push_str(if holds { "1" } else { "0" })?;
+        digits.push_str(if holds { "1" } else { "0" })?;
     }
-    Ok(answers)
+    Ok(digits)
 }
 
-// The words with the toy scheme's answers behind the moment.
+// Whether the questions of a message, keys aside, have at most three times as many digits as its octets have.
+pub(crate) fn is_short(alloc: Global, octets: &[u8]) -> io::Result<bool> {
+    let Ok(questions) = questions(alloc, octets, &[]) else {
+        return Ok(true);
+    };
+    let text = questions.to_text(alloc).map_err(memory)?;
+    Ok(text.len() / 6 <= octets.len())
+}
+
+// The digest of the questions of the input's message under these keys, and the toy scheme's answers to them; where there is no message,
+// another digest and one answer.
+fn toy_words(alloc: Global, input: &[u8], keys: &[PublicKey]) -> io::Result<(String, String)> {
+    let digits = input.strip_suffix(b"\n").unwrap_or(input);
+    let octets = spelled_octets(alloc, digits).map_err(memory)?;
+    let octets = octets.unwrap_or(Vec::new(alloc));
+    if !is_short(alloc, &octets)? {
+        return Err(invalid());
+    }
+    let Ok(questions) = questions(alloc, &octets, keys) else {
+        let digest = hex::encode(alloc, &[0u8; 32])?;
+        return Ok((digest, format!(in alloc; "0")?));
+    };
+    let digest = questions.digest(alloc).map_err(memory)?;
+    let list = questions.list(alloc).map_err(memory)?;
+    Ok((
+        hex::encode(alloc, digest.as_slice())?,
+        toy_digits(alloc, &list)?,
+    ))
+}
+
+// The words with no last time, digest and the toy scheme's answers behind the moment.
 fn with_answers(alloc: Global, case: &Case) -> io::Result<Words> {
     let keys = keys_in(alloc, &case.words)?;
-    let answers = toy_answers(alloc, &case.input, &keys)?;
+    let (digest, answers) = toy_words(alloc, &case.input, &keys)?;
     let mut words = Words::new(alloc);
     for index in 0..case.words.len() {
-        if index == 3 && words.push(answers.as_str()).is_err() {
-            return Err(out_of_memory());
+        if index == 3 {
+            words.push("-").map_err(memory)?;
+            words.push(digest.as_str()).map_err(memory)?;
+            words.push(answers.as_str()).map_err(memory)?;
         }
         let Some(word) = case.words.get(index) else {
             return Err(invalid());
         };
-        if words.push(word).is_err() {
-            return Err(out_of_memory());
-        }
+        words.push(word).map_err(memory)?;
     }
     Ok(words)
 }
@@ -188,9 +217,26 @@ fn is_run_by_toy(alloc: Global, line: &str) -> io::Result<bool> {
 fn called(alloc: Global, call: &str, input: &[u8], words: &Words) -> io::Result<Fields> {
     match call {
         "asked" => calls::asked(alloc, input, words),
+        "held" => calls::held(alloc, input, words),
+        "inspected" => calls::inspected(alloc, input),
+        "told" => calls::told(alloc, input),
         "received" => calls::received(alloc, input, words),
+        "checked" => calls::checked(alloc, input, words),
+        "guarded" => calls::guarded(alloc, input, words),
         "prepared" => calls::prepared(alloc, input, words),
         "finished" => calls::finished(alloc, input, words),
+        "setup-asked" => verifying::setup_asked(alloc, input, words),
+        "setup" => verifying::set_up(alloc, input, words),
+        "anchor-asked" => verifying::anchor_asked(alloc, input, words),
+        "anchor" => verifying::anchor(alloc, input, words),
+        "anchor-prepared" => verifying::anchor_prepared(alloc, words),
+        "anchor-finished" => verifying::anchor_finished(alloc, words),
+        "anchor-made" => verifying::anchor_made(alloc, words),
+        "request-asked" => verifying::request_asked(alloc, input, words),
+        "request" => verifying::request(alloc, input, words),
+        "request-prepared" => verifying::request_prepared(alloc, words),
+        "request-finished" => verifying::request_finished(alloc, words),
+        "request-made" => verifying::request_made(alloc, words),
         "printed" => printed::printed(alloc, words),
         _ => Err(invalid()),
     }

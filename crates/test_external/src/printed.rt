@@ -1,65 +1,102 @@
-//! Errors and parts, as they are printed.
+//! Errors, parts and refusals, as they are printed.
 
-use rpki_base::{ValidationError, ValidationKind};
+use rpki_base::{SignatureVerificationError, Time, ValidationError, ValidationKind};
 use rpki_ca::{ReceiveError, Refusal, Words};
 use rpki_common::OutOfMemory;
 use rpki_der::DecodeError;
-use rpki_external::{AnsweredError, Part, PrepareError};
+use rpki_external::{
+    AnsweredError, AnswersError, KeysRefusal, Part, PrepareError, SetupError, VerifyError,
+};
+use rpki_text::uri;
 use std::alloc::Global;
+use std::fmt::{Debug, Display};
 use std::io;
 use test_stored::{Fields, invalid};
 
-const PREPARE_ERRORS: [PrepareError; 5] = [
+const PARTS: [Part; 5] = [
+    Part::Attributes,
+    Part::Certificate,
+    Part::Crl,
+    Part::Anchor,
+    Part::Request,
+];
+
+const FAILED: ValidationError = ValidationError {
+    kind: ValidationKind::Verification,
+    check: 8,
+};
+
+const ANSWERS_ERRORS: [AnswersError; 3] = [
+    AnswersError::OtherQuestions,
+    AnswersError::Number,
+    AnswersError::OutOfMemory,
+];
+
+const PREPARE_ERRORS: [PrepareError; 6] = [
     PrepareError::Moment,
     PrepareError::TooLong,
     PrepareError::IncompatibleKey,
     PrepareError::KeyReused,
+    PrepareError::Uri(uri::Error::TooLong),
     PrepareError::OutOfMemory,
 ];
 
-const PARTS: [Part; 6] = [
-    Part::Attributes,
-    Part::Certificate { key: 0 },
-    Part::Certificate { key: 7 },
-    Part::Crl { key: 0, crl: 1 },
-    Part::Crl { key: 1, crl: 0 },
-    Part::Crl { key: 7, crl: 1 },
+const VERIFY_ERRORS: [VerifyError; 5] = [
+    VerifyError::OtherQuestions,
+    VerifyError::Number,
+    VerifyError::Validation(FAILED),
+    VerifyError::Signature,
+    VerifyError::OutOfMemory,
 ];
 
-fn answered_errors() -> [AnsweredError; 4] {
-    [
+const SETUP_ERRORS: [SetupError; 4] = [
+    SetupError::XmlError,
+    SetupError::InvalidTaCertEncoding,
+    SetupError::Verify(VerifyError::Number),
+    SetupError::OutOfMemory,
+];
+
+fn time(seconds: i64) -> io::Result<Time> {
+    match Time::new(seconds) {
+        Some(time) => Ok(time),
+        None => Err(invalid()),
+    }
+}
+
+fn answered_errors() -> io::Result<[AnsweredError; 7]> {
+    Ok([
+        AnsweredError::OtherQuestions,
         AnsweredError::Number,
         AnsweredError::from(ReceiveError::CmsDecode),
-        AnsweredError::from(ReceiveError::Validation(ValidationError {
-            kind: ValidationKind::Verification,
-            check: 8,
-        })),
+        AnsweredError::from(ReceiveError::Validation(FAILED)),
         AnsweredError::from(ReceiveError::OutOfMemory),
-    ]
+        AnsweredError::NoTime,
+        AnsweredError::Replayed {
+            last: time(1_700_000_000)?,
+            seen: time(0)?,
+        },
+    ])
 }
 
-fn prepare_errors(alloc: Global) -> io::Result<Fields> {
-    let mut fields = Fields::new(alloc);
-    for error in PREPARE_ERRORS {
-        let text = format!(in alloc; "{error} {error:?}")?;
-        fields.octets(text.as_bytes())?;
-    }
-    Ok(fields)
+fn refusals() -> io::Result<[KeysRefusal; 6]> {
+    Ok([
+        KeysRefusal::from(Refusal::Hex),
+        KeysRefusal::from(OutOfMemory),
+        KeysRefusal::OtherQuestions,
+        KeysRefusal::Signature,
+        KeysRefusal::NoTime,
+        KeysRefusal::Replayed {
+            last: time(253_402_300_799)?,
+            seen: time(0)?,
+        },
+    ])
 }
 
-fn errors_of_receipt(alloc: Global) -> io::Result<Fields> {
+// Each value of the list, printed and shown.
+fn printed_each<T: Display + Debug>(alloc: Global, list: &[T]) -> io::Result<Fields> {
     let mut fields = Fields::new(alloc);
-    for error in answered_errors() {
-        let text = format!(in alloc; "{error} {error:?}")?;
-        fields.octets(text.as_bytes())?;
-    }
-    Ok(fields)
-}
-
-fn parts(alloc: Global) -> io::Result<Fields> {
-    let mut fields = Fields::new(alloc);
-    for part in PARTS {
-        let text = format!(in alloc; "{part} {part:?}")?;
+    for value in list {
+        let text = format!(in alloc; "{value} {value:?}")?;
         fields.octets(text.as_bytes())?;
     }
     Ok(fields)
@@ -67,26 +104,68 @@ fn parts(alloc: Global) -> io::Result<Fields> {
 
 // What errors are passed on as.
 fn passed_on(alloc: Global) -> io::Result<Fields> {
-    let mut fields = Fields::new(alloc);
-    for error in [DecodeError::Malformed, DecodeError::OutOfMemory] {
-        let text = format!(in alloc; "{:?}", AnsweredError::from(error))?;
-        fields.octets(text.as_bytes())?;
+    let mut text = format!(in alloc; "{:?}", PrepareError::from(OutOfMemory))?;
+    for error in [uri::Error::TooLong, uri::Error::OutOfMemory] {
+        text.push_str(format!(in alloc; " {:?}", PrepareError::from(error))?.as_str())?;
     }
-    let text = format!(in alloc; "{:?}", PrepareError::from(OutOfMemory))?;
+    for error in [DecodeError::Malformed, DecodeError::OutOfMemory] {
+        text.push_str(format!(in alloc; " {:?}", AnsweredError::from(error))?.as_str())?;
+    }
+    for error in ANSWERS_ERRORS {
+        text.push_str(format!(in alloc; " {:?}", AnsweredError::from(error))?.as_str())?;
+        text.push_str(format!(in alloc; " {:?}", VerifyError::from(error))?.as_str())?;
+    }
+    for error in VERIFY_ERRORS {
+        text.push_str(format!(in alloc; " {:?}", SetupError::from(error))?.as_str())?;
+    }
+    Ok(Fields::one(alloc, text.as_bytes())?)
+}
+
+// What want of memory, a failed check and a signature that doesn't hold are passed on as.
+fn passed_on_alone(alloc: Global) -> io::Result<Fields> {
+    let text = format!(in alloc;
+        "{:?} {:?} {:?} {:?} {:?} {:?}",
+        AnswersError::from(OutOfMemory),
+        AnsweredError::from(OutOfMemory),
+        VerifyError::from(OutOfMemory),
+        VerifyError::from(FAILED),
+        VerifyError::from(SignatureVerificationError),
+        SetupError::from(OutOfMemory)
+    )?;
+    Ok(Fields::one(alloc, text.as_bytes())?)
+}
+
+// Appends the refusal, its status and its line.
+fn push_refusal(alloc: Global, fields: &mut Fields, refusal: KeysRefusal) -> io::Result<()> {
+    let line = refusal.line();
+    let text = format!(in alloc; "{refusal} {} {}", refusal.status(), line.as_str())?;
     fields.octets(text.as_bytes())?;
+    Ok(())
+}
+
+// The refusals, each printed, with its status and its line.
+fn refusal_lines(alloc: Global) -> io::Result<Fields> {
+    let mut fields = Fields::new(alloc);
+    for refusal in refusals()? {
+        push_refusal(alloc, &mut fields, refusal)?;
+    }
     Ok(fields)
 }
 
-// The refusals that errors are.
-fn refusals(alloc: Global) -> io::Result<Fields> {
+// The refusals that the errors of the lists are.
+fn refused_as(alloc: Global) -> io::Result<Fields> {
     let mut fields = Fields::new(alloc);
     for error in PREPARE_ERRORS {
-        let text = format!(in alloc; "{:?}", Refusal::from(error))?;
-        fields.octets(text.as_bytes())?;
+        fields.print(alloc, KeysRefusal::from(error))?;
     }
-    for error in answered_errors() {
-        let text = format!(in alloc; "{:?}", Refusal::from(error))?;
-        fields.octets(text.as_bytes())?;
+    for error in answered_errors()? {
+        fields.print(alloc, KeysRefusal::from(error))?;
+    }
+    for error in VERIFY_ERRORS {
+        fields.print(alloc, KeysRefusal::from(error))?;
+    }
+    for error in SETUP_ERRORS {
+        fields.print(alloc, KeysRefusal::from(error))?;
     }
     Ok(fields)
 }
@@ -113,14 +192,23 @@ fn equal<T: PartialEq>(alloc: Global, list: &[T]) -> io::Result<Fields> {
 /// What the word names, printed and shown, or as what it is passed on, or which of it are equal.
 pub(crate) fn printed(alloc: Global, words: &Words) -> io::Result<Fields> {
     match words.get(0) {
-        Some("prepare") => prepare_errors(alloc),
-        Some("answered") => errors_of_receipt(alloc),
-        Some("parts") => parts(alloc),
+        Some("parts") => printed_each(alloc, &PARTS),
+        Some("answers") => printed_each(alloc, &ANSWERS_ERRORS),
+        Some("answered") => printed_each(alloc, &answered_errors()?),
+        Some("prepare") => printed_each(alloc, &PREPARE_ERRORS),
+        Some("verify") => printed_each(alloc, &VERIFY_ERRORS),
+        Some("setup") => printed_each(alloc, &SETUP_ERRORS),
         Some("passed-on") => passed_on(alloc),
-        Some("refusals") => refusals(alloc),
-        Some("equal-prepare") => equal(alloc, &PREPARE_ERRORS),
-        Some("equal-answered") => equal(alloc, &answered_errors()),
+        Some("passed-on-alone") => passed_on_alone(alloc),
+        Some("refusals") => refusal_lines(alloc),
+        Some("refused-as") => refused_as(alloc),
         Some("equal-parts") => equal(alloc, &PARTS),
+        Some("equal-answers") => equal(alloc, &ANSWERS_ERRORS),
+        Some("equal-answered") => equal(alloc, &answered_errors()?),
+        Some("equal-prepare") => equal(alloc, &PREPARE_ERRORS),
+        Some("equal-verify") => equal(alloc, &VERIFY_ERRORS),
+        Some("equal-setup") => equal(alloc, &SETUP_ERRORS),
+        Some("equal-refusals") => equal(alloc, &refusals()?),
         _ => Err(invalid()),
     }
 }

@@ -3,11 +3,12 @@
 //!
 //! A line of data/cases.txt is `NAME STATUS LINE INPUT WORD..`: LINE is what has to be written, and
 //! it and INPUT are octets as in other stored cases; `-` is an empty field. Or it is
-//! `NAME CALL ANSWER ..`, with a call of words.rt, parts.rt, faults.rt or signers.rt and the text that it says. tools/run_cases.py
+//! `NAME CALL ANSWER ..`, with a call of words.rt, parts.rt, faults.rt or signers.rt and the text that it says. tools/cases/run_cases.py
 //! writes the file; its expected answers come from a model that was written apart from this tree, or
 //! are stated in the script.
 #![tactic(auto)]
 
+mod answered;
 mod faults;
 mod parts;
 mod signers;
@@ -82,10 +83,18 @@ fn is_answered(alloc: Global, case: &Case, piece: usize) -> io::Result<bool> {
     Ok(status == case.status && sink.written() == case.line.as_slice())
 }
 
-// Whether the case is answered as expected, whole and an octet at a time.
+// Whether the case is answered as expected, whole and an octet at a time; and where answers are put in for the toy scheme, if it is a
+// setup message.
 fn is_run(alloc: Global, line: &str) -> io::Result<bool> {
     let case = case_of(alloc, line)?;
-    Ok(is_answered(alloc, &case, 1 << 20)? && is_answered(alloc, &case, 1)?)
+    let is_set_up = answered::is_answered(
+        alloc,
+        &case.words,
+        &case.input,
+        case.status,
+        &case.line,
+    )?;
+    Ok(is_set_up && is_answered(alloc, &case, 1 << 20)? && is_answered(alloc, &case, 1)?)
 }
 
 // What a call over words says; None where there is none of its name.

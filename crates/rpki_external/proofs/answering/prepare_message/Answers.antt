@@ -1,6 +1,6 @@
 use Rattle.std.proofs.Common.{ap, refl, ◌∙◌}
 use Rattle.std.proofs.lemmas.Result.{err_from_is_err_and}
-use Rattle.rpki_external.specs.Output.{lines_of}
+use Rattle.rpki_external.specs.Running.{lines_of}
 use Rattle.rpki_external.proofs.Saying.{prepared_so}
 use Rattle.rpki_external.proofs.answering.prepare_message.Goals as goal
 

@@ -1,6 +1,6 @@
-use Rattle.std.proofs.Common.{◌≡◌, ◌++◌, drop}
-use Rattle.rpki_external.specs.Question.{crl_questions}
+use Rattle.std.proofs.Common.{◌≡◌, ◌++◌, drop, map}
+use Rattle.rpki_external.specs.Question.{crl_part}
 use Rattle.rpki_external.proofs.asked.push_crls.Given as goal
 
-abbrev pub invariant-loop-number : goal.invariant-loop-number
-invariant-loop-number l = l.list.items ++ crl_questions l.place l.key l.number (drop l.number l.crls) ≡ l.initial.list.items ++ crl_questions l.place l.key 0 l.crls
+abbrev pub invariant-loop-crl : goal.invariant-loop-crl
+invariant-loop-crl l = l.parts.items ++ map crl_part (drop l.crl-index l.crls) ≡ l.initial.parts.items ++ map crl_part l.crls

@@ -1,5 +1,11 @@
-use Rattle.rpki_external.proofs.RightAnswers.{decided}
+use Rattle.rpki_external.proofs.RightAnswers.{decided, receipt_too, refusal_too}
 use Rattle.rpki_external.proofs.law.right_answers_decide.Goals as goal
 
-pub returns : goal.returns
-returns g c = decided g.P.Scheme.checks g.P.Scheme.fits
+pub returns-clause-received : goal.returns-clause-received
+returns-clause-received g c = decided g.P.Scheme.checks g.P.Scheme.fits
+
+pub returns-clause-receipt : goal.returns-clause-receipt
+returns-clause-receipt g c = receipt_too g.P.Scheme.checks g.P.Scheme.fits
+
+pub returns-clause-guard : goal.returns-clause-guard
+returns-clause-guard g c = refusal_too g.P.Scheme.checks g.P.Scheme.fits

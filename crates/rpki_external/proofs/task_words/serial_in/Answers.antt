@@ -1,5 +1,0 @@
-use Rattle.std.proofs.Common.{refl}
-use Rattle.rpki_external.proofs.task_words.serial_in.Goals as goal
-
-pub returns-in-None-clause-none : goal.returns-in-None-clause-none
-returns-in-None-clause-none c = λ _ serial at is. (rw c.in-None.is at c.in_ok-octets.ensures.none) refl serial at
