@@ -15,6 +15,7 @@ from measuring import PROGRAM, TOP, best_of_three, build_program
 
 
 def length(n):
+    """A length in its shortest form."""
     if n < 0x80:
         return bytes([n])
     octets = n.to_bytes((n.bit_length() + 7) // 8, "big")
@@ -22,11 +23,13 @@ def length(n):
 
 
 def value(identifier, *parts):
+    """A value under a tag."""
     content = b"".join(parts)
     return bytes([identifier]) + length(len(content)) + content
 
 
 def oid(text):
+    """An object identifier, of these contents in hexadecimal."""
     return value(0x06, bytes.fromhex(text))
 
 
@@ -61,21 +64,25 @@ def nested(size):
 
 
 def large(size):
+    """A message with one long content."""
     return message(b"x" * (size - 500))
 
 
 def segmented(size):
+    """A message whose content stands in short segments."""
     piece = value(0x04, b"x" * 8)
     count = (size - 500) // len(piece)
     return message(b"x" * (8 * count), octet_string=value(0x24, piece * count))
 
 
 def deep(size):
+    """A message whose content stands many levels down."""
     levels = (size - 500) // 4
     return message(b"a", octet_string=b"\x24\x80" * levels + value(0x04, b"a") + bytes(2 * levels))
 
 
 def main():
+    """Times all shapes and sizes, and prints them."""
     sizes = [int(word) for word in sys.argv[1:]] or [1, 4, 16, 64]
     build_program()
     print(f"{'shape':<10} {'MB':>4} {'status':>6} {'seconds':>8} {'MB/s':>8} {'peak MB':>8} {'bytes/byte':>10}")

@@ -27,21 +27,24 @@ from measuring import PROGRAM, TOP, best_of_three, build_program
 from publication import delta as changes
 from publication import small
 
-sys.path.insert(0, os.path.join(TOP, "tools"))
-import messages  # noqa: E402
+sys.path.insert(0, os.path.join(TOP, "tools", "cases"))
+import signed_messages as messages  # noqa: E402
 
 CREATE = "create", "publication", str(messages.NOW)
 
 
 def white(size):
+    """A query with white space in front."""
     return b" " * (size - len(messages.QUERY)) + messages.QUERY
 
 
 def comment(size):
+    """A query with a comment in front."""
     return b"<!--" + b"x" * (size - len(messages.QUERY) - 7) + b"-->" + messages.QUERY
 
 
 def delta(size):
+    """A delta with small objects."""
     return changes(small, size)[0]
 
 
@@ -53,7 +56,8 @@ def openssl_words(folder):
     key, certificate = os.path.join(folder, "key.pem"), os.path.join(folder, "certificate.pem")
     subprocess.run([openssl, "req", "-x509", "-newkey", "rsa:2048", "-nodes", "-keyout", key, "-out", certificate, "-subj", "/CN=bench",
                     "-days", "2"], stdin=subprocess.DEVNULL, capture_output=True, check=True)
-    return [openssl, "cms", "-sign", "-binary", "-nodetach", "-keyid", "-md", "sha256", "-outform", "DER", "-signer", certificate, "-inkey", key]
+    words = "cms -sign -binary -nodetach -keyid -md sha256 -outform DER -signer".split()
+    return [openssl, *words, certificate, "-inkey", key]
 
 
 def openssl_columns(path, words):
@@ -65,6 +69,7 @@ def openssl_columns(path, words):
 
 
 def hashing_time(octets):
+    """The seconds that hashing takes, the best of three."""
     times = []
     for _ in range(3):
         start = time.perf_counter()
@@ -74,6 +79,7 @@ def hashing_time(octets):
 
 
 def main():
+    """Times all shapes and sizes, and prints them."""
     sizes = [int(word) for word in sys.argv[1:]] or [1, 4, 16]
     build_program()
     print(f"{'shape':<8} {'MB':>4} {'status':>6} {'seconds':>8} {'MB/s':>8} {'peak MB':>8} {'openssl s':>9} {'openssl MB':>10} "

@@ -4,9 +4,9 @@
     bench/first_run.py [PROGRAM ..] [--jobs N] [--at FOLDER]
 
 Clones this repository, as committed, into a new folder (in FOLDER, or where temporary files stand; it takes some 5 GB), has its
-tools/build.py prove and build the programs (rpkica, if none is named), and removes it. It prints for each crate its minutes by the clock
-and of processors, and then three sums: the longest chain of crates by the clock, the processor minutes, and the minutes by the clock of
-all, beside the longer of the chain and the processor minutes shared out over the processors.
+tools/run/build_crates.py prove and build the programs (rpkica, if none is named), and removes it. It prints for each crate its minutes by
+the clock and of processors, and then three sums: the longest chain of crates by the clock, the processor minutes, and the minutes by the
+clock of all, beside the longer of the chain and the processor minutes shared out over the processors.
 
 rt begins with what it kept of other copies on the machine. So that it finds none, it is run from a folder of links to the toolchain beside
 the clone. Where it says that it began with kept work nonetheless, the exit status is 1: then the sums are not those of a first run."""
@@ -23,9 +23,9 @@ import tempfile
 import time
 
 TOP = pathlib.Path(__file__).resolve().parent.parent
-sys.path.insert(0, str(TOP / "tools"))
+sys.path.insert(0, str(TOP / "tools" / "run"))
 
-import build  # noqa: E402  (it stands in tools/)
+import build_crates as build  # noqa: E402  (it stands in tools/run/)
 import rooms  # noqa: E402
 
 Path = pathlib.Path
@@ -51,7 +51,7 @@ def link_toolchain(to: Path) -> Path:
 
 
 class Crate:
-    """What a crate took, as tools/build.py wrote it."""
+    """What a crate took, as tools/run/build_crates.py wrote it."""
 
     def __init__(self, line: str) -> None:
         self.name, jobs, clock, processor, kept = line.split("\t")
@@ -64,7 +64,8 @@ def run_build(room: Path, programs: list[str], jobs: list[str]) -> tuple[list[Cr
     subprocess.run(["git", "clone", "--quiet", str(TOP), str(clone)], check=True)
     environment = {**os.environ, "PATH": f"{link_toolchain(room / 'toolchain')}:{os.environ['PATH']}"}
     began = time.monotonic()
-    ran = subprocess.run([str(clone / "tools" / "build.py"), *programs, *jobs, "--times", str(times)], env=environment, check=False)
+    words = [str(clone / "tools" / "run" / "build_crates.py"), *programs, *jobs, "--times", str(times)]
+    ran = subprocess.run(words, env=environment, check=False)
     taken = (time.monotonic() - began) / 60
     if ran.returncode:
         sys.exit(ran.returncode)
@@ -72,6 +73,7 @@ def run_build(room: Path, programs: list[str], jobs: list[str]) -> tuple[list[Cr
 
 
 def report(crates: list[Crate], programs: list[str], taken: float, lanes: int) -> str:
+    """The table of the crates, and the three sums."""
     plan = build.Plan(programs)
     clock = {crate.name: crate.clock for crate in crates}
     chain = plan.longest_chain(clock)
@@ -86,6 +88,7 @@ def report(crates: list[Crate], programs: list[str], taken: float, lanes: int) -
 
 
 def main() -> int:
+    """Measures a first run, and prints it; 1 where it began with kept work."""
     parser = argparse.ArgumentParser(description=__doc__, formatter_class=argparse.RawDescriptionHelpFormatter)
     parser.add_argument("program", nargs="*", default=["rpkica"])
     parser.add_argument("--jobs", type=build.at_least_one, metavar="N")

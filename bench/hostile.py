@@ -15,11 +15,11 @@ import tempfile
 
 from measuring import TOP, best_of_three, build_program
 
-sys.path.insert(0, os.path.join(TOP, "tools"))
-import messages  # noqa: E402
+sys.path.insert(0, os.path.join(TOP, "tools", "cases"))
 import provisioning_cases as provisioning  # noqa: E402
-import publication  # noqa: E402
+import publication_cases as publication  # noqa: E402
 import run_cases  # noqa: E402
+import signed_messages as messages  # noqa: E402
 
 LIMIT = 2**26
 SECONDS, OCTETS, ROOM = 5, 8, 64 * 10**6
@@ -71,10 +71,12 @@ def falling(count, item):
 
 
 def address(number):
+    """An IPv4 address, by its number."""
     return b"%d.%d.%d.%d" % tuple((10 * 2**24 + number).to_bytes(4, "big"))
 
 
 def long_address(number):
+    """An IPv6 address, by its number."""
     return b"2001:db8::%x:%x" % divmod(number, 2**16)
 
 
@@ -84,10 +86,12 @@ def filled(length, element):
 
 
 def reply(*elements):
+    """A reply of the publication protocol."""
     return publication.root(b"reply", *elements)
 
 
 def query(*elements):
+    """A query of the publication protocol."""
     return publication.root(b"query", *elements)
 
 
@@ -102,6 +106,7 @@ def classes(count):
 
 
 def listed(**sets):
+    """A list of one class with these sets."""
     return provisioning.root(b"list_response", provisioning.class_of(**sets))
 
 
@@ -164,6 +169,7 @@ def measured(folder, name, words, expected, make):
 
 
 def main():
+    """Measures the inputs that are asked for, and prints them; 1 where one isn't answered as it should be."""
     build_program()
     asked = sys.argv[1:]
     print(f"{'input':45} {'octets':>9} {'':2} {'seconds':>8} {'peak MB':>8} {'each':>6}")

@@ -1,7 +1,7 @@
 #!/usr/bin/env python3
-"""Counts what `rpkica receive` and `rpkica create` run on deltas of 1 MB of text (2^20 octets), in instructions, by valgrind's callgrind, and
-beside them what Python runs to read the same text with xml.etree and to decode the base64 in it. Seconds differ with whatever else a machine
-does; these counts are the same each time.
+"""Counts what `rpkica receive` and `rpkica create` run on deltas of 1 MB of text (2^20 octets), in instructions, by valgrind's callgrind,
+and beside them what Python runs to read the same text with xml.etree and to decode the base64 in it. Seconds differ with whatever else a
+machine does; these counts are the same each time.
 
     bench/instructions.py
 
@@ -47,10 +47,12 @@ def of_crates(found):
 
 
 def python_instructions(folder, path):
+    """How many instructions Python takes for a text."""
     return sum(instructions(folder, [sys.executable, "-c", PYTHON, path], os.devnull).values())
 
 
 def main():
+    """Counts for all shapes, and prints them."""
     build_program()
     columns = ("all", "sha2", "base64", "hex", "rest", "python")
     print(f"{'command':<8} {'shape':<6} {'objects':>8}" + "".join(f"{column:>9}" for column in columns))
@@ -66,7 +68,8 @@ def main():
                 put(path, spelled(text))
                 sums = of_crates(instructions(folder, [PROGRAM, *words], path))
                 row = [sum(sums.values()), *(sums[column] for column in columns[1:-1]), python]
-                print(f"{words[0]:<8} {shape.__name__:<6} {objects:>8}" + "".join(f"{count / len(text):>9.1f}" for count in row), flush=True)
+                cells = "".join(f"{count / len(text):>9.1f}" for count in row)
+                print(f"{words[0]:<8} {shape.__name__:<6} {objects:>8}{cells}", flush=True)
 
 
 if __name__ == "__main__":

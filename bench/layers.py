@@ -19,6 +19,7 @@ each SEQUENCE and each constructed OCTET STRING. Printed are, for each shape and
   the program's start takes.
 
 The last three are left out where Python has no xml.etree or the machine no valgrind."""
+import importlib
 import os
 import re
 import shutil
@@ -55,35 +56,42 @@ def many(piece, size):
 
 
 def small_elements(size):
+    """Many elements without anything in them."""
     count = size // 4 - 2
     return b"<a>" + b"<b/>" * count + b"</a>", count + 1
 
 
 def list_elements(size):
+    """Many elements `list`."""
     count = size // 7 - 1
     return b"<a>" + b"<list/>" * count + b"</a>", count + 1
 
 
 def empty_elements(size):
+    """Many elements with a start and an end."""
     count = size // 7 - 1
     return b"<b>" + b"<a></a>" * count + b"</b>", count + 1
 
 
 def elements_with_attributes(size):
+    """Many elements with an attribute."""
     count = size // 9 - 1
     return b"<a>" + b"<a b=''/>" * count + b"</a>", count + 1
 
 
 def elements_with_texts(size):
+    """Many elements with a text."""
     count = size // 8 - 1
     return b"<a>" + b"<a>x</a>" * count + b"</a>", count + 1
 
 
 def comments(size):
+    """Many comments."""
     return b"<a>" + b"<!---->" * (size // 7 - 1) + b"</a>", 1
 
 
 def one_name(size):
+    """One element with a long name."""
     return b"<" + b"a" * (size - 3) + b"/>", 1
 
 
@@ -97,10 +105,12 @@ def message(kind, pieces):
 
 
 def uri(number):
+    """A URI, by its number."""
     return b"rsync://rpki.example.net/repository/some-handle/0/%040x.roa" % (number * 2654435761)
 
 
 def digest(number):
+    """A digest, by its number."""
     return b"%064x" % (number * 0x9e3779b97f4a7c15)
 
 
@@ -110,6 +120,7 @@ def publish(number):
 
 
 def listed(number):
+    """An element that lists an object, by its number."""
     return b'<list uri="%s" hash="%s"/>\n' % (uri(number), digest(number))
 
 
@@ -120,6 +131,7 @@ list_reply.__name__ = "list_reply"
 
 
 def deep_elements(size):
+    """Elements within each other."""
     count = size // 7
     return b"<a>" * count + b"</a>" * count, count
 
@@ -130,14 +142,17 @@ def open_elements(size):
 
 
 def open_lists(size):
+    """Elements `list` within each other, none of which ends."""
     return b"<list>" * (size // 6), size // 6
 
 
 def open_elements_with_attributes(size):
+    """Elements with an attribute within each other, none of which ends."""
     return b"<a b=''>" * (size // 8), size // 8
 
 
 def open_elements_with_entities(size):
+    """Elements with an entity within each other, none of which ends."""
     return b"<a>&lt;" * (size // 7), size // 7
 
 
@@ -147,33 +162,40 @@ def open_values_with_entities(size):
 
 
 def elements_with_namespaces(size):
+    """Many elements with a namespace."""
     count = size // 14 - 1
     return b"<a>" + b"<a xmlns='x'/>" * count + b"</a>", count + 1
 
 
 def elements_with_entities(size):
+    """Many elements with an entity."""
     count = size // 11 - 1
     return b"<a>" + b"<a>&lt;</a>" * count + b"</a>", count + 1
 
 
 def values_with_entities(size):
+    """Many elements whose attribute has an entity."""
     count = size // 13 - 1
     return b"<a>" + b"<a b='&lt;'/>" * count + b"</a>", count + 1
 
 
 def long_text(size):
+    """One element with a long text."""
     return b"<a>" + b"x" * (size - 7) + b"</a>", 1
 
 
 def text_of_entities(size):
+    """One element with many entities."""
     return b"<a>" + b"&lt;" * (size // 4 - 2) + b"</a>", 1
 
 
 def text_in_parts(size):
+    """One element whose text is in many parts."""
     return b"<a>" + b"x<?i?>" * (size // 6 - 2) + b"</a>", 1
 
 
 def attributes(size):
+    """One element with many attributes."""
     return b"<a" + b"".join(many(lambda i: b" b%d=''" % i, size - 4)) + b"/>", 1
 
 
@@ -183,6 +205,7 @@ def long_name(size):
 
 
 def declarations(size):
+    """One element with many namespaces."""
     return b"<p:a" + b"".join(many(lambda i: b" xmlns:b%d='x'" % i, size - 20)) + b" xmlns:p='x'/>", 1
 
 
@@ -190,25 +213,30 @@ def declarations(size):
 
 
 def large_content(size):
+    """One value with long contents."""
     return value(0x30, value(0x04, b"x" * (size - 12)))
 
 
 def many_segments(size):
+    """A string of many short segments."""
     return b"\x24\x80" + value(0x04, b"x" * 8) * ((size - 4) // 10) + b"\0\0"
 
 
 def small_values(size):
+    """Many small values."""
     return value(0x30, b"\x02\x01\x05" * ((size - 6) // 3))
 
 
 def indefinite_levels(size):
+    """Values within each other, of indefinite lengths."""
     return b"\x30\x80" * (size // 4) + b"\0\0" * (size // 4)
 
 
 DOCUMENTS = [(shape, [1, 4, 16]) for shape in (small_elements, deep_elements, long_text, text_of_entities, text_in_parts)]
-DOCUMENTS += [(shape, [1, 24]) for shape in (list_elements, empty_elements, elements_with_attributes, elements_with_texts, comments, one_name, open_elements, open_lists,
-                                        open_elements_with_attributes, elements_with_entities, values_with_entities, open_elements_with_entities,
-                                        open_values_with_entities, elements_with_namespaces)]
+DOCUMENTS += [(shape, [1, 24]) for shape in (
+    list_elements, empty_elements, elements_with_attributes, elements_with_texts, comments, one_name, open_elements, open_lists,
+    open_elements_with_attributes, elements_with_entities, values_with_entities, open_elements_with_entities, open_values_with_entities,
+    elements_with_namespaces)]
 # some 10000 objects each
 DOCUMENTS += [(delta_of_objects, [22]), (list_reply, [2])]
 DOCUMENTS += [(attributes, [1, 4, 16, 32]), (declarations, [1, 4, 16]), (long_name, [1, 4, 16])]
@@ -217,6 +245,7 @@ VALUES = [(large_content, [1, 4, 16]), (many_segments, [1, 4, 16]), (nested, [1,
 
 
 def program_seconds(path, layer):
+    """The seconds and the most memory that the program takes."""
     seconds, status, peak = best_of_three(path, PROGRAM, layer)
     if status != 0:
         sys.exit(f"layers {layer}: status {status}")
@@ -226,7 +255,7 @@ def program_seconds(path, layer):
 def etree_columns(path, seconds):
     """What xml.etree takes, and the program's seconds over that, as two texts"""
     try:
-        import xml.etree.ElementTree  # noqa: F401
+        importlib.import_module("xml.etree.ElementTree")
     except ImportError:
         return "-", "-"
     times = []
@@ -255,6 +284,7 @@ def allocations(path, shape):
 
 
 def answer(path, layer):
+    """What the program says."""
     with open(path, "rb") as source:
         return subprocess.run([PROGRAM, layer], stdin=source, capture_output=True, text=True, check=True).stdout.strip()
 
@@ -268,6 +298,7 @@ def least_peak(folder, layer):
 
 
 def row(folder, layer, shape, size, least):
+    """Measures one layer, shape and size, and prints it."""
     made = shape(int(size * 2**20))
     octets = made[0] if layer == "document" else made
     path = os.path.join(folder, "input")
@@ -275,7 +306,8 @@ def row(folder, layer, shape, size, least):
         target.write(octets)
     said = answer(path, layer)
     seconds, peak = program_seconds(path, layer)
-    line = f"{layer:<9} {shape.__name__:<18} {size:>5.1f} {said:<16} {seconds:>8.3f} {len(octets) / seconds / 1e6:>8.1f} {peak / 1e6:>8.1f} {max(0, peak - least - len(octets)) / len(octets):>6.1f}"
+    rate, each = len(octets) / seconds / 1e6, max(0, peak - least - len(octets)) / len(octets)
+    line = f"{layer:<9} {shape.__name__:<18} {size:>5.1f} {said:<16} {seconds:>8.3f} {rate:>8.1f} {peak / 1e6:>8.1f} {each:>6.1f}"
     if layer == "document":
         taken, ratio = etree_columns(path, seconds)
         line += f" {taken:>8} {ratio:>6}"
@@ -285,10 +317,12 @@ def row(folder, layer, shape, size, least):
 
 
 def main():
+    """Measures the layers that are asked for."""
     layers = sys.argv[1:] or ["document", "tree", "walk"]
     if not os.path.exists(PROGRAM):
         subprocess.run(["rt", "run"], cwd=os.path.join(TOP, "crates", "bench_layers"), stdout=subprocess.DEVNULL, check=False)
-    print(f"{'layer':<9} {'shape':<18} {'MB':>5} {'answer':<16} {'seconds':>8} {'MB/s':>8} {'peak MB':>8} {'each':>6} {'etree s':>8} {'ratio':>6} {'allocs':>16}")
+    print(f"{'layer':<9} {'shape':<18} {'MB':>5} {'answer':<16} {'seconds':>8} {'MB/s':>8} {'peak MB':>8} {'each':>6} {'etree s':>8} "
+          f"{'ratio':>6} {'allocs':>16}")
     with tempfile.TemporaryDirectory() as folder:
         for layer in layers:
             least = least_peak(folder, layer)

@@ -21,8 +21,8 @@ import time
 
 from measuring import TOP, best_of_three, build_program, program_path
 
-sys.path.insert(0, os.path.join(TOP, "tools"))
-import messages  # noqa: E402
+sys.path.insert(0, os.path.join(TOP, "tools", "cases"))
+import signed_messages as messages  # noqa: E402
 
 NOW = messages.NOW
 LIMIT = 2**26
@@ -31,6 +31,7 @@ ARCHIVE, GUARD = program_path("rpkiarch"), program_path("rpkiguard")
 
 
 def key(seed):
+    """The toy key 0 of this seed, in hexadecimal."""
     return messages.seq(messages.seq(messages.RSA, messages.NULL), messages.bits(messages.key_bits(seed, 0))).hex()
 
 
@@ -99,6 +100,7 @@ def verdicts(written):
 
 
 def main():
+    """Times both programs, in one process and in four, and prints it."""
     count = int(sys.argv[1]) if len(sys.argv) > 1 else 100000
     for program in ("rpkiarch", "rpkiguard"):
         build_program(program)

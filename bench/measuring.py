@@ -24,6 +24,7 @@ def build_program(name="rpkica"):
 
 
 def measure(path, words):
+    """Prints the seconds, the status and the most memory of one run over a file."""
     with open(path, "rb") as source:
         start = time.perf_counter()
         child = subprocess.Popen(words, stdin=source, stdout=subprocess.DEVNULL, stderr=subprocess.DEVNULL)

@@ -1,12 +1,12 @@
 #!/usr/bin/env python3
-"""Times `rpkica receive` and `rpkica create` on list responses of 1, 4 and 16 MB of text (1 MB is 2^20 octets), and beside them, in the same
-run, what Python takes to read the same text with xml.etree and to decode the base64 in it.
+"""Times `rpkica receive` and `rpkica create` on list responses of 1, 4 and 16 MB of text (1 MB is 2^20 octets), and beside them, in the
+same run, what Python takes to read the same text with xml.etree and to decode the base64 in it.
 
     bench/provisioning.py [MB ..]
 
 Two shapes of one class: `small`, very many certificates of some 300 octets; and `large`, few of 192 KB, each with one long extension.
-`create` reads the text, `receive` the hexadecimal of a signed message with it, made by tools/messages.py; both write it anew, and what they
-write is compared with it. The inputs are made in a temporary folder and removed. Printed are:
+`create` reads the text, `receive` the hexadecimal of a signed message with it, made by tools/cases/signed_messages.py; both write it anew,
+and what they write is compared with it. The inputs are made in a temporary folder and removed. Printed are:
 
 - certs: how many certificates there are, the issuer's not among them;
 - status, seconds: the program's exit status, and the best of three runs with its start;
@@ -25,14 +25,13 @@ import tempfile
 
 from layers import many
 from measuring import PROGRAM, TOP, best_of_three, build_program
-# The program of this folder; tools/ has another of its name, so it is imported before that stands in the way.
 from publication import allocations, created, is_written, put, python_time, received
 
-sys.path.insert(0, os.path.join(TOP, "tools"))
-import certificates  # noqa: E402
-import messages  # noqa: E402
+sys.path.insert(0, os.path.join(TOP, "tools", "cases"))
+import certificate_cases as certificates  # noqa: E402
 import provisioning_cases as cases  # noqa: E402
 import resource_certificates  # noqa: E402
+import signed_messages as messages  # noqa: E402
 
 KEY = messages.seq(messages.seq(messages.RSA, messages.NULL), messages.bits(messages.key_bits(1, 0))).hex()
 COMMANDS = (
@@ -97,6 +96,7 @@ def least_peak(path, spelled, words):
 
 
 def rows(folder, spelled, words, shape, sizes):
+    """Measures a command on a shape, and prints a row for each size."""
     path, plain = os.path.join(folder, "input"), os.path.join(folder, "text")
     least, one = least_peak(path, spelled, words), allocations_of_one(path, spelled, words, shape)
     before = None
@@ -116,10 +116,11 @@ def rows(folder, spelled, words, shape, sizes):
 
 
 def main():
+    """Measures both commands on both shapes."""
     sizes = [int(word) for word in sys.argv[1:]] or [1, 4, 16]
     build_program()
-    print(f"{'command':<8} {'shape':<6} {'MB':>4} {'certs':>8} {'status':>6} {'seconds':>8} {'MB/s':>8} {'times':>6} {'peak MB':>8} {'each':>6} "
-          f"{'python s':>8} {'ratio':>6} {'allocs':>7}")
+    print(f"{'command':<8} {'shape':<6} {'MB':>4} {'certs':>8} {'status':>6} {'seconds':>8} {'MB/s':>8} {'times':>6} {'peak MB':>8} "
+          f"{'each':>6} {'python s':>8} {'ratio':>6} {'allocs':>7}")
     with tempfile.TemporaryDirectory() as folder:
         for spelled, words in COMMANDS:
             for shape in small, large:

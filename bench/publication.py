@@ -6,8 +6,8 @@ what Python takes to read the same text with xml.etree and to decode the base64 
 
 Two shapes: `small`, very many objects of 48 octets, of which each third is published, takes another one's place or is withdrawn; and
 `large`, few objects of 192 KB. `create` reads the text, `receive` the hexadecimal of a signed message with it, made by
-tools/messages.py; both write it anew, and what they write is compared with it. The inputs are made in a temporary folder and removed.
-Printed are:
+tools/cases/signed_messages.py; both write it anew, and what they write is compared with it. The inputs are made in a temporary folder and
+removed. Printed are:
 
 - objects: how many there are;
 - status, seconds: the program's exit status, and the best of three runs with its start;
@@ -29,8 +29,8 @@ from layers import digest, many, uri
 from measuring import PROGRAM, TOP, best_of_three, build_program
 from receive import ONE_KEY
 
-sys.path.insert(0, os.path.join(TOP, "tools"))
-import messages  # noqa: E402
+sys.path.insert(0, os.path.join(TOP, "tools", "cases"))
+import signed_messages as messages  # noqa: E402
 
 CREATE = ["create", "publication", str(messages.NOW)]
 FRONT = b'<msg xmlns="http://www.hactrn.net/uris/rpki/publication-spec/" version="4" type="query"'
@@ -67,10 +67,12 @@ def delta(shape, size):
 
 
 def created(text):
+    """What `create` reads of a text: the text."""
     return text
 
 
 def received(text):
+    """What `receive` reads of a text: a signed message with it, in hexadecimal."""
     return messages.message(content=text).hex().encode()
 
 
@@ -78,6 +80,7 @@ COMMANDS = (received, ONE_KEY), (created, CREATE)
 
 
 def put(path, octets):
+    """Writes octets to a file; how many they are."""
     with open(path, "wb") as target:
         target.write(octets)
     return len(octets)
@@ -130,6 +133,7 @@ def least_peak(path, spelled, words):
 
 
 def rows(folder, spelled, words, shape, sizes):
+    """Measures a command on a shape, and prints a row for each size."""
     path, plain = os.path.join(folder, "input"), os.path.join(folder, "text")
     least, one = least_peak(path, spelled, words), allocations_of_one(path, spelled, words, shape)
     before = None
@@ -149,10 +153,11 @@ def rows(folder, spelled, words, shape, sizes):
 
 
 def main():
+    """Measures both commands on both shapes."""
     sizes = [int(word) for word in sys.argv[1:]] or [1, 4, 16]
     build_program()
-    print(f"{'command':<8} {'shape':<6} {'MB':>4} {'objects':>8} {'status':>6} {'seconds':>8} {'MB/s':>8} {'times':>6} {'peak MB':>8} {'each':>6} "
-          f"{'python s':>8} {'ratio':>6} {'allocs':>7}")
+    print(f"{'command':<8} {'shape':<6} {'MB':>4} {'objects':>8} {'status':>6} {'seconds':>8} {'MB/s':>8} {'times':>6} {'peak MB':>8} "
+          f"{'each':>6} {'python s':>8} {'ratio':>6} {'allocs':>7}")
     with tempfile.TemporaryDirectory() as folder:
         for spelled, words in COMMANDS:
             for shape in small, large:

@@ -6,8 +6,8 @@ is read once.
 
     bench/receive.py [MB ..]
 
-Three shapes, made by tools/messages.py: a query whose content has a long comment; the same content in segments of 8 octets, in BER;
-and a query whose CRL lists very many certificates. Each passes all checks. OpenSSL parses and prints nothing; it validates nothing.
+Three shapes, made by tools/cases/signed_messages.py: a query whose content has a long comment; the same content in segments of 8 octets, in
+BER; and a query whose CRL lists very many certificates. Each passes all checks. OpenSSL parses and prints nothing; it validates nothing.
 The inputs are made in a temporary folder and removed."""
 import os
 import shutil
@@ -16,8 +16,8 @@ import tempfile
 
 from measuring import PROGRAM, TOP, best_of_three, build_program, shown_time
 
-sys.path.insert(0, os.path.join(TOP, "tools"))
-import messages  # noqa: E402
+sys.path.insert(0, os.path.join(TOP, "tools", "cases"))
+import signed_messages as messages  # noqa: E402
 
 
 def words(*numbers):
@@ -31,14 +31,17 @@ ONE_KEY, EIGHT_KEYS = words(0), words(*range(1, 8), 0)
 
 
 def with_comment(size):
+    """A query with a long comment."""
     return messages.QUERY.replace(b"<list/>", b"<!--" + b"x" * size + b"--><list/>")
 
 
 def comment(size):
+    """A message with such a query."""
     return messages.message(content=with_comment(size - 1000))
 
 
 def segments(size):
+    """The same with its content in segments of 8 octets."""
     def pieces(content):
         parts = (content[i:i + 8] for i in range(0, len(content), 8))
         return messages.value(0x24, b"".join(map(messages.octet_string, parts)))
@@ -46,10 +49,12 @@ def segments(size):
 
 
 def revoked(size):
+    """A message whose CRL lists very many certificates."""
     return messages.message(entries=range(1 << 32, (1 << 32) + (size - 1000) // 24))
 
 
 def parse_time(path):
+    """The time that OpenSSL takes to parse a message, or `-`."""
     openssl = shutil.which("openssl")
     if not openssl:
         return "-"
@@ -57,6 +62,7 @@ def parse_time(path):
 
 
 def main():
+    """Times all shapes and sizes, and prints them."""
     sizes = [int(word) for word in sys.argv[1:]] or [1, 4, 16]
     build_program()
     print(f"{'shape':<9} {'MB':>4} {'status':>6} {'seconds':>8} {'MB/s':>8} {'peak MB':>8} {'8 keys':>9} {'openssl':>9}")

@@ -1,7 +1,7 @@
 //! Reads stored documents, and says how many are not read as expected.
 //!
 //! A line of data/cases.txt is `NAME DOCUMENT ELEMENT`: the octets, and the one spelling of the element that they are a document of,
-//! or `-` where they are no document; tools/document_cases.py, which writes the file by the rules of documents alone, says how
+//! or `-` where they are no document; tools/cases/document_cases.py, which writes the file by the rules of documents alone, says how
 //! octets are given. What is read is written, and the octets are compared. Or it is `NAME DOCUMENT STEP..`: what is asked of the
 //! element and of texts, by the calls in asking.rt and texts.rt.
 #![tactic(auto)]

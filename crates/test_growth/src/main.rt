@@ -2,7 +2,7 @@
 //!
 //! A line of standard input is a case, `NAME CALL WORD..`. The program runs them in their order and writes that each came to its end.
 //! Where memory was refused and all else is as it has to be, it ends with a status that isn't 0; else it says which case ended wrong.
-//! tools/refused_growth.py runs it with each of its growths refused in turn.
+//! tools/run/refused_growth.py runs it with each of its growths refused in turn.
 #![tactic(auto)]
 
 mod classes;

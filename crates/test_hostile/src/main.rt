@@ -12,7 +12,7 @@
 //! - `NAME long STATUS OCTETS OVERLONG KEY INPUT LINE WORD..`: what the command answers with signatures of so many octets under the
 //!   issuing key KEY, of which 0 alone is held, and how many of them the signer tells as too long.
 //!
-//! tools/hostile_cases.py writes the file.
+//! tools/cases/hostile_cases.py writes the file.
 #![tactic(auto)]
 
 mod long;

@@ -1,6 +1,6 @@
 //! Reads and writes JSON texts of stored cases, prints requests for certificates, and says how many answers differ from the expected.
 //!
-//! A line of data/cases.txt is `NAME OCTETS STEP..`. tools/json_cases.py writes the file, and says what the calls are.
+//! A line of data/cases.txt is `NAME OCTETS STEP..`. tools/cases/json_cases.py writes the file, and says what the calls are.
 #![tactic(auto)]
 
 mod parts;

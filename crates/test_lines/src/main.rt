@@ -7,7 +7,7 @@
 //! one that makes its key; behind `up` and `parent` `,s` and such a number; and behind these or `issuer` `,i` and one
 //! of the issuer's signer.
 //! OUTPUT is what has to be written, and it and INPUT are octets as in other stored cases; `-` is an empty field.
-//! tools/line_cases.py writes the file; its expected answers come from a model that was written apart
+//! tools/cases/line_cases.py writes the file; its expected answers come from a model that was written apart
 //! from this tree, or are stated in the script.
 #![tactic(auto)]
 

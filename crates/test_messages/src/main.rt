@@ -3,7 +3,7 @@
 //! A line of data/cases.txt is `NAME MODE FORMAT SEED MOMENT EXPECTED MESSAGE`, `NAME built MOMENT SEED REVOKED CONTENT MESSAGE`,
 //! `NAME created MOMENT KEY FAILING CONTENT MESSAGE`, `NAME unsigned MOMENT SERIAL CONTENT MESSAGE`,
 //! `NAME long MOMENT OCTETS COUNT CONTENT MESSAGE`, `NAME checks FORMAT SEED NUMBER MOMENT DIGITS MESSAGE`, or, run twice, the second time
-//! by the counted calls, `NAME DER OCTETS STEP..`, where DER is `der`, `ber` or `both`; tools/messages.py, which writes the file by the
+//! by the counted calls, `NAME DER OCTETS STEP..`, where DER is `der`, `ber` or `both`; message_cases.py, which writes the file by the
 //! formats and by the toy rules alone, says what the words are. Of a message that is validated, the view is compared too.
 #![tactic(auto)]
 

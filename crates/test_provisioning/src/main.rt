@@ -1,7 +1,7 @@
 //! Reads, writes, compares, makes, decodes, checks and creates the messages of the provisioning protocol of stored cases, and says how many
 //! answers differ from the expected.
 //!
-//! A line of data/cases.txt is `NAME ber OCTETS STEP..`, run twice, the second time by the counted calls. tools/provisioning_cases.py
+//! A line of data/cases.txt is `NAME ber OCTETS STEP..`, run twice, the second time by the counted calls. tools/cases/provisioning_cases.py
 //! writes the file, by the formats and the rules of the toy scheme alone, and says what the calls are.
 #![tactic(auto)]
 

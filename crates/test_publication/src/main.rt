@@ -1,7 +1,7 @@
 //! Decodes, checks and receives the messages of the publication protocol of stored cases, and says how many answers differ from the
 //! expected.
 //!
-//! A line of data/cases.txt is `NAME ber OCTETS STEP..`, run twice, the second time by the counted calls. tools/publication.py writes the
+//! A line of data/cases.txt is `NAME ber OCTETS STEP..`, run twice, the second time by the counted calls. publication_cases.py writes the
 //! file, by the formats and the rules of the toy scheme alone, and says what the calls are.
 #![tactic(auto)]
 

@@ -2,7 +2,7 @@
 //! from the expected.
 //!
 //! A line of data/cases.txt is `NAME MODE OCTETS STEP..`: MODE is `der`, `ber`, or `both` for one after the other. Each line is run
-//! twice, the second time by the counted calls, where there are such. tools/requests.py writes the file, by the formats and the
+//! twice, the second time by the counted calls, where there are such. tools/cases/request_cases.py writes the file, by the formats and the
 //! rules of the toy scheme alone, and says what the calls are.
 #![tactic(auto)]
 

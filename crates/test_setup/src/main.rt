@@ -1,6 +1,6 @@
 //! Calls `rpki_setup` on stored cases, and says how many answers differ from the expected.
 //!
-//! A line of data/cases.txt is `NAME ber OCTETS STEP..`, run twice; no call is counted. tools/setup_cases.py writes the file, and says
+//! A line of data/cases.txt is `NAME ber OCTETS STEP..`, run twice; no call is counted. setup_cases.py writes the file, and says
 //! what the calls are.
 #![tactic(auto)]
 

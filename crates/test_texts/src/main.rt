@@ -3,7 +3,7 @@
 //! A line of data/cases.txt is `NAME CALL ANSWER INPUT INPUT`. CALL is one of an `answer_to` in
 //! calls.rt, json.rt, kept.rt, numbers.rt, same.rt or sets.rt. ANSWER is `=` and the octets that are given, or the name of a refusal.
 //! Octets are pieces with `+` between; a piece is in hexadecimal, or with `*` and a number behind it stands
-//! that often; `-` is no octets. tools/text_cases.py writes the file.
+//! that often; `-` is no octets. tools/cases/text_cases.py writes the file.
 #![tactic(auto)]
 
 mod calls;

@@ -3,7 +3,7 @@
 //!
 //! A line of data/cases.txt is `NAME MODE OCTETS STEP..`: MODE is `der`, `ber`, or `both` for one after the other. The calls that take a
 //! cursor go on from step to step; the others look at the octets that are left. Each line is run twice, the second time by the counted
-//! calls, where there are such. tools/values.py writes the file, by the standards and other libraries alone, and says what the calls
+//! calls, where there are such. value_cases.py writes the file, by the standards and other libraries alone, and says what the calls
 //! are.
 #![tactic(auto)]
 

@@ -1,4 +1,4 @@
--- written by tools/answers.py rpki_base extension take_extension_counted:value Extension extension enter_counted identifier
+-- by tools/proofs/answers.py rpki_base extension take_extension_counted:value Extension extension enter_counted identifier
 --     '?critical:fields@rpki_der.specs.Grammar.optional+rpki_der.specs.Tags.boolean_tag+rpki_der.specs.Boolean.boolean=(λ m. optional boolean_tag (boolean m))'
 --     value@rpki_der.specs.OctetString.octet_string=octet_string leave_counted =unwrap_or +within:16@rpki_base.proofs.Extensions.held_within=held_within
 use Rattle.std.proofs.Common.{refl, ◌∙◌}

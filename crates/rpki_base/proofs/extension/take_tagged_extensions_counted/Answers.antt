@@ -1,4 +1,4 @@
--- written by tools/answers.py rpki_base extension take_tagged_extensions_counted - wrapped enter_counted 'found@rpki_base.specs.Extension.gathered=(λ m. gathered g.F.FindsExtensions.with m
+-- by tools/proofs/answers.py rpki_base extension take_tagged_extensions_counted - wrapped enter_counted 'found@rpki_base.specs.Extension.gathered=(λ m. gathered g.F.FindsExtensions.with m
 --     c.args.found)' leave_counted
 use Rattle.std.proofs.Common.{refl}
 use Rattle.rpki_base.specs.Extension.{gathered}

@@ -1,4 +1,4 @@
--- written by tools/answers.py rpki_base name pass_attribute Name name_attribute enter_counted take_oid_counted capture_counted:value leave_counted
+-- by tools/proofs/answers.py rpki_base name pass_attribute Name name_attribute enter_counted take_oid_counted capture_counted:value leave_counted
 use Rattle.std.proofs.Common.{refl}
 use Rattle.rpki_base.specs.Name.{name_attribute}
 use Rattle.rpki_der.proofs.Counting.{reads_done, reads_first, refuses_inside, refuses_within, stops_done, stops_first, stops_later, takes_err, takes_within}

@@ -1,4 +1,4 @@
--- written by tools/answers.py rpki_base name pass_name - - enter_counted '>pass_relative_names'
+-- by tools/proofs/answers.py rpki_base name pass_name - - enter_counted '>pass_relative_names'
 use Rattle.std.proofs.Common.{refl}
 use Rattle.rpki_der.proofs.Counting.{refuses_within, takes_err}
 use Rattle.rpki_der.proofs.Leftovers.{takes_all_rest}

@@ -1,4 +1,4 @@
--- written by tools/answers.py rpki_base name pass_relative_name Name relative_name enter_counted '>pass_attributes'
+-- by tools/proofs/answers.py rpki_base name pass_relative_name Name relative_name enter_counted '>pass_attributes'
 use Rattle.std.proofs.Common.{refl}
 use Rattle.rpki_base.specs.Name.{relative_name}
 use Rattle.rpki_der.proofs.Counting.{refuses_within, takes_err}

@@ -1,4 +1,4 @@
--- written by tools/answers.py rpki_base public_key leave_curve PublicKey parameters - take_oid_if_counted leave_counted
+-- by tools/proofs/answers.py rpki_base public_key leave_curve PublicKey parameters - take_oid_if_counted leave_counted
 use Rattle.std.proofs.Common.{refl}
 use Rattle.rpki_base.specs.PublicKey.{parameters}
 use Rattle.rpki_der.proofs.Counting.{reads_done, reads_first, stops_done, stops_first, stops_later}

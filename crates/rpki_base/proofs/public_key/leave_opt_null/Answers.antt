@@ -1,4 +1,4 @@
--- written by tools/answers.py rpki_base public_key leave_opt_null PublicKey parameters - '?take_opt_null_counted:fields' leave_counted
+-- by tools/proofs/answers.py rpki_base public_key leave_opt_null PublicKey parameters - '?take_opt_null_counted:fields' leave_counted
 use Rattle.std.proofs.Common.{refl}
 use Rattle.rpki_base.specs.PublicKey.{parameters}
 use Rattle.rpki_der.proofs.Counting.{reads_done, reads_part, stops_behind, stops_done, stops_part}

@@ -1,4 +1,4 @@
--- written by tools/answers.py rpki_base public_key take_key_algorithm PublicKey key_algorithm enter_counted format '>leave_parameters'
+-- by tools/proofs/answers.py rpki_base public_key take_key_algorithm PublicKey key_algorithm enter_counted format '>leave_parameters'
 use Rattle.std.proofs.Common.{refl}
 use Rattle.rpki_base.specs.PublicKey.{key_algorithm}
 use Rattle.rpki_der.proofs.Counting.{refuses_inside, refuses_within, stops_first, takes_err}

@@ -1,4 +1,4 @@
--- written by tools/answers.py rpki_base signed_data leave_signature SignedData signature_in - algorithm bits '!value' leave_counted =new =in_ok-value
+-- by tools/proofs/answers.py rpki_base signed_data leave_signature SignedData signature_in - algorithm bits '!value' leave_counted =new =in_ok-value
 use Rattle.std.proofs.Common.{refl}
 use Rattle.rpki_base.specs.SignedData.{signature_in}
 use Rattle.rpki_der.proofs.Counting.{reads_done, reads_first, stops_done, stops_first, stops_later, stops_memory}

@@ -1,4 +1,4 @@
--- written by tools/answers.py rpki_cert access take_description Access access_description enter_counted method location leave_counted
+-- by tools/proofs/answers.py rpki_cert access take_description Access access_description enter_counted method location leave_counted
 use Rattle.std.proofs.Common.{refl}
 use Rattle.rpki_cert.specs.Access.{access_description}
 use Rattle.rpki_der.proofs.Counting.{reads_done, reads_first, refuses_inside, refuses_within, stops_done, stops_first, stops_later, takes_err, takes_within}

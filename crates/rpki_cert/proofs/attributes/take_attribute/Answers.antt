@@ -1,4 +1,4 @@
--- written by tools/answers.py rpki_cert attributes take_attribute CsrAttributes extension_request enter_counted take_oid_if_counted
+-- by tools/proofs/answers.py rpki_cert attributes take_attribute CsrAttributes extension_request enter_counted take_oid_if_counted
 --     'requested@rpki_der.specs.Grammar.wrapped+rpki_der.specs.Tags.set+rpki_cert.specs.Extensions.extension_list=(λ m. wrapped set (extension_list m))' leave_counted
 use Rattle.std.proofs.Common.{refl, ◌∙◌}
 use Rattle.rpki_cert.specs.CsrAttributes.{extension_request}

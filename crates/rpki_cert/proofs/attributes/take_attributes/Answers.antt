@@ -1,4 +1,4 @@
--- written by tools/answers.py rpki_cert attributes take_attributes CsrAttributes attributes+wrapped enter_counted requested@rpki_cert.specs.CsrAttributes.extension_request=extension_request
+-- by tools/proofs/answers.py rpki_cert attributes take_attributes CsrAttributes attributes+wrapped enter_counted requested@rpki_cert.specs.CsrAttributes.extension_request=extension_request
 --     leave_counted
 use Rattle.std.proofs.Common.{refl}
 use Rattle.rpki_cert.specs.CsrAttributes.{attributes, extension_request}

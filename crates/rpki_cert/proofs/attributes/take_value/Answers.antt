@@ -1,4 +1,4 @@
--- written by tools/answers.py rpki_cert attributes take_value - wrapped enter_counted requested@rpki_cert.specs.Extensions.extension_list=extension_list leave_counted
+-- by tools/proofs/answers.py rpki_cert attributes take_value - wrapped enter_counted requested@rpki_cert.specs.Extensions.extension_list=extension_list leave_counted
 use Rattle.std.proofs.Common.{refl}
 use Rattle.rpki_cert.specs.Extensions.{extension_list}
 use Rattle.rpki_der.proofs.Counting.{reads_done, reads_first, refuses_inside, refuses_within, stops_done, stops_first, stops_later, takes_err, takes_within}

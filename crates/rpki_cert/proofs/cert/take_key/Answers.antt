@@ -1,4 +1,4 @@
--- written by tools/answers.py rpki_cert cert take_key Cert tbs_certificate enter_counted take_version _serial take_algorithm@rpki_base.specs.RpkiSignatureAlgorithm.algorithm=algorithm _issuer
+-- by tools/proofs/answers.py rpki_cert cert take_key Cert tbs_certificate enter_counted take_version _serial take_algorithm@rpki_base.specs.RpkiSignatureAlgorithm.algorithm=algorithm _issuer
 --     _validity _subject key 'pass_extensions@rpki_der.specs.Grammar.wrapped+rpki_der.specs.Tags.context+rpki_cert.specs.Cert.unread_extensions=(λ m. wrapped (context 3) (unread_extensions m))'
 --     leave_counted
 use Rattle.std.proofs.Common.{refl, ◌∙◌}

@@ -1,4 +1,4 @@
--- written by tools/answers.py rpki_cert cert take_signed_key Cert rpki_base.specs.SignedData.signed_as enter_counted key@rpki_cert.specs.Cert.tbs_certificate=tbs_certificate
+-- by tools/proofs/answers.py rpki_cert cert take_signed_key Cert rpki_base.specs.SignedData.signed_as enter_counted key@rpki_cert.specs.Cert.tbs_certificate=tbs_certificate
 --     '&1_signature@rpki_base.specs.SignedData.signature_in+rpki_der.specs.Whole.whole_of+rpki_base.specs.RpkiSignatureAlgorithm.x509_algorithm=(signature_in (whole_of x509_algorithm))'
 use Rattle.std.proofs.Common.{refl, ◌∙◌}
 use Rattle.rpki_base.specs.RpkiSignatureAlgorithm.{x509_algorithm}

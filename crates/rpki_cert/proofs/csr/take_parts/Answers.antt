@@ -1,4 +1,4 @@
--- written by tools/answers.py rpki_cert csr take_parts Csr certification_request+rpki_base.specs.SignedData.signed_value+rpki_base.specs.SignedData.signed_as enter_counted
+-- by tools/proofs/answers.py rpki_cert csr take_parts Csr certification_request+rpki_base.specs.SignedData.signed_value+rpki_base.specs.SignedData.signed_as enter_counted
 --     'octets@rpki_der.specs.Held.with_octets+rpki_cert.specs.Csr.request_info=(λ m. with_octets (request_info g.Attributes.CsrAttributes.reads m))' '!slice'
 --     '&1signature@rpki_base.specs.SignedData.signature_in=(signature_in g.Alg.SignatureAlgorithm.reads)' =new-signed =in_ok-slice
 use Rattle.std.proofs.Common.{refl, ◌∙◌}

@@ -1,4 +1,4 @@
--- written by tools/answers.py rpki_cert extensions take_authority Extensions authority enter_counted
+-- by tools/proofs/answers.py rpki_cert extensions take_authority Extensions authority enter_counted
 --     '?ca:fields@rpki_der.specs.Grammar.optional+rpki_der.specs.Tags.boolean_tag+rpki_der.specs.Boolean.boolean=(λ m. optional boolean_tag (boolean m))' leave_counted =unwrap_or
 use Rattle.std.proofs.Common.{refl}
 use Rattle.rpki_cert.specs.Extensions.{authority}

@@ -1,4 +1,4 @@
--- written by tools/answers.py rpki_idcert extensions take_authority_key Extensions authority_key enter_counted '?key' '&pass_rest_counted'
+-- by tools/proofs/answers.py rpki_idcert extensions take_authority_key Extensions authority_key enter_counted '?key' '&pass_rest_counted'
 use Rattle.std.proofs.Common.{refl}
 use Rattle.rpki_der.proofs.Counting.{reads_part, refuses_inside, refuses_within, stops_behind, stops_part, takes_err, takes_within}
 use Rattle.rpki_der.proofs.Leftovers.{reads_bind, stops_bind}

@@ -1,4 +1,4 @@
--- written by tools/answers.py rpki_idcert extensions take_basic_constraints Extensions basic_constraints enter_counted
+-- by tools/proofs/answers.py rpki_idcert extensions take_basic_constraints Extensions basic_constraints enter_counted
 --     '?ca:fields@rpki_der.specs.Grammar.optional+rpki_der.specs.Tags.boolean_tag+rpki_der.specs.Boolean.boolean=(λ m. optional boolean_tag (boolean m))' '&leave_path_length' =unwrap_or
 use Rattle.std.proofs.Common.{refl}
 use Rattle.rpki_der.proofs.Counting.{reads_part, refuses_inside, refuses_within, stops_behind, stops_part, takes_err, takes_within}

@@ -1,4 +1,4 @@
--- written by tools/answers.py rpki_idcert tbs take_version - wrapped enter_counted take_integer_if_counted leave_counted
+-- by tools/proofs/answers.py rpki_idcert tbs take_version - wrapped enter_counted take_integer_if_counted leave_counted
 use Rattle.std.proofs.Common.{refl}
 use Rattle.rpki_der.proofs.Counting.{reads_done, reads_first, refuses_inside, refuses_within, stops_done, stops_first, stops_later, takes_err, takes_within}
 use Rattle.rpki_der.specs.Grammar.{wrapped}

@@ -1,4 +1,4 @@
--- written by tools/answers.py rpki_sigmsg algorithm pass_digest_algorithm Algorithm digest_algorithm enter_counted take_oid_if_counted '?take_opt_null_counted:fields' leave_counted
+-- by tools/proofs/answers.py rpki_sigmsg algorithm pass_digest_algorithm Algorithm digest_algorithm enter_counted take_oid_if_counted '?take_opt_null_counted:fields' leave_counted
 use Rattle.std.proofs.Common.{refl}
 use Rattle.rpki_der.proofs.Counting.{reads_done, reads_first, reads_part, refuses_inside, refuses_within, stops_behind, stops_done, stops_first, stops_later, stops_part, takes_err, takes_within}
 use Rattle.rpki_sigmsg.specs.Algorithm.{digest_algorithm}

@@ -1,4 +1,4 @@
--- written by tools/answers.py rpki_sigmsg algorithm pass_sequence Algorithm any_sequence enter_counted '>pass_rest_counted'
+-- by tools/proofs/answers.py rpki_sigmsg algorithm pass_sequence Algorithm any_sequence enter_counted '>pass_rest_counted'
 use Rattle.std.proofs.Common.{refl}
 use Rattle.rpki_der.proofs.Counting.{refuses_within, takes_err}
 use Rattle.rpki_der.proofs.Leftovers.{takes_all_rest}

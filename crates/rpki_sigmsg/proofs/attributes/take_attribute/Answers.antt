@@ -1,4 +1,4 @@
--- written by tools/answers.py rpki_sigmsg attributes take_attribute Gathered add_value enter_counted kind '>finish_attribute@rpki_sigmsg.specs.Gathered.{add,shown}=(λ m vs. add m (shown c.args.found)
+-- by tools/proofs/answers.py rpki_sigmsg attributes take_attribute Gathered add_value enter_counted kind '>finish_attribute@rpki_sigmsg.specs.Gathered.{add,shown}=(λ m vs. add m (shown c.args.found)
 --     (c.in_ok-kind.kind.now, vs))'
 use Rattle.std.proofs.Common.{refl, ◌∙◌}
 use Rattle.rpki_der.proofs.Counting.{refuses_inside, refuses_within, stops_first, takes_err}

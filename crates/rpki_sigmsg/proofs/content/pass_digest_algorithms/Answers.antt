@@ -1,4 +1,4 @@
--- written by tools/answers.py rpki_sigmsg content pass_digest_algorithms - wrapped enter_counted pass_digest_algorithm leave_counted
+-- by tools/proofs/answers.py rpki_sigmsg content pass_digest_algorithms - wrapped enter_counted pass_digest_algorithm leave_counted
 use Rattle.std.proofs.Common.{refl}
 use Rattle.rpki_der.proofs.Counting.{reads_done, reads_first, refuses_inside, refuses_within, stops_done, stops_first, stops_later, takes_err, takes_within}
 use Rattle.rpki_der.specs.Grammar.{wrapped}

@@ -1,4 +1,4 @@
--- written by tools/answers.py rpki_sigmsg content take_encapsulated_content Message encapsulated_content enter_counted take_oid_if_counted
+-- by tools/proofs/answers.py rpki_sigmsg content take_encapsulated_content Message encapsulated_content enter_counted take_oid_if_counted
 --     'content@rpki_der.specs.Grammar.wrapped+rpki_der.specs.Tags.context+rpki_der.specs.Held.with_octets+rpki_der.specs.OctetString.octet_string=(λ m. wrapped (context 0) (with_octets (octet_string
 --     m)))' leave_counted
 use Rattle.std.proofs.Common.{refl, ◌∙◌}

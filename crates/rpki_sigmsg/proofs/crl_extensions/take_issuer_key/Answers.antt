@@ -1,4 +1,4 @@
--- written by tools/answers.py rpki_sigmsg crl_extensions take_issuer_key CrlExtensions issuer_key+wrapped enter_counted
+-- by tools/proofs/answers.py rpki_sigmsg crl_extensions take_issuer_key CrlExtensions issuer_key+wrapped enter_counted
 --     'key@rpki_base.specs.KeyIdentifier.key_identifier_under+rpki_der.specs.Tags.context=(key_identifier_under (context 0))' leave_counted
 use Rattle.std.proofs.Common.{refl}
 use Rattle.rpki_base.specs.KeyIdentifier.{key_identifier_under}

@@ -1,4 +1,4 @@
--- written by tools/answers.py rpki_sigmsg parts take_certificates - wrapped enter_counted 'certificate@rpki_der.specs.Held.with_octets+rpki_idcert.specs.IdCert.identity_certificate=(λ m. with_octets
+-- by tools/proofs/answers.py rpki_sigmsg parts take_certificates - wrapped enter_counted 'certificate@rpki_der.specs.Held.with_octets+rpki_idcert.specs.IdCert.identity_certificate=(λ m. with_octets
 --     (identity_certificate m))' leave_counted
 use Rattle.std.proofs.Common.{refl}
 use Rattle.rpki_der.proofs.Counting.{reads_done, reads_first, refuses_inside, refuses_within, stops_done, stops_first, stops_later, takes_err, takes_within}

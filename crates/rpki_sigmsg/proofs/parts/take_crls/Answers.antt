@@ -1,4 +1,4 @@
--- written by tools/answers.py rpki_sigmsg parts take_crls Message crl_set enter_counted one '?other' '!set' leave_counted =in_ok-set
+-- by tools/proofs/answers.py rpki_sigmsg parts take_crls Message crl_set enter_counted one '?other' '!set' leave_counted =in_ok-set
 use Rattle.std.proofs.Common.{refl}
 use Rattle.rpki_der.proofs.Counting.{reads_done, reads_first, reads_part, refuses_inside, refuses_within, stops_behind, stops_done, stops_first, stops_later, stops_memory, stops_part, takes_err}
 use Rattle.rpki_der.proofs.Counting.{takes_within}

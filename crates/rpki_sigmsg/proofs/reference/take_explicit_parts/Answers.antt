@@ -1,4 +1,4 @@
--- written by tools/answers.py rpki_sigmsg reference take_explicit_parts - wrapped enter_counted view@rpki_sigmsg.specs.Message.signed_parts=signed_parts leave_counted
+-- by tools/proofs/answers.py rpki_sigmsg reference take_explicit_parts - wrapped enter_counted view@rpki_sigmsg.specs.Message.signed_parts=signed_parts leave_counted
 use Rattle.std.proofs.Common.{refl}
 use Rattle.rpki_der.proofs.Counting.{reads_done, reads_first, refuses_inside, refuses_within, stops_done, stops_first, stops_later, takes_err, takes_within}
 use Rattle.rpki_der.proofs.Modes.{refuses_in, takes_in}

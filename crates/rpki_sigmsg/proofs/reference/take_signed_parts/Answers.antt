@@ -1,4 +1,4 @@
--- written by tools/answers.py rpki_sigmsg reference take_signed_parts Message signed_parts enter_counted take_integer_if_counted pass_digest_algorithms
+-- by tools/proofs/answers.py rpki_sigmsg reference take_signed_parts Message signed_parts enter_counted take_integer_if_counted pass_digest_algorithms
 --     content@rpki_sigmsg.specs.Message.encapsulated_content=encapsulated_content
 --     'certificate@rpki_der.specs.Grammar.wrapped+rpki_der.specs.Tags.context+rpki_der.specs.Held.with_octets+rpki_idcert.specs.IdCert.identity_certificate=(λ m. wrapped (context 0) (with_octets
 --     (identity_certificate m)))' crls 'signer@rpki_der.specs.Grammar.wrapped+rpki_der.specs.Tags.set+rpki_sigmsg.specs.Signer.signer_info=(λ m. wrapped set (signer_info m))' '!signed' leave_counted

@@ -1,4 +1,4 @@
--- written by tools/answers.py rpki_sigmsg signer take_signer_info Signer signer_info enter_counted take_integer_if_counted
+-- by tools/proofs/answers.py rpki_sigmsg signer take_signer_info Signer signer_info enter_counted take_integer_if_counted
 --     'identifier@rpki_base.specs.KeyIdentifier.key_identifier_under+rpki_der.specs.Tags.context=(key_identifier_under (context 0))' pass_digest_algorithm
 --     attributes@rpki_sigmsg.specs.Attributes.signed_attributes=signed_attributes algorithm@rpki_sigmsg.specs.Algorithm.signature_algorithm=signature_algorithm
 --     'signature_value@rpki_der.specs.Held.with_octets+rpki_der.specs.OctetString.octet_string=(λ m. with_octets (octet_string m))' leave_counted =new-signature

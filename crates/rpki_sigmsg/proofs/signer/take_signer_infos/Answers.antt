@@ -1,4 +1,4 @@
--- written by tools/answers.py rpki_sigmsg signer take_signer_infos - wrapped enter_counted signer@rpki_sigmsg.specs.Signer.signer_info=signer_info leave_counted
+-- by tools/proofs/answers.py rpki_sigmsg signer take_signer_infos - wrapped enter_counted signer@rpki_sigmsg.specs.Signer.signer_info=signer_info leave_counted
 use Rattle.std.proofs.Common.{refl}
 use Rattle.rpki_der.proofs.Counting.{reads_done, reads_first, refuses_inside, refuses_within, stops_done, stops_first, stops_later, takes_err, takes_within}
 use Rattle.rpki_der.proofs.Modes.{refuses_in, takes_in}

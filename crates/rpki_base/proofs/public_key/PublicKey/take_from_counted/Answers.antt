@@ -1,4 +1,4 @@
--- written by tools/answers.py rpki_base public_key PublicKey.take_from_counted PublicKey public_key enter_counted format octets '!bits' leave_counted =in_ok-bits
+-- by tools/proofs/answers.py rpki_base public_key PublicKey.take_from_counted PublicKey public_key enter_counted format octets '!bits' leave_counted =in_ok-bits
 use Rattle.std.proofs.Common.{refl}
 use Rattle.rpki_base.specs.PublicKey.{public_key}
 use Rattle.rpki_der.proofs.Counting.{reads_done, reads_first, refuses_inside, refuses_within, stops_done, stops_first, stops_later, stops_memory, takes_err, takes_within}

@@ -1,4 +1,4 @@
--- written by tools/answers.py rpki_base signed_data SignedData.take_from_counted SignedData signed_data+signed_as enter_counted octets:value '!slice'
+-- by tools/proofs/answers.py rpki_base signed_data SignedData.take_from_counted SignedData signed_data+signed_as enter_counted octets:value '!slice'
 --     '&signature@rpki_base.specs.SignedData.signature_in=(signature_in g.Alg.SignatureAlgorithm.reads)' =in_ok-slice
 use Rattle.std.proofs.Common.{refl, ◌∙◌}
 use Rattle.rpki_base.specs.SignedData.{signature_in, signed_as, signed_data}

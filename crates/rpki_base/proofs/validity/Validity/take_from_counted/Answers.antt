@@ -1,4 +1,4 @@
--- written by tools/answers.py rpki_base validity Validity.take_from_counted Validity validity enter_counted not_before not_after leave_counted =new
+-- by tools/proofs/answers.py rpki_base validity Validity.take_from_counted Validity validity enter_counted not_before not_after leave_counted =new
 use Rattle.std.proofs.Common.{refl}
 use Rattle.rpki_base.specs.Validity.{validity}
 use Rattle.rpki_der.proofs.Counting.{reads_done, reads_first, refuses_inside, refuses_within, stops_done, stops_first, stops_later, takes_err, takes_within}

@@ -1,4 +1,4 @@
--- written by tools/answers.py rpki_cert csr CsrContent.take_from_counted Csr request_info enter_counted take_integer_if_counted subject public_key attributes@g.Attributes.CsrAttributes.reads
+-- by tools/proofs/answers.py rpki_cert csr CsrContent.take_from_counted Csr request_info enter_counted take_integer_if_counted subject public_key attributes@g.Attributes.CsrAttributes.reads
 --     leave_counted
 use Rattle.std.proofs.Common.{refl, ◌∙◌}
 use Rattle.rpki_cert.specs.Csr.{request_info}

@@ -1,4 +1,4 @@
--- written by tools/answers.py rpki_idcert tbs TbsIdCert.take_from_counted TbsIdCert tbs_certificate enter_counted take_version serial
+-- by tools/proofs/answers.py rpki_idcert tbs TbsIdCert.take_from_counted TbsIdCert tbs_certificate enter_counted take_version serial
 --     take_algorithm@rpki_base.specs.RpkiSignatureAlgorithm.algorithm=algorithm issuer validity subject key
 --     'known@rpki_der.specs.Grammar.wrapped+rpki_der.specs.Tags.context+rpki_idcert.specs.Extensions.extension_list=(λ m. wrapped (context 3) (extension_list m))' leave_counted =parts-subject_key_id
 use Rattle.std.proofs.Common.{refl, ◌∙◌}

@@ -1,4 +1,4 @@
--- written by tools/answers.py rpki_sigmsg crl SignedMessageCrl.take_next_counted Crl revocation_list+rpki_base.specs.SignedData.signed_value+rpki_base.specs.SignedData.signed_as enter_counted
+-- by tools/proofs/answers.py rpki_sigmsg crl SignedMessageCrl.take_next_counted Crl revocation_list+rpki_base.specs.SignedData.signed_value+rpki_base.specs.SignedData.signed_as enter_counted
 --     'octets@rpki_der.specs.Held.with_octets+rpki_sigmsg.specs.TbsCrl.tbs_crl=(λ m. with_octets (tbs_crl m))' '!slice'
 --     '&1signature@rpki_base.specs.SignedData.signature_in+rpki_der.specs.Whole.whole_of+rpki_base.specs.RpkiSignatureAlgorithm.x509_algorithm=(signature_in (whole_of x509_algorithm))' =new-signed
 --     =in_ok-slice

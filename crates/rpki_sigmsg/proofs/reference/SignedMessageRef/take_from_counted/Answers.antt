@@ -1,4 +1,4 @@
--- written by tools/answers.py rpki_sigmsg reference SignedMessageRef.take_from_counted Message viewed_message enter_counted take_oid_if_counted
+-- by tools/proofs/answers.py rpki_sigmsg reference SignedMessageRef.take_from_counted Message viewed_message enter_counted take_oid_if_counted
 --     'view@rpki_der.specs.Grammar.wrapped+rpki_der.specs.Tags.context+rpki_sigmsg.specs.Message.signed_parts=(λ m. wrapped (context 0) (signed_parts m))' leave_counted
 use Rattle.std.proofs.Common.{refl, ◌∙◌}
 use Rattle.rpki_der.proofs.Counting.{reads_done, reads_first, refuses_inside, refuses_within, stops_done, stops_first, stops_later, takes_err, takes_within}

@@ -1,4 +1,4 @@
--- written by tools/answers.py rpki_sigmsg revoked CrlEntry.take_from_counted RevokedCertificates crl_entry enter_counted user_certificate revocation_date '?_extensions' leave_counted
+-- by tools/proofs/answers.py rpki_sigmsg revoked CrlEntry.take_from_counted RevokedCertificates crl_entry enter_counted user_certificate revocation_date '?_extensions' leave_counted
 use Rattle.std.proofs.Common.{refl}
 use Rattle.rpki_der.proofs.Counting.{reads_done, reads_first, reads_part, refuses_inside, refuses_within, stops_behind, stops_done, stops_first, stops_later, stops_part, takes_err, takes_within}
 use Rattle.rpki_sigmsg.specs.RevokedCertificates.{crl_entry}

@@ -1,4 +1,4 @@
--- written by tools/answers.py rpki_sigmsg tbs_crl SignedMessageTbsCrl.take_from_counted TbsCrl tbs_crl enter_counted take_integer_if_counted
+-- by tools/proofs/answers.py rpki_sigmsg tbs_crl SignedMessageTbsCrl.take_from_counted TbsCrl tbs_crl enter_counted take_integer_if_counted
 --     algorithm@rpki_base.specs.RpkiSignatureAlgorithm.algorithm=algorithm issuer this_update next_update '?revoked'
 --     'known@rpki_der.specs.Grammar.wrapped+rpki_der.specs.Tags.context+rpki_sigmsg.specs.CrlExtensions.extension_list=(λ m. wrapped (context 0) (extension_list m))' leave_counted
 --     =parts-authority_key_id =unwrap_or =empty
