@@ -55,17 +55,15 @@ fn is_read(
     }
 }
 
-/// Whether the command of the words, if it is `setup`, has this status and writes this where answers are put in.
-pub(crate) fn is_answered(
+// Whether the setup message that the input is has this status and this is written of it, where answers are put in.
+fn is_set_up(
     alloc: Global,
-    words: &Words,
+    kind: SetupKind,
     input: &[u8],
+    when: Time,
     status: u8,
     line: &[u8],
 ) -> io::Result<bool> {
-    let Some(Command::Setup { kind, when }) = words.command(alloc).map_err(out_of_memory)? else {
-        return Ok(true);
-    };
     if !is_read(alloc, kind, input, status, line).map_err(out_of_memory)? {
         return Ok(false);
     }
@@ -74,5 +72,22 @@ pub(crate) fn is_answered(
         Err(refusal) => {
             Ok(status == refusal.status() && refusal.line().as_str().as_bytes() == line)
         }
+    }
+}
+
+/// Whether the command of the words, if it is `setup`, has this status and writes this where answers are put in.
+pub(crate) fn is_answered(
+    alloc: Global,
+    words: &Words,
+    input: &[u8],
+    status: u8,
+    line: &[u8],
+) -> io::Result<bool> {
+    let command = words.command(alloc).map_err(out_of_memory)?;
+    match &command {
+        Some(Command::Setup { kind, when }) => {
+            is_set_up(alloc, *kind, input, *when, status, line)
+        }
+        _ => Ok(true),
     }
 }
