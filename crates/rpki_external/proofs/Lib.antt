@@ -13,3 +13,6 @@ pub mod NoTasks
 pub mod Answered
 pub mod Nones
 pub mod Saying
+pub mod Accepted
+pub mod Delivering
+pub mod Succeeding

@@ -1,6 +1,6 @@
 -- What is to be signed of a message, of an own trust anchor and of a request, and what they are
 -- with their signatures (RFC 5652, 5.4; RFC 5280, 4.1 and 5.1; RFC 6492, 3.1; RFC 8183, 5).
-use Rattle.std.specs.Prelude.{true, false, ◌≡◌, ◌≢◌, ◌≤ℤ◌, ◌≤◌, ◌^◌, ◌⊎◌, ℕ, ℤ, None, Some, List, length, ⊤}
+use Rattle.std.specs.Prelude.{true, false, ◌++◌, ◌≡◌, ◌≢◌, ◌≤ℤ◌, ◌≤◌, ◌^◌, ◌⊎◌, ℕ, ℤ, None, Some, List, length, ⊤}
 use Rattle.rpki_common.specs.Limits.{most_content}
 use Rattle.rpki_base.specs.RpkiSignatureAlgorithm.{RpkiAlgorithm}
 use Rattle.rpki_base.specs.Scheme.{Relation}
@@ -16,8 +16,12 @@ use Rattle.rpki_idcert.specs.Making.{made_fields}
 use Rattle.rpki_idcert.specs.Spelling.{spelled_tbs}
 use Rattle.rpki_idcert.specs.TbsIdCert.{TbsFields}
 use Rattle.rpki_sigmsg.specs.Making.{HasWindow, UnsignedFields, window, made_covered, made_crl, signed_message_of}
+use Rattle.rpki_sigmsg.specs.Checks.{IsAmong}
 use Rattle.rpki_sigmsg.specs.Message.{MessageFields}
-use Rattle.rpki_sigmsg.specs.Spelling.{spelled_tbs_crl}
+use Rattle.rpki_sigmsg.specs.Spelling.{rewritten, spelled_tbs_crl}
+use Rattle.rpki_ca.specs.Acceptance.{Accepted, accepted_text, normal_form}
+use Rattle.rpki_ca.specs.declared.receiving.Kind.{Kind}
+use Rattle.rpki_ca.specs.declared.receiving.Received.{Received}
 use Rattle.rpki_signer.specs.Limits.{IsShort, default_algorithm}
 use Rattle.rpki_text.specs.Uri.{fault_of, rsync}
 use Rattle.rpki_text.specs.declared.uri.Error.{Error}
@@ -119,6 +123,17 @@ pub record AreSignatures (scheme : Relation) (content : List ℕ) (p : Plan) (s 
 pub record IsInWindow (p : Plan) (when : ℤ) : Type 0 where
   pub from : (window p.when).not_before ≤ℤ when
   pub to : when ≤ℤ (window p.when).not_after
+
+-- the signed message of this one by the plan, with these signatures: written anew it is accepted as
+-- the normal form, where the signatures hold, whatever stands behind it, under each list of keys that
+-- holds the issuing key, at each second of the window
+pub record IsAcceptedSo (scheme : Relation) (kind : Kind) (m : Received) (p : Plan) (s : Signatures)
+    (octets : List ℕ) : Type 0 where
+  pub are : octets ≡ rewritten (finished (accepted_text m) p s)
+  pub accepted : AreSignatures scheme (accepted_text m) p s
+      → (keys : List KeyFields) → IsAmong keys p.issuing_key
+      → (when : ℤ) → IsInWindow p when → (rest : List ℕ)
+      → Accepted scheme kind (octets ++ rest) keys when (normal_form m)
 
 -- ---- the own trust anchor
 

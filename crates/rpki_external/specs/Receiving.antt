@@ -139,6 +139,20 @@ RefusesByAnswers kind octets keys when answers last (errors.Replayed before seen
     ByAnswers octets keys answers (λ scheme.
     IsGuardRefusal scheme kind octets keys when last (guard.Replayed before seen))
 
+-- when each error comes under a scheme for which the answers are right
+abbrev pub RefusesUnder : Relation → Kind → List ℕ → List KeyFields → ℤ → AnswersFields → Option ℤ
+    → AnsweredError → Type 0
+RefusesUnder scheme kind octets keys when answers last errors.OtherQuestions =
+    AreUnmatched octets keys answers answers_errors.OtherQuestions
+RefusesUnder scheme kind octets keys when answers last errors.Number =
+    AreUnmatched octets keys answers answers_errors.Number
+RefusesUnder scheme kind octets keys when answers last (errors.Receive error) =
+    IsReceivedUnder scheme kind octets keys when (Err error)
+RefusesUnder scheme kind octets keys when answers last errors.NoTime =
+    IsGuardRefusal scheme kind octets keys when last guard.NoTime
+RefusesUnder scheme kind octets keys when answers last (errors.Replayed before seen) =
+    IsGuardRefusal scheme kind octets keys when last (guard.Replayed before seen)
+
 -- why a message's checks aren't told by answers: there is no signed message, or the answers aren't
 -- to its questions under this key; of want of memory nothing is said
 abbrev pub RefusesChecks : List ℕ → KeyFields → AnswersFields → AnsweredError → Type 0

@@ -1,9 +1,11 @@
 -- What is answered to words and input.
 use Rattle.std.specs.Prelude.{◌≡◌, ◌⊎◌, ℕ, ℤ, Bool, Option, None, Some, Result, Ok, Err, List, [], ◌∷◌, ◌++◌, codes, map, ⊤}
 use Rattle.std.specs.Fmt.{decimal, signed_decimal}
+use Rattle.std.specs.Io.KnownBytes.{Appends}
 use Rattle.hex.specs.Hex.{encode_lower}
 use Rattle.rpki_base.specs.PublicKey.{KeyFields, spelled_key}
 use Rattle.rpki_base.specs.RpkiSignatureAlgorithm.{spelled_x509}
+use Rattle.rpki_base.specs.Scheme.{Relation}
 use Rattle.rpki_base.specs.SignedData.{CanSpellSigned, spelled_data}
 use Rattle.rpki_base.specs.Validity.{ValidityFields}
 use Rattle.rpki_cert.specs.Making.{CaRequest}
@@ -20,7 +22,7 @@ use Rattle.rpki_ca.specs.Creation.{RefusesInput}
 use Rattle.rpki_ca.specs.Hexadecimal.{hexadecimal}
 use Rattle.rpki_ca.specs.Lines.{EndsWith, answer_lines, digit_of}
 use Rattle.rpki_signer.specs.Limits.{IsShort}
-use Rattle.rpki_ca.specs.Seen.{Seen}
+use Rattle.rpki_ca.specs.Seen.{HasFailed, Seen}
 use Rattle.rpki_ca.specs.Setup.{setup_text}
 use Rattle.rpki_ca.specs.declared.receiving.Kind.{Kind}
 use Rattle.rpki_ca.specs.declared.receiving.Kind.TheVariants as kinds
@@ -53,12 +55,12 @@ use Rattle.rpki_external.specs.declared.task.Task.{Task}
 use Rattle.rpki_external.specs.declared.task.Task.TheVariants as tasks
 use Rattle.rpki_external.specs.declared.verifying.VerifyError.{VerifyError}
 use Rattle.rpki_external.specs.declared.verifying.VerifyError.TheVariants as verify
-use Rattle.rpki_external.specs.Answers.{AnswersFields}
+use Rattle.rpki_external.specs.Answers.{AnswersFields, AreTo}
 use Rattle.rpki_external.specs.Inspection.{IsInspectedAs}
 use Rattle.rpki_external.specs.KeysRefusal.{keys_name_of, keys_status_of}
-use Rattle.rpki_external.specs.Making.{AreShort, CanPrepare, CanPrepareAnchor, CanPrepareRequest, FinishAnchorFails, FinishFails, FinishRequestFails, PrepareAnchorFails, PrepareFails, PrepareRequestFails, anchor_fields, attributes_to_sign, certificate_to_sign, crl_to_sign, finished, finished_anchor, finished_request, request_to_sign}
+use Rattle.rpki_external.specs.Making.{AreShort, IsAcceptedSo, CanPrepare, CanPrepareAnchor, CanPrepareRequest, FinishAnchorFails, FinishFails, FinishRequestFails, PrepareAnchorFails, PrepareFails, PrepareRequestFails, anchor_fields, attributes_to_sign, certificate_to_sign, crl_to_sign, finished, finished_anchor, finished_request, request_to_sign}
 use Rattle.rpki_external.specs.Question.{QuestionsFields, request_questions}
-use Rattle.rpki_external.specs.Receiving.{AreAskedOf, ByAnswers, IsReceiptBy, RefusesByAnswers, RefusesChecks}
+use Rattle.rpki_external.specs.Receiving.{AreAskedOf, AreRightOf, ByAnswers, IsReceipt, IsReceiptBy, RefusesByAnswers, RefusesChecks, RefusesUnder}
 use Rattle.rpki_external.specs.Spelling.{digest_of, question_lines}
 use Rattle.rpki_external.specs.Verifying.{AreChecksOf, BeginsRequest, IsRequestVerified, IsSetupAnswered, IsSetupAsked}
 
@@ -442,3 +444,66 @@ abbrev pub EndsKeysTask : Task → List ℕ → ℕ → Seen → Type 0
 EndsKeysTask task input status sink =
     EndsKeysAnswered task input status sink
     ⊎ Ends (Err refusals.OutOfMemory) status sink
+
+-- ---- what holds at the end of a call, said of a scheme
+
+-- the answers are right of the message that the input spells, if it spells one
+abbrev pub AreRightIn : Relation → List ℕ → List KeyFields → AnswersFields → Type 0
+AreRightIn scheme input list answers =
+    (octets : List ℕ) → hexadecimal input ≡ Some octets → AreRightOf scheme octets list answers
+
+-- `receive` under a scheme: the line of the receipt and the text of its message, each on a line
+abbrev pub IsReceiveAnswerUnder : Relation → Kind → List ℕ → List KeyFields → ℤ → Option ℤ
+    → AnswersFields → Written → Type 0
+IsReceiveAnswerUnder scheme kind octets list when last answers (Ok output) =
+    (r : Receipt) × IsReceipt scheme kind octets list when last r
+    × (output ≡ answer_lines (receipt_line r ∷ accepted_text r.message ∷ []))
+IsReceiveAnswerUnder scheme kind octets list when last answers (Err refusal) =
+    (e : AnsweredError) × RefusesUnder scheme kind octets list when answers last e
+    × (refusal ≡ refusal_of_answered e)
+
+-- the call ends with what `receive` answers to the input under a scheme
+pub record EndsReceivedUnder (scheme : Relation) (kind : Kind) (list : List KeyFields) (when : ℤ)
+    (last : Option ℤ) (answers : AnswersFields) (input : List ℕ) (status : ℕ) (sink : Seen) : Type 0
+  where
+    pub answer : Written
+    pub is : OfSpelled (λ octets. IsReceiveAnswerUnder scheme kind octets list when last answers)
+        (hexadecimal input) answer
+    pub ends : EndsOn answer status sink
+
+-- the same, or the call ends for want of memory
+abbrev pub EndsAsReceived : Relation → Kind → List KeyFields → ℤ → Option ℤ → AnswersFields
+    → List ℕ → ℕ → Seen → Type 0
+EndsAsReceived scheme kind list when last answers input status sink =
+    EndsReceivedUnder scheme kind list when last answers input status sink
+    ⊎ Ends (Err refusals.OutOfMemory) status sink
+
+-- the input spells octets of which there is a receipt under the scheme, and its line and its text
+-- were written
+pub record DeliversReceipt (scheme : Relation) (kind : Kind) (list : List KeyFields) (when : ℤ)
+    (last : Option ℤ) (input : List ℕ) (sink : Seen) : Type 0 where
+  pub octets : List ℕ
+  pub spells : hexadecimal input ≡ Some octets
+  pub receipt : Receipt
+  pub is : IsReceipt scheme kind octets list when last receipt
+  pub written : Appends sink.before sink.after
+      (answer_lines (receipt_line receipt ∷ accepted_text receipt.message ∷ []))
+
+-- the answers are to the questions of the message that the input spells, if it spells one
+abbrev pub AreToIn : List ℕ → List KeyFields → AnswersFields → Type 0
+AreToIn input list answers = (octets : List ℕ) → hexadecimal input ≡ Some octets
+    → (q : QuestionsFields) → AreAskedOf octets list q → AreTo answers q
+
+-- the status is 0; or memory ran out, or a write failed
+abbrev pub EndsWell : ℕ → Seen → Type 0
+EndsWell status sink = (status ≡ 0) ⊎ ((status ≡ 12) ⊎ ((status ≡ 11) × HasFailed sink))
+
+-- `finish message` wrote the hexadecimal of a signed message with the message that the input is, which
+-- is accepted
+pub record Finishes (scheme : Relation) (kind : Kind) (p : Plan) (s : Signatures)
+    (input : List ℕ) (sink : Seen) : Type 0 where
+  pub message : Received
+  pub reads : ReadsAs kind input message
+  pub octets : List ℕ
+  pub is : IsAcceptedSo scheme kind message p s octets
+  pub written : Appends sink.before sink.after (on_line (encode_lower octets))

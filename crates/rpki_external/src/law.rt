@@ -1,11 +1,18 @@
 //! What holds of all answers, and of all that is made.
 
-ghost use Rattle.std.specs.Prelude.{◌≡◌, ◌↔◌, ◌⊎◌, ◌≤ℤ◌, ℕ, ℤ, List, Option, Result, true};
+ghost use Rattle.std.specs.Prelude.{◌≡◌, ◌↔◌, ◌⊎◌, ◌≤ℤ◌, ℕ, ℤ, List, None, Option, Result, true};
 ghost use Rattle.rpki_base.specs.PublicKey.{KeyFields};
 ghost use Rattle.rpki_base.specs.Validity.{ValidityFields};
 ghost use Rattle.rpki_base.specs.declared.algorithm.SigningAlgorithm.TheVariants.{RsaSha256};
 ghost use Rattle.rpki_base.specs.declared.validation.ValidationError.{ValidationError};
-ghost use Rattle.rpki_ca.specs.Acceptance.{IsReceivedUnder};
+ghost use Rattle.rpki_ca.specs.Acceptance.{IsReceivedUnder, ReadsAs, accepted_text};
+ghost use Rattle.rpki_ca.specs.Answer.{BringsAccepted};
+ghost use Rattle.rpki_ca.specs.Seen.{Seen};
+ghost use Rattle.rpki_sigmsg.specs.Spelling.{CanSpellMessage, rewritten};
+ghost use Rattle.rpki_external.specs.Running.{AreRightIn, AreToIn, DeliversReceipt, EndsAsReceived, EndsKeysTask, EndsWell, Finishes};
+ghost use Rattle.rpki_external.specs.declared.task.Finished.TheVariants as finishing;
+ghost use Rattle.rpki_external.specs.declared.task.Task.TheVariants as tasks;
+ghost use Rattle.rpki_external.specs.declared.task.Verified.TheVariants as verified;
 ghost use Rattle.rpki_ca.specs.declared.receiving.Kind.{Kind};
 ghost use Rattle.rpki_ca.specs.declared.receiving.ReceiveError.{ReceiveError};
 ghost use Rattle.rpki_ca.specs.declared.receiving.Received.{Received};
@@ -21,7 +28,7 @@ ghost use Rattle.rpki_sigmsg.specs.Checks.{IsBelieved, SameAnswersUnder};
 ghost use Rattle.rpki_sigmsg.specs.Making.{IsMessageMade};
 ghost use Rattle.rpki_sigmsg.specs.Message.{MessageFields};
 ghost use Rattle.rpki_external.specs.Answers.{AnswersFields, AreRight, AreTo, answered_scheme};
-ghost use Rattle.rpki_external.specs.Making.{AreShort, AreSignatures, CanPrepare, IsInWindow, anchor_fields, finished, finished_anchor, finished_request, request_to_sign, unsigned_request};
+ghost use Rattle.rpki_external.specs.Making.{AreShort, AreSignatures, CanPrepare, CanPrepareAnchor, CanPrepareRequest, FinishAnchorFails, FinishFails, FinishRequestFails, IsAcceptedSo, IsInWindow, PrepareAnchorFails, PrepareFails, PrepareRequestFails, anchor_fields, finished, finished_anchor, finished_request, request_to_sign, unsigned_request};
 ghost use Rattle.rpki_external.specs.Question.{QuestionsFields, anchor_questions, listed, message_questions, request_questions};
 ghost use Rattle.rpki_external.specs.Receiving.{AreAskedOf, IsGuardRefusal, IsReceipt};
 ghost use Rattle.rpki_external.specs.Spelling.{AreWritable, Collide, questions_text};
@@ -31,7 +38,9 @@ ghost use Rattle.rpki_external.specs.declared.preparing.Plan.{Plan};
 ghost use Rattle.rpki_external.specs.declared.preparing.PrepareError.{PrepareError};
 ghost use Rattle.rpki_external.specs.declared.preparing.Signatures.{Signatures};
 ghost use Rattle.rpki_external.specs.declared.preparing_requests.RequestPlan.{RequestPlan};
+ghost use Rattle.rpki_signer.specs.Limits.{IsShort};
 ghost use Rattle.rpki_signer.specs.Signer.{SignerState};
+ghost use Rattle.rpki_external.specs.declared.preparing.PrepareError.TheVariants as prepare;
 ghost use Rattle.rpki_external.specs.declared.question.Part.{Part};
 ghost use Rattle.rpki_external.specs.declared.receiving.AnsweredError.{AnsweredError};
 ghost use Rattle.rpki_external.specs.declared.receiving.Receipt.{Receipt};
@@ -100,6 +109,27 @@ pub fn right_answers_decide<P: Scheme>()
         → IsGuardRefusal P.checks kind octets keys when last error }
 {}
 
+/// Under each scheme for which the answers are right, `receive` ends with what it answers there, each refusal among them, or for want of
+/// memory. With 0 it wrote a receipt of the message that the input spells, of which there is one there; and where a message is accepted
+/// there, the answers are to its questions and no last time is handed in, it ends with 0, but for want of memory and a fault of the sink.
+pub fn right_answers_deliver<P: Scheme>()
+    ensures answered { (kind : Kind) (keys : List KeyFields) (when : ℤ) (last : Option ℤ)
+        (answers : AnswersFields) (input : List ℕ) (status : ℕ) (sink : Seen)
+        → EndsKeysTask (tasks.Verify (verified.Message kind when last keys) answers) input status
+        sink → AreRightIn P.checks input keys answers
+        → EndsAsReceived P.checks kind keys when last answers input status sink }
+    ensures received { (kind : Kind) (keys : List KeyFields) (when : ℤ) (last : Option ℤ)
+        (answers : AnswersFields) (input : List ℕ) (sink : Seen)
+        → EndsKeysTask (tasks.Verify (verified.Message kind when last keys) answers) input 0 sink
+        → AreRightIn P.checks input keys answers
+        → DeliversReceipt P.checks kind keys when last input sink }
+    ensures accepted { (kind : Kind) (keys : List KeyFields) (when : ℤ) (answers : AnswersFields)
+        (input : List ℕ) (status : ℕ) (sink : Seen)
+        → EndsKeysTask (tasks.Verify (verified.Message kind when None keys) answers) input status
+        sink → AreRightIn P.checks input keys answers → AreToIn input keys answers
+        → BringsAccepted P.checks kind keys when input → EndsWell status sink }
+{}
+
 /// What the checks of a trust anchor's certificate, and that of a request, answer by answers is what they answer under each scheme for
 /// which the answers are right.
 pub fn right_answers_verify<P: Scheme>()
@@ -114,6 +144,26 @@ pub fn right_answers_verify<P: Scheme>()
         ↔ IsRequestSigned P.checks r) }
 {}
 
+/// What can be prepared is, and what can be prepared and whose signatures are short enough is finished, but for want of memory: no other
+/// error comes then.
+pub fn nothing_but_memory_is_wanting()
+    ensures prepared { (content : List ℕ) (plan : Plan) (e : PrepareError)
+        → CanPrepare content plan → PrepareFails content plan e → e ≡ prepare.OutOfMemory }
+    ensures finished { (content : List ℕ) (plan : Plan) (signatures : Signatures)
+        (e : PrepareError) → CanPrepare content plan → AreShort signatures
+        → FinishFails content plan signatures e → e ≡ prepare.OutOfMemory }
+    ensures anchor_prepared { (key : KeyFields) (e : PrepareError)
+        → CanPrepareAnchor key → PrepareAnchorFails key e → e ≡ prepare.OutOfMemory }
+    ensures anchor_finished { (key : KeyFields) (signature : List ℕ) (e : PrepareError)
+        → CanPrepareAnchor key → IsShort signature → FinishAnchorFails key signature e
+        → e ≡ prepare.OutOfMemory }
+    ensures request_prepared { (plan : RequestPlan) (e : PrepareError)
+        → CanPrepareRequest plan → PrepareRequestFails plan e → e ≡ prepare.OutOfMemory }
+    ensures request_finished { (plan : RequestPlan) (signature : List ℕ) (e : PrepareError)
+        → CanPrepareRequest plan → IsShort signature → FinishRequestFails plan signature e
+        → e ≡ prepare.OutOfMemory }
+{}
+
 /// A message with three signatures of what is prepared of it is believed under the issuing key, at each second from 300 before the
 /// moment to 300 after it, under each scheme in which they hold.
 pub fn finished_is_believed<P: Scheme>()
@@ -121,6 +171,22 @@ pub fn finished_is_believed<P: Scheme>()
         → CanPrepare content plan → AreShort signatures
         → AreSignatures P.checks content plan signatures → IsInWindow plan when
         → IsBelieved P.checks (finished content plan signatures) plan.issuing_key when }
+{}
+
+/// What [`crate::finish`] makes of the text of a message that was read, by a plan by which it can be prepared, and is written, is accepted
+/// as the message's normal form, under each scheme in which the signatures hold for what [`crate::prepare`] gives, each list of keys
+/// that holds the issuing key, and each second of the window. So is what `finish message` wrote with 0.
+pub fn finished_is_accepted<P: Scheme>()
+    ensures made { (kind : Kind) (input : List ℕ) (message : Received) (plan : Plan)
+        (signatures : Signatures) → ReadsAs kind input message
+        → CanPrepare (accepted_text message) plan → AreShort signatures
+        → CanSpellMessage (finished (accepted_text message) plan signatures)
+        → IsAcceptedSo P.checks kind message plan signatures
+        (rewritten (finished (accepted_text message) plan signatures)) }
+    ensures written { (kind : Kind) (plan : Plan) (signatures : Signatures) (input : List ℕ)
+        (sink : Seen)
+        → EndsKeysTask (tasks.Finish (finishing.Message kind plan signatures)) input 0 sink
+        → Finishes P.checks kind plan signatures input sink }
 {}
 
 /// What is made with a signer is what is finished with the signatures that it gave, by the plan with its keys and its serial number.

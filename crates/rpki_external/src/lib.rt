@@ -41,9 +41,10 @@ pub use inspecting::{inspect, inspection_text};
 pub use keys_refusal::KeysRefusal;
 pub use law::{
     answers_are_to_one_value, equal_values_are_the_same, finished_anchor_is_believed,
-    finished_is_believed, finished_request_is_verified, made_anchor_is_finished, made_is_finished,
-    made_request_is_finished, right_answers_are_the_schemes, right_answers_decide,
-    right_answers_verify,
+    finished_is_accepted, finished_is_believed, finished_request_is_verified,
+    made_anchor_is_finished, made_is_finished, made_request_is_finished,
+    nothing_but_memory_is_wanting, right_answers_are_the_schemes, right_answers_decide,
+    right_answers_deliver, right_answers_verify,
 };
 pub use preparing::{Plan, PrepareError, Signatures, finish, prepare};
 pub use preparing_anchors::{finish_anchor, prepare_anchor};
