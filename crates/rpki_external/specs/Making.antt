@@ -125,8 +125,8 @@ pub record IsInWindow (p : Plan) (when : ℤ) : Type 0 where
   pub to : when ≤ℤ (window p.when).not_after
 
 -- the signed message of this one by the plan, with these signatures: written anew it is accepted as
--- the normal form, where the signatures hold, whatever stands behind it, under each list of keys that
--- holds the issuing key, at each second of the window
+-- the normal form, where the signatures hold, whatever stands behind it, under each list of keys
+-- that holds the issuing key, at each second of the window
 pub record IsAcceptedSo (scheme : Relation) (kind : Kind) (m : Received) (p : Plan) (s : Signatures)
     (octets : List ℕ) : Type 0 where
   pub are : octets ≡ rewritten (finished (accepted_text m) p s)

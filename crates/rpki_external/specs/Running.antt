@@ -498,8 +498,8 @@ AreToIn input list answers = (octets : List ℕ) → hexadecimal input ≡ Some 
 abbrev pub EndsWell : ℕ → Seen → Type 0
 EndsWell status sink = (status ≡ 0) ⊎ ((status ≡ 12) ⊎ ((status ≡ 11) × HasFailed sink))
 
--- `finish message` wrote the hexadecimal of a signed message with the message that the input is, which
--- is accepted
+-- `finish message` wrote the hexadecimal of a signed message with the message that the input is,
+-- which is accepted
 pub record Finishes (scheme : Relation) (kind : Kind) (p : Plan) (s : Signatures)
     (input : List ℕ) (sink : Seen) : Type 0 where
   pub message : Received

@@ -79,8 +79,8 @@ pub fn answers_are_to_one_value()
         → (a ≡ b) ⊎ Collide (questions_text a) (questions_text b) }
 {}
 
-/// Each question that the checks of a message ask under the keys has the same answer under the scheme that right answers are as under
-/// the scheme for which they are right. So whatever asks a verifier of answers ([`crate::AnswerVerifier`]) about the message, the checks, the
+/// Each question that the checks of a message ask under the keys has the same answer under the scheme that right answers are as under the
+/// scheme for which they are right. So whatever asks a verifier of answers ([`crate::AnswerVerifier`]) about the message, the checks, the
 /// guard or the archive, does what it does under that scheme.
 pub fn right_answers_are_the_schemes<P: Scheme>()
     ensures { (m : MessageFields) (keys : List KeyFields) (answers : AnswersFields)
