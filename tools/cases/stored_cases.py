@@ -31,11 +31,18 @@ def within(octets, part, *instead):
 
 
 def octets_of(spelled_terms):
-    """The octets that such terms spell; `-` spells none."""
+    """The octets that such terms spell, and legible ones behind an apostrophe; `-` spells none."""
     if spelled_terms == "-":
         return b""
-    pairs = (term.partition("*") for term in spelled_terms.split("|"))
-    return b"".join(bytes.fromhex(digits) * int(times or 1) for digits, _, times in pairs)
+    return b"".join(map(octets_of_term, spelled_terms.split("|")))
+
+
+def octets_of_term(term):
+    """The octets that one of them spells."""
+    if term.startswith("'"):
+        return term[1:].encode()
+    digits, _, times = term.partition("*")
+    return bytes.fromhex(digits) * int(times or 1)
 
 
 def text(characters):

@@ -1,14 +1,15 @@
 #!/usr/bin/env python3
-"""Proves crates and builds programs, several crates side by side.
+"""Proves crates and builds programs and the static library, several crates side by side.
 
     tools/run/build_crates.py rpkica ..     these crates, and all that they stand on
     tools/run/build_crates.py --all         every crate of crates.txt
     tools/run/build_crates.py --list ..     shows in which order, with each crate's share in minutes, and proves nothing
 
 A crate begins as soon as those below it are proved; where several could, the one comes first whose longest chain of crates above it takes
-longest, by tools/run/minutes.txt. `rt lib` proves a library, and `rt run -- --version` proves and builds a program; each works in a room of
-its own (tools/run/rooms.py), over what earlier runs kept. As many run side by side as there are processors and free memory, 2.5 GB for
-each; processors that no crate waits for go to one that runs, by rt's --jobs. No test runs, and no wrong body is tried: `rt ci` does that.
+longest, by tools/run/minutes.txt. `rt lib` proves a library, and builds a static one; `rt run -- --version` proves and builds a program;
+each works in a room of its own (tools/run/rooms.py), over what earlier runs kept. As many run side by side as there are processors and
+free memory, 2.5 GB for each; processors that no crate waits for go to one that runs, by rt's --jobs. No test runs, and no wrong body is
+tried: `rt ci` does that.
 
 Each crate is shown on standard error as it begins and as it ends, on a terminal also, in one line, how far all is. The exit status is 0, or
 1 where a crate isn't proved (all that rt said of it is shown), 2 where the words are wrong, or 130 after Ctrl-C. A failure and Ctrl-C end

@@ -130,7 +130,7 @@ class Rooms:
     def lines_of(self, crates: list[str]) -> str:
         """The lines of crates.txt that name these crates."""
         text = (self.top / "crates.txt").read_text(encoding="utf-8")
-        return "".join(f"{line}\n" for line in text.splitlines() if line.partition(":")[0].strip() in crates)
+        return "".join(f"{line}\n" for line in text.splitlines() if line.partition(":")[0].partition(" ")[0] in crates)
 
     def enter(self, crate: str, below: list[str]) -> Path:
         """Makes the crate's room, over the libraries of those below, and gives the folder that rt is to work in."""
@@ -160,16 +160,17 @@ class Rooms:
                 (own / "rlib").rename(place / "earlier")
             (place / "out" / "rlib").rename(own / "rlib")
         if is_made:
-            self.take_program(crate)
+            self.take_linked(crate)
         remove(self.at / "rooms" / crate)
 
-    def take_program(self, crate: str) -> None:
-        """A program is as old as the copy of the sources that it was made of, so that what changed since counts as newer."""
+    def take_linked(self, crate: str) -> None:
+        """A program or a static library is as old as the copy of the sources that it was made of, so that what changed since counts as
+        newer."""
         place, own = self.place_of(crate), self.out_of(crate)
-        if not (place / "out" / crate).is_file():
-            return
-        os.utime(place / "out" / crate, ns=(self.begun, self.begun))
-        os.replace(place / "out" / crate, own / crate)
+        for name in (crate, f"lib{crate}.a"):
+            if (place / "out" / name).is_file():
+                os.utime(place / "out" / name, ns=(self.begun, self.begun))
+                os.replace(place / "out" / name, own / name)
         if (place / "out" / f"{crate}.stamp").is_file():
             os.replace(place / "out" / f"{crate}.stamp", own / f"{crate}.stamp")
 

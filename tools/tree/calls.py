@@ -5,8 +5,8 @@
 
 Printed are, for each crate, its public calls: the public functions that its lib.rt hands out, those of the types that it hands out, those
 that its traits ask for and their implementations, and `fmt` of what can be printed. Where no crate is named, it is rpki_* but for those
-that are for tests alone. Laws, which do nothing, are left out, and so are equality, order, hash and From. At the end stands what is
-missing; with --missing that alone. The exit status is 0 where nothing is missing, else 1.
+that are for tests alone. Laws, which do nothing, are left out, and so are equality, order, hash and From, and the calls for C, which
+bindings/check makes. At the end stands what is missing; with --missing that alone. The exit status is 0 where nothing is missing, else 1.
 
 Of each call it is said
 
@@ -65,7 +65,7 @@ def calls_of(tree, index, crate):
             continue
         seen.add(id(item))
         name = "::".join(path)
-        if item.kind == "fn" and not is_law(item):
+        if item.kind == "fn" and not is_law(item) and not item.is_export:
             found.append(Call(crate, name, item, None))
         elif item.kind == "trait":
             found += [Call(crate, f"{name}::{function.name}", function, item) for function in item.functions]

@@ -48,6 +48,7 @@ class Item:
         self.attributes = []
         self.takes_self = False
         self.changes = False  # whether a function is lent something to change
+        self.is_export = False  # whether it is a function for C
 
 
 class Module:
@@ -342,8 +343,14 @@ class Crate:
         """An item, whose first word stands next."""
         reader.took("unsafe")
         word = reader.take()
+        is_export = word == "extern"
+        if is_export:
+            reader.take()
+            word = reader.take()
         if word == "fn":
-            return function(reader, module, line, public)
+            found = function(reader, module, line, public)
+            found.is_export = is_export
+            return found
         if word == "struct":
             return struct(reader, module, line, public)
         if word == "enum":
@@ -564,7 +571,7 @@ def crates_in_order():
     for line in (TOP / "crates.txt").read_text(encoding="utf-8").splitlines():
         if line and not line.startswith("#"):
             name, _, used = line.partition(":")
-            found[name] = used.split()
+            found[name.split()[0]] = used.split()
     return found
 
 

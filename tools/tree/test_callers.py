@@ -141,6 +141,16 @@ class Sources(InTree):
         self.assertTrue(found.changes)
         self.assertEqual(["must_use"], found.attributes)
 
+    def test_a_function_for_c(self):
+        found = self.item("""#[unsafe(no_mangle)] pub extern "C" fn f(text: &[u8], alloc: Global, out: &mut [u8]) -> i32 { 0 }""")
+        self.assertEqual(("fn", "f", True, True), (found.kind, found.name, found.public, found.is_export))
+        self.assertFalse(self.item("pub fn f() {}").is_export)
+
+    def test_static_libraries_have_one_name(self):
+        self.tree(one="pub fn f() {}")
+        (self.top / "crates.txt").write_text("one:\ntwo staticlib: one\n", encoding="utf-8")
+        self.assertEqual({"one": [], "two": ["one"]}, sources.crates_in_order())
+
     def test_what_changes_nothing(self):
         self.assertFalse(self.item("fn f(mut one: u8, two: &u8) {}").changes)
         self.assertTrue(self.item("fn f(one: &mut u8) {}").changes)

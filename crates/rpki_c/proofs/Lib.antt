@@ -1,0 +1,5 @@
+-- What the proofs of the exports share.
+pub mod Handing
+pub mod Unread
+pub mod Fitting
+pub mod Octets

@@ -1,0 +1,7 @@
+use Rattle.std.proofs.Common.{refl}
+use Rattle.rpki_text.specs.Uri.{rsync}
+use Rattle.rpki_c.proofs.Unread.{not_lawful}
+use Rattle.rpki_c.proofs.arguments.rsync_in.Goals as goal
+
+pub returns-in_default-clause-err : goal.returns-in_default-clause-err
+returns-in_default-clause-err c = λ other. (refl, λ uri is. not_lawful rsync c.args.octets.now c.in_default.ensures.cases.0 is.1)

@@ -1,0 +1,6 @@
+use Rattle.rpki_c.proofs.Handing.{hands_over}
+use Rattle.rpki_c.proofs.asking.calmizsed_issue_questions.Goals as goal
+
+pub returns-clause-answer : goal.returns-clause-answer
+returns-clause-answer c =
+    hands_over _ c.ask_issue.result _ _ _ c.ask_issue.ensures.ok c.ask_issue.ensures.err c.hand_over.ensures.given c.hand_over.ensures.refused

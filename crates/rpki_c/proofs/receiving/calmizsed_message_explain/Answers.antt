@@ -1,0 +1,6 @@
+use Rattle.rpki_c.proofs.Handing.{hands_over}
+use Rattle.rpki_c.proofs.receiving.calmizsed_message_explain.Goals as goal
+
+pub returns-clause-answer : goal.returns-clause-answer
+returns-clause-answer c =
+    hands_over _ c.explain.result _ _ _ c.explain.ensures.ok c.explain.ensures.err c.hand_over.ensures.given c.hand_over.ensures.refused

@@ -1,0 +1,166 @@
+//! What is to be signed of messages, trust anchors and certificate requests.
+
+ghost use Rattle.std.specs.Prelude.{◌≡◌, ◌≢◌, Ok, Err, IfErr, IfOk};
+ghost use Rattle.rpki_c.specs.Calls as spec;
+ghost use Rattle.rpki_c.specs.HandingOver.{HandsOver, out_of_memory};
+ghost use Rattle.rpki_c.specs.Records as records;
+
+use crate::arguments::{key_in, kind_in, plan_in, request_plan_in, validity_in};
+use crate::handing_over::hand_over;
+use crate::outcome::Outcome;
+use crate::records::{one_record, push_record, tag_of};
+use crate::texts::text_in;
+use rpki_external::{KeysRefusal, Part, prepare, prepare_anchor, prepare_request};
+use rpki_sigmsg::UnsignedMessage;
+use std::alloc::Global;
+
+// The records of what is to be signed of a message: attributes, CRL, certificate.
+fn message_records(alloc: Global, unsigned: &UnsignedMessage) -> Result<Vec<u8>, KeysRefusal>
+    ensures ok { IfOk result (λ text.
+        text.items ≡ records.records_of (records.unsigned_records unsigned.now)) }
+    ensures err { IfErr result (λ e. e ≢ out_of_memory → (e ≡ records.too_long)
+        × (records.AllFit (records.unsigned_records unsigned.now) → ⊥)) }
+{
+    let mut text = one_record(alloc, tag_of(Part::Attributes), unsigned.attributes())?;
+    push_record(tag_of(Part::Crl), unsigned.crl(), &mut text)?;
+    push_record(tag_of(Part::Certificate), unsigned.certificate(), &mut text)?;
+    Ok(text)
+}
+
+// What is to be signed of a message.
+fn prepare_message(
+    alloc: Global,
+    kind: i32,
+    text: &[u8],
+    when: i64,
+    serial: &[u8],
+    issuing_key: &[u8],
+    one_off_key: &[u8],
+) -> Result<Vec<u8>, KeysRefusal>
+    ensures ok { IfOk result (λ output. spec.PreparesIn kind text.now when serial.now
+        issuing_key.now one_off_key.now (Ok output.items)) }
+    ensures err { IfErr result (λ e. e ≢ out_of_memory → spec.PreparesIn kind text.now when
+        serial.now issuing_key.now one_off_key.now (Err e)) }
+{
+    let kind = kind_in(kind)?;
+    let plan = plan_in(alloc, when, serial, issuing_key, one_off_key)?;
+    let message = text_in(alloc, kind, text)?;
+    let unsigned = prepare(alloc, message.to_xml_bytes(alloc)?, &plan)?;
+    message_records(alloc, &unsigned)
+}
+
+/// What is to be signed of a signed message with the message of the protocol `kind` that `text` is (RFC 5652, 5.4): records of the
+/// attributes, which the holder of the one-off key signs, and of the CRL and the certificate, which the holder of the issuing key does.
+/// It is valid from 300 seconds before the moment `when` to 300 seconds after it. `serial` has twenty octets, of which the first bit
+/// is 0; both keys are in DER.
+///
+/// Usage, XmlError, CertSyntax, InvalidCsrSyntax, Moment, TooLong, IncompatibleKey, KeyReused, OutOfMemory.
+#[unsafe(no_mangle)]
+pub extern "C" fn calmizsed_message_prepare(
+    kind: i32,
+    text: &[u8],
+    when: i64,
+    serial: &[u8],
+    issuing_key: &[u8],
+    one_off_key: &[u8],
+    alloc: Global,
+    out: &mut [u8],
+    outcome: &mut Outcome,
+) -> i32
+    ensures answer { HandsOver
+        (spec.PreparesIn kind text.now when serial.now issuing_key.now one_off_key.now)
+        out.old out.new outcome.new }
+    ensures status { result ≡ outcome.new.status }
+{
+    hand_over(
+        prepare_message(alloc, kind, text, when, serial, issuing_key, one_off_key),
+        out,
+        outcome,
+    )
+}
+
+// What is to be signed of a key's own certificate.
+fn anchor_to_sign(
+    alloc: Global,
+    not_before: i64,
+    not_after: i64,
+    key: &[u8],
+) -> Result<Vec<u8>, KeysRefusal>
+    ensures ok { IfOk result (λ output.
+        spec.PreparesAnchorIn not_before not_after key.now (Ok output.items)) }
+    ensures err { IfErr result (λ e. e ≢ out_of_memory
+        → spec.PreparesAnchorIn not_before not_after key.now (Err e)) }
+{
+    let validity = validity_in(not_before, not_after)?;
+    let key = key_in(alloc, key)?;
+    let unsigned = prepare_anchor(alloc, &key, validity)?;
+    one_record(alloc, tag_of(Part::Anchor), unsigned.as_slice())
+}
+
+/// What is to be signed of the key's own certificate, a trust anchor's, by the holder of the key (RFC 8183, 5.1): a record. It is valid
+/// from the first moment to the second.
+///
+/// Usage, TooLong, IncompatibleKey, OutOfMemory.
+#[unsafe(no_mangle)]
+pub extern "C" fn calmizsed_anchor_prepare(
+    not_before: i64,
+    not_after: i64,
+    key: &[u8],
+    alloc: Global,
+    out: &mut [u8],
+    outcome: &mut Outcome,
+) -> i32
+    ensures answer { HandsOver (spec.PreparesAnchorIn not_before not_after key.now)
+        out.old out.new outcome.new }
+    ensures status { result ≡ outcome.new.status }
+{
+    hand_over(
+        anchor_to_sign(alloc, not_before, not_after, key),
+        out,
+        outcome,
+    )
+}
+
+// What is to be signed of a certificate request.
+fn request_to_sign(
+    alloc: Global,
+    key: &[u8],
+    repository: &[u8],
+    manifest: &[u8],
+    notify: &[u8],
+) -> Result<Vec<u8>, KeysRefusal>
+    ensures ok { IfOk result (λ output. spec.PreparesRequestIn key.now repository.now manifest.now
+        notify.now (Ok output.items)) }
+    ensures err { IfErr result (λ e. e ≢ out_of_memory
+        → spec.PreparesRequestIn key.now repository.now manifest.now notify.now (Err e)) }
+{
+    let plan = request_plan_in(alloc, key, repository, manifest, notify)?;
+    let unsigned = prepare_request(alloc, &plan)?;
+    one_record(alloc, tag_of(Part::Request), unsigned.as_slice())
+}
+
+/// What is to be signed of a certificate request for the key, by its holder (RFC 6487, 6): a record. `repository` and `manifest` are
+/// rsync URIs, and `notify` is an https URI or empty; a slash is put behind the repository where it has none.
+///
+/// Usage, TooLong, IncompatibleKey, OutOfMemory.
+#[unsafe(no_mangle)]
+pub extern "C" fn calmizsed_request_prepare(
+    key: &[u8],
+    repository: &[u8],
+    manifest: &[u8],
+    notify: &[u8],
+    alloc: Global,
+    out: &mut [u8],
+    outcome: &mut Outcome,
+) -> i32
+    ensures answer { HandsOver
+        (spec.PreparesRequestIn key.now repository.now manifest.now notify.now)
+        out.old out.new outcome.new }
+    ensures status { result ≡ outcome.new.status }
+{
+    hand_over(
+        request_to_sign(alloc, key, repository, manifest, notify),
+        out,
+        outcome,
+    )
+}

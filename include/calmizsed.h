@@ -1,0 +1,468 @@
+/*
+ * Calmizsed: signed messages of the RPKI's publication and provisioning protocols (RFC 8181, RFC 6492), their setup messages (RFC 8183),
+ * and certificate requests (RFC 6487), under keys that are held elsewhere.
+ *
+ * The library knows no signature scheme and holds no key. It asks which signatures hold, and takes the answers; it says what is to be
+ * signed, and takes the signatures. OpenSSL can stand behind it, or a device: bindings/c has whole programs that receive and make messages.
+ *
+ * RECEIVE a message of a partner whose public key you know:
+ *   1. calmizsed_message_questions gives the questions, as records (below).
+ *   2. Answer each of them: is this a signature of RSA with SHA-256, in PKCS #1 v1.5 (RFC 8017, 8.2), of these octets under this key?
+ *   3. calmizsed_message_receive takes the answers, makes all checks, and gives the message of the protocol, in XML.
+ * MAKE a message:
+ *   1. calmizsed_message_prepare gives three texts that are to be signed, as records.
+ *   2. Sign each of them.
+ *   3. calmizsed_message_finish takes the same arguments and the signatures, and gives the signed message.
+ * Setup messages and certificate requests go the same two ways.
+ *
+ * CALLS. All calls have one shape:
+ *   - Octets that go in are a pointer and a length. They are only read.
+ *   - `out` and `out_length` are a buffer of yours, for the result. `outcome` is a struct of yours, of which each call sets each field.
+ *   - What a call returns is a status, which outcome->status has too: 0, or why there is no result. outcome->name is its name.
+ *   - With status 0 the result is in the first outcome->written octets of `out`. The rest of `out` is as it was.
+ *   - With status 16, `NoRoom`, `out` is too small: it is as it was, and outcome->written says how many octets are needed. The same call
+ *     with that many gives the result. So a first call may have an `out_length` of 0, to ask for the length; a result of no octets, as
+ *     the content of a message can be, comes with status 0 even then.
+ *   - With each other status `out` is as it was, and outcome->written is 0.
+ *
+ * YOU MUST
+ *   - hand in pointers that are valid for their lengths, which are below 2^63. None may be null, also where its length is 0: then give
+ *     any other address.
+ *   - not let `out` or `outcome` overlap each other or anything else that you hand in, and write to nothing that you handed in until the
+ *     call returns. What is only read may overlap.
+ *   - not call from a signal handler, nor in the child of a fork of a process with threads.
+ *
+ * THREADS. Any number of threads may be in calls at once, and no lock is needed: no call keeps anything, and nothing is shared between
+ * calls. A call doesn't block, starts no thread, and opens no file.
+ *
+ * MEMORY is taken by malloc and realloc alone, and is free again when the call returns. Where there is none the status is 12,
+ * `OutOfMemory`, and the call can be made again.
+ *
+ * MOMENTS are whole seconds since 1970, without leap seconds, from -62167219200 (the year 0) to 253402300799 (the end of the year 9999).
+ * KEYS are SubjectPublicKeyInfos in DER (RFC 5280, 4.1.2.7), as `openssl pkey -pubout -outform DER` writes them. Several keys are handed
+ * in one behind the other, with nothing behind the last; there may be one to eight.
+ * TEXTS are documents of XML, with no zero behind them. LENGTHS are in octets.
+ */
+#ifndef CALMIZSED_H
+#define CALMIZSED_H
+
+#include <stddef.h>
+#include <stdint.h>
+
+#ifdef __cplusplus
+extern "C" {
+#endif
+
+/* What a call returns. Each call lists the names of its own; `Usage` and `OutOfMemory` may come of each that can have them. */
+enum calmizsed_status {
+    /* Ok: there is a result. */
+    CALMIZSED_OK = 0,
+    /* Usage: an argument is none of those that are allowed, or there are more or fewer answers than questions. */
+    CALMIZSED_USAGE = 2,
+    /* CmsDecode: the octets begin with no signed message. */
+    CALMIZSED_NO_MESSAGE = 4,
+    /* XmlError: the text, or the content of the signed message, has not the form that is asked for.
+     * CertSyntax, InvalidCsrSyntax: it has, and a certificate or the certificate request in it is none.
+     * InvalidCsrSyntax: also, the octets begin with no certificate request.
+     * InvalidTaCertEncoding: the octets in the place of the trust anchor begin with no identity certificate.
+     * InvalidTaCert: a check of the trust anchor's certificate fails. */
+    CALMIZSED_NO_FORM = 5,
+    /* Validation N: check N of a signed message fails, which outcome->check has too.
+     * Signature: a certificate request isn't signed under its own key. */
+    CALMIZSED_CHECK_FAILS = 6,
+    /* IncompatibleKey: a key that is to sign is no RSA key.
+     * KeyReused: the one-off key is the issuing key. */
+    CALMIZSED_WRONG_KEY = 7,
+    /* Moment: the 300 seconds before or after the moment leave the years 1970 to 9999. */
+    CALMIZSED_NO_WINDOW = 8,
+    /* TooLong: a key or a signature of more than 2^16 octets, a message's text of more than 2^31, or a record of 2^32 or more. */
+    CALMIZSED_TOO_LONG = 9,
+    /* OutOfMemory: memory ran out. */
+    CALMIZSED_OUT_OF_MEMORY = 12,
+    /* OtherQuestions: the digest is not that of the questions, so the answers are to other ones. */
+    CALMIZSED_OTHER_QUESTIONS = 14,
+    /* NoTime: a last time was handed in, and the message doesn't say when it was signed.
+     * Replayed LAST TIME: the message was signed at outcome->signing_time, not later than outcome->last_time. */
+    CALMIZSED_REPLAYED = 15,
+    /* NoRoom: `out` is too small. */
+    CALMIZSED_NO_ROOM = 16
+};
+
+/* The protocol of a message: RFC 8181, RFC 6492. */
+enum calmizsed_kind {
+    CALMIZSED_PUBLICATION = 1,
+    CALMIZSED_PROVISIONING = 2
+};
+
+/* A setup message: RFC 8183, 5.2.1 to 5.2.4. */
+enum calmizsed_setup_kind {
+    CALMIZSED_CHILD_REQUEST = 1,
+    CALMIZSED_PARENT_RESPONSE = 2,
+    CALMIZSED_PUBLISHER_REQUEST = 3,
+    CALMIZSED_REPOSITORY_RESPONSE = 4
+};
+
+/* How a call ended. */
+struct calmizsed_outcome {
+    /* What the call returned. */
+    int32_t status;
+    /* With `Validation`, the number of the check that fails, from 1 to 14; else 0. */
+    int32_t check;
+    /* How many octets the result has: with status 0 they are in `out`, with 16 they would not fit; else 0. */
+    size_t written;
+    /* Of calmizsed_message_receive with status 0, the place of the key that issued the message's certificate, from 0; else 0. */
+    size_t place;
+    /* 1 where there is a signing time, else 0. */
+    int32_t has_signing_time;
+    /* Of calmizsed_message_receive with status 0, and with `Replayed`, when the message says that it was signed; else 0. */
+    int64_t signing_time;
+    /* With `Replayed`, the last time that was handed in; else 0. */
+    int64_t last_time;
+    /* The name of the status, as `Ok`, `Validation 5` or `Replayed 1700000000 1600000000`, and zeros behind it, one at least. */
+    char name[64];
+};
+
+/*
+ * RECORDS. A result with several parts is records, one behind the other: a tag octet, a length of four octets (the most significant
+ * first), and so many octets.
+ *
+ * Questions are
+ *   - at most one question under a key of its own: the records 17 (the key), the part, and 16 (its signature);
+ *   - then parts that are asked under each of the keys that were handed in: the part and 16, for each;
+ *   - then 18 for each of these keys, in their order;
+ *   - then 19, the digest of the questions (32 octets), to which the answers are bound.
+ * The part's tag says what it is, and its octets are exactly those that are signed: no digest was made of them.
+ *
+ * Answers are one octet for each question, 1 where the signature holds and 0 where it doesn't: first for the question with a key of its
+ * own; then, for one key after the other, for each part. So a message with one CRL has 3 answers under one key, and 5 under two.
+ */
+enum calmizsed_tag {
+    CALMIZSED_ATTRIBUTES = 1,
+    CALMIZSED_CERTIFICATE = 2,
+    CALMIZSED_CRL = 3,
+    CALMIZSED_ANCHOR = 4,
+    CALMIZSED_REQUEST = 5,
+    CALMIZSED_SIGNATURE = 16,
+    CALMIZSED_OWN_KEY = 17,
+    CALMIZSED_KEY = 18,
+    CALMIZSED_DIGEST = 19
+};
+
+struct calmizsed_record {
+    uint8_t tag;
+    size_t length;
+    const uint8_t *octets;
+};
+
+/*
+ * The record at `*place` of records of so many octets, and `*place` behind it: then 1. At their end, and where they are none, 0, and
+ * nothing is changed. `*place` is 0 before the first call. The record points into the records.
+ */
+static inline int calmizsed_next_record(const uint8_t *records, size_t length, size_t *place, struct calmizsed_record *record) {
+    const uint8_t *head;
+    size_t count;
+    if (*place > length || length - *place < 5) {
+        return 0;
+    }
+    head = records + *place;
+    count = ((size_t)head[1] << 24) | ((size_t)head[2] << 16) | ((size_t)head[3] << 8) | (size_t)head[4];
+    if (length - *place - 5 < count) {
+        return 0;
+    }
+    record->tag = head[0];
+    record->length = count;
+    record->octets = head + 5;
+    *place += 5 + count;
+    return 1;
+}
+
+/* ---- signed messages ---- */
+
+/*
+ * The questions of the signed message with which `message` begins, in BER or DER, under these keys: records. What stands behind it isn't
+ * read. The question of the attributes has a key of its own, that of the message's certificate; the certificate and each CRL are asked
+ * under each of the keys.
+ *
+ * Usage, CmsDecode, TooLong, OutOfMemory.
+ */
+int32_t calmizsed_message_questions(
+    const uint8_t *message, size_t message_length, const uint8_t *keys, size_t keys_length,
+    uint8_t *out, size_t out_length, struct calmizsed_outcome *outcome);
+
+/*
+ * The message of the protocol `kind` that a signed message holds, in XML, written anew, if all fourteen checks hold at the moment `when`
+ * under one of the keys (RFC 6492, 3.1; RFC 8181, 2). `digest` and `answers` answer the questions of the same `message` and `keys`.
+ *
+ * With `has_last` 1 the message has to be signed later than `last`: who keeps outcome->signing_time of each message of a partner, and
+ * hands it in the next time, admits none twice. With `has_last` 0 nothing is asked, and `last` isn't looked at.
+ *
+ * outcome->place is the place of the first key under which the message is accepted, and outcome->signing_time when it was signed.
+ *
+ * Of these the first decides: Usage, CmsDecode, OtherQuestions, Usage (for the number of answers), XmlError, CertSyntax,
+ * InvalidCsrSyntax, Validation, NoTime, Replayed. OutOfMemory may come at any time.
+ *
+ * Validation says the first of these checks that fails, and under several keys the greatest of the first that fail, one under each:
+ *    1  the signer's key identifier is the certificate's subject key identifier
+ *    2  the SHA-256 of the content is the signed digest
+ *    3  the signature of the attributes holds under the certificate's key
+ *    4  the certificate's subject key identifier is the SHA-1 of its key
+ *    5  the moment is in the certificate's validity
+ *    6  the certificate's authority key identifier, if there is one, is that of the key
+ *    7  the certificate is no authority's
+ *    8  the certificate's signature holds under the key
+ *    9  both algorithm identifiers of each CRL are the same
+ *   10  each CRL's signature holds under the key
+ *   11  each CRL is of no later time than the moment
+ *   12  each CRL is not out of date
+ *   13  each CRL's authority key identifier, if there is one, is that of the key
+ *   14  no CRL revokes the certificate
+ */
+int32_t calmizsed_message_receive(
+    int32_t kind, const uint8_t *message, size_t message_length, const uint8_t *keys, size_t keys_length,
+    int64_t when, int32_t has_last, int64_t last,
+    const uint8_t *digest, size_t digest_length, const uint8_t *answers, size_t answers_length,
+    uint8_t *out, size_t out_length, struct calmizsed_outcome *outcome);
+
+/*
+ * Fourteen octets, one for each check of a signed message under one key at a moment: 1 where it holds, and 0 where it fails, whether or
+ * not one before it does. `digest` and `answers` answer the questions of the same `message` under this key alone.
+ *
+ * Usage, CmsDecode, OtherQuestions, OutOfMemory.
+ */
+int32_t calmizsed_message_explain(
+    const uint8_t *message, size_t message_length, const uint8_t *key, size_t key_length, int64_t when,
+    const uint8_t *digest, size_t digest_length, const uint8_t *answers, size_t answers_length,
+    uint8_t *out, size_t out_length, struct calmizsed_outcome *outcome);
+
+/*
+ * What is in the signed message with which `message` begins, as a JSON text. NOTHING OF IT IS CHECKED.
+ *
+ * CmsDecode, OutOfMemory.
+ */
+int32_t calmizsed_message_inspect(
+    const uint8_t *message, size_t message_length, uint8_t *out, size_t out_length, struct calmizsed_outcome *outcome);
+
+/*
+ * The content of the signed message with which `message` begins, if it has the digest that was signed; else `Validation 2`.
+ * NO SIGNATURE IS CHECKED: anyone can have made it. It is for looking at messages, and not for acting on them.
+ *
+ * CmsDecode, Validation, OutOfMemory.
+ */
+int32_t calmizsed_message_content(
+    const uint8_t *message, size_t message_length, uint8_t *out, size_t out_length, struct calmizsed_outcome *outcome);
+
+/*
+ * What is to be signed of a signed message with the message of the protocol `kind` that `text` is: the records 1 (attributes), 3 (CRL)
+ * and 2 (certificate). The holder of the one-off key signs the attributes; it is drawn for this message alone, and thrown away. The
+ * holder of the issuing key, whom the partner knows, signs the CRL and the certificate. What is made is valid from 300 seconds before
+ * `when` to 300 seconds after it. `serial` is the certificate's serial number: 20 octets, drawn at random, of which the first is below 128.
+ *
+ * Usage, XmlError, CertSyntax, InvalidCsrSyntax, Moment, TooLong, IncompatibleKey, KeyReused, OutOfMemory.
+ */
+int32_t calmizsed_message_prepare(
+    int32_t kind, const uint8_t *text, size_t text_length, int64_t when, const uint8_t *serial, size_t serial_length,
+    const uint8_t *issuing_key, size_t issuing_key_length, const uint8_t *one_off_key, size_t one_off_key_length,
+    uint8_t *out, size_t out_length, struct calmizsed_outcome *outcome);
+
+/*
+ * The signed message, in DER, with these signatures of what calmizsed_message_prepare gives for the same arguments. They aren't checked,
+ * but for their lengths: at most 2^16 octets each.
+ *
+ * Usage, XmlError, CertSyntax, InvalidCsrSyntax, Moment, TooLong, IncompatibleKey, KeyReused, OutOfMemory.
+ */
+int32_t calmizsed_message_finish(
+    int32_t kind, const uint8_t *text, size_t text_length, int64_t when, const uint8_t *serial, size_t serial_length,
+    const uint8_t *issuing_key, size_t issuing_key_length, const uint8_t *one_off_key, size_t one_off_key_length,
+    const uint8_t *attributes, size_t attributes_length, const uint8_t *crl, size_t crl_length,
+    const uint8_t *certificate, size_t certificate_length,
+    uint8_t *out, size_t out_length, struct calmizsed_outcome *outcome);
+
+/* ---- setup messages, and the trust anchors in them (RFC 8183, 5) ---- */
+
+/*
+ * The questions of the trust anchor's certificate in the setup message of this kind (`enum calmizsed_setup_kind`) that `text` is:
+ * records. It is asked under its own key, where it names that as its issuer's; else there is no question, and no answer, and its
+ * signature isn't looked at.
+ *
+ * Usage, XmlError, InvalidTaCertEncoding, TooLong, OutOfMemory.
+ */
+int32_t calmizsed_setup_questions(
+    int32_t kind, const uint8_t *text, size_t text_length, uint8_t *out, size_t out_length, struct calmizsed_outcome *outcome);
+
+/*
+ * The setup message of this kind that `text` is, in XML, written anew, if the five checks of its trust anchor's certificate hold at the
+ * moment `when`. `digest` and `answers` answer its questions. That the checks hold says only that the certificate came whole: whom it is
+ * from has to be known some other way (RFC 8183, 8).
+ *
+ * Usage, XmlError, InvalidTaCertEncoding, OtherQuestions, InvalidTaCert, OutOfMemory.
+ */
+int32_t calmizsed_setup_receive(
+    int32_t kind, const uint8_t *text, size_t text_length, int64_t when,
+    const uint8_t *digest, size_t digest_length, const uint8_t *answers, size_t answers_length,
+    uint8_t *out, size_t out_length, struct calmizsed_outcome *outcome);
+
+/*
+ * The setup message of this kind that `text` is, in XML, written anew. ITS CERTIFICATE ISN'T CHECKED.
+ *
+ * Usage, XmlError, OutOfMemory.
+ */
+int32_t calmizsed_setup_read(
+    int32_t kind, const uint8_t *text, size_t text_length, uint8_t *out, size_t out_length, struct calmizsed_outcome *outcome);
+
+/*
+ * The trust anchor's certificate in the setup message of this kind that `text` is, in DER. IT ISN'T CHECKED.
+ *
+ * Usage, XmlError, InvalidTaCertEncoding, OutOfMemory.
+ */
+int32_t calmizsed_setup_anchor(
+    int32_t kind, const uint8_t *text, size_t text_length, uint8_t *out, size_t out_length, struct calmizsed_outcome *outcome);
+
+/*
+ * The key of the identity certificate with which `certificate` begins, in DER, as keys are handed in: that of a setup message is the key
+ * under which its sender's messages are received. THE CERTIFICATE ISN'T CHECKED.
+ *
+ * InvalidTaCertEncoding, OutOfMemory.
+ */
+int32_t calmizsed_anchor_key(
+    const uint8_t *certificate, size_t certificate_length, uint8_t *out, size_t out_length, struct calmizsed_outcome *outcome);
+
+/*
+ * What is to be signed of the key's own certificate, as a setup message holds it, by the holder of the key: the record 4. It is valid
+ * from the moment `not_before` to the moment `not_after`.
+ *
+ * Usage, TooLong, IncompatibleKey, OutOfMemory.
+ */
+int32_t calmizsed_anchor_prepare(
+    int64_t not_before, int64_t not_after, const uint8_t *key, size_t key_length,
+    uint8_t *out, size_t out_length, struct calmizsed_outcome *outcome);
+
+/*
+ * The key's own certificate, in DER, with this signature of what calmizsed_anchor_prepare gives for the same arguments. It isn't checked,
+ * but for its length: at most 2^16 octets.
+ *
+ * Usage, TooLong, IncompatibleKey, OutOfMemory.
+ */
+int32_t calmizsed_anchor_finish(
+    int64_t not_before, int64_t not_after, const uint8_t *key, size_t key_length, const uint8_t *signature, size_t signature_length,
+    uint8_t *out, size_t out_length, struct calmizsed_outcome *outcome);
+
+/* ---- certificate requests (RFC 6487, 6) ---- */
+
+/*
+ * The question of the certificate request with which `request` begins, in DER: records. It is asked under its own key.
+ *
+ * InvalidCsrSyntax, TooLong, OutOfMemory.
+ */
+int32_t calmizsed_request_questions(
+    const uint8_t *request, size_t request_length, uint8_t *out, size_t out_length, struct calmizsed_outcome *outcome);
+
+/*
+ * The key of the certificate request with which `request` begins, if it is signed under it. `digest` and `answers` answer its question.
+ *
+ * Usage, InvalidCsrSyntax, OtherQuestions, Signature, OutOfMemory.
+ */
+int32_t calmizsed_request_verify(
+    const uint8_t *request, size_t request_length,
+    const uint8_t *digest, size_t digest_length, const uint8_t *answers, size_t answers_length,
+    uint8_t *out, size_t out_length, struct calmizsed_outcome *outcome);
+
+/*
+ * As calmizsed_request_questions, of the certificate request in the issue request (RFC 6492, 3.4.1) that `text` is.
+ *
+ * XmlError, CertSyntax, InvalidCsrSyntax, TooLong, OutOfMemory.
+ */
+int32_t calmizsed_issue_questions(
+    const uint8_t *text, size_t text_length, uint8_t *out, size_t out_length, struct calmizsed_outcome *outcome);
+
+/*
+ * As calmizsed_request_verify, of the certificate request in the issue request that `text` is.
+ *
+ * Usage, XmlError, CertSyntax, InvalidCsrSyntax, OtherQuestions, Signature, OutOfMemory.
+ */
+int32_t calmizsed_issue_verify(
+    const uint8_t *text, size_t text_length,
+    const uint8_t *digest, size_t digest_length, const uint8_t *answers, size_t answers_length,
+    uint8_t *out, size_t out_length, struct calmizsed_outcome *outcome);
+
+/*
+ * What is to be signed of a certificate request for the key, by its holder: the record 5. `repository` and `manifest` are rsync URIs, to
+ * the first of which a slash is added where it ends with none; `notify` is an https URI, or of length 0 for none.
+ *
+ * Usage, TooLong, IncompatibleKey, OutOfMemory.
+ */
+int32_t calmizsed_request_prepare(
+    const uint8_t *key, size_t key_length, const uint8_t *repository, size_t repository_length,
+    const uint8_t *manifest, size_t manifest_length, const uint8_t *notify, size_t notify_length,
+    uint8_t *out, size_t out_length, struct calmizsed_outcome *outcome);
+
+/*
+ * The certificate request, in DER, with this signature of what calmizsed_request_prepare gives for the same arguments. It isn't checked,
+ * but for its length: at most 2^16 octets.
+ *
+ * Usage, TooLong, IncompatibleKey, OutOfMemory.
+ */
+int32_t calmizsed_request_finish(
+    const uint8_t *key, size_t key_length, const uint8_t *repository, size_t repository_length,
+    const uint8_t *manifest, size_t manifest_length, const uint8_t *notify, size_t notify_length,
+    const uint8_t *signature, size_t signature_length,
+    uint8_t *out, size_t out_length, struct calmizsed_outcome *outcome);
+
+/* ---- others ---- */
+
+/*
+ * The message of the protocol `kind` that `text` is, in XML, written anew, as calmizsed_message_prepare has it signed.
+ *
+ * Usage, XmlError, CertSyntax, InvalidCsrSyntax, OutOfMemory.
+ */
+int32_t calmizsed_text_read(
+    int32_t kind, const uint8_t *text, size_t text_length, uint8_t *out, size_t out_length, struct calmizsed_outcome *outcome);
+
+/*
+ * The key's identifier, 20 octets: the SHA-1 of its bits (RFC 5280, 4.2.1.2).
+ *
+ * Usage, OutOfMemory.
+ */
+int32_t calmizsed_key_identifier(
+    const uint8_t *key, size_t key_length, uint8_t *out, size_t out_length, struct calmizsed_outcome *outcome);
+
+/* The version of the library, as digits and dots, with no zero behind them. It takes no memory. */
+int32_t calmizsed_version(uint8_t *out, size_t out_length, struct calmizsed_outcome *outcome);
+
+/*
+ * EXAMPLE: receive a query of a publisher whose key is known. `signature_holds` is yours: it asks OpenSSL, say. bindings/c/receive.c is
+ * the whole program.
+ *
+ *     struct calmizsed_outcome outcome;
+ *     struct calmizsed_record record, part = {0, 0, NULL}, parts[16], keys[8], own = {0, 0, NULL}, digest = {0, 0, NULL};
+ *     ...
+ *     calmizsed_message_questions(message, message_length, key, key_length, questions, sizeof questions, &outcome);
+ *     if (outcome.status != CALMIZSED_OK) {
+ *         fprintf(stderr, "%s\n", outcome.name);
+ *         return outcome.status;
+ *     }
+ *     for (place = 0; calmizsed_next_record(questions, outcome.written, &place, &record);) {
+ *         if (record.tag == CALMIZSED_OWN_KEY) {
+ *             own = record;
+ *         } else if (record.tag == CALMIZSED_SIGNATURE && part.tag == CALMIZSED_ATTRIBUTES) {
+ *             answers[count++] = signature_holds(&own, &part, &record);
+ *         } else if (record.tag == CALMIZSED_SIGNATURE) {
+ *             parts[of_parts] = part, signatures[of_parts++] = record;
+ *         } else if (record.tag == CALMIZSED_KEY) {
+ *             for (i = 0; i < of_parts; i++) {
+ *                 answers[count++] = signature_holds(&record, &parts[i], &signatures[i]);
+ *             }
+ *         } else if (record.tag == CALMIZSED_DIGEST) {
+ *             digest = record;
+ *         } else {
+ *             part = record;
+ *         }
+ *     }
+ *     calmizsed_message_receive(CALMIZSED_PUBLICATION, message, message_length, key, key_length, time(NULL), 0, 0,
+ *                               digest.octets, digest.length, answers, count, text, sizeof text, &outcome);
+ */
+
+#ifdef __cplusplus
+}
+#endif
+
+#endif
