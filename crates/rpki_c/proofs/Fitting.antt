@@ -1,8 +1,9 @@
--- Lists of records, of which one doesn't fit.
-use Rattle.std.proofs.Common.{◌≡◌, ◌++◌, ◌<◌, ℕ, zero, suc, List, [], ◌∷◌, arith, length, get_or, sym, subst}
+-- Lists of records: what is written of them in turn, and which of them doesn't fit.
+use Rattle.std.proofs.Common.{◌≡◌, ◌++◌, ◌<◌, ℕ, zero, suc, List, [], ◌∷◌, arith, append_assoc, length, get_or, refl, sym, ap, subst, ◌∙◌}
 use Rattle.rpki_base.specs.PublicKey.{KeyFields, spelled_key}
-use Rattle.rpki_external.specs.Question.{SignedPartFields}
-use Rattle.rpki_c.specs.Records.{AllFit, Fits, Tagged, key_records, key_tag, part_records, signed_records, tagged}
+use Rattle.rpki_external.specs.Question.{QuestionsFields, SignedPartFields}
+use Rattle.rpki_external.specs.Spelling.{digest_of}
+use Rattle.rpki_c.specs.Records.{AllFit, Fits, Tagged, digest_tag, key_records, key_tag, own_records, part_records, question_records, record_of, records_of, signed_records, tagged}
 
 none_below : (i : ℕ) → i < 0 → ⊥
 none_below i lt = omega arith
@@ -35,3 +36,41 @@ pub key_fits : (list : List KeyFields) (i : ℕ) (key : KeyFields) → i < lengt
 key_fits [] i key lt at all = absurd (none_below i lt)
 key_fits (k ∷ more) zero key lt at all = subst (λ (x : KeyFields). Fits (tagged key_tag (spelled_key x))) (sym at) all.0
 key_fits (k ∷ more) (suc i) key lt at all = key_fits more i key (below_too i (length more) lt) at all.1
+
+-- ---- the records of questions
+
+-- those in front are written, and then those behind
+records_append : (front behind : List Tagged) → records_of (front ++ behind) ≡ records_of front ++ records_of behind
+records_append [] behind = refl
+records_append (t ∷ front) behind = ap (λ (more : List ℕ). record_of t ++ more) (records_append front behind) ∙ sym (append_assoc (record_of t) (records_of front) (records_of behind))
+
+-- what is written in turn is written of all
+pub written_in_turn : (q : QuestionsFields) (own parts keys all : List ℕ) → own ≡ records_of (own_records q.own)
+    → parts ≡ own ++ records_of (part_records q.parts) → keys ≡ parts ++ records_of (key_records q.keys)
+    → all ≡ keys ++ record_of (tagged digest_tag (digest_of q)) → all ≡ records_of (question_records q)
+written_in_turn q own parts keys all o p k a = rw (a, k, p, o) (sym whole)
+  where
+    o' : List ℕ
+    o' = records_of (own_records q.own)
+
+    p' : List ℕ
+    p' = records_of (part_records q.parts)
+
+    k' : List ℕ
+    k' = records_of (key_records q.keys)
+
+    d : List Tagged
+    d = tagged digest_tag (digest_of q) ∷ []
+
+    whole : records_of (question_records q) ≡ ((o' ++ p') ++ k') ++ record_of (tagged digest_tag (digest_of q))
+    whole = simp (records_append, append_assoc)
+
+-- where all records of questions fit, those of the parts do
+pub parts_fit : (q : QuestionsFields) → AllFit (question_records q) → AllFit (part_records q.parts)
+parts_fit q all =
+    front_fits (part_records q.parts) (key_records q.keys ++ tagged digest_tag (digest_of q) ∷ []) (behind_fits (own_records q.own) (part_records q.parts ++ (key_records q.keys ++ tagged digest_tag (digest_of q) ∷ [])) all)
+
+-- and those of the keys
+pub keys_fit : (q : QuestionsFields) → AllFit (question_records q) → AllFit (key_records q.keys)
+keys_fit q all =
+    front_fits (key_records q.keys) (tagged digest_tag (digest_of q) ∷ []) (behind_fits (part_records q.parts) (key_records q.keys ++ tagged digest_tag (digest_of q) ∷ []) (behind_fits (own_records q.own) (part_records q.parts ++ (key_records q.keys ++ tagged digest_tag (digest_of q) ∷ [])) all))

@@ -3,3 +3,4 @@ pub mod Handing
 pub mod Unread
 pub mod Fitting
 pub mod Octets
+pub mod ManyKeys

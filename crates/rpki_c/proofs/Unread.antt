@@ -1,5 +1,5 @@
 -- Arguments that are read as nothing.
-use Rattle.std.proofs.Common.{◌≡◌, ℕ, Option, None, Some, List, sym, ap, ◌∙◌, subst}
+use Rattle.std.proofs.Common.{◌≡◌, ℕ, ℤ, Option, None, Some, List, sym, ap, ◌∙◌, subst}
 use Rattle.std.specs.Prelude.{is_none, if◌then◌else◌}
 use Rattle.std.specs.Str.{IsUtf8}
 use Rattle.rpki_base.specs.PublicKey.{KeyFields, public_key}
@@ -14,7 +14,7 @@ use Rattle.rpki_der.specs.Takes.{NoneStands, Refuses}
 use Rattle.rpki_der.specs.Whole.{RefusesWhole}
 use Rattle.rpki_text.specs.Uri.{Kind, fault_of}
 use Rattle.rpki_text.specs.declared.uri.Error.{Error}
-use Rattle.rpki_c.specs.Arguments.{IsKeyIn}
+use Rattle.rpki_c.specs.Arguments.{IsKeyIn, IsPlanIn, IsRequestPlanIn, IsRsyncIn, IsUnread}
 
 malformed_key : (octets : List ℕ) → RefusesWhole public_key Der octets der.Malformed → (key : KeyFields) → IsKeyIn octets key → ⊥
 unfolding RefusesWhole
@@ -34,3 +34,17 @@ pub not_lawful : (kind : Kind) (octets : List ℕ) → (IsUtf8 octets → ⊥) �
 not_lawful kind octets none is =
     let some : lawful kind octets ≡ Some octets = ap (λ (fault : Option Error). if is_none fault then Some octets else None) is in
     none_some octets (sym (not_text kind octets none) ∙ some)
+
+-- ---- plans, one of whose parts is read as nothing
+
+pub plan_issuing_key : (when : ℤ) (serial issuing_key one_off_key : List ℕ) → IsUnread (IsKeyIn issuing_key) → IsUnread (IsPlanIn when serial issuing_key one_off_key)
+plan_issuing_key when serial issuing_key one_off_key none p is = none p.issuing_key is.issuing_key_is
+
+pub plan_key : (when : ℤ) (serial issuing_key one_off_key : List ℕ) → IsUnread (IsKeyIn one_off_key) → IsUnread (IsPlanIn when serial issuing_key one_off_key)
+plan_key when serial issuing_key one_off_key none p is = none p.key is.key_is
+
+pub request_key : (key repository manifest notify : List ℕ) → IsUnread (IsKeyIn key) → IsUnread (IsRequestPlanIn key repository manifest notify)
+request_key key repository manifest notify none p is = none p.key is.key_is
+
+pub request_manifest : (key repository manifest notify : List ℕ) → IsUnread (IsRsyncIn manifest) → IsUnread (IsRequestPlanIn key repository manifest notify)
+request_manifest key repository manifest notify none p is = none p.rpki_manifest is.manifest_is

@@ -1,6 +1,7 @@
 //! What was prepared, with its signatures.
 
 ghost use Rattle.std.specs.Prelude.{◌≡◌, ◌≢◌, Ok, Err, IfErr, IfOk};
+ghost use Rattle.rpki_external.specs.Running.{IsFinishAnchorAnswer, IsFinishAnswer, IsFinishRequestAnswer};
 ghost use Rattle.rpki_c.specs.Calls as spec;
 ghost use Rattle.rpki_c.specs.HandingOver.{HandsOver, out_of_memory};
 
@@ -10,34 +11,33 @@ use crate::arguments::{
 use crate::handing_over::hand_over;
 use crate::outcome::Outcome;
 use crate::texts::{copied, text_in};
-use rpki_external::{KeysRefusal, Signatures, finish, finish_anchor, finish_request};
+use rpki_base::{PublicKey, Validity};
+use rpki_ca::Kind;
+use rpki_external::{
+    KeysRefusal, Plan, RequestPlan, Signatures, finish, finish_anchor, finish_request,
+};
 use std::alloc::Global;
 
-// A signed message with its signatures.
-fn finish_message(
+// The signed message that the text is by a plan, with its signatures.
+fn finished_message(
     alloc: Global,
-    kind: i32,
+    kind: Kind,
     text: &[u8],
-    when: i64,
-    serial: &[u8],
-    issuing_key: &[u8],
-    one_off_key: &[u8],
+    plan: &Plan,
     signatures: Signatures,
 ) -> Result<Vec<u8>, KeysRefusal>
-    ensures ok { IfOk result (λ output. spec.FinishesIn kind text.now when serial.now
-        issuing_key.now one_off_key.now signatures (Ok output.items)) }
-    ensures err { IfErr result (λ e. e ≢ out_of_memory → spec.FinishesIn kind text.now when
-        serial.now issuing_key.now one_off_key.now signatures (Err e)) }
+    ensures ok { IfOk result (λ output. spec.SpelledSo
+        (IsFinishAnswer kind text.now plan.now signatures) (Ok output.items)) }
+    ensures err { IfErr result (λ e. e ≢ out_of_memory → spec.SpelledSo
+        (IsFinishAnswer kind text.now plan.now signatures) (Err e)) }
 {
-    let kind = kind_in(kind)?;
-    let plan = plan_in(alloc, when, serial, issuing_key, one_off_key)?;
     let message = text_in(alloc, kind, text)?;
-    let signed = finish(alloc, message.to_xml_bytes(alloc)?, &plan, signatures)?;
+    let signed = finish(alloc, message.to_xml_bytes(alloc)?, plan, signatures)?;
     Ok(copied(alloc, signed.to_captured(alloc)?.as_slice())?)
 }
 
-// The same with the signatures' octets.
-fn finish_with(
+// A signed message with its signatures.
+fn finish_message(
     alloc: Global,
     kind: i32,
     text: &[u8],
@@ -56,17 +56,10 @@ fn finish_with(
         serial.now issuing_key.now one_off_key.now
         (spec.signatures_of attributes.now crl.now certificate.now) (Err e)) }
 {
+    let kind = kind_in(kind)?;
+    let plan = plan_in(alloc, when, serial, issuing_key, one_off_key)?;
     let signatures = signatures_in(alloc, attributes, crl, certificate)?;
-    finish_message(
-        alloc,
-        kind,
-        text,
-        when,
-        serial,
-        issuing_key,
-        one_off_key,
-        signatures,
-    )
+    finished_message(alloc, kind, text, &plan, signatures)
 }
 
 /// The signed message, in DER, with these signatures of what `calmizsed_message_prepare` gives for the same arguments (RFC 5652, 5.1).
@@ -95,7 +88,7 @@ pub extern "C" fn calmizsed_message_finish(
     ensures status { result ≡ outcome.new.status }
 {
     hand_over(
-        finish_with(
+        finish_message(
             alloc,
             kind,
             text,
@@ -115,6 +108,22 @@ pub extern "C" fn calmizsed_message_finish(
 // A key's own certificate with its signature.
 fn signed_anchor(
     alloc: Global,
+    validity: Validity,
+    key: &PublicKey,
+    signature: &[u8],
+) -> Result<Vec<u8>, KeysRefusal>
+    ensures ok { IfOk result (λ output. spec.SpelledSo
+        (IsFinishAnchorAnswer validity key.now signature.now) (Ok output.items)) }
+    ensures err { IfErr result (λ e. e ≢ out_of_memory → spec.SpelledSo
+        (IsFinishAnchorAnswer validity key.now signature.now) (Err e)) }
+{
+    let certificate = finish_anchor(alloc, key, validity, shared(alloc, signature)?)?;
+    Ok(copied(alloc, certificate.to_captured(alloc)?.as_slice())?)
+}
+
+// The own certificate, with its signature, of the key that the octets are.
+fn finish_own(
+    alloc: Global,
     not_before: i64,
     not_after: i64,
     key: &[u8],
@@ -127,8 +136,7 @@ fn signed_anchor(
 {
     let validity = validity_in(not_before, not_after)?;
     let key = key_in(alloc, key)?;
-    let certificate = finish_anchor(alloc, &key, validity, shared(alloc, signature)?)?;
-    Ok(copied(alloc, certificate.to_captured(alloc)?.as_slice())?)
+    signed_anchor(alloc, validity, &key, signature)
 }
 
 /// The key's own certificate, in DER, with this signature of what `calmizsed_anchor_prepare` gives for the same arguments, of at most
@@ -151,14 +159,29 @@ pub extern "C" fn calmizsed_anchor_finish(
     ensures status { result ≡ outcome.new.status }
 {
     hand_over(
-        signed_anchor(alloc, not_before, not_after, key, signature),
+        finish_own(alloc, not_before, not_after, key, signature),
         out,
         outcome,
     )
 }
 
-// A certificate request with its signature.
+// A certificate request by a plan with its signature.
 fn signed_request(
+    alloc: Global,
+    plan: &RequestPlan,
+    signature: &[u8],
+) -> Result<Vec<u8>, KeysRefusal>
+    ensures ok { IfOk result (λ output. spec.SpelledSo
+        (IsFinishRequestAnswer plan.now signature.now) (Ok output.items)) }
+    ensures err { IfErr result (λ e. e ≢ out_of_memory → spec.SpelledSo
+        (IsFinishRequestAnswer plan.now signature.now) (Err e)) }
+{
+    let octets = finish_request(alloc, plan, shared(alloc, signature)?)?;
+    Ok(copied(alloc, octets.as_slice())?)
+}
+
+// A certificate request with its signature.
+fn finish_for_key(
     alloc: Global,
     key: &[u8],
     repository: &[u8],
@@ -172,8 +195,7 @@ fn signed_request(
         repository.now manifest.now notify.now signature.now (Err e)) }
 {
     let plan = request_plan_in(alloc, key, repository, manifest, notify)?;
-    let octets = finish_request(alloc, &plan, shared(alloc, signature)?)?;
-    Ok(copied(alloc, octets.as_slice())?)
+    signed_request(alloc, &plan, signature)
 }
 
 /// The certificate request, in DER, with this signature of what `calmizsed_request_prepare` gives for the same arguments, of at most
@@ -196,7 +218,7 @@ pub extern "C" fn calmizsed_request_finish(
     ensures status { result ≡ outcome.new.status }
 {
     hand_over(
-        signed_request(alloc, key, repository, manifest, notify, signature),
+        finish_for_key(alloc, key, repository, manifest, notify, signature),
         out,
         outcome,
     )

@@ -10,7 +10,11 @@ use crate::handing_over::hand_over;
 use crate::outcome::Outcome;
 use crate::records::{one_record, push_record, tag_of};
 use crate::texts::text_in;
-use rpki_external::{KeysRefusal, Part, prepare, prepare_anchor, prepare_request};
+use rpki_base::{PublicKey, Validity};
+use rpki_ca::Kind;
+use rpki_external::{
+    KeysRefusal, Part, Plan, RequestPlan, prepare, prepare_anchor, prepare_request,
+};
 use rpki_sigmsg::UnsignedMessage;
 use std::alloc::Global;
 
@@ -25,6 +29,23 @@ fn message_records(alloc: Global, unsigned: &UnsignedMessage) -> Result<Vec<u8>,
     push_record(tag_of(Part::Crl), unsigned.crl(), &mut text)?;
     push_record(tag_of(Part::Certificate), unsigned.certificate(), &mut text)?;
     Ok(text)
+}
+
+// What is to be signed of the message that the text is, by a plan.
+fn message_to_sign(
+    alloc: Global,
+    kind: Kind,
+    text: &[u8],
+    plan: &Plan,
+) -> Result<Vec<u8>, KeysRefusal>
+    ensures ok { IfOk result (λ output.
+        spec.Prepares kind text.now plan.now (Ok output.items)) }
+    ensures err { IfErr result (λ e. e ≢ out_of_memory
+        → spec.Prepares kind text.now plan.now (Err e)) }
+{
+    let message = text_in(alloc, kind, text)?;
+    let unsigned = prepare(alloc, message.to_xml_bytes(alloc)?, plan)?;
+    message_records(alloc, &unsigned)
 }
 
 // What is to be signed of a message.
@@ -44,9 +65,7 @@ fn prepare_message(
 {
     let kind = kind_in(kind)?;
     let plan = plan_in(alloc, when, serial, issuing_key, one_off_key)?;
-    let message = text_in(alloc, kind, text)?;
-    let unsigned = prepare(alloc, message.to_xml_bytes(alloc)?, &plan)?;
-    message_records(alloc, &unsigned)
+    message_to_sign(alloc, kind, text, &plan)
 }
 
 /// What is to be signed of a signed message with the message of the protocol `kind` that `text` is (RFC 5652, 5.4): records of the
@@ -82,6 +101,21 @@ pub extern "C" fn calmizsed_message_prepare(
 // What is to be signed of a key's own certificate.
 fn anchor_to_sign(
     alloc: Global,
+    validity: Validity,
+    key: &PublicKey,
+) -> Result<Vec<u8>, KeysRefusal>
+    ensures ok { IfOk result (λ output.
+        spec.PreparesAnchor validity key.now (Ok output.items)) }
+    ensures err { IfErr result (λ e. e ≢ out_of_memory
+        → spec.PreparesAnchor validity key.now (Err e)) }
+{
+    let unsigned = prepare_anchor(alloc, key, validity)?;
+    one_record(alloc, tag_of(Part::Anchor), unsigned.as_slice())
+}
+
+// What is to be signed of the own certificate of the key that the octets are.
+fn prepare_own(
+    alloc: Global,
     not_before: i64,
     not_after: i64,
     key: &[u8],
@@ -93,8 +127,7 @@ fn anchor_to_sign(
 {
     let validity = validity_in(not_before, not_after)?;
     let key = key_in(alloc, key)?;
-    let unsigned = prepare_anchor(alloc, &key, validity)?;
-    one_record(alloc, tag_of(Part::Anchor), unsigned.as_slice())
+    anchor_to_sign(alloc, validity, &key)
 }
 
 /// What is to be signed of the key's own certificate, a trust anchor's, by the holder of the key (RFC 8183, 5.1): a record. It is valid
@@ -115,14 +148,24 @@ pub extern "C" fn calmizsed_anchor_prepare(
     ensures status { result ≡ outcome.new.status }
 {
     hand_over(
-        anchor_to_sign(alloc, not_before, not_after, key),
+        prepare_own(alloc, not_before, not_after, key),
         out,
         outcome,
     )
 }
 
+// What is to be signed of a certificate request by a plan.
+fn request_to_sign(alloc: Global, plan: &RequestPlan) -> Result<Vec<u8>, KeysRefusal>
+    ensures ok { IfOk result (λ output. spec.PreparesRequest plan.now (Ok output.items)) }
+    ensures err { IfErr result (λ e. e ≢ out_of_memory
+        → spec.PreparesRequest plan.now (Err e)) }
+{
+    let unsigned = prepare_request(alloc, plan)?;
+    one_record(alloc, tag_of(Part::Request), unsigned.as_slice())
+}
+
 // What is to be signed of a certificate request.
-fn request_to_sign(
+fn prepare_for_key(
     alloc: Global,
     key: &[u8],
     repository: &[u8],
@@ -135,8 +178,7 @@ fn request_to_sign(
         → spec.PreparesRequestIn key.now repository.now manifest.now notify.now (Err e)) }
 {
     let plan = request_plan_in(alloc, key, repository, manifest, notify)?;
-    let unsigned = prepare_request(alloc, &plan)?;
-    one_record(alloc, tag_of(Part::Request), unsigned.as_slice())
+    request_to_sign(alloc, &plan)
 }
 
 /// What is to be signed of a certificate request for the key, by its holder (RFC 6487, 6): a record. `repository` and `manifest` are
@@ -159,7 +201,7 @@ pub extern "C" fn calmizsed_request_prepare(
     ensures status { result ≡ outcome.new.status }
 {
     hand_over(
-        request_to_sign(alloc, key, repository, manifest, notify),
+        prepare_for_key(alloc, key, repository, manifest, notify),
         out,
         outcome,
     )

@@ -10,11 +10,32 @@ use crate::arguments::{answers_in, key_in, keys_in, kind_in, last_in, moment_in}
 use crate::handing_over::{hand_over, hand_receipt_over};
 use crate::outcome::Outcome;
 use crate::texts::{copied, no_message};
-use rpki_ca::Refusal;
+use rpki_base::{PublicKey, Time};
+use rpki_ca::{Kind, Refusal};
 use rpki_common::OutOfMemory;
-use rpki_external::{KeysRefusal, Receipt, checks_answered, inspect, receive_answered};
+use rpki_external::{Answers, KeysRefusal, Receipt, checks_answered, inspect, receive_answered};
 use rpki_sigmsg::SignedMessage;
 use std::alloc::Global;
+
+// The receipt of a message under keys by answers.
+fn received(
+    alloc: Global,
+    kind: Kind,
+    message: &[u8],
+    keys: &[PublicKey],
+    when: Time,
+    last: Option<Time>,
+    answers: &Answers,
+) -> Result<Receipt, KeysRefusal>
+    ensures ok { IfOk result (λ r.
+        spec.Receives kind message.now keys.now when last answers.now (Ok r)) }
+    ensures err { IfErr result (λ e. e ≢ out_of_memory
+        → spec.Receives kind message.now keys.now when last answers.now (Err e)) }
+{
+    Ok(receive_answered(
+        alloc, kind, message, keys, when, answers, last,
+    )?)
+}
 
 // The receipt of a message by answers.
 fn receive(
@@ -39,7 +60,7 @@ fn receive(
     let when = moment_in(when)?;
     let last = last_in(has_last, last)?;
     let answers = answers_in(alloc, digest, answers)?;
-    Ok(receive_answered(alloc, kind, message, &keys, when, &answers, last)?)
+    received(alloc, kind, message, &keys, when, last, &answers)
 }
 
 /// The text of the message of the protocol `kind` (1 publication, RFC 8181; 2 provisioning, RFC 6492) that the signed message with
@@ -89,6 +110,23 @@ fn octets_of(alloc: Global, values: &[bool]) -> Result<Vec<u8>, OutOfMemory>
     Ok(octets)
 }
 
+// An octet for each check of a message under a key.
+fn explained(
+    alloc: Global,
+    message: &[u8],
+    key: &PublicKey,
+    when: Time,
+    answers: &Answers,
+) -> Result<Vec<u8>, KeysRefusal>
+    ensures ok { IfOk result (λ text.
+        spec.Explains message.now key.now when answers.now (Ok text.items)) }
+    ensures err { IfErr result (λ e. e ≢ out_of_memory
+        → spec.Explains message.now key.now when answers.now (Err e)) }
+{
+    let checks = checks_answered(alloc, message, key, when, answers)?;
+    Ok(octets_of(alloc, &checks)?)
+}
+
 // An octet for each check of a message.
 fn explain(
     alloc: Global,
@@ -106,8 +144,7 @@ fn explain(
     let key = key_in(alloc, key)?;
     let when = moment_in(when)?;
     let answers = answers_in(alloc, digest, answers)?;
-    let checks = checks_answered(alloc, message, &key, when, &answers)?;
-    Ok(octets_of(alloc, &checks)?)
+    explained(alloc, message, &key, when, &answers)
 }
 
 /// Fourteen octets, one for each check of the signed message with which `message` begins, 1 where it holds under the key at the

@@ -3,6 +3,7 @@
 ghost use Rattle.std.specs.Prelude.{◌≡◌, ◌≢◌, Ok, Err, IfErr, IfOk};
 ghost use Rattle.rpki_ca.specs.Setup.{IsNoSetup, ReadsSetup, certificate_octets};
 ghost use Rattle.rpki_setup.specs.Answers.{BeginsCertificate};
+ghost use Rattle.rpki_external.specs.Running.{IsSetupWritten};
 ghost use Rattle.rpki_c.specs.Calls as spec;
 ghost use Rattle.rpki_c.specs.HandingOver.{HandsOver, out_of_memory};
 
@@ -10,13 +11,31 @@ use crate::arguments::{answers_in, moment_in, setup_kind_in};
 use crate::handing_over::hand_over;
 use crate::outcome::Outcome;
 use crate::texts::{copied, key_octets};
+use rpki_base::Time;
 use rpki_ca::{Refusal, SetupKind, SetupMessage};
 use rpki_der::DecodeError;
-use rpki_external::{KeysRefusal, setup_answered};
+use rpki_external::{Answers, KeysRefusal, setup_answered};
 use rpki_idcert::IdCert;
 use std::alloc::Global;
 
-// The text of a setup message whose certificate is verified by answers.
+// The text anew of a setup message whose certificate is verified by answers.
+fn received(
+    alloc: Global,
+    kind: SetupKind,
+    text: &[u8],
+    when: Time,
+    answers: &Answers,
+) -> Result<Vec<u8>, KeysRefusal>
+    ensures ok { IfOk result (λ output. spec.OnLineSo
+        (IsSetupWritten kind text.now when answers.now) (Ok output.items)) }
+    ensures err { IfErr result (λ e. e ≢ out_of_memory → spec.OnLineSo
+        (IsSetupWritten kind text.now when answers.now) (Err e)) }
+{
+    let message = setup_answered(alloc, kind, text, when, answers)?;
+    Ok(message.to_xml_vec(alloc)?)
+}
+
+// The text of a setup message, if its certificate is verified by answers.
 fn receive(
     alloc: Global,
     kind: i32,
@@ -33,8 +52,7 @@ fn receive(
     let kind = setup_kind_in(kind)?;
     let when = moment_in(when)?;
     let answers = answers_in(alloc, digest, answers)?;
-    let message = setup_answered(alloc, kind, text, when, &answers)?;
-    Ok(message.to_xml_vec(alloc)?)
+    received(alloc, kind, text, when, &answers)
 }
 
 /// The setup message of this kind that `text` is, written anew (RFC 8183, 5.2), if the five checks of its trust anchor's certificate
@@ -124,6 +142,16 @@ fn certificate_in(alloc: Global, message: &SetupMessage) -> Result<IdCert, KeysR
     certificate_at(alloc, octets.as_slice())
 }
 
+// The octets of the certificate in the setup message that the text is.
+fn anchor_of(alloc: Global, kind: SetupKind, text: &[u8]) -> Result<Vec<u8>, KeysRefusal>
+    ensures ok { IfOk result (λ output. spec.GivesAnchor kind text.now (Ok output.items)) }
+    ensures err { IfErr result (λ e. e ≢ out_of_memory → spec.GivesAnchor kind text.now (Err e)) }
+{
+    let message = message_of(alloc, kind, text)?;
+    let certificate = certificate_in(alloc, &message)?;
+    Ok(copied(alloc, certificate.to_captured(alloc)?.as_slice())?)
+}
+
 // The octets of the certificate in a setup message.
 fn anchor(alloc: Global, kind: i32, text: &[u8]) -> Result<Vec<u8>, KeysRefusal>
     ensures ok { IfOk result (λ output. spec.GivesAnchorIn kind text.now (Ok output.items)) }
@@ -131,9 +159,7 @@ fn anchor(alloc: Global, kind: i32, text: &[u8]) -> Result<Vec<u8>, KeysRefusal>
         → spec.GivesAnchorIn kind text.now (Err e)) }
 {
     let kind = setup_kind_in(kind)?;
-    let message = message_of(alloc, kind, text)?;
-    let certificate = certificate_in(alloc, &message)?;
-    Ok(copied(alloc, certificate.to_captured(alloc)?.as_slice())?)
+    anchor_of(alloc, kind, text)
 }
 
 /// The trust anchor's certificate, in DER, of the setup message of this kind that `text` is (RFC 8183, 5.1). **It isn't checked.**

@@ -1,6 +1,9 @@
+use Rattle.std.proofs.lemmas.Int.{to_z-of_z}
 use Rattle.rpki_c.proofs.Handing.{hands_over}
 use Rattle.rpki_c.proofs.finishing.calmizsed_anchor_finish.Goals as goal
 
 pub returns-clause-answer : goal.returns-clause-answer
 returns-clause-answer c =
-    hands_over _ c.signed_anchor.result _ _ _ c.signed_anchor.ensures.ok c.signed_anchor.ensures.err c.hand_over.ensures.given c.hand_over.ensures.refused
+    let not_before = c.ranges.not_before in
+    let not_after = c.ranges.not_after in
+    hands_over _ c.finish_own.result _ _ _ (simp to_z-of_z at c.finish_own.ensures.ok) (simp to_z-of_z at c.finish_own.ensures.err) c.hand_over.ensures.given c.hand_over.ensures.refused

@@ -1,0 +1,23 @@
+use Rattle.std.proofs.Common.{inl, inr, ap, Err}
+use Rattle.std.proofs.lemmas.Int.{to_z-of_z}
+use Rattle.std.proofs.lemmas.Result.{err_from_is_err_and, IfOk-weaker, IfErr-weaker}
+use Rattle.rpki_c.proofs.finishing.finish_message.Goals as goal
+
+pub returns-in_err-kind-clause-err : goal.returns-in_err-kind-clause-err
+returns-in_err-kind-clause-err c =
+    let kind = c.ranges.kind in
+    let when = c.ranges.when in
+    let p = err_from_is_err_and c.from_residual.result c.from_residual.ensures.1 in
+    rw (p.1, p.2) (λ other.
+    let why = simp to_z-of_z at c.in_err-kind.ensures.err in
+    inr (ap (λ x. Err x) why.0, why.1))
+
+pub returns-in_err-plan-clause-err : goal.returns-in_err-plan-clause-err
+returns-in_err-plan-clause-err c =
+    let kind = c.ranges.kind in
+    let when = c.ranges.when in
+    let kind_read = simp to_z-of_z at c.in_ok-kind.ensures.ok in
+    let p = err_from_is_err_and c.from_residual-in_err-plan.result c.from_residual-in_err-plan.ensures.1 in
+    rw (p.1, p.2) (λ other.
+    let why = (simp to_z-of_z at c.in_err-plan.ensures.err) other in
+    inl (_, kind_read, inr (ap (λ x. Err x) why.0, why.1)))
