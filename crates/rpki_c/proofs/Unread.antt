@@ -1,5 +1,5 @@
--- Arguments that are read as nothing.
-use Rattle.std.proofs.Common.{◌≡◌, ℕ, ℤ, Option, None, Some, List, sym, ap, ◌∙◌, subst}
+-- Arguments and octets that are read as nothing.
+use Rattle.std.proofs.Common.{◌≡◌, ◌≢◌, refl, Err, ℕ, ℤ, Option, None, Some, List, sym, ap, ◌∙◌, subst}
 use Rattle.std.specs.Prelude.{is_none, if◌then◌else◌}
 use Rattle.std.specs.Str.{IsUtf8}
 use Rattle.rpki_base.specs.PublicKey.{KeyFields, public_key}
@@ -14,6 +14,13 @@ use Rattle.rpki_der.specs.Takes.{NoneStands, Refuses}
 use Rattle.rpki_der.specs.Whole.{RefusesWhole}
 use Rattle.rpki_text.specs.Uri.{Kind, fault_of}
 use Rattle.rpki_text.specs.declared.uri.Error.{Error}
+use Rattle.rpki_der.specs.Takes.{RefusesOctets}
+use Rattle.rpki_der.specs.declared.mode.Mode.TheVariants.{Ber}
+use Rattle.rpki_replay.proofs.Judging.{no_signed}
+use Rattle.rpki_sigmsg.specs.Message.{signed_message}
+use Rattle.rpki_external.specs.Running.{refusal_of_no_message}
+use Rattle.rpki_c.specs.Calls.{ReadsContent}
+use Rattle.rpki_c.specs.HandingOver.{out_of_memory}
 use Rattle.rpki_c.specs.Arguments.{IsKeyIn, IsPlanIn, IsRequestPlanIn, IsRsyncIn, IsUnread}
 
 malformed_key : (octets : List ℕ) → RefusesWhole public_key Der octets der.Malformed → (key : KeyFields) → IsKeyIn octets key → ⊥
@@ -48,3 +55,9 @@ request_key key repository manifest notify none p is = none p.key is.key_is
 
 pub request_manifest : (key repository manifest notify : List ℕ) → IsUnread (IsRsyncIn manifest) → IsUnread (IsRequestPlanIn key repository manifest notify)
 request_manifest key repository manifest notify none p is = none p.rpki_manifest is.manifest_is
+
+-- ---- octets that begin with no signed message
+
+pub no_content : (octets : List ℕ) (e : DecodeError) → RefusesOctets (signed_message Ber) Ber octets e → refusal_of_no_message e ≢ out_of_memory → ReadsContent octets (Err (refusal_of_no_message e))
+no_content octets der.Malformed refused other = no_signed octets refused
+no_content octets der.OutOfMemory refused other = absurd (other refl)

@@ -147,11 +147,7 @@ pub extern "C" fn calmizsed_anchor_prepare(
         out.old out.new outcome.new }
     ensures status { result ≡ outcome.new.status }
 {
-    hand_over(
-        prepare_own(alloc, not_before, not_after, key),
-        out,
-        outcome,
-    )
+    hand_over(prepare_own(alloc, not_before, not_after, key), out, outcome)
 }
 
 // What is to be signed of a certificate request by a plan.

@@ -32,9 +32,7 @@ fn received(
     ensures err { IfErr result (λ e. e ≢ out_of_memory
         → spec.Receives kind message.now keys.now when last answers.now (Err e)) }
 {
-    Ok(receive_answered(
-        alloc, kind, message, keys, when, answers, last,
-    )?)
+    Ok(receive_answered(alloc, kind, message, keys, when, answers, last)?)
 }
 
 // The receipt of a message by answers.
