@@ -612,7 +612,7 @@ def real_message(looker):
     query, key = ((TOP / "examples" / name).read_text(encoding="ascii").strip() for name in ("rsa-query.hex", "rsa-key.hex"))
     cases = (CRATES / "test_external" / "data" / "cases.txt").read_text(encoding="utf-8").splitlines()
     digest = re.search(r"receive publication (?:.*\n){1}\s+([0-9a-f]{64})", source("rpkikeys", "main.rt"))[1]
-    shown = re.findall(r"rsa-key\.pem --at (\d+) < examples/rsa-query\.der", README.read_text(encoding="utf-8"))
+    shown = re.findall(r"rsa-issuer-public\.pem --at (\d+) < examples/rsa-query\.der", README.read_text(encoding="utf-8"))
     for at, answer in zip(shown, ("0 ", "6 'Validation|20350a ")):
         end = f"{query} receive publication {at} #2d {digest} 111 {key}"
         if not any(re.match(rf"\S+ keys {re.escape(answer)}", case) and case.endswith(end) for case in cases):

@@ -20,7 +20,7 @@ from support import EXAMPLES, SIGNED_AT, TREE, Keys, openssl
 
 LAUNCHER = TREE / "calmizsed"
 QUERY = EXAMPLES / "rsa-query.der"
-KEY = EXAMPLES / "rsa-key.pem"
+KEY = EXAMPLES / "rsa-issuer-public.pem"
 LIST = (EXAMPLES / "query-list.xml").read_bytes()
 CHILD_REQUEST = EXAMPLES / "rsa-child-request.xml"
 AT_SIGNED = "2026-11-29T04:42:30Z"  # SIGNED_AT, by `date`
