@@ -1,4 +1,4 @@
-"""The command, run as an operator runs it: by the launcher at the top, through pipes, in files, and in a terminal of 80 columns."""
+"""The command, run as an operator runs it: by the launcher at the top, through pipes and with files."""
 
 from __future__ import annotations
 
@@ -7,62 +7,14 @@ import datetime
 import json
 import os
 import pathlib
-import pty
-import select
+import re
 import shutil
 import subprocess
 import sys
-import time
-from typing import NamedTuple, Union
 
 import pytest
+from launcher import AT_SIGNED, CHILD_REQUEST, KEY, LAUNCHER, LIST, PLACES, QUERY, Word, run
 from support import EXAMPLES, SIGNED_AT, TREE, Keys, openssl
-
-LAUNCHER = TREE / "calmizsed"
-QUERY = EXAMPLES / "rsa-query.der"
-KEY = EXAMPLES / "rsa-issuer-public.pem"
-LIST = (EXAMPLES / "query-list.xml").read_bytes()
-CHILD_REQUEST = EXAMPLES / "rsa-child-request.xml"
-AT_SIGNED = "2026-11-29T04:42:30Z"  # SIGNED_AT, by `date`
-PLACES = "--repository", "rsync://localhost/ca/", "--manifest", "rsync://localhost/ca/ca.mft"
-Word = Union[str, pathlib.Path, int]
-
-
-class Ended(NamedTuple):
-    """How a run ended."""
-
-    status: int
-    out: bytes
-    said: str
-
-
-def run(*words: Word, data: bytes = b"", **environment: str) -> Ended:
-    """A run through pipes."""
-    ended = subprocess.run(
-        [str(LAUNCHER), *map(str, words)], input=data, stdout=subprocess.PIPE, stderr=subprocess.PIPE, check=False,
-        env={**os.environ, "PYTHON": sys.executable, **environment})
-    return Ended(ended.returncode, ended.stdout, ended.stderr.decode("utf-8"))
-
-
-def in_terminal(*words: Word, **environment: str) -> tuple[int, str]:
-    """A run in a terminal of 80 columns: the status, and all that it shows."""
-    child, terminal = pty.fork()
-    if child == 0:
-        settings = {**os.environ, "PYTHON": sys.executable, "TERM": "xterm", "COLUMNS": "80", **environment}
-        os.execve(str(LAUNCHER), [str(LAUNCHER), *map(str, words)], settings)
-    shown, until = b"", time.monotonic() + 60
-    while time.monotonic() < until:
-        if not select.select([terminal], [], [], 1)[0]:
-            continue
-        try:
-            part = os.read(terminal, 65536)
-        except OSError:
-            break
-        if not part:
-            break
-        shown += part
-    os.close(terminal)
-    return os.waitstatus_to_exitcode(os.waitpid(child, 0)[1]), shown.decode("utf-8")
 
 
 def test_receive_writes_the_text() -> None:
@@ -146,6 +98,7 @@ def test_what_can_not_be_is_refused_clearly(keys: Keys, tmp_path: pathlib.Path) 
             ((*receive, tmp_path / "empty", "--key", KEY), "EmptyFile"),
             ((*receive, tmp_path / "folder", "--key", KEY), "EmptyFile"),
             ((*receive, QUERY, "--key", tmp_path / "folder"), "NoFile"),
+            (("inspect", tmp_path / "folder"), "NoFile"),
             ((*receive, QUERY, "--key", QUERY), "NoKey"),
             ((*receive, QUERY, "--key", keys.private("2048")), "NoKey"),
             ((*create, "--key", keys.public("2048")), "NoKey"),
@@ -159,6 +112,10 @@ def test_what_can_not_be_is_refused_clearly(keys: Keys, tmp_path: pathlib.Path) 
     for words in wrong:
         ended = run(*words)
         assert (ended.status, ended.out) == (2, b"") and "usage: calmizsed" in ended.said
+    ended = run("inspect", tmp_path / "folder")
+    assert ended.said == f"calmizsed: NoFile: {tmp_path}/folder: a folder, where a file is wanted\n"
+    ended = run(*create, "--key", keys.private("curve"))
+    assert (ended.status, ended.out) == (7, b"") and ended.said.startswith("calmizsed: IncompatibleKey: ")
     ended = run(*receive, QUERY, "--key", KEY, CALMIZSED_LIBRARY=str(tmp_path / "none"))
     assert ended.status == 1 and ended.said.startswith("calmizsed: NoLibrary: ")
 
@@ -197,42 +154,16 @@ def test_inspect() -> None:
 def test_explain(keys: Keys) -> None:
     """Fourteen checks: ok, FAILED, or not reached; no colour through a pipe."""
     ended = run("explain", QUERY, "--key", KEY, "--at", SIGNED_AT)
-    assert ended.status == 0 and ended.out.count(b"  ok: ") == 14 and b"\x1b" not in ended.out
+    assert ended.status == 0 and b"\x1b" not in ended.out
+    assert [line[:15] for line in ended.out.decode().splitlines()] == [f"{number:>2} ok          " for number in range(1, 15)]
+    ended = run("explain", QUERY, "--key", KEY, "--at", SIGNED_AT + 10**6)
+    lines = ended.out.decode().splitlines()
+    assert ended.status == 6 and [line[3:14].strip() for line in lines] == ["ok"] * 4 + ["FAILED"] + ["not reached"] * 9
+    assert "2026-11-29T04:37:21Z to 2026-11-29T04:47:21Z, at 2026-12-10T18:29:10Z; look at: your clock" in lines[4]
     ended = run("explain", QUERY, "--key", keys.public("2048"), "--at", "signed", "--json")
     found = json.loads(ended.out)
     assert ended.status == 6 and [one["check"] for one in found if not one["holds"]] == [6, 8, 10, 13]
     assert [one["check"] for one in found if one["reached"]] == [1, 2, 3, 4, 5, 6]
-
-
-@pytest.mark.parametrize("words", [
-    ("explain", QUERY, "--key", KEY), ("inspect", QUERY), ("setup", "read", CHILD_REQUEST), ("--help",), ("receive", "--help"),
-    ("create", "--help"), ("inspect", "--help"), ("explain", "--help"), ("setup", "--help"), ("setup", "read", "--help"),
-    ("setup", "child-request", "--help"), ("anchor", "--help"), ("anchor", "new", "--help"), ("request", "--help"),
-    ("request", "new", "--help"), ("request", "verify", "--help")], ids=lambda words: " ".join(map(str, words[:2])))
-def test_eighty_columns(words: tuple[Word, ...]) -> None:
-    """No line is wider, colour aside; each help has an example."""
-    _, shown = in_terminal(*words)
-    lines = shown.replace("\x1b[0m", "").replace("\x1b[32m", "").replace("\x1b[31;1m", "").replace("\x1b[33m", "").split("\r\n")
-    assert len(lines) > 4
-    assert [line for line in lines if len(line) > 80 and not any(len(word) >= 64 for word in line.split())] == []
-    assert words[-1] != "--help" or "    calmizsed " in shown
-
-
-def test_colour_on_a_terminal_alone() -> None:
-    """And NO_COLOR takes it away."""
-    words: tuple[Word, ...] = "explain", QUERY, "--key", KEY
-    status, shown = in_terminal(*words)
-    assert status == 6 and "\x1b[31;1mFAILED\x1b[0m" in shown and "\x1b[32mok\x1b[0m" in shown
-    status, shown = in_terminal(*words, NO_COLOR="1")
-    assert status == 6 and "\x1b[" not in shown and "FAILED" in shown
-
-
-def test_der_is_not_for_a_terminal(keys: Keys) -> None:
-    """It is refused, and another form is not."""
-    words = "create", "publication", EXAMPLES / "query-list.xml", "--key", keys.private("2048")
-    assert in_terminal(*words)[0] == 2
-    status, shown = in_terminal(*words, "--form", "pem")
-    assert status == 0 and shown.startswith("-----BEGIN CMS-----")
 
 
 def test_a_folder_of_messages(tmp_path: pathlib.Path) -> None:
@@ -251,7 +182,6 @@ def test_a_folder_of_messages(tmp_path: pathlib.Path) -> None:
     assert [line.split(": ")[1] for line in lines] == ["Ok", "Ok", "CmsDecode"]
     found = json.loads(run(*common, "--json").out)
     assert found["summary"] == {"Ok": 2, "CmsDecode": 1} and [one["status"] for one in found["messages"]] == [0, 0, 4]
-    assert "3/3" in in_terminal(*common)[1]
 
 
 def test_setup_messages(keys: Keys, tmp_path: pathlib.Path) -> None:
@@ -312,3 +242,75 @@ def test_a_closed_pipe() -> None:
     shell = f"'{LAUNCHER}' inspect '{QUERY}' -q | true; true"
     ended = subprocess.run(["sh", "-c", shell], stderr=subprocess.PIPE, check=False, env={**os.environ, "PYTHON": sys.executable})
     assert (ended.returncode, ended.stderr) == (0, b"")
+
+
+def test_a_file_is_there_whole_or_not_at_all(tmp_path: pathlib.Path) -> None:
+    """A new one takes the place of the old, with its mode; what is refused leaves it; nothing else stays in the folder."""
+    made = tmp_path / "made"
+    words = "receive", "publication", QUERY, "--key", KEY, "-q", "-o", made, "--at"
+    assert run(*words, SIGNED_AT + 10**6).status == 6 and not made.exists()
+    assert run(*words, SIGNED_AT) == (0, b"", "") and made.read_bytes() == LIST
+    made.write_bytes(b"old")
+    made.chmod(0o600)
+    assert run(*words, SIGNED_AT + 10**6).status == 6 and made.read_bytes() == b"old"
+    assert run(*words, SIGNED_AT).status == 0 and made.read_bytes() == LIST and made.stat().st_mode & 0o777 == 0o600
+    assert [path.name for path in tmp_path.iterdir()] == ["made"]
+
+
+def test_a_file_that_can_not_be_written(tmp_path: pathlib.Path) -> None:
+    """A folder, one in no folder, a full device; a link stays one, and a device is written to."""
+    words = "receive", "publication", QUERY, "--key", KEY, "-q", "--at", SIGNED_AT, "-o"
+    (tmp_path / "link").symlink_to(tmp_path / "made")
+    assert run(*words, tmp_path / "link").status == 0
+    assert (tmp_path / "link").is_symlink() and (tmp_path / "made").read_bytes() == LIST
+    refused = [tmp_path, tmp_path / "none" / "made"] + [path for path in [pathlib.Path("/dev/full")] if path.exists()]
+    for name in refused:
+        ended = run(*words, name)
+        assert (ended.status, ended.out) == (11, b"") and ended.said.startswith("calmizsed: WriteFault: "), ended
+    assert run(*words, "/dev/stdout") == (0, LIST, "")
+
+
+def test_the_protocol_as_an_option() -> None:
+    """`--kind KIND` says the same, wherever it stands."""
+    rest = "--key", KEY, "--at", SIGNED_AT, "-q"
+    ways: list[tuple[Word, ...]] = [
+        ("--kind", "publication", QUERY, *rest), (QUERY, "--kind=publication", *rest), (*rest, QUERY, "--kind", "publication")]
+    for words in ways:
+        assert run("receive", *words) == (0, LIST, "")
+
+
+def test_standard_input_is_read_once(keys: Keys) -> None:
+    """Each of these would have what the other takes."""
+    for words in (("receive", "publication", "-", "--key", "-"), ("create", "publication", "-", "--key", "-")):
+        ended = run(*words, data=LIST)
+        assert (ended.status, ended.out) == (2, b"") and "standard input can be read once" in ended.said
+    message = run("create", "publication", EXAMPLES / "query-list.xml", "--key", "-", data=keys.private("2048").read_bytes()).out
+    assert run("receive", "publication", "-", "--key", keys.public("2048"), "-q", data=message) == (0, LIST, "")
+
+
+@pytest.mark.parametrize("form", ["der", "base64", "hexadecimal"])
+def test_forms_of_a_private_key_and_of_a_text(keys: Keys, tmp_path: pathlib.Path, form: str) -> None:
+    """As those of a message."""
+    def spell(octets: bytes) -> bytes:
+        return {"der": octets, "base64": base64.b64encode(octets), "hexadecimal": octets.hex().encode()}[form]
+
+    (tmp_path / "key").write_bytes(spell(openssl("pkey", "-in", keys.private("2048"), "-outform", "DER")))
+    message = run("create", "publication", "-", "--key", tmp_path / "key", data=spell(LIST))
+    assert message.status == 0
+    assert openssl("cms", "-verify", "-noverify", "-inform", "DER", data=message.out) == LIST.rstrip(b"\n")
+
+
+@pytest.mark.skipif(subprocess.run([sys.executable, "-c", "import shtab"], check=False, stderr=subprocess.DEVNULL).returncode != 0,
+                    reason="there is no shtab")
+def test_pages(tmp_path: pathlib.Path) -> None:
+    """man reads the page, with the examples of each command, and bash the completions."""
+    subprocess.run([sys.executable, str(TREE / "bindings" / "python" / "pages"), str(tmp_path)], check=True)
+    page = (tmp_path / "calmizsed.1").read_text()
+    for example in ("receive publication query.der", "create publication", "setup read", "anchor new", "request new"):
+        assert re.search(rf"^\\&calmizsed {example}", page, re.M), example
+    if shutil.which("man"):
+        ended = subprocess.run(["man", "--warnings", "-l", str(tmp_path / "calmizsed.1")], check=True, capture_output=True)
+        assert ended.stderr == b"" and b"EXAMPLES OF CALMIZSED RECEIVE" in ended.stdout
+    script = f". '{tmp_path}/calmizsed.bash' && COMP_WORDS=(calmizsed rec) COMP_CWORD=1 && _shtab_calmizsed && echo \"${{COMPREPLY[@]}}\""
+    ended = subprocess.run(["bash", "-c", script], check=True, capture_output=True)
+    assert ended.stdout == b"receive\n"
