@@ -108,7 +108,9 @@ def test_what_can_not_be_is_refused_clearly(keys: Keys, tmp_path: pathlib.Path) 
         ended = run(*words)
         assert (ended.status, ended.out) == (2, b"") and ended.said.startswith(f"calmizsed: {name}: "), ended
     wrong: list[tuple[Word, ...]] = [
-        create, (*create, "--key", KEY, "--public-key", KEY), (*create, "--public-key", KEY), ("none",), ()]
+        create, (*create, "--key", KEY, "--public-key", KEY), (*create, "--public-key", KEY), (*create, "--sign-command", "true"),
+        (*create, "--public-key", KEY, "--sign-command", "true", "--passphrase-file", KEY), ("none",), (),
+        ("anchor", "new", "--key", KEY, "--days", "0"), ("anchor", "new", "--key", KEY, "--days", "9999999")]
     for words in wrong:
         ended = run(*words)
         assert (ended.status, ended.out) == (2, b"") and "usage: calmizsed" in ended.said
@@ -314,3 +316,29 @@ def test_pages(tmp_path: pathlib.Path) -> None:
     script = f". '{tmp_path}/calmizsed.bash' && COMP_WORDS=(calmizsed rec) COMP_CWORD=1 && _shtab_calmizsed && echo \"${{COMPREPLY[@]}}\""
     ended = subprocess.run(["bash", "-c", script], check=True, capture_output=True)
     assert ended.stdout == b"receive\n"
+
+
+@pytest.mark.parametrize(("words", "of_openssl"), [
+    (("anchor", "new", "--at", str(SIGNED_AT)), "x509"), (("request", "new", *PLACES), "req")], ids=["anchor", "request"])
+def test_anchors_and_requests_by_a_command_and_in_each_form(keys: Keys, words: tuple[str, ...], of_openssl: str) -> None:
+    """A signature draws nothing, so what a command signs is what the key's file signs; forms are those of OpenSSL."""
+    der = run(*words, "--key", keys.private("2048")).out
+    sign = f"openssl dgst -sha256 -sign '{keys.private('2048')}'"
+    assert run(*words, "--public-key", keys.public("2048"), "--sign-command", sign) == (0, der, "")
+    spelled = {form: run(*words, "--key", keys.private("2048"), "--form", form).out for form in ("pem", "base64", "hexadecimal")}
+    assert (base64.b64decode(spelled["base64"]), bytes.fromhex(spelled["hexadecimal"].decode())) == (der, der)
+    assert spelled["pem"] == openssl(of_openssl, "-inform", "DER", data=der)
+
+
+def test_the_year_9999_is_the_last(keys: Keys) -> None:
+    """An anchor's time can't go on behind it."""
+    ended = run("anchor", "new", "--key", keys.private("2048"), "--at", "9999-12-31T00:00:00Z", "--days", 2)
+    assert (ended.status, ended.out) == (2, b"") and ended.said.startswith("calmizsed: Moment: ")
+
+
+def test_nine_keys() -> None:
+    """There may be eight."""
+    key: list[Word] = ["--key", KEY]
+    assert run("receive", "publication", QUERY, *key * 8, "--at", SIGNED_AT, "-q") == (0, LIST, "")
+    ended = run("receive", "publication", QUERY, *key * 9, "--at", SIGNED_AT)
+    assert (ended.status, ended.out) == (2, b"") and ended.said.startswith("calmizsed: Usage: ")
