@@ -1,5 +1,5 @@
-"""Puts the shared object of the library into the package: the one that CALMIZSED_LIBRARY names, else that of the tree, built by `make`, or of
-a tar that `make dist` made."""
+"""Puts the shared object of the library into the package: the one that CALMIZSED_LIBRARY names, else that of the tree, which `make` builds,
+or of a tar, which `make dist` makes."""
 
 import os
 import pathlib

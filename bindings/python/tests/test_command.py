@@ -14,7 +14,7 @@ import sys
 
 import pytest
 from launcher import AT_SIGNED, CHILD_REQUEST, KEY, LAUNCHER, LIST, PLACES, QUERY, Word, run
-from support import EXAMPLES, SIGNED_AT, TREE, Keys, openssl
+from support import EXAMPLES, SIGNED_AT, TREE, Keys, openssl, request_shown
 
 
 def test_receive_writes_the_text() -> None:
@@ -212,7 +212,7 @@ def test_setup_messages(keys: Keys, tmp_path: pathlib.Path) -> None:
 def test_requests(keys: Keys) -> None:
     """OpenSSL verifies what is made; the key of OpenSSL's own is found."""
     made = run("request", "new", "--key", keys.private("2048"), *PLACES, "--notify", "https://localhost/notify.xml")
-    assert made.status == 0 and b"notify.xml" in openssl("req", "-inform", "DER", "-verify", "-noout", "-text", data=made.out)
+    assert made.status == 0 and "notify.xml" in request_shown(made.out)
     assert run("request", "verify", "-", data=made.out) == (0, keys.public("2048").read_bytes(), "")
     pem = openssl("req", "-inform", "DER", "-noout", "-pubkey", data=bytes.fromhex((EXAMPLES / "rsa-request.hex").read_text()))
     for name in ("rsa-request.hex", "rsa-issue.xml"):

@@ -9,7 +9,7 @@ import subprocess
 
 import pytest
 from launcher import LIST, run
-from support import EXAMPLES, openssl
+from support import EXAMPLES, openssl, request_shown
 
 import calmizsed
 from calmizsed import Kind, anchor, files, publication, request
@@ -51,7 +51,7 @@ def test_a_device_signs(device: CommandKey) -> None:
     assert calmizsed.receive(Kind.PUBLICATION, message, [device.public_key], now).text == query
     assert anchor.public_key(anchor.create(device, now, now)) == device.public_key
     made = request.create(device, "rsync://localhost/ca/", "rsync://localhost/ca/ca.mft")
-    openssl("req", "-inform", "DER", "-verify", "-noout", data=made)
+    assert "rsync://localhost/ca/ca.mft" in request_shown(made)
     assert request.verify(made) == device.public_key
 
 

@@ -12,7 +12,7 @@ from typing import Any
 
 import pytest
 from octets import Message, flipped, in_pem, parsed, shown_moment
-from support import EXAMPLES, Keys, openssl
+from support import EXAMPLES, Keys, openssl, request_shown
 
 import calmizsed
 from calmizsed import Kind, SetupKind, _library, anchor, request, setup
@@ -170,7 +170,7 @@ def test_an_anchor_of_ours_has_no_question(keys: Keys) -> None:
 def test_openssl_verifies_a_request(keys: Keys, name: str) -> None:
     """With its places and its key."""
     der = request.create(private(keys, name), REPOSITORY, MANIFEST, NOTIFY)
-    text = openssl("req", "-verify", "-inform", "DER", "-noout", "-text", data=der).decode()
+    text = request_shown(der)
     assert all(f"URI:{uri}\n" in text for uri in (REPOSITORY, MANIFEST, NOTIFY))
     assert openssl("req", "-inform", "DER", "-noout", "-pubkey", data=der) == keys.public(name).read_bytes()
     assert request.verify(der) == keys.der(name)
