@@ -11,8 +11,8 @@ Printed are the microseconds of a call on one thread, the calls a second on one 
 
 - the library with libcrypto's RSA, as bindings/c/receive.c has it, and with each answer yes, which is receipt without the signatures'
   arithmetic;
-- on the same message CMS_verify of libcrypto, which looks at one signature and decides nothing else, and with it X509_verify and
-  X509_CRL_verify, which make the three signatures that the library asks for;
+- on the same message CMS_verify of libcrypto, which looks at one signature and decides nothing else; and X509_verify and X509_CRL_verify
+  with it, which look at the other two signatures that the library asks for;
 - the program rpkikeys, which is started anew for each message and is handed the answers;
 - Rust and Python with each answer yes: what they are more than C is what the language costs; and Python with `cryptography`.
 

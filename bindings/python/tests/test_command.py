@@ -239,6 +239,21 @@ def test_the_launcher_by_a_link(tmp_path: pathlib.Path) -> None:
     assert (ended.returncode, ended.stdout) == (0, b"calmizsed 0.1.0\n")
 
 
+def test_no_module_comes_from_the_folder_in_which_it_is_called(tmp_path: pathlib.Path) -> None:
+    """What stands there may be another's."""
+    for name in ("json", "calmizsed", "cryptography", "argparse"):
+        (tmp_path / f"{name}.py").write_text("raise SystemExit('another module')\n")
+    assert run("receive", "publication", QUERY, "--key", KEY, "--at", SIGNED_AT, "-q", folder=tmp_path) == (0, LIST, "")
+
+
+def test_a_python_that_lacks_a_package() -> None:
+    """It is said which, and how to name another."""
+    blocked = "import sys; sys.modules['cryptography'] = None; sys.argv = sys.argv[1:]; import runpy; runpy.run_path(sys.argv[0])"
+    start = TREE / "bindings" / "python" / "start.py"
+    ended = subprocess.run([sys.executable, "-c", blocked, str(start)], stderr=subprocess.PIPE, check=False)
+    assert ended.returncode == 1 and b"has no package cryptography (Debian: python3-cryptography); PYTHON names" in ended.stderr
+
+
 def test_a_closed_pipe() -> None:
     """Ends it without a trace."""
     shell = f"'{LAUNCHER}' inspect '{QUERY}' -q | true; true"
