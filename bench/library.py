@@ -7,7 +7,8 @@ DIR is where the Makefile put the library, else out/c, and N how long a round ta
 C compiler, OpenSSL's libcrypto with its headers, and the package `cryptography` of this Python; cargo for the row of Rust, and the
 built program rpkikeys, or the one that RPKIKEYS names, for that of the program. It says which rows it leaves out.
 
-Printed are the microseconds of a call on one thread, the calls a second on one and on four, and their ratio. The rows are
+Printed are the microseconds of a call in the quickest millisecond, or of the quickest call; the calls a second on one thread and on four;
+and their ratio. So other work of the machine is seldom seen in the first column, and always in the others. The rows are
 
 - the library with libcrypto's RSA, as bindings/c/receive.c has it, and with each answer yes, which is receipt without the signatures'
   arithmetic;
@@ -22,6 +23,7 @@ from __future__ import annotations
 
 import argparse
 import datetime
+import functools
 import importlib
 import os
 import pathlib
@@ -36,7 +38,7 @@ from typing import Any, Callable, Iterator, NamedTuple, Optional
 TOP = pathlib.Path(__file__).resolve().parent.parent
 SIZES = {"1 kB": 1 << 10, "1 MB": 1 << 20}
 OBJECT = 600  # octets of an object, so that the smallest query has one
-ROUNDS, THREADS = 3, 4
+ROUNDS, THREADS, BATCH = 3, 4, 1e-3
 AIMS = {"answers": 60, "Rust": 5, "Python": 60}
 LEAST_RATIO = 3.6
 
@@ -112,12 +114,12 @@ def compiled(folder: pathlib.Path, library: pathlib.Path) -> pathlib.Path:
 
 def in_c(program: pathlib.Path, way: str, it: Given, seconds: float) -> Row:
     """Calls of a way in C, on one thread and on several."""
-    def rate(threads: int) -> float:
-        calls, took = run([str(program), *it.words(), way, str(threads), str(seconds)]).split()
-        return int(calls) / float(took)
+    def measured(threads: int) -> tuple[float, float]:
+        calls, took, least = run([str(program), *it.words(), way, str(threads), str(seconds)]).split()
+        return int(calls) / float(took), float(least)
 
-    alone, together = (max(rate(threads) for _ in range(ROUNDS)) for threads in (1, THREADS))
-    return Row(1e6 / alone, alone, together)
+    alone, together = ([measured(threads) for _ in range(ROUNDS)] for threads in (1, THREADS))
+    return Row(1e6 * min(least for _, least in alone), max(alone)[0], max(together)[0])
 
 
 def by_program(calmizsed: Any, it: Given) -> Row:
@@ -155,14 +157,18 @@ def in_python(calmizsed: Any, it: Given, seconds: float, **how: Any) -> Row:
 
 def repeated(once: Callable[[], object], seconds: float) -> Row:
     """Calls of a function here, one after the other."""
-    best = float("inf")
+    least, most = float("inf"), 0.0
     for _ in range(ROUNDS):
-        begun, calls = time.perf_counter(), 0
-        while time.perf_counter() - begun < seconds:
-            once()
-            calls += 1
-        best = min(best, (time.perf_counter() - begun) / calls)
-    return Row(best * 1e6, 1 / best)
+        started, calls = time.perf_counter(), 0
+        while calls == 0 or time.perf_counter() - started < seconds:
+            begun, batch = time.perf_counter(), 0
+            while batch == 0 or time.perf_counter() - begun < BATCH:
+                once()
+                batch += 1
+            least = min(least, (time.perf_counter() - begun) / batch)
+            calls += batch
+        most = max(most, calls / (time.perf_counter() - started))
+    return Row(1e6 * least, most)
 
 
 # ---- the table
@@ -170,10 +176,10 @@ def repeated(once: Callable[[], object], seconds: float) -> Row:
 
 def rows(calmizsed: Any, library: pathlib.Path, it: Given, seconds: float) -> Iterator[tuple[str, str, Callable[[], Row]]]:
     """The name of each row, what it is, and how it is made."""
-    program = compiled(it.folder, library)
+    program = functools.lru_cache(maxsize=None)(lambda: compiled(it.folder, library))
     for way, what in (("receive", "C, with libcrypto's RSA"), ("answers", "C, without signatures' arithmetic"), ("cms", "CMS_verify"),
                       ("all", "CMS_verify, and certificate and CRL")):
-        yield way, what, lambda way=way: in_c(program, way, it, seconds)  # type: ignore[misc]
+        yield way, what, lambda way=way: in_c(program(), way, it, seconds)  # type: ignore[misc]
     yield "program", "rpkikeys, a process each", lambda: by_program(calmizsed, it)
     yield "Rust", "Rust, without signatures' arithmetic", lambda: in_rust(library, it)
     yield "Python", "Python, without signatures' arithmetic", lambda: in_python(calmizsed, it, seconds, verifier=lambda *_: True)

@@ -1,6 +1,6 @@
 //! How long it takes to receive a message where answers cost nothing: `cargo bench --offline`.
 //!
-//! Writes the microseconds of a call of `receive`. The message is that of the examples, or what the
+//! Writes the microseconds of a call of `receive` in the quickest batch of calls. The message is that of the examples, or what the
 //! words behind `--` name: `cargo bench --offline -- MESSAGE KEY SECONDS`, with files in DER. The
 //! tree's `bench/library.py` calls it so, and says what the same calls take in C.
 #![forbid(unsafe_code)]
@@ -10,8 +10,9 @@ use std::error::Error;
 use std::fs;
 use std::time::Instant;
 
-const ROUNDS: u32 = 10;
-const MOST_SECONDS: f64 = 0.2;
+/// How long calls are made, and how long a batch of them takes, of which the quickest counts.
+const SECONDS: f64 = 2.0;
+const BATCH: f64 = 1e-3;
 
 /// A message of the publication protocol, its issuer's key, and when it is received.
 struct Given {
@@ -58,16 +59,17 @@ fn main() -> Result<(), Box<dyn Error>> {
     let Given { message, key, when } = Given::of(&words)?;
     let keys = [PublicKey::from_der(key)?];
     let (mut least, mut octets, mut calls) = (f64::INFINITY, 0, 0_u32);
-    for _ in 0..ROUNDS {
-        let (began, mut of_round) = (Instant::now(), 0_u32);
-        while began.elapsed().as_secs_f64() < MOST_SECONDS {
+    let started = Instant::now();
+    while calls == 0 || started.elapsed().as_secs_f64() < SECONDS {
+        let (began, mut of_batch) = (Instant::now(), 0_u32);
+        while of_batch == 0 || began.elapsed().as_secs_f64() < BATCH {
             octets += receive(Kind::Publication, &message, &keys, when, |_| true)?
                 .text
                 .len();
-            of_round += 1;
+            of_batch += 1;
         }
-        least = least.min(began.elapsed().as_secs_f64() / f64::from(of_round));
-        calls += of_round;
+        least = least.min(began.elapsed().as_secs_f64() / f64::from(of_batch));
+        calls += of_batch;
     }
     // What was received is used, so that no call can be left out.
     assert_eq!(octets as u64 % u64::from(calls), 0);
