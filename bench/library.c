@@ -4,12 +4,12 @@
  *     library MESSAGE KEY MOMENT WAY THREADS SECONDS
  *
  * MESSAGE is the file of a signed message of the publication protocol, KEY that of its issuer's key, both in DER. WAY is one of
- *     receive     the library, with libcrypto for the signatures; the issuer's key was decoded before, and the message's own is decoded anew
+ *     receive     the library, with libcrypto for the signatures; the issuer's key is decoded once, and the message's own in each call
  *     answers     the library, with each answer yes: without the signatures' arithmetic
  *     cms         CMS_verify, which looks at the signature of the attributes
  *     all         CMS_verify, and libcrypto's X509_verify and X509_CRL_verify for certificate and CRL
- * Written are how many calls all threads made, in how many seconds, and the seconds of a call in the quickest batch: one of so many calls as
- * fill a millisecond, which other work of the machine seldom interrupts.
+ * Written are how many calls all threads made, in how many seconds, and the seconds of a call in the quickest batch. A batch has so many
+ * calls as fill a millisecond, which other work of the machine seldom interrupts.
  */
 #define _POSIX_C_SOURCE 200809L
 #include <calmizsed.h>
