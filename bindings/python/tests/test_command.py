@@ -16,6 +16,9 @@ import pytest
 from launcher import AT_SIGNED, CHILD_REQUEST, KEY, LAUNCHER, LIST, PLACES, QUERY, Word, run
 from support import EXAMPLES, SIGNED_AT, TREE, Keys, openssl, request_shown
 
+import calmizsed
+from calmizsed import provisioning
+
 
 def test_receive_writes_the_text() -> None:
     """And says under which key, and when it was signed."""
@@ -151,6 +154,24 @@ def test_inspect() -> None:
     assert found["signing_time"] == SIGNED_AT and found["certificate"]["serial_number"] == "1f2e3d4c5b6a79880123456789abcdef"
     shown = run("inspect", QUERY).out.decode()
     assert "publication query, 101 octets" in shown and AT_SIGNED in shown
+
+
+def test_inspect_counts_the_elements_of_each_level(keys: Keys, tmp_path: pathlib.Path) -> None:
+    """Of two classes with three certificates; a content that isn't the one that was signed is said to be another."""
+    certificate = openssl("req", "-x509", "-key", keys.private("2048"), "-subj", "/CN=a", "-days", "2", "-outform", "DER")
+    issued = tuple(provisioning.IssuedCertificate("rsync://localhost/ca/b.cer", certificate) for _ in range(3))
+    classes = tuple(provisioning.ResourceClass(
+        name, "rsync://localhost/ca/a.cer", "64496", "10.0.0.0/8", "", calmizsed.now(), held, certificate)
+        for name, held in (("one", issued), ("two", ())))
+    text = provisioning.ResourceClassListResponse("parent", "child", classes).to_xml()
+    (tmp_path / "text").write_text(text)
+    message = run("create", "provisioning", tmp_path / "text", "--key", keys.private("2048")).out
+    found = json.loads(run("inspect", "-", "--json", data=message).out)["content"]
+    assert found == {
+        "protocol": "provisioning", "type": "list_response", "elements": {"class": 2, "certificate": 3, "issuer": 2}}
+    changed = message.replace(b'class_name="one"', b'class_name="owe"')
+    found = json.loads(run("inspect", "-", "--json", data=changed).out)["content"]
+    assert found["protocol"] is None and "Validation 2" in found["why"]
 
 
 def test_explain(keys: Keys) -> None:

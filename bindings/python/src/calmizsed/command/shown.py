@@ -69,7 +69,7 @@ def checks(found: Iterable[CheckResult], width: Optional[int], coloured: bool) -
 
 
 def elements(message: bytes) -> dict[str, Any]:
-    """What the content of a message is: a protocol, and how many elements of each name. NOTHING IS CHECKED."""
+    """What the content of a message is: a protocol, and how many elements of each name, on every level. NOTHING IS CHECKED."""
     try:
         held = content(message)
     except CalmizsedError as error:
@@ -79,7 +79,7 @@ def elements(message: bytes) -> dict[str, Any]:
             root = ElementTree.fromstring(read(kind, held))
         except CalmizsedError:
             continue
-        counted = Counter(element.tag.rpartition("}")[2] for element in root)
+        counted = Counter(element.tag.rpartition("}")[2] for element in root.iter() if element is not root)
         return {"protocol": kind.name.lower(), "type": root.get("type"), "elements": dict(counted)}
     return {"protocol": None, "why": "neither a message of the publication protocol nor one of the provisioning protocol"}
 
