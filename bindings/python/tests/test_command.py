@@ -17,7 +17,7 @@ from launcher import AT_SIGNED, CHILD_REQUEST, KEY, LAUNCHER, LIST, PLACES, QUER
 from support import EXAMPLES, SIGNED_AT, TREE, Keys, openssl, request_shown
 
 import calmizsed
-from calmizsed import provisioning
+from calmizsed import _library, provisioning
 
 
 def test_receive_writes_the_text() -> None:
@@ -123,6 +123,28 @@ def test_what_can_not_be_is_refused_clearly(keys: Keys, tmp_path: pathlib.Path) 
     assert (ended.status, ended.out) == (7, b"") and ended.said.startswith("calmizsed: IncompatibleKey: ")
     ended = run(*receive, QUERY, "--key", KEY, CALMIZSED_LIBRARY=str(tmp_path / "none"))
     assert ended.status == 1 and ended.said.startswith("calmizsed: NoLibrary: ")
+
+
+@pytest.mark.skipif(shutil.which("cc") is None, reason="there is no cc")
+def test_libraries_that_can_not_be_used(tmp_path: pathlib.Path) -> None:
+    """One of another version, one that lacks a call, a file that is none."""
+    version = (
+        '#include <calmizsed.h>\n#include <string.h>\n'
+        'int32_t calmizsed_version(uint8_t *out, size_t length, struct calmizsed_outcome *outcome) {\n'
+        '    memset(outcome, 0, sizeof *outcome);\n    outcome->written = 5;\n    memcpy(out, "7.5.0", length < 5 ? length : 5);\n'
+        '    return 0;\n}\n')
+    others = "".join(f"int calmizsed_{name}(void) {{ return 2; }}\n" for name in _library.CALLS if name != "version")
+    (tmp_path / "version.c").write_text(version)
+    (tmp_path / "others.c").write_text(others)
+    (tmp_path / "text.so").write_text("no library")
+    build = ["cc", "-shared", "-fPIC", f"-I{TREE / 'include'}", "-o"]
+    for name, sources in (("other.so", ["version.c", "others.c"]), ("part.so", ["version.c"])):
+        subprocess.run([*build, name, *sources], cwd=tmp_path, check=True)
+    for name, refused, said in (
+            ("other.so", "OtherLibrary", f"has version 7.5.0, and this package is for {calmizsed.__version__}"),
+            ("part.so", "OtherLibrary", "has no call calmizsed_"), ("text.so", "NoLibrary", "can't be loaded")):
+        ended = run("inspect", QUERY, CALMIZSED_LIBRARY=str(tmp_path / name))
+        assert (ended.status, ended.out) == (1, b"") and ended.said.startswith(f"calmizsed: {refused}: ") and said in ended.said
 
 
 def test_create(keys: Keys, tmp_path: pathlib.Path) -> None:
@@ -349,6 +371,8 @@ def test_pages(tmp_path: pathlib.Path) -> None:
     if shutil.which("man"):
         ended = subprocess.run(["man", "--warnings", "-l", str(tmp_path / "calmizsed.1")], check=True, capture_output=True)
         assert ended.stderr == b"" and b"EXAMPLES OF CALMIZSED RECEIVE" in ended.stdout
+    if shutil.which("zsh"):
+        subprocess.run(["zsh", "-n", str(tmp_path / "_calmizsed")], check=True)
     script = f". '{tmp_path}/calmizsed.bash' && COMP_WORDS=(calmizsed rec) COMP_CWORD=1 && _shtab_calmizsed && echo \"${{COMPREPLY[@]}}\""
     ended = subprocess.run(["bash", "-c", script], check=True, capture_output=True)
     assert ended.stdout == b"receive\n"
