@@ -16,7 +16,7 @@ PROVED = crates/rpki_c/out/librpki_c.a
 
 OUT = out/c
 MADE = $(OUT)/libcalmizsed.a $(OUT)/libcalmizsed.so.0 $(OUT)/libcalmizsed.so $(OUT)/calmizsed.pc
-VERSION := $(shell sed -n 's/^const VERSION.*b"\(.*\)";$$/\1/p' crates/rpki_c/src/reading.rt)
+VERSION := $(shell sed -n 's/^const VERSION.*b"\(.*\)";$$/\1/p' crates/rpki_c/src/*.rt)
 SOURCES := $(shell find $$(tools/run/build_crates.py --list rpki_c | awk 'NF == 3 && NR > 1 { print "crates/" $$1 }') \
     -name out -prune -o -type f -print)
 NAME = calmizsed-$(VERSION)
