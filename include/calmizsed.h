@@ -176,30 +176,49 @@ static inline int calmizsed_next_record(const uint8_t *records, size_t length, s
     return 1;
 }
 
+/*
+ * EXAMPLES below are one call each, with these variables:
+ *
+ *     uint8_t out[16384];                    the result
+ *     struct calmizsed_outcome outcome;      how the call ended
+ *     int64_t when = (int64_t)time(NULL);    now
+ *     digest, answers, answers_length        what the call of the questions gave, and one octet for each question
+ *
+ * Behind them stands what to do with outcome.status, as in the example at the end.
+ */
+
 /* ---- signed messages ---- */
 
 /*
- * The questions of the signed message with which `message` begins, in BER or DER, under these keys: records. What stands behind it isn't
- * read. The question of the attributes has a key of its own, that of the message's certificate; the certificate and each CRL are asked
- * under each of the keys.
+ * The questions of a signed message.
  *
- * Usage, CmsDecode, TooLong, OutOfMemory.
+ * message   the signed message, in BER or DER. What stands behind it isn't read.
+ * keys      one to eight keys of whom it should come from, one behind the other.
+ * Result    records. The question of the attributes has a key of its own, that of the message's certificate. The certificate and each CRL
+ *           are asked under each of the keys.
+ * Statuses  Usage (no key, more than eight, or one that is none), CmsDecode, TooLong, OutOfMemory, NoRoom.
+ *
+ * Example:
+ *     calmizsed_message_questions(message, message_length, key, key_length, out, sizeof out, &outcome);
  */
 int32_t calmizsed_message_questions(
     const uint8_t *message, size_t message_length, const uint8_t *keys, size_t keys_length,
     uint8_t *out, size_t out_length, struct calmizsed_outcome *outcome);
 
 /*
- * The message of the protocol `kind` that a signed message holds, in XML, written anew, if all fourteen checks hold at the moment `when`
- * under one of the keys (RFC 6492, 3.1; RFC 8181, 2). `digest` and `answers` answer the questions of the same `message` and `keys`.
+ * The message of the protocol that a signed message holds, if all fourteen checks hold under one of the keys (RFC 6492, 3.1; RFC 8181, 2).
  *
- * With `has_last` 1 the message has to be signed later than `last`: who keeps outcome->signing_time of each message of a partner, and
- * hands it in the next time, admits none twice. With `has_last` 0 nothing is asked, and `last` isn't looked at.
- *
- * outcome->place is the place of the first key under which the message is accepted, and outcome->signing_time when it was signed.
- *
- * Of these the first decides: Usage, CmsDecode, OtherQuestions, Usage (for the number of answers), XmlError, CertSyntax,
- * InvalidCsrSyntax, Validation, NoTime, Replayed. OutOfMemory may come at any time.
+ * kind      the protocol, of `enum calmizsed_kind`.
+ * message, keys    as calmizsed_message_questions had them, octet by octet.
+ * when      the moment at which it is judged, in seconds since 1970.
+ * has_last, last   with 1, the message has to be signed later than the moment `last`. Who keeps outcome->signing_time of each message of
+ *           a partner, and hands it in the next time, admits none twice. With 0 nothing is asked, and `last` isn't looked at.
+ * digest    32 octets: the record 19 of the questions.
+ * answers   one octet for each question: 1 where the signature holds, and 0 where it doesn't.
+ * Result    the message, in XML, written anew. outcome->place is the place of the first key under which it is accepted, from 0, and
+ *           outcome->signing_time when it was signed, where outcome->has_signing_time is 1.
+ * Statuses  of these the first decides: Usage, CmsDecode, OtherQuestions, Usage (for the number of answers), XmlError, CertSyntax,
+ *           InvalidCsrSyntax, Validation, NoTime, Replayed. OutOfMemory and NoRoom may come besides.
  *
  * Validation says the first of these checks that fails, and under several keys the greatest of the first that fail, one under each:
  *    1  the signer's key identifier is the certificate's subject key identifier
@@ -216,6 +235,10 @@ int32_t calmizsed_message_questions(
  *   12  each CRL is not out of date
  *   13  each CRL's authority key identifier, if there is one, is that of the key
  *   14  no CRL revokes the certificate
+ *
+ * Example:
+ *     calmizsed_message_receive(CALMIZSED_PUBLICATION, message, message_length, key, key_length, when, 0, 0, digest, 32,
+ *                               answers, answers_length, out, sizeof out, &outcome);
  */
 int32_t calmizsed_message_receive(
     int32_t kind, const uint8_t *message, size_t message_length, const uint8_t *keys, size_t keys_length,
@@ -224,10 +247,17 @@ int32_t calmizsed_message_receive(
     uint8_t *out, size_t out_length, struct calmizsed_outcome *outcome);
 
 /*
- * Fourteen octets, one for each check of a signed message under one key at a moment: 1 where it holds, and 0 where it fails, whether or
- * not one before it does. `digest` and `answers` answer the questions of the same `message` under this key alone.
+ * Which of the fourteen checks of a signed message hold under one key.
  *
- * Usage, CmsDecode, OtherQuestions, OutOfMemory.
+ * message, when    as for calmizsed_message_receive.
+ * key       one key.
+ * digest, answers  to the questions of this message under this key alone.
+ * Result    fourteen octets, one for each check in their order: 1 where it holds, and 0 where it fails, whether or not one before it does.
+ * Statuses  Usage, CmsDecode, OtherQuestions, OutOfMemory, NoRoom.
+ *
+ * Example:
+ *     calmizsed_message_explain(message, message_length, key, key_length, when, digest, 32, answers, answers_length,
+ *                               out, sizeof out, &outcome);
  */
 int32_t calmizsed_message_explain(
     const uint8_t *message, size_t message_length, const uint8_t *key, size_t key_length, int64_t when,
@@ -235,29 +265,46 @@ int32_t calmizsed_message_explain(
     uint8_t *out, size_t out_length, struct calmizsed_outcome *outcome);
 
 /*
- * What is in the signed message with which `message` begins, as a JSON text. NOTHING OF IT IS CHECKED.
+ * What is in a signed message. NOTHING OF IT IS CHECKED.
  *
- * CmsDecode, OutOfMemory.
+ * message   the signed message, in BER or DER. What stands behind it isn't read.
+ * Result    a JSON text.
+ * Statuses  CmsDecode, OutOfMemory, NoRoom.
+ *
+ * Example:
+ *     calmizsed_message_inspect(message, message_length, out, sizeof out, &outcome);
  */
 int32_t calmizsed_message_inspect(
     const uint8_t *message, size_t message_length, uint8_t *out, size_t out_length, struct calmizsed_outcome *outcome);
 
 /*
- * The content of the signed message with which `message` begins, if it has the digest that was signed; else `Validation 2`.
- * NO SIGNATURE IS CHECKED: anyone can have made it. It is for looking at messages, and not for acting on them.
+ * The content of a signed message. NO SIGNATURE IS CHECKED: anyone can have made it. It is for looking at, and not for acting on.
  *
- * CmsDecode, Validation, OutOfMemory.
+ * message   the signed message, in BER or DER. What stands behind it isn't read.
+ * Result    the content's octets, if they have the digest that was signed.
+ * Statuses  CmsDecode, Validation (of check 2), OutOfMemory, NoRoom.
+ *
+ * Example:
+ *     calmizsed_message_content(message, message_length, out, sizeof out, &outcome);
  */
 int32_t calmizsed_message_content(
     const uint8_t *message, size_t message_length, uint8_t *out, size_t out_length, struct calmizsed_outcome *outcome);
 
 /*
- * What is to be signed of a signed message with the message of the protocol `kind` that `text` is: the records 1 (attributes), 3 (CRL)
- * and 2 (certificate). The holder of the one-off key signs the attributes; it is drawn for this message alone, and thrown away. The
- * holder of the issuing key, whom the partner knows, signs the CRL and the certificate. What is made is valid from 300 seconds before
- * `when` to 300 seconds after it. `serial` is the certificate's serial number: 20 octets, drawn at random, of which the first is below 128.
+ * What is to be signed of a signed message.
  *
- * Usage, XmlError, CertSyntax, InvalidCsrSyntax, Moment, TooLong, IncompatibleKey, KeyReused, OutOfMemory.
+ * kind      the protocol, of `enum calmizsed_kind`.
+ * text      a message of that protocol, in XML.
+ * when      the moment that it says it was signed at. What is made is valid from 300 seconds before it to 300 seconds after it.
+ * serial    the certificate's serial number: 20 octets, drawn at random, of which the first is below 128.
+ * issuing_key      the key that the partner knows. Its holder signs the CRL and the certificate.
+ * one_off_key      a key that is drawn for this message alone, and then thrown away. Its holder signs the attributes.
+ * Result    the records 1 (attributes), 3 (CRL) and 2 (certificate).
+ * Statuses  Usage, XmlError, CertSyntax, InvalidCsrSyntax, Moment, TooLong, IncompatibleKey, KeyReused, OutOfMemory, NoRoom.
+ *
+ * Example:
+ *     calmizsed_message_prepare(CALMIZSED_PUBLICATION, text, text_length, when, serial, 20, key, key_length,
+ *                               one_off_key, one_off_key_length, out, sizeof out, &outcome);
  */
 int32_t calmizsed_message_prepare(
     int32_t kind, const uint8_t *text, size_t text_length, int64_t when, const uint8_t *serial, size_t serial_length,
@@ -265,10 +312,17 @@ int32_t calmizsed_message_prepare(
     uint8_t *out, size_t out_length, struct calmizsed_outcome *outcome);
 
 /*
- * The signed message, in DER, with these signatures of what calmizsed_message_prepare gives for the same arguments. They aren't checked,
- * but for their lengths: at most 2^16 octets each.
+ * A signed message.
  *
- * Usage, XmlError, CertSyntax, InvalidCsrSyntax, Moment, TooLong, IncompatibleKey, KeyReused, OutOfMemory.
+ * kind, text, when, serial, issuing_key, one_off_key    as calmizsed_message_prepare had them, octet by octet.
+ * attributes, crl, certificate    the signatures of what that call gave, of at most 2^16 octets each. THEY AREN'T CHECKED.
+ * Result    the signed message, in DER.
+ * Statuses  Usage, XmlError, CertSyntax, InvalidCsrSyntax, Moment, TooLong, IncompatibleKey, KeyReused, OutOfMemory, NoRoom.
+ *
+ * Example:
+ *     calmizsed_message_finish(CALMIZSED_PUBLICATION, text, text_length, when, serial, 20, key, key_length,
+ *                              one_off_key, one_off_key_length, attributes, 256, crl, 256, certificate, 256,
+ *                              out, sizeof out, &outcome);
  */
 int32_t calmizsed_message_finish(
     int32_t kind, const uint8_t *text, size_t text_length, int64_t when, const uint8_t *serial, size_t serial_length,
@@ -280,21 +334,33 @@ int32_t calmizsed_message_finish(
 /* ---- setup messages, and the trust anchors in them (RFC 8183, 5) ---- */
 
 /*
- * The questions of the trust anchor's certificate in the setup message of this kind (`enum calmizsed_setup_kind`) that `text` is:
- * records. It is asked under its own key, where it names that as its issuer's; else there is no question, and no answer, and its
- * signature isn't looked at.
+ * The questions of the trust anchor's certificate in a setup message.
  *
- * Usage, XmlError, InvalidTaCertEncoding, TooLong, OutOfMemory.
+ * kind      which setup message, of `enum calmizsed_setup_kind`.
+ * text      the setup message, in XML.
+ * Result    records. The certificate is asked under its own key, where it names that as its issuer's. Else there is no question and no
+ *           answer, and its signature isn't looked at.
+ * Statuses  Usage, XmlError, InvalidTaCertEncoding, TooLong, OutOfMemory, NoRoom.
+ *
+ * Example:
+ *     calmizsed_setup_questions(CALMIZSED_CHILD_REQUEST, setup, setup_length, out, sizeof out, &outcome);
  */
 int32_t calmizsed_setup_questions(
     int32_t kind, const uint8_t *text, size_t text_length, uint8_t *out, size_t out_length, struct calmizsed_outcome *outcome);
 
 /*
- * The setup message of this kind that `text` is, in XML, written anew, if the five checks of its trust anchor's certificate hold at the
- * moment `when`. `digest` and `answers` answer its questions. That the checks hold says only that the certificate came whole: whom it is
- * from has to be known some other way (RFC 8183, 8).
+ * A setup message, if the five checks of its trust anchor's certificate hold: of its times, its key identifiers, its cA, and its own
+ * signature. That says only that the certificate came whole: whom it is from has to be known some other way (RFC 8183, 8).
  *
- * Usage, XmlError, InvalidTaCertEncoding, OtherQuestions, InvalidTaCert, OutOfMemory.
+ * kind, text       as calmizsed_setup_questions had them.
+ * when      the moment at which it is judged.
+ * digest, answers  to its questions.
+ * Result    the setup message, in XML, written anew.
+ * Statuses  Usage, XmlError, InvalidTaCertEncoding, OtherQuestions, InvalidTaCert, OutOfMemory, NoRoom.
+ *
+ * Example:
+ *     calmizsed_setup_receive(CALMIZSED_CHILD_REQUEST, setup, setup_length, when, digest, 32, answers, answers_length,
+ *                             out, sizeof out, &outcome);
  */
 int32_t calmizsed_setup_receive(
     int32_t kind, const uint8_t *text, size_t text_length, int64_t when,
@@ -302,45 +368,72 @@ int32_t calmizsed_setup_receive(
     uint8_t *out, size_t out_length, struct calmizsed_outcome *outcome);
 
 /*
- * The setup message of this kind that `text` is, in XML, written anew. ITS CERTIFICATE ISN'T CHECKED.
+ * A setup message as it would be written. ITS CERTIFICATE ISN'T CHECKED.
  *
- * Usage, XmlError, OutOfMemory.
+ * kind      which setup message, of `enum calmizsed_setup_kind`.
+ * text      the setup message, in XML.
+ * Result    the setup message, in XML, written anew.
+ * Statuses  Usage, XmlError, OutOfMemory, NoRoom.
+ *
+ * Example:
+ *     calmizsed_setup_read(CALMIZSED_CHILD_REQUEST, setup, setup_length, out, sizeof out, &outcome);
  */
 int32_t calmizsed_setup_read(
     int32_t kind, const uint8_t *text, size_t text_length, uint8_t *out, size_t out_length, struct calmizsed_outcome *outcome);
 
 /*
- * The trust anchor's certificate in the setup message of this kind that `text` is, in DER. IT ISN'T CHECKED.
+ * The trust anchor's certificate in a setup message. IT ISN'T CHECKED.
  *
- * Usage, XmlError, InvalidTaCertEncoding, OutOfMemory.
+ * kind      which setup message, of `enum calmizsed_setup_kind`.
+ * text      the setup message, in XML.
+ * Result    the certificate, in DER.
+ * Statuses  Usage, XmlError, InvalidTaCertEncoding, OutOfMemory, NoRoom.
+ *
+ * Example:
+ *     calmizsed_setup_anchor(CALMIZSED_CHILD_REQUEST, setup, setup_length, out, sizeof out, &outcome);
  */
 int32_t calmizsed_setup_anchor(
     int32_t kind, const uint8_t *text, size_t text_length, uint8_t *out, size_t out_length, struct calmizsed_outcome *outcome);
 
 /*
- * The key of the identity certificate with which `certificate` begins, in DER, as keys are handed in: that of a setup message is the key
- * under which its sender's messages are received. THE CERTIFICATE ISN'T CHECKED.
+ * The key of an identity certificate. That of a setup message is the key under which its sender's messages are received. THE CERTIFICATE
+ * ISN'T CHECKED.
  *
- * InvalidTaCertEncoding, OutOfMemory.
+ * certificate      the certificate, in DER. What stands behind it isn't read.
+ * Result    its key, as keys are handed in.
+ * Statuses  InvalidTaCertEncoding, OutOfMemory, NoRoom.
+ *
+ * Example:
+ *     calmizsed_anchor_key(anchor, anchor_length, out, sizeof out, &outcome);
  */
 int32_t calmizsed_anchor_key(
     const uint8_t *certificate, size_t certificate_length, uint8_t *out, size_t out_length, struct calmizsed_outcome *outcome);
 
 /*
- * What is to be signed of the key's own certificate, as a setup message holds it, by the holder of the key: the record 4. It is valid
- * from the moment `not_before` to the moment `not_after`.
+ * What is to be signed of a key's own certificate, as a setup message holds it.
  *
- * Usage, TooLong, IncompatibleKey, OutOfMemory.
+ * not_before, not_after    the first and the last moment at which it is valid.
+ * key       the key, whose holder signs.
+ * Result    the record 4 (anchor).
+ * Statuses  Usage, TooLong, IncompatibleKey, OutOfMemory, NoRoom.
+ *
+ * Example:
+ *     calmizsed_anchor_prepare(when, when + 365 * 86400, key, key_length, out, sizeof out, &outcome);
  */
 int32_t calmizsed_anchor_prepare(
     int64_t not_before, int64_t not_after, const uint8_t *key, size_t key_length,
     uint8_t *out, size_t out_length, struct calmizsed_outcome *outcome);
 
 /*
- * The key's own certificate, in DER, with this signature of what calmizsed_anchor_prepare gives for the same arguments. It isn't checked,
- * but for its length: at most 2^16 octets.
+ * A key's own certificate.
  *
- * Usage, TooLong, IncompatibleKey, OutOfMemory.
+ * not_before, not_after, key    as calmizsed_anchor_prepare had them.
+ * signature        the signature of what that call gave, of at most 2^16 octets. IT ISN'T CHECKED.
+ * Result    the certificate, in DER.
+ * Statuses  Usage, TooLong, IncompatibleKey, OutOfMemory, NoRoom.
+ *
+ * Example:
+ *     calmizsed_anchor_finish(when, when + 365 * 86400, key, key_length, signature, 256, out, sizeof out, &outcome);
  */
 int32_t calmizsed_anchor_finish(
     int64_t not_before, int64_t not_after, const uint8_t *key, size_t key_length, const uint8_t *signature, size_t signature_length,
@@ -349,17 +442,28 @@ int32_t calmizsed_anchor_finish(
 /* ---- certificate requests (RFC 6487, 6) ---- */
 
 /*
- * The question of the certificate request with which `request` begins, in DER: records. It is asked under its own key.
+ * The question of a certificate request.
  *
- * InvalidCsrSyntax, TooLong, OutOfMemory.
+ * request   the certificate request, in DER. What stands behind it isn't read.
+ * Result    records: it is asked under its own key.
+ * Statuses  InvalidCsrSyntax, TooLong, OutOfMemory, NoRoom.
+ *
+ * Example:
+ *     calmizsed_request_questions(request, request_length, out, sizeof out, &outcome);
  */
 int32_t calmizsed_request_questions(
     const uint8_t *request, size_t request_length, uint8_t *out, size_t out_length, struct calmizsed_outcome *outcome);
 
 /*
- * The key of the certificate request with which `request` begins, if it is signed under it. `digest` and `answers` answer its question.
+ * The key of a certificate request, if it is signed under it.
  *
- * Usage, InvalidCsrSyntax, OtherQuestions, Signature, OutOfMemory.
+ * request   as calmizsed_request_questions had it.
+ * digest, answers  to its question.
+ * Result    the key, as keys are handed in.
+ * Statuses  Usage, InvalidCsrSyntax, OtherQuestions, Signature, OutOfMemory, NoRoom.
+ *
+ * Example:
+ *     calmizsed_request_verify(request, request_length, digest, 32, answers, answers_length, out, sizeof out, &outcome);
  */
 int32_t calmizsed_request_verify(
     const uint8_t *request, size_t request_length,
@@ -367,17 +471,28 @@ int32_t calmizsed_request_verify(
     uint8_t *out, size_t out_length, struct calmizsed_outcome *outcome);
 
 /*
- * As calmizsed_request_questions, of the certificate request in the issue request (RFC 6492, 3.4.1) that `text` is.
+ * As calmizsed_request_questions, of the certificate request in an issue request of the provisioning protocol.
  *
- * XmlError, CertSyntax, InvalidCsrSyntax, TooLong, OutOfMemory.
+ * text      the issue request (RFC 6492, 3.4.1), in XML.
+ * Result    records.
+ * Statuses  XmlError, CertSyntax, InvalidCsrSyntax, TooLong, OutOfMemory, NoRoom.
+ *
+ * Example:
+ *     calmizsed_issue_questions(issue, issue_length, out, sizeof out, &outcome);
  */
 int32_t calmizsed_issue_questions(
     const uint8_t *text, size_t text_length, uint8_t *out, size_t out_length, struct calmizsed_outcome *outcome);
 
 /*
- * As calmizsed_request_verify, of the certificate request in the issue request that `text` is.
+ * As calmizsed_request_verify, of the certificate request in an issue request.
  *
- * Usage, XmlError, CertSyntax, InvalidCsrSyntax, OtherQuestions, Signature, OutOfMemory.
+ * text      as calmizsed_issue_questions had it.
+ * digest, answers  to its question.
+ * Result    the key of the certificate request.
+ * Statuses  Usage, XmlError, CertSyntax, InvalidCsrSyntax, OtherQuestions, Signature, OutOfMemory, NoRoom.
+ *
+ * Example:
+ *     calmizsed_issue_verify(issue, issue_length, digest, 32, answers, answers_length, out, sizeof out, &outcome);
  */
 int32_t calmizsed_issue_verify(
     const uint8_t *text, size_t text_length,
@@ -385,10 +500,19 @@ int32_t calmizsed_issue_verify(
     uint8_t *out, size_t out_length, struct calmizsed_outcome *outcome);
 
 /*
- * What is to be signed of a certificate request for the key, by its holder: the record 5. `repository` and `manifest` are rsync URIs, to
- * the first of which a slash is added where it ends with none; `notify` is an https URI, or of length 0 for none.
+ * What is to be signed of a certificate request.
  *
- * Usage, TooLong, IncompatibleKey, OutOfMemory.
+ * key       the key, whose holder signs.
+ * repository       where its objects are published: an rsync URI, to which a slash is added where it ends with none. Its module has to
+ *           end with a slash, as in rsync://localhost/ca/.
+ * manifest  where its manifest is: an rsync URI.
+ * notify    where RRDP's notification file is: an https URI, or of length 0 for none.
+ * Result    the record 5 (request).
+ * Statuses  Usage, TooLong, IncompatibleKey, OutOfMemory, NoRoom.
+ *
+ * Example:
+ *     calmizsed_request_prepare(key, key_length, repository, repository_length, manifest, manifest_length,
+ *                               notify, notify_length, out, sizeof out, &outcome);
  */
 int32_t calmizsed_request_prepare(
     const uint8_t *key, size_t key_length, const uint8_t *repository, size_t repository_length,
@@ -396,10 +520,16 @@ int32_t calmizsed_request_prepare(
     uint8_t *out, size_t out_length, struct calmizsed_outcome *outcome);
 
 /*
- * The certificate request, in DER, with this signature of what calmizsed_request_prepare gives for the same arguments. It isn't checked,
- * but for its length: at most 2^16 octets.
+ * A certificate request.
  *
- * Usage, TooLong, IncompatibleKey, OutOfMemory.
+ * key, repository, manifest, notify    as calmizsed_request_prepare had them.
+ * signature        the signature of what that call gave, of at most 2^16 octets. IT ISN'T CHECKED.
+ * Result    the certificate request, in DER.
+ * Statuses  Usage, TooLong, IncompatibleKey, OutOfMemory, NoRoom.
+ *
+ * Example:
+ *     calmizsed_request_finish(key, key_length, repository, repository_length, manifest, manifest_length,
+ *                              notify, notify_length, signature, 256, out, sizeof out, &outcome);
  */
 int32_t calmizsed_request_finish(
     const uint8_t *key, size_t key_length, const uint8_t *repository, size_t repository_length,
@@ -410,22 +540,41 @@ int32_t calmizsed_request_finish(
 /* ---- others ---- */
 
 /*
- * The message of the protocol `kind` that `text` is, in XML, written anew, as calmizsed_message_prepare has it signed.
+ * A message of a protocol as it would be signed.
  *
- * Usage, XmlError, CertSyntax, InvalidCsrSyntax, OutOfMemory.
+ * kind      the protocol, of `enum calmizsed_kind`.
+ * text      a message of that protocol, in XML.
+ * Result    the message, in XML, written anew, as calmizsed_message_prepare has it signed.
+ * Statuses  Usage, XmlError, CertSyntax, InvalidCsrSyntax, OutOfMemory, NoRoom.
+ *
+ * Example:
+ *     calmizsed_text_read(CALMIZSED_PUBLICATION, text, text_length, out, sizeof out, &outcome);
  */
 int32_t calmizsed_text_read(
     int32_t kind, const uint8_t *text, size_t text_length, uint8_t *out, size_t out_length, struct calmizsed_outcome *outcome);
 
 /*
- * The key's identifier, 20 octets: the SHA-1 of its bits (RFC 5280, 4.2.1.2).
+ * A key's identifier (RFC 5280, 4.2.1.2).
  *
- * Usage, OutOfMemory.
+ * key       one key.
+ * Result    20 octets: the SHA-1 of its bits.
+ * Statuses  Usage, OutOfMemory, NoRoom.
+ *
+ * Example:
+ *     calmizsed_key_identifier(key, key_length, out, sizeof out, &outcome);
  */
 int32_t calmizsed_key_identifier(
     const uint8_t *key, size_t key_length, uint8_t *out, size_t out_length, struct calmizsed_outcome *outcome);
 
-/* The version of the library, as digits and dots, with no zero behind them. It takes no memory. */
+/*
+ * The version of the library. It takes no memory.
+ *
+ * Result    digits and dots, with no zero behind them.
+ * Statuses  NoRoom.
+ *
+ * Example:
+ *     calmizsed_version(out, sizeof out, &outcome);
+ */
 int32_t calmizsed_version(uint8_t *out, size_t out_length, struct calmizsed_outcome *outcome);
 
 /*

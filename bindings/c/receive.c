@@ -16,7 +16,7 @@
 #include <string.h>
 #include <time.h>
 
-enum { MOST_KEYS = 8 };
+enum { MOST_KEYS = 8, LEAST_BITS = 2048 };
 
 static void stop(const char *why) {
     fprintf(stderr, "receive: %s\n", why);
@@ -58,12 +58,13 @@ static uint8_t *append_key(uint8_t *keys, size_t *length, const char *name) {
     return keys;
 }
 
-/* Whether it is a signature of RSA with SHA-256 of these octets, in PKCS #1 v1.5; not so of a key that is no RSA key. */
+/* Whether it is a signature of RSA with SHA-256 of these octets, in PKCS #1 v1.5; not so of another or a shorter key (RFC 7935, 3). */
 static uint8_t holds(const struct calmizsed_record *key, const struct calmizsed_record *part, const struct calmizsed_record *signature) {
     const uint8_t *at = key->octets;
     EVP_PKEY *held = d2i_PUBKEY(NULL, &at, (long)key->length);
     EVP_MD_CTX *context = EVP_MD_CTX_new();
-    int answer = held && context && EVP_PKEY_is_a(held, "RSA") && EVP_DigestVerifyInit(context, NULL, EVP_sha256(), NULL, held) == 1 &&
+    int answer = held && context && EVP_PKEY_is_a(held, "RSA") && EVP_PKEY_get_bits(held) >= LEAST_BITS &&
+                 EVP_DigestVerifyInit(context, NULL, EVP_sha256(), NULL, held) == 1 &&
                  EVP_DigestVerify(context, signature->octets, signature->length, part->octets, part->length) == 1;
     EVP_MD_CTX_free(context);
     EVP_PKEY_free(held);

@@ -1,4 +1,5 @@
-"""Puts the shared object of the library into the package: the one that CALMIZSED_LIBRARY names, else that of the tree, built by `make`."""
+"""Puts the shared object of the library into the package: the one that CALMIZSED_LIBRARY names, else that of the tree, which `make` builds,
+or of a tar, which `make dist` makes."""
 
 import os
 import pathlib
@@ -18,9 +19,11 @@ class BuildWithLibrary(build_py):
     def run(self) -> None:
         """As build_py does."""
         super().run()
-        built = pathlib.Path(os.environ.get("CALMIZSED_LIBRARY") or TREE / "out" / "c" / NAME)
-        if not built.is_file():
-            raise SystemExit(f"there is no {built}: `make` at the top of the tree builds it, or let CALMIZSED_LIBRARY name another")
+        named = os.environ.get("CALMIZSED_LIBRARY")
+        places = [pathlib.Path(named)] if named else [TREE / "out" / "c" / NAME, TREE / "lib" / NAME]
+        built = next((place for place in places if place.is_file()), None)
+        if built is None:
+            raise SystemExit(f"there is no {places[0]}: `make` at the top of the tree builds it, or let CALMIZSED_LIBRARY name another")
         shutil.copyfile(built, pathlib.Path(self.build_lib) / "calmizsed" / NAME)
 
 

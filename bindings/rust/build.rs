@@ -1,5 +1,5 @@
 //! Says where `libcalmizsed` is: in `CALMIZSED_LIB_DIR`, where pkg-config finds it, or where the
-//! Makefile puts it in the tree.
+//! Makefile puts it in the tree, or in a tar.
 #![forbid(unsafe_code)]
 
 use std::env;
@@ -29,9 +29,11 @@ fn library() -> Result<PathBuf, String> {
     if let Some(folder) = by_pkg_config() {
         return Ok(folder);
     }
-    let tree = Path::new(env!("CARGO_MANIFEST_DIR")).join("../../out/c");
-    if tree.join(ARCHIVE).exists() {
-        return Ok(tree);
+    for place in ["../../out/c", "../../lib"] {
+        let tree = Path::new(env!("CARGO_MANIFEST_DIR")).join(place);
+        if tree.join(ARCHIVE).exists() {
+            return Ok(tree);
+        }
     }
     Err(format!(
         "there is no {ARCHIVE}: `make` at the top of the tree builds it, `make install` lets pkg-config find it, and {FOLDER} \

@@ -1,8 +1,8 @@
 #!/usr/bin/env python3
 """Makes signed messages with RSA keys of 2048 bits by the `openssl` command, and writes them and their keys:
-crates/test_external/data/messages.txt, and examples/rsa-query.der, rsa-query.hex, rsa-key.pem and rsa-key.hex. Of a key of its own it
-makes examples/rsa-child-request.xml, with the certificate of a trust anchor, rsa-request.hex, a certificate request, and rsa-issue.xml,
-an issue request with that.
+crates/test_external/data/messages.txt, and examples/rsa-query.der, rsa-query.hex, rsa-issuer-public.pem and rsa-key.hex. Of a key of its
+own it makes examples/rsa-child-request.xml, with the certificate of a trust anchor, rsa-request.hex, a certificate request, and
+rsa-issue.xml, an issue request with that.
 
     tools/cases/rsa_messages.py
 
@@ -188,7 +188,7 @@ def examples(moment, key, message):
     (EXAMPLES / "rsa-key.hex").write_text(key.hex() + "\n")
     lines = base64.encodebytes(key).decode().replace("\n", "")
     lines = "\n".join(lines[at:at + 64] for at in range(0, len(lines), 64))
-    (EXAMPLES / "rsa-key.pem").write_text(f"-----BEGIN PUBLIC KEY-----\n{lines}\n-----END PUBLIC KEY-----\n")
+    (EXAMPLES / "rsa-issuer-public.pem").write_text(f"-----BEGIN PUBLIC KEY-----\n{lines}\n-----END PUBLIC KEY-----\n")
     print(f"examples/rsa-query.der is valid at {moment}")
 
 

@@ -58,6 +58,8 @@ PROMISES, PROGRAMS = TOP / "docs" / "PROMISES.md", TOP / "docs" / "PROGRAMS.md"
 DOCUMENTS = [*sorted(TOP.glob("*.md")), *sorted((TOP / "docs").glob("*.md"))]
 # Where scripts stand.
 FOLDERS = ("tools", "tools/cases", "tools/tree", "tools/proofs", "tools/run", "bench")
+# Where the command calmizsed stands, which has names and options too.
+COMMAND = ("bindings/python/src/calmizsed", "bindings/python/src/calmizsed/command")
 FENCE = re.compile(r"^ *```.*?^ *```$", re.MULTILINE | re.DOTALL)
 SPAN = re.compile(r"`([^`\n]+)`")
 NAME = re.compile(r"[A-Za-z_][\w']*")
@@ -231,7 +233,7 @@ SAID = {
     "years": "1970 9999",
     "bits of numbers, and of RSA keys": "32 2048 4096",
     "the statuses of refusals, which are compared in statuses": "14 15",
-    "days of an anchor, by tools/rpkikeys.py": "365",
+    "days of an anchor, and bits of a key, by the command calmizsed": "365 2048",
     "of a word on Linux": "131071",
     "minutes that a gate took, on the machines that CONTRIBUTING.md tells of": "21 45 46 53 55 84 106 110 130 197 244 320 472",
     "the status of a trial that can't be made, by tools/run/trial.py": "125",
@@ -256,8 +258,8 @@ COUNTED = re.compile(
 
 
 def scripts():
-    """The files of the folders of scripts."""
-    return [file for folder in FOLDERS for file in sorted((TOP / folder).glob("*")) if file.is_file()]
+    """The files of the folders of scripts, and of the command calmizsed."""
+    return [file for folder in (*FOLDERS, *COMMAND) for file in sorted((TOP / folder).glob("*")) if file.is_file()]
 
 
 class Names:
@@ -275,7 +277,7 @@ class Names:
             if file.is_file():
                 self.words |= set(NAME.findall(file.read_text(encoding="utf-8", errors="replace")))
         for file in TOP.rglob("*"):
-            if not {".git", "out", "__pycache__"} & set(file.relative_to(TOP).parts):
+            if not {".git", "out", "target", "__pycache__"} & set(file.relative_to(TOP).parts):
                 self.words |= set(NAME.findall(file.name))
 
     def add_crate(self, name):
@@ -612,7 +614,7 @@ def real_message(looker):
     query, key = ((TOP / "examples" / name).read_text(encoding="ascii").strip() for name in ("rsa-query.hex", "rsa-key.hex"))
     cases = (CRATES / "test_external" / "data" / "cases.txt").read_text(encoding="utf-8").splitlines()
     digest = re.search(r"receive publication (?:.*\n){1}\s+([0-9a-f]{64})", source("rpkikeys", "main.rt"))[1]
-    shown = re.findall(r"rsa-key\.pem --at (\d+) < examples/rsa-query\.der", README.read_text(encoding="utf-8"))
+    shown = re.findall(r"examples/rsa-query\.der --key examples/rsa-issuer-public\.pem --at (\d+)", README.read_text(encoding="utf-8"))
     for at, answer in zip(shown, ("0 ", "6 'Validation|20350a ")):
         end = f"{query} receive publication {at} #2d {digest} 111 {key}"
         if not any(re.match(rf"\S+ keys {re.escape(answer)}", case) and case.endswith(end) for case in cases):

@@ -73,6 +73,14 @@ def openssl(*words: object, data: bytes = b"", status: int = 0) -> bytes:
     return ended.stdout
 
 
+def request_shown(der: bytes) -> str:
+    """What openssl shows of a certificate request that is signed under its key. Its status is 0 for one that isn't too: its words count."""
+    words = ["openssl", "req", "-verify", "-inform", "DER", "-noout", "-text"]
+    ended = subprocess.run(words, input=der, stdout=subprocess.PIPE, stderr=subprocess.PIPE, check=True)
+    assert ended.stderr.strip().endswith(b"verify OK"), ended.stderr
+    return ended.stdout.decode("utf-8")
+
+
 class Keys(NamedTuple):
     """Files of keys, by their names."""
 

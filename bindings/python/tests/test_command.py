@@ -1,4 +1,4 @@
-"""The command, run as an operator runs it: by the launcher at the top, through pipes, in files, and in a terminal of 80 columns."""
+"""The command, run as an operator runs it: by the launcher at the top, through pipes and with files."""
 
 from __future__ import annotations
 
@@ -7,62 +7,17 @@ import datetime
 import json
 import os
 import pathlib
-import pty
-import select
+import re
 import shutil
 import subprocess
 import sys
-import time
-from typing import NamedTuple, Union
 
 import pytest
-from support import EXAMPLES, SIGNED_AT, TREE, Keys, openssl
+from launcher import AT_SIGNED, CHILD_REQUEST, KEY, LAUNCHER, LIST, PLACES, QUERY, Word, run
+from support import EXAMPLES, SIGNED_AT, TREE, Keys, openssl, request_shown
 
-LAUNCHER = TREE / "calmizsed"
-QUERY = EXAMPLES / "rsa-query.der"
-KEY = EXAMPLES / "rsa-key.pem"
-LIST = (EXAMPLES / "query-list.xml").read_bytes()
-CHILD_REQUEST = EXAMPLES / "rsa-child-request.xml"
-AT_SIGNED = "2026-11-29T04:42:30Z"  # SIGNED_AT, by `date`
-PLACES = "--repository", "rsync://localhost/ca/", "--manifest", "rsync://localhost/ca/ca.mft"
-Word = Union[str, pathlib.Path, int]
-
-
-class Ended(NamedTuple):
-    """How a run ended."""
-
-    status: int
-    out: bytes
-    said: str
-
-
-def run(*words: Word, data: bytes = b"", **environment: str) -> Ended:
-    """A run through pipes."""
-    ended = subprocess.run(
-        [str(LAUNCHER), *map(str, words)], input=data, stdout=subprocess.PIPE, stderr=subprocess.PIPE, check=False,
-        env={**os.environ, "PYTHON": sys.executable, **environment})
-    return Ended(ended.returncode, ended.stdout, ended.stderr.decode("utf-8"))
-
-
-def in_terminal(*words: Word, **environment: str) -> tuple[int, str]:
-    """A run in a terminal of 80 columns: the status, and all that it shows."""
-    child, terminal = pty.fork()
-    if child == 0:
-        settings = {**os.environ, "PYTHON": sys.executable, "TERM": "xterm", "COLUMNS": "80", **environment}
-        os.execve(str(LAUNCHER), [str(LAUNCHER), *map(str, words)], settings)
-    shown, until = b"", time.monotonic() + 60
-    while time.monotonic() < until:
-        if not select.select([terminal], [], [], 1)[0]:
-            continue
-        try:
-            part = os.read(terminal, 65536)
-        except OSError:
-            break
-        if not part:
-            break
-        shown += part
-    os.close(terminal)
-    return os.waitstatus_to_exitcode(os.waitpid(child, 0)[1]), shown.decode("utf-8")
+import calmizsed
+from calmizsed import _library, provisioning
 
 
 def test_receive_writes_the_text() -> None:
@@ -146,6 +101,7 @@ def test_what_can_not_be_is_refused_clearly(keys: Keys, tmp_path: pathlib.Path) 
             ((*receive, tmp_path / "empty", "--key", KEY), "EmptyFile"),
             ((*receive, tmp_path / "folder", "--key", KEY), "EmptyFile"),
             ((*receive, QUERY, "--key", tmp_path / "folder"), "NoFile"),
+            (("inspect", tmp_path / "folder"), "NoFile"),
             ((*receive, QUERY, "--key", QUERY), "NoKey"),
             ((*receive, QUERY, "--key", keys.private("2048")), "NoKey"),
             ((*create, "--key", keys.public("2048")), "NoKey"),
@@ -155,12 +111,40 @@ def test_what_can_not_be_is_refused_clearly(keys: Keys, tmp_path: pathlib.Path) 
         ended = run(*words)
         assert (ended.status, ended.out) == (2, b"") and ended.said.startswith(f"calmizsed: {name}: "), ended
     wrong: list[tuple[Word, ...]] = [
-        create, (*create, "--key", KEY, "--public-key", KEY), (*create, "--public-key", KEY), ("none",), ()]
+        create, (*create, "--key", KEY, "--public-key", KEY), (*create, "--public-key", KEY), (*create, "--sign-command", "true"),
+        (*create, "--public-key", KEY, "--sign-command", "true", "--passphrase-file", KEY), ("none",), (),
+        ("anchor", "new", "--key", KEY, "--days", "0"), ("anchor", "new", "--key", KEY, "--days", "9999999")]
     for words in wrong:
         ended = run(*words)
         assert (ended.status, ended.out) == (2, b"") and "usage: calmizsed" in ended.said
+    ended = run("inspect", tmp_path / "folder")
+    assert ended.said == f"calmizsed: NoFile: {tmp_path}/folder: a folder, where a file is wanted\n"
+    ended = run(*create, "--key", keys.private("curve"))
+    assert (ended.status, ended.out) == (7, b"") and ended.said.startswith("calmizsed: IncompatibleKey: ")
     ended = run(*receive, QUERY, "--key", KEY, CALMIZSED_LIBRARY=str(tmp_path / "none"))
     assert ended.status == 1 and ended.said.startswith("calmizsed: NoLibrary: ")
+
+
+@pytest.mark.skipif(shutil.which("cc") is None, reason="there is no cc")
+def test_libraries_that_can_not_be_used(tmp_path: pathlib.Path) -> None:
+    """One of another version, one that lacks a call, a file that is none."""
+    version = (
+        '#include <calmizsed.h>\n#include <string.h>\n'
+        'int32_t calmizsed_version(uint8_t *out, size_t length, struct calmizsed_outcome *outcome) {\n'
+        '    memset(outcome, 0, sizeof *outcome);\n    outcome->written = 5;\n    memcpy(out, "7.5.0", length < 5 ? length : 5);\n'
+        '    return 0;\n}\n')
+    others = "".join(f"int calmizsed_{name}(void) {{ return 2; }}\n" for name in _library.CALLS if name != "version")
+    (tmp_path / "version.c").write_text(version)
+    (tmp_path / "others.c").write_text(others)
+    (tmp_path / "text.so").write_text("no library")
+    build = ["cc", "-shared", "-fPIC", f"-I{TREE / 'include'}", "-o"]
+    for name, sources in (("other.so", ["version.c", "others.c"]), ("part.so", ["version.c"])):
+        subprocess.run([*build, name, *sources], cwd=tmp_path, check=True)
+    for name, refused, said in (
+            ("other.so", "OtherLibrary", f"has version 7.5.0, and this package is for {calmizsed.__version__}"),
+            ("part.so", "OtherLibrary", "has no call calmizsed_"), ("text.so", "NoLibrary", "can't be loaded")):
+        ended = run("inspect", QUERY, CALMIZSED_LIBRARY=str(tmp_path / name))
+        assert (ended.status, ended.out) == (1, b"") and ended.said.startswith(f"calmizsed: {refused}: ") and said in ended.said
 
 
 def test_create(keys: Keys, tmp_path: pathlib.Path) -> None:
@@ -194,45 +178,37 @@ def test_inspect() -> None:
     assert "publication query, 101 octets" in shown and AT_SIGNED in shown
 
 
+def test_inspect_counts_the_elements_of_each_level(keys: Keys, tmp_path: pathlib.Path) -> None:
+    """Of two classes with three certificates; a content that isn't the one that was signed is said to be another."""
+    certificate = openssl("req", "-x509", "-key", keys.private("2048"), "-subj", "/CN=a", "-days", "2", "-outform", "DER")
+    issued = tuple(provisioning.IssuedCertificate("rsync://localhost/ca/b.cer", certificate) for _ in range(3))
+    classes = tuple(provisioning.ResourceClass(
+        name, "rsync://localhost/ca/a.cer", "64496", "10.0.0.0/8", "", calmizsed.now(), held, certificate)
+        for name, held in (("one", issued), ("two", ())))
+    text = provisioning.ResourceClassListResponse("parent", "child", classes).to_xml()
+    (tmp_path / "text").write_text(text)
+    message = run("create", "provisioning", tmp_path / "text", "--key", keys.private("2048")).out
+    found = json.loads(run("inspect", "-", "--json", data=message).out)["content"]
+    assert found == {
+        "protocol": "provisioning", "type": "list_response", "elements": {"class": 2, "certificate": 3, "issuer": 2}}
+    changed = message.replace(b'class_name="one"', b'class_name="owe"')
+    found = json.loads(run("inspect", "-", "--json", data=changed).out)["content"]
+    assert found["protocol"] is None and "Validation 2" in found["why"]
+
+
 def test_explain(keys: Keys) -> None:
     """Fourteen checks: ok, FAILED, or not reached; no colour through a pipe."""
     ended = run("explain", QUERY, "--key", KEY, "--at", SIGNED_AT)
-    assert ended.status == 0 and ended.out.count(b"  ok: ") == 14 and b"\x1b" not in ended.out
+    assert ended.status == 0 and b"\x1b" not in ended.out
+    assert [line[:15] for line in ended.out.decode().splitlines()] == [f"{number:>2} ok          " for number in range(1, 15)]
+    ended = run("explain", QUERY, "--key", KEY, "--at", SIGNED_AT + 10**6)
+    lines = ended.out.decode().splitlines()
+    assert ended.status == 6 and [line[3:14].strip() for line in lines] == ["ok"] * 4 + ["FAILED"] + ["not reached"] * 9
+    assert "2026-11-29T04:37:21Z to 2026-11-29T04:47:21Z, at 2026-12-10T18:29:10Z; look at: your clock" in lines[4]
     ended = run("explain", QUERY, "--key", keys.public("2048"), "--at", "signed", "--json")
     found = json.loads(ended.out)
     assert ended.status == 6 and [one["check"] for one in found if not one["holds"]] == [6, 8, 10, 13]
     assert [one["check"] for one in found if one["reached"]] == [1, 2, 3, 4, 5, 6]
-
-
-@pytest.mark.parametrize("words", [
-    ("explain", QUERY, "--key", KEY), ("inspect", QUERY), ("setup", "read", CHILD_REQUEST), ("--help",), ("receive", "--help"),
-    ("create", "--help"), ("inspect", "--help"), ("explain", "--help"), ("setup", "--help"), ("setup", "read", "--help"),
-    ("setup", "child-request", "--help"), ("anchor", "--help"), ("anchor", "new", "--help"), ("request", "--help"),
-    ("request", "new", "--help"), ("request", "verify", "--help")], ids=lambda words: " ".join(map(str, words[:2])))
-def test_eighty_columns(words: tuple[Word, ...]) -> None:
-    """No line is wider, colour aside; each help has an example."""
-    _, shown = in_terminal(*words)
-    lines = shown.replace("\x1b[0m", "").replace("\x1b[32m", "").replace("\x1b[31;1m", "").replace("\x1b[33m", "").split("\r\n")
-    assert len(lines) > 4
-    assert [line for line in lines if len(line) > 80 and not any(len(word) >= 64 for word in line.split())] == []
-    assert words[-1] != "--help" or "    calmizsed " in shown
-
-
-def test_colour_on_a_terminal_alone() -> None:
-    """And NO_COLOR takes it away."""
-    words: tuple[Word, ...] = "explain", QUERY, "--key", KEY
-    status, shown = in_terminal(*words)
-    assert status == 6 and "\x1b[31;1mFAILED\x1b[0m" in shown and "\x1b[32mok\x1b[0m" in shown
-    status, shown = in_terminal(*words, NO_COLOR="1")
-    assert status == 6 and "\x1b[" not in shown and "FAILED" in shown
-
-
-def test_der_is_not_for_a_terminal(keys: Keys) -> None:
-    """It is refused, and another form is not."""
-    words = "create", "publication", EXAMPLES / "query-list.xml", "--key", keys.private("2048")
-    assert in_terminal(*words)[0] == 2
-    status, shown = in_terminal(*words, "--form", "pem")
-    assert status == 0 and shown.startswith("-----BEGIN CMS-----")
 
 
 def test_a_folder_of_messages(tmp_path: pathlib.Path) -> None:
@@ -251,7 +227,6 @@ def test_a_folder_of_messages(tmp_path: pathlib.Path) -> None:
     assert [line.split(": ")[1] for line in lines] == ["Ok", "Ok", "CmsDecode"]
     found = json.loads(run(*common, "--json").out)
     assert found["summary"] == {"Ok": 2, "CmsDecode": 1} and [one["status"] for one in found["messages"]] == [0, 0, 4]
-    assert "3/3" in in_terminal(*common)[1]
 
 
 def test_setup_messages(keys: Keys, tmp_path: pathlib.Path) -> None:
@@ -280,7 +255,7 @@ def test_setup_messages(keys: Keys, tmp_path: pathlib.Path) -> None:
 def test_requests(keys: Keys) -> None:
     """OpenSSL verifies what is made; the key of OpenSSL's own is found."""
     made = run("request", "new", "--key", keys.private("2048"), *PLACES, "--notify", "https://localhost/notify.xml")
-    assert made.status == 0 and b"notify.xml" in openssl("req", "-inform", "DER", "-verify", "-noout", "-text", data=made.out)
+    assert made.status == 0 and "notify.xml" in request_shown(made.out)
     assert run("request", "verify", "-", data=made.out) == (0, keys.public("2048").read_bytes(), "")
     pem = openssl("req", "-inform", "DER", "-noout", "-pubkey", data=bytes.fromhex((EXAMPLES / "rsa-request.hex").read_text()))
     for name in ("rsa-request.hex", "rsa-issue.xml"):
@@ -307,8 +282,123 @@ def test_the_launcher_by_a_link(tmp_path: pathlib.Path) -> None:
     assert (ended.returncode, ended.stdout) == (0, b"calmizsed 0.1.0\n")
 
 
+def test_no_module_comes_from_the_folder_in_which_it_is_called(tmp_path: pathlib.Path) -> None:
+    """What stands there may be another's."""
+    for name in ("json", "calmizsed", "cryptography", "argparse"):
+        (tmp_path / f"{name}.py").write_text("raise SystemExit('another module')\n")
+    assert run("receive", "publication", QUERY, "--key", KEY, "--at", SIGNED_AT, "-q", folder=tmp_path) == (0, LIST, "")
+
+
+def test_a_python_that_lacks_a_package() -> None:
+    """It is said which, and how to name another."""
+    blocked = "import sys; sys.modules['cryptography'] = None; sys.argv = sys.argv[1:]; import runpy; runpy.run_path(sys.argv[0])"
+    start = TREE / "bindings" / "python" / "start.py"
+    ended = subprocess.run([sys.executable, "-c", blocked, str(start)], stderr=subprocess.PIPE, check=False)
+    assert ended.returncode == 1 and b"has no package cryptography (Debian: python3-cryptography); PYTHON names" in ended.stderr
+
+
 def test_a_closed_pipe() -> None:
     """Ends it without a trace."""
     shell = f"'{LAUNCHER}' inspect '{QUERY}' -q | true; true"
     ended = subprocess.run(["sh", "-c", shell], stderr=subprocess.PIPE, check=False, env={**os.environ, "PYTHON": sys.executable})
     assert (ended.returncode, ended.stderr) == (0, b"")
+
+
+def test_a_file_is_there_whole_or_not_at_all(tmp_path: pathlib.Path) -> None:
+    """A new one takes the place of the old, with its mode; what is refused leaves it; nothing else stays in the folder."""
+    made = tmp_path / "made"
+    words = "receive", "publication", QUERY, "--key", KEY, "-q", "-o", made, "--at"
+    assert run(*words, SIGNED_AT + 10**6).status == 6 and not made.exists()
+    assert run(*words, SIGNED_AT) == (0, b"", "") and made.read_bytes() == LIST
+    made.write_bytes(b"old")
+    made.chmod(0o600)
+    assert run(*words, SIGNED_AT + 10**6).status == 6 and made.read_bytes() == b"old"
+    assert run(*words, SIGNED_AT).status == 0 and made.read_bytes() == LIST and made.stat().st_mode & 0o777 == 0o600
+    assert [path.name for path in tmp_path.iterdir()] == ["made"]
+
+
+def test_a_file_that_can_not_be_written(tmp_path: pathlib.Path) -> None:
+    """A folder, one in no folder, a full device; a link stays one, and a device is written to."""
+    words = "receive", "publication", QUERY, "--key", KEY, "-q", "--at", SIGNED_AT, "-o"
+    (tmp_path / "link").symlink_to(tmp_path / "made")
+    assert run(*words, tmp_path / "link").status == 0
+    assert (tmp_path / "link").is_symlink() and (tmp_path / "made").read_bytes() == LIST
+    refused = [tmp_path, tmp_path / "none" / "made"] + [path for path in [pathlib.Path("/dev/full")] if path.exists()]
+    for name in refused:
+        ended = run(*words, name)
+        assert (ended.status, ended.out) == (11, b"") and ended.said.startswith("calmizsed: WriteFault: "), ended
+    assert run(*words, "/dev/stdout") == (0, LIST, "")
+
+
+def test_the_protocol_as_an_option() -> None:
+    """`--kind KIND` says the same, wherever it stands."""
+    rest = "--key", KEY, "--at", SIGNED_AT, "-q"
+    ways: list[tuple[Word, ...]] = [
+        ("--kind", "publication", QUERY, *rest), (QUERY, "--kind=publication", *rest), (*rest, QUERY, "--kind", "publication")]
+    for words in ways:
+        assert run("receive", *words) == (0, LIST, "")
+
+
+def test_standard_input_is_read_once(keys: Keys) -> None:
+    """Each of these would have what the other takes."""
+    for words in (("receive", "publication", "-", "--key", "-"), ("create", "publication", "-", "--key", "-")):
+        ended = run(*words, data=LIST)
+        assert (ended.status, ended.out) == (2, b"") and "standard input can be read once" in ended.said
+    message = run("create", "publication", EXAMPLES / "query-list.xml", "--key", "-", data=keys.private("2048").read_bytes()).out
+    assert run("receive", "publication", "-", "--key", keys.public("2048"), "-q", data=message) == (0, LIST, "")
+
+
+@pytest.mark.parametrize("form", ["der", "base64", "hexadecimal"])
+def test_forms_of_a_private_key_and_of_a_text(keys: Keys, tmp_path: pathlib.Path, form: str) -> None:
+    """As those of a message."""
+    def spell(octets: bytes) -> bytes:
+        return {"der": octets, "base64": base64.b64encode(octets), "hexadecimal": octets.hex().encode()}[form]
+
+    (tmp_path / "key").write_bytes(spell(openssl("pkey", "-in", keys.private("2048"), "-outform", "DER")))
+    message = run("create", "publication", "-", "--key", tmp_path / "key", data=spell(LIST))
+    assert message.status == 0
+    assert openssl("cms", "-verify", "-noverify", "-inform", "DER", data=message.out) == LIST.rstrip(b"\n")
+
+
+@pytest.mark.skipif(subprocess.run([sys.executable, "-c", "import shtab"], check=False, stderr=subprocess.DEVNULL).returncode != 0,
+                    reason="there is no shtab")
+def test_pages(tmp_path: pathlib.Path) -> None:
+    """man reads the page, with the examples of each command, and bash the completions."""
+    subprocess.run([sys.executable, str(TREE / "bindings" / "python" / "pages"), str(tmp_path)], check=True)
+    page = (tmp_path / "calmizsed.1").read_text()
+    for example in ("receive publication query.der", "create publication", "setup read", "anchor new", "request new"):
+        assert re.search(rf"^\\&calmizsed {example}", page, re.M), example
+    if shutil.which("man"):
+        ended = subprocess.run(["man", "--warnings", "-l", str(tmp_path / "calmizsed.1")], check=True, capture_output=True)
+        assert ended.stderr == b"" and b"EXAMPLES OF CALMIZSED RECEIVE" in ended.stdout
+    if shutil.which("zsh"):
+        subprocess.run(["zsh", "-n", str(tmp_path / "_calmizsed")], check=True)
+    script = f". '{tmp_path}/calmizsed.bash' && COMP_WORDS=(calmizsed rec) COMP_CWORD=1 && _shtab_calmizsed && echo \"${{COMPREPLY[@]}}\""
+    ended = subprocess.run(["bash", "-c", script], check=True, capture_output=True)
+    assert ended.stdout == b"receive\n"
+
+
+@pytest.mark.parametrize(("words", "of_openssl"), [
+    (("anchor", "new", "--at", str(SIGNED_AT)), "x509"), (("request", "new", *PLACES), "req")], ids=["anchor", "request"])
+def test_anchors_and_requests_by_a_command_and_in_each_form(keys: Keys, words: tuple[str, ...], of_openssl: str) -> None:
+    """A signature draws nothing, so what a command signs is what the key's file signs; forms are those of OpenSSL."""
+    der = run(*words, "--key", keys.private("2048")).out
+    sign = f"openssl dgst -sha256 -sign '{keys.private('2048')}'"
+    assert run(*words, "--public-key", keys.public("2048"), "--sign-command", sign) == (0, der, "")
+    spelled = {form: run(*words, "--key", keys.private("2048"), "--form", form).out for form in ("pem", "base64", "hexadecimal")}
+    assert (base64.b64decode(spelled["base64"]), bytes.fromhex(spelled["hexadecimal"].decode())) == (der, der)
+    assert spelled["pem"] == openssl(of_openssl, "-inform", "DER", data=der)
+
+
+def test_the_year_9999_is_the_last(keys: Keys) -> None:
+    """An anchor's time can't go on behind it."""
+    ended = run("anchor", "new", "--key", keys.private("2048"), "--at", "9999-12-31T00:00:00Z", "--days", 2)
+    assert (ended.status, ended.out) == (2, b"") and ended.said.startswith("calmizsed: Moment: ")
+
+
+def test_nine_keys() -> None:
+    """There may be eight."""
+    key: list[Word] = ["--key", KEY]
+    assert run("receive", "publication", QUERY, *key * 8, "--at", SIGNED_AT, "-q") == (0, LIST, "")
+    ended = run("receive", "publication", QUERY, *key * 9, "--at", SIGNED_AT)
+    assert (ended.status, ended.out) == (2, b"") and ended.said.startswith("calmizsed: Usage: ")

@@ -3,11 +3,13 @@
 from __future__ import annotations
 
 import pathlib
+import shlex
 import shutil
 import subprocess
 
 import pytest
-from support import openssl
+from launcher import LIST, run
+from support import EXAMPLES, openssl, request_shown
 
 import calmizsed
 from calmizsed import Kind, anchor, files, publication, request
@@ -49,8 +51,20 @@ def test_a_device_signs(device: CommandKey) -> None:
     assert calmizsed.receive(Kind.PUBLICATION, message, [device.public_key], now).text == query
     assert anchor.public_key(anchor.create(device, now, now)) == device.public_key
     made = request.create(device, "rsync://localhost/ca/", "rsync://localhost/ca/ca.mft")
-    openssl("req", "-inform", "DER", "-verify", "-noout", data=made)
+    assert "rsync://localhost/ca/ca.mft" in request_shown(made)
     assert request.verify(made) == device.public_key
+
+
+def test_the_command_has_a_device_sign(device: CommandKey, tmp_path: pathlib.Path) -> None:
+    """Its words are those of the help, with a module and a token."""
+    (tmp_path / "key").write_bytes(device.public_key)
+    signer = "--public-key", tmp_path / "key", "--sign-command", shlex.join(device.command)
+    made = run("create", "publication", EXAMPLES / "query-list.xml", *signer)
+    assert (made.status, made.said) == (0, "")
+    assert run("receive", "publication", "-", "--key", tmp_path / "key", "-q", data=made.out) == (0, LIST, "")
+    certificate = run("anchor", "new", *signer, "--form", "pem").out
+    pem = openssl("x509", "-noout", "-pubkey", data=certificate)
+    assert openssl("pkey", "-pubin", "-outform", "DER", data=pem) == device.public_key
 
 
 def test_a_device_by_another_mechanism(device: CommandKey) -> None:

@@ -8,7 +8,7 @@ import pathlib
 
 import pytest
 from cryptography import x509
-from support import EXAMPLES, SIGNED_AT, Keys, Made, made_by_openssl, make_by_openssl, openssl
+from support import EXAMPLES, SIGNED_AT, Keys, Made, made_by_openssl, make_by_openssl, openssl, request_shown
 
 import calmizsed
 from calmizsed import Kind, SetupKind, anchor, publication, request, setup
@@ -211,7 +211,7 @@ def test_requests(keys: Keys) -> None:
     """OpenSSL verifies what is made, what OpenSSL made is verified, and a changed one isn't."""
     key = private(keys, "2048")
     made = request.create(key, *PLACES)
-    shown = openssl("req", "-inform", "DER", "-verify", "-noout", "-text", data=made).decode()
+    shown = request_shown(made)
     assert all(place in shown for place in PLACES)
     assert request.verify(made) == keys.der("2048")
     stored = bytes.fromhex((EXAMPLES / "rsa-request.hex").read_text())

@@ -12,7 +12,7 @@ from calmizsed import provisioning, publication, setup
 from calmizsed.errors import OtherMessage, WrongForm
 
 DIGEST = bytes(range(32))
-LONG = 1 << 16
+LONG = 1 << 20
 TEXTS = {"text", *(kind.name.lower() for kind in calmizsed.SetupKind)}
 
 
@@ -45,8 +45,9 @@ def test_stored_texts_are_spelled_again(protocol: str) -> None:
     assert len(found) > 20
     for name, text in found:
         value = READERS[protocol](text)
-        assert value.to_xml().encode() == text, name
-        assert READERS[protocol](value.to_xml().encode()) == value, name
+        spelled = value.to_xml().encode()
+        is_same = spelled == text and READERS[protocol](spelled) == value  # no text of a megabyte is shown
+        assert is_same, name
 
 
 def test_each_class_comes_in_the_stored_texts() -> None:

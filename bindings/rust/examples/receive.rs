@@ -2,7 +2,7 @@
 //! `openssl` command says which signatures hold. In `bindings/rust`:
 //!
 //! ```sh
-//! cargo run --example receive -- publication 1795927350 ../../examples/rsa-key.pem \
+//! cargo run --example receive -- publication 1795927350 ../../examples/rsa-issuer-public.pem \
 //!     < ../../examples/rsa-query.der
 //! ```
 //!

@@ -8,7 +8,8 @@ use crate::{ffi, Answers, CreateError, Part, PublicKey, Question, Questions, Ref
 /// Where the certificate that is asked for says its holder publishes.
 #[derive(Clone, Copy, Debug, PartialEq, Eq, Hash)]
 pub struct Locations<'a> {
-    /// The rsync URI of the folder. A slash is added where it ends with none.
+    /// The rsync URI of the folder. A slash is added where it ends with none, but for its module,
+    /// which has to have one: as `rsync://localhost/ca/`.
     pub repository: &'a str,
     /// The rsync URI of the manifest.
     pub manifest: &'a str,

@@ -55,7 +55,10 @@ fn ran(
 
 #[test]
 fn the_example_receives_what_openssl_signed() {
-    let (message, key) = (file("examples/rsa-query.der"), ["examples/rsa-key.pem"]);
+    let (message, key) = (
+        file("examples/rsa-query.der"),
+        ["examples/rsa-issuer-public.pem"],
+    );
     let receipt = ran("publication", SIGNED_AT, &key, &message).expect("a receipt");
     assert_eq!((receipt.text, receipt.place), (list_query(), 0));
     assert_eq!(receipt.signing_time, Some(Time::from_seconds(SIGNED_AT)));

@@ -1,7 +1,7 @@
 """The shared object, by ctypes. This module alone has to do with pointers: all else hands in octets and numbers, and gets octets.
 
 include/calmizsed.h says what each call does. The shared object is the one that CALMIZSED_LIBRARY names, else that in the package, else
-that of the tree in which the package lies.
+that of the tree in which the package lies: where `make` puts it, or where a tar that `make dist` made has it.
 """
 
 from __future__ import annotations
@@ -131,6 +131,7 @@ def _places() -> Iterator[pathlib.Path]:
     tree = here.parents[3]
     if (tree / "include" / "calmizsed.h").is_file():
         yield tree / "out" / "c" / NAME
+        yield tree / "lib" / NAME
 
 
 def found() -> pathlib.Path:

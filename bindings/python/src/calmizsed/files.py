@@ -7,13 +7,14 @@ import binascii
 import re
 from typing import Optional
 
-from cryptography import exceptions
 from cryptography.hazmat.primitives import serialization
 
 from calmizsed import anchor, keys, setup
 from calmizsed.errors import CalmizsedError, KeyFileError, WrongForm, WrongUse
 
 SEQUENCE = b"\x30"
+HEXADECIMAL = b"30", b"3c"  # of the first octet of a SEQUENCE, and of a text of XML
+BASE64 = b"M", b"P"  # of the same octets
 BYTE_ORDER_MARK = b"\xef\xbb\xbf"
 PEM = re.compile(rb"-----BEGIN ([A-Z0-9 ]+)-----(.*?)-----END \1-----", re.DOTALL)
 
@@ -65,9 +66,9 @@ def decoded(octets: bytes) -> bytes:
     if block is not None:
         return block[1]
     begin = octets.lstrip()
-    if begin[:2] == b"30":
+    if begin[:2].lower() in HEXADECIMAL:
         return _hexadecimal(begin)
-    return _base64(begin, "WrongBase64") if begin[:1] == b"M" else octets
+    return _base64(begin, "WrongBase64") if begin[:1] in BASE64 else octets
 
 
 def load_public_key(octets: bytes) -> bytes:
@@ -96,6 +97,12 @@ def _pkcs1_key(octets: bytes) -> bytes:
     """The key in DER of a block in PKCS #1."""
     try:
         key = serialization.load_pem_public_key(octets)
-    except (ValueError, exceptions.UnsupportedAlgorithm, exceptions.InternalError):
+    except keys.NO_KEY:
         raise KeyFileError("NoKey", 2, "no public key in PKCS #1") from None
-    return key.public_bytes(serialization.Encoding.DER, serialization.PublicFormat.SubjectPublicKeyInfo)
+    der: bytes = key.public_bytes(serialization.Encoding.DER, serialization.PublicFormat.SubjectPublicKeyInfo)
+    return der
+
+
+def load_private_key(octets: bytes, passphrase: Optional[bytes] = None) -> keys.PrivateKey:
+    """The private key of a file, in PEM, DER, base64 or hexadecimal."""
+    return keys.load_private_key(octets if octets.lstrip().startswith(b"-----BEGIN") else decoded(octets), passphrase)

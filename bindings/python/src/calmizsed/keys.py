@@ -26,6 +26,9 @@ LEAST_BITS = 2048
 ONE_OFF_BITS = 2048
 PUBLIC_EXPONENT = 65537
 RSA_ENCRYPTION = bytes.fromhex("06092a864886f70d010101")
+# What `cryptography` raises for octets that are no key, or none that it knows. Some of its type stubs lack the last.
+NO_KEY: tuple[type[Exception], ...] = (
+    ValueError, IndexError, exceptions.UnsupportedAlgorithm, getattr(exceptions, "InternalError"))
 SECONDS_TO_SIGN = 300.0
 
 PublicKey = Union[Octets, rsa.RSAPublicKey, Certificate]
@@ -71,7 +74,7 @@ def rsa_key(key: bytes) -> Optional[rsa.RSAPublicKey]:
         if not _inner(_inner(key)).startswith(RSA_ENCRYPTION):
             return None
         loaded = serialization.load_der_public_key(key)
-    except (ValueError, IndexError, exceptions.UnsupportedAlgorithm, exceptions.InternalError):
+    except NO_KEY:
         return None
     return loaded if isinstance(loaded, rsa.RSAPublicKey) else None
 
@@ -89,7 +92,9 @@ class RsaVerifier:
             return False
         try:
             public.verify(signature, octets, padding.PKCS1v15(), hashes.SHA256())
-        except (exceptions.InvalidSignature, ValueError, exceptions.InternalError):
+        except exceptions.InvalidSignature:
+            return False
+        except NO_KEY:
             return False
         return True
 
@@ -170,15 +175,18 @@ def identifier(key: PublicKey) -> bytes:
 
 def load_private_key(octets: bytes, passphrase: Optional[bytes] = None) -> PrivateKey:
     """The private key of a file in PEM or DER; `octets` and `passphrase` are in no error that comes of it."""
-    load = serialization.load_pem_private_key if octets.lstrip().startswith(b"-----BEGIN") else serialization.load_der_private_key
+    key: object
     try:
-        key = load(octets, passphrase)
+        if octets.lstrip().startswith(b"-----BEGIN"):
+            key = serialization.load_pem_private_key(octets, passphrase)
+        else:
+            key = serialization.load_der_private_key(octets, passphrase)
     except TypeError:
         said = "the private key is encrypted, and there is no passphrase"
         if passphrase is not None:
             said = "there is a passphrase, and the private key isn't encrypted"
         raise KeyFileError("EncryptedKey", 2, said) from None
-    except (ValueError, exceptions.UnsupportedAlgorithm, exceptions.InternalError):
+    except NO_KEY:
         said = "no private key in PEM or DER" + (", or another passphrase" if passphrase else "")
         raise KeyFileError("NoKey", 2, said) from None
     if not isinstance(key, rsa.RSAPrivateKey):

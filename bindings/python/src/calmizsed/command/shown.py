@@ -7,7 +7,7 @@ import shutil
 import sys
 import textwrap
 from collections import Counter
-from typing import Any, Iterable, TextIO
+from typing import Any, Iterable, Optional, TextIO
 from xml.etree import ElementTree
 
 from calmizsed import CheckResult, Inspection, Kind, content, read
@@ -17,12 +17,15 @@ from calmizsed.errors import CalmizsedError
 COLOURS = {"ok": "32", "FAILED": "31;1", "not reached": "33"}
 LABEL = 28
 BAR = 40
-INDENT = " " * 7
+LEAST_COLUMNS = 40
+INDENT = 15
 
 
-def width() -> int:
-    """How many columns there are."""
-    return shutil.get_terminal_size((80, 24)).columns
+def columns(output: Optional[str]) -> Optional[int]:
+    """How wide the terminal is that results are shown on; None where they go elsewhere, and no line is broken."""
+    if output is not None or not sys.stdout.isatty():
+        return None
+    return max(shutil.get_terminal_size((80, 24)).columns, LEAST_COLUMNS)
 
 
 def is_coloured(stream: TextIO) -> bool:
@@ -30,9 +33,13 @@ def is_coloured(stream: TextIO) -> bool:
     return stream.isatty() and not os.environ.get("NO_COLOR") and os.environ.get("TERM") != "dumb"
 
 
-def table(rows: Iterable[tuple[str, object]]) -> str:
-    """Rows of a label and a value."""
-    return "".join(f"{label:<{LABEL}}{value}\n" for label, value in rows)
+def table(rows: Iterable[tuple[str, object]], width: Optional[int] = None) -> str:
+    """Rows of a label and a value, which stands below where the terminal is too narrow."""
+    lines = []
+    for label, value in rows:
+        line = f"{label:<{LABEL}}{value}"
+        lines += [line] if width is None or len(line) <= width else [label, f"    {value}"]
+    return "".join(line + "\n" for line in lines)
 
 
 def state(check: CheckResult) -> str:
@@ -40,26 +47,29 @@ def state(check: CheckResult) -> str:
     return "not reached" if not check.reached else "ok" if check.holds else "FAILED"
 
 
-def wrapped(text: str, first: str, others: str) -> list[str]:
-    """A text in lines that are no wider than the terminal, where words allow it."""
-    return textwrap.wrap(text, max(width(), 40), initial_indent=first, subsequent_indent=others, break_long_words=False)
+def sentence(check: CheckResult) -> str:
+    """What a check asks, what was compared, and where it fails what to look at."""
+    said = f"{check.meaning}: {check.compared}"
+    if not check.reached:
+        said += "; it would hold" if check.holds else "; it would fail"
+    return said if check.holds else f"{said}; look at: {check.look_at}"
 
 
-def checks(found: Iterable[CheckResult], coloured: bool) -> str:
-    """The fourteen checks, a line each, and below one what was compared; below one that fails, what to look at too."""
+def checks(found: Iterable[CheckResult], width: Optional[int], coloured: bool) -> str:
+    """The fourteen checks, a line each, which a terminal shows in several that are not too wide."""
     lines = []
     for check in found:
         word = state(check)
-        would = "" if check.reached else " (it would hold)" if check.holds else " (it would fail)"
-        first, *rest = wrapped(f"{word}{would}: {check.meaning}", f"{check.number:>2}  ", INDENT)
+        line = f"{check.number:>2} {word:<11} {sentence(check)}"
+        first, *rest = [line] if width is None else textwrap.wrap(
+            line, width, subsequent_indent=" " * INDENT, break_long_words=False, break_on_hyphens=False)
         lines.append(first.replace(word, f"\x1b[{COLOURS[word]}m{word}\x1b[0m", 1) if coloured else first)
-        lines += rest + wrapped(check.compared, INDENT, INDENT)
-        lines += [] if check.holds else wrapped(f"look at: {check.look_at}", INDENT, INDENT)
+        lines += rest
     return "\n".join(lines) + "\n"
 
 
 def elements(message: bytes) -> dict[str, Any]:
-    """What the content of a message is: a protocol, and how many elements of each name. NOTHING IS CHECKED."""
+    """What the content of a message is: a protocol, and how many elements of each name, on every level. NOTHING IS CHECKED."""
     try:
         held = content(message)
     except CalmizsedError as error:
@@ -69,12 +79,12 @@ def elements(message: bytes) -> dict[str, Any]:
             root = ElementTree.fromstring(read(kind, held))
         except CalmizsedError:
             continue
-        counted = Counter(element.tag.rpartition("}")[2] for element in root)
+        counted = Counter(element.tag.rpartition("}")[2] for element in root.iter() if element is not root)
         return {"protocol": kind.name.lower(), "type": root.get("type"), "elements": dict(counted)}
     return {"protocol": None, "why": "neither a message of the publication protocol nor one of the provisioning protocol"}
 
 
-def inspection(shown: Inspection, counted: dict[str, Any]) -> str:
+def inspection(shown: Inspection, counted: dict[str, Any], width: Optional[int] = None) -> str:
     """What is in a message, as a table."""
     certificate = shown["certificate"]
     said = counted.get("why") or f"{counted['protocol']} {counted['type']}"
@@ -99,7 +109,7 @@ def inspection(shown: Inspection, counted: dict[str, Any]) -> str:
             ("CRL", f"number {crl['crl_number'] or 'none'}, {crl['entries']} entries"),
             ("  validity", f"{shown_time(crl['this_update'])} to {shown_time(crl['next_update'])}"),
             ("  authority key identifier", crl["authority_key_identifier"] or "none")]
-    return table(rows)
+    return table(rows, width)
 
 
 def bar(done: int, count: int) -> None:

@@ -19,56 +19,13 @@ from calmizsed import files, keys, setup
 from calmizsed._messages import shown_time
 from calmizsed._values import moment_of
 from calmizsed.command import shown
+from calmizsed.command.inputs import decoded, public_key, signer, write
 from calmizsed.command.words import KINDS
 from calmizsed.errors import CalmizsedError
 from calmizsed.files import FileError
 
 PEM_COLUMNS = 64
 CHECK_FAILS = 6
-WRITE_FAULT = 11
-
-
-def read(name: str) -> bytes:
-    """The octets of a file, or of standard input."""
-    try:
-        octets = sys.stdin.buffer.read() if name == "-" else pathlib.Path(name).read_bytes()
-    except OSError as error:
-        raise FileError("NoFile", 2, f"{name}: {error.strerror}") from None
-    if not octets:
-        raise FileError("EmptyFile", 2, f"{name}: there is nothing in it")
-    return octets
-
-
-def decoded(name: str) -> bytes:
-    """What a file spells."""
-    octets = read(name)
-    try:
-        return files.decoded(octets)
-    except FileError as error:
-        raise FileError(error.name, error.status, f"{name}: {error.cause}") from None
-
-
-def public_key(name: str) -> bytes:
-    """The public key that a file holds, in DER."""
-    octets = read(name)
-    try:
-        return files.load_public_key(octets)
-    except CalmizsedError as error:
-        error.cause = f"{name}: {error.cause}"
-        raise
-
-
-def signer(asked: argparse.Namespace) -> keys.SigningKey:
-    """Who signs."""
-    if asked.key is None:
-        return keys.CommandKey.of(public_key(asked.public_key), asked.sign_command)
-    passphrase = None if asked.passphrase_file is None else read(asked.passphrase_file).split(b"\n")[0]
-    octets = read(asked.key)
-    try:
-        return keys.load_private_key(octets, passphrase)
-    except CalmizsedError as error:
-        error.cause = f"{asked.key}: {error.cause}"
-        raise
 
 
 def verifier(asked: argparse.Namespace) -> keys.RsaVerifier:
@@ -82,23 +39,9 @@ def say(asked: argparse.Namespace, text: str) -> None:
         print(f"calmizsed: {text}", file=sys.stderr)
 
 
-def write(asked: argparse.Namespace, octets: bytes) -> None:
-    """Writes a result."""
-    try:
-        if asked.output is not None:
-            pathlib.Path(asked.output).write_bytes(octets)
-            return
-        sys.stdout.buffer.write(octets)
-        sys.stdout.buffer.flush()
-    except BrokenPipeError:
-        raise
-    except OSError as error:
-        raise FileError("WriteFault", WRITE_FAULT, f"{asked.output or 'standard output'}: {error.strerror}") from None
-
-
 def write_text(asked: argparse.Namespace, text: str) -> None:
     """Writes a text; names of files come as they are."""
-    write(asked, text.encode("utf-8", "surrogateescape"))
+    write(asked.output, text.encode("utf-8", "surrogateescape"))
 
 
 def write_json(asked: argparse.Namespace, value: object) -> None:
@@ -123,7 +66,7 @@ def write_made(asked: argparse.Namespace, label: str, octets: bytes) -> int:
         "base64": base64.b64encode(octets) + b"\n",
         "hexadecimal": octets.hex().encode("ascii") + b"\n",
     }
-    write(asked, forms[asked.form])
+    write(asked.output, forms[asked.form])
     return 0
 
 
@@ -190,7 +133,8 @@ def receive_folder(asked: argparse.Namespace, public_keys: list[bytes]) -> int:
         except CalmizsedError as error:
             verdicts.append({
                 "file": str(path), "name": error.name, "status": error.status, "check": error.check, "cause": error.cause})
-        shown.bar(done, len(names))
+        if not asked.quiet:
+            shown.bar(done, len(names))
     summary = Counter(verdict["name"] if verdict["status"] != 15 else "Replayed" for verdict in verdicts)
     if asked.json:
         write_json(asked, {"messages": verdicts, "summary": dict(summary)})
@@ -222,7 +166,7 @@ def inspect(asked: argparse.Namespace) -> int:
     if asked.json:
         write_json(asked, {"content": counted, **cast("dict[str, Any]", found)})
     else:
-        write_text(asked, shown.inspection(found, counted))
+        write_text(asked, shown.inspection(found, counted, shown.columns(asked.output)))
     say(asked, "nothing of it was checked")
     return 0
 
@@ -236,7 +180,8 @@ def explain(asked: argparse.Namespace) -> int:
             "check": one.number, "holds": one.holds, "reached": one.reached, "meaning": one.meaning, "compared": one.compared,
             "look_at": one.look_at} for one in found])
     else:
-        write_text(asked, shown.checks(found, asked.output is None and shown.is_coloured(sys.stdout)))
+        columns = shown.columns(asked.output)
+        write_text(asked, shown.checks(found, columns, columns is not None and shown.is_coloured(sys.stdout)))
     return 0 if all(one.holds for one in found) else CHECK_FAILS
 
 
@@ -274,9 +219,10 @@ def setup_read(asked: argparse.Namespace) -> int:
     receipt = setup.receive(setup.kind_of(text), text, asked.at, verifier=verifier(asked))
     found = setup_shown(receipt)
     if asked.json:
-        write_json(asked, {**found, "signature_looked_at": receipt.signature_looked_at})
+        write_json(asked, {**found, "signature_looked_at": receipt.signature_looked_at, "text": receipt.text})
     else:
-        write_text(asked, shown.table((name.replace("_", " "), value) for name, value in found.items()))
+        rows = [(name.replace("_", " "), value) for name, value in found.items()]
+        write_text(asked, shown.table(rows, shown.columns(asked.output)))
     if not receipt.signature_looked_at:
         say(asked, "the certificate doesn't name its own key as its issuer's, and its signature was not looked at")
     return 0

@@ -5,6 +5,7 @@ from __future__ import annotations
 import argparse
 import datetime
 import re
+import sys
 from typing import Any, Callable, Optional, Sequence
 
 from calmizsed import Kind, __version__, now
@@ -23,29 +24,42 @@ message of the protocol is written, in XML, if all fourteen checks hold under
 one of the keys; there may be up to eight.
 
     calmizsed receive publication query.der --key publisher-request.xml
-    calmizsed receive publication captured/ --key publisher.pem --at signed
+    calmizsed receive publication query.der --key old.pem --key new.pem \\
+        --after 2026-12-01T08:00:00Z -o query.xml
+    calmizsed receive --kind publication captured/ --key publisher.pem \\
+        --at signed
 """
 CREATE = """
 FILE is a message of the protocol, in XML. The attributes are signed by a key
-that is drawn for this message alone.
+that is drawn for this message alone. The passphrase of an encrypted key is
+asked for on the terminal, where --passphrase-file has none.
 
     calmizsed create publication query.xml --key issuer.pem -o query.der
     calmizsed create publication query.xml --public-key issuer-public.pem \\
         --sign-command 'openssl dgst -sha256 -sign issuer.pem' -o query.der
+    calmizsed create publication query.xml --public-key issuer-public.pem \\
+        --sign-command "pkcs11-tool --module MODULE --token-label TOKEN \\
+            --login --pin env:PIN --sign --mechanism SHA256-RSA-PKCS --id 01" \\
+        -o query.der
 """
 INSPECT = """
 Nothing is checked.
 
     calmizsed inspect query.der
+    calmizsed inspect query.der --json | jq .content
 """
 EXPLAIN = """
-The status is 6 where a check fails, else 0.
+Each check is `ok`, or `FAILED`, or `not reached`, as those behind the first
+that fails. The values that were compared stand behind it, and where it fails
+what to look at. The status is 6 where a check fails, else 0.
 
     calmizsed explain query.der --key publisher.pem --at 2026-12-01T08:00:00Z
+    calmizsed explain query.der --key publisher.pem --at signed | grep FAILED
 """
 SETUP = """
     calmizsed setup read child-request.xml
-    calmizsed setup child-request --handle Carol --anchor anchor.der -o out.xml
+    calmizsed setup child-request --handle Carol --anchor anchor.der \\
+        -o child-request.xml
 """
 SETUP_READ = """
 The five checks of the trust anchor's certificate have to hold. Whom the
@@ -54,10 +68,12 @@ message is from has to be known some other way (RFC 8183, 8).
     calmizsed setup read repository-response.xml
 """
 SETUP_MAKE = """
-    calmizsed setup child-request --handle Carol --anchor anchor.der -o out.xml
+    calmizsed setup child-request --handle Carol --anchor anchor.der \\
+        -o child-request.xml
 """
 ANCHOR = """
     calmizsed anchor new --key issuer.pem --days 3650 -o anchor.der
+    calmizsed anchor new --key issuer.pem --form pem
 """
 REQUEST = """
     calmizsed request new --key ca.pem --repository rsync://localhost/ca/ \\
@@ -122,7 +138,8 @@ class Words:
 
     def with_kind(self) -> Words:
         """The protocol."""
-        self.parser.add_argument("kind", choices=sorted(KINDS), help="the protocol: RFC 8181, or RFC 6492")
+        self.parser.add_argument(
+            "kind", metavar="KIND", choices=sorted(KINDS), help="the protocol: publication (RFC 8181), or provisioning (RFC 6492)")
         return self
 
     def with_file(self, what: str) -> Words:
@@ -136,10 +153,17 @@ class Words:
         self.parser.add_argument("--at", type=parse, default=now(), metavar="TIME", help=f"in place of the clock's time{said}")
         return self
 
-    def with_keys(self, **how: Any) -> Words:
+    def with_key(self) -> Words:
+        """A public key."""
+        of_files(self.parser.add_argument(
+            "--key", required=True, metavar="KEY", help="public key, certificate or setup message of the sender"))
+        return self
+
+    def with_keys(self) -> Words:
         """Public keys."""
         of_files(self.parser.add_argument(
-            "--key", required=True, metavar="KEY", help="public key, certificate or setup message of the sender", **how))
+            "--key", required=True, metavar="KEY", action="append",
+            help="public key, certificate or setup message of the sender; one to eight times"))
         return self
 
     def with_short_keys(self) -> Words:
@@ -166,14 +190,14 @@ class Words:
 def _add_messages(commands: Any) -> None:
     """The commands on signed messages."""
     receive = Words(commands, "receive", "receive", "Receive a signed message, or judge a folder of them", RECEIVE)
-    receive.with_kind().with_file("signed message, a folder of them").with_keys(action="append")
+    receive.with_kind().with_file("signed message, a folder of them").with_keys()
     receive.with_time(moment_or_signed).with_json().with_short_keys()
     receive.parser.add_argument("--after", type=moment, metavar="TIME", help="it has to be signed later: the signing time of the last one")
     Words(commands, "create", "create", "Make a signed message", CREATE).with_kind().with_file(
         "message, in XML").with_signer().with_time().with_short_keys()
     Words(commands, "inspect", "inspect", "Show what is in a signed message", INSPECT).with_file("signed message").with_json()
     Words(commands, "explain", "explain", "Show the fourteen checks of a signed message", EXPLAIN).with_file(
-        "signed message").with_keys().with_time(moment_or_signed).with_json().with_short_keys()
+        "signed message").with_key().with_time(moment_or_signed).with_json().with_short_keys()
 
 
 def _add_setup(commands: Any) -> None:
@@ -222,13 +246,32 @@ def parser_of() -> argparse.ArgumentParser:
     return parser
 
 
+def placed(words: Sequence[str]) -> list[str]:
+    """The words with that of `--kind KIND` behind the command, where it stands without the option."""
+    head, rest = list(words[:1]), list(words[1:])
+    for place, word in enumerate(rest):
+        if word == "--kind" and place + 1 < len(rest):
+            return [*head, rest[place + 1], *rest[:place], *rest[place + 2:]]
+        if word.startswith("--kind="):
+            return [*head, word.partition("=")[2], *rest[:place], *rest[place + 1:]]
+    return [*head, *rest]
+
+
+def inputs_of(asked: argparse.Namespace) -> list[str]:
+    """The files that are read."""
+    named = [vars(asked).get(name) for name in ("file", "key", "public_key", "passphrase_file", "anchor")]
+    return [name for one in named if one is not None for name in (one if isinstance(one, list) else [one])]
+
+
 def asked_of(words: Optional[Sequence[str]]) -> argparse.Namespace:
     """What the words ask for."""
-    asked = parser_of().parse_args(words)
+    asked = parser_of().parse_args(placed(sys.argv[1:] if words is None else words))
     if "sign_command" in asked:
         device = asked.public_key is not None, asked.sign_command is not None
         if (asked.key is None) != all(device) or (asked.key is not None and any(device)):
             asked.parser.error("give --key, or --public-key and --sign-command")
         if asked.key is None and asked.passphrase_file is not None:
             asked.parser.error("--passphrase-file is for --key")
+    if inputs_of(asked).count("-") > 1:
+        asked.parser.error("standard input can be read once: give one - alone")
     return asked
