@@ -599,7 +599,7 @@ def summary(looker):
 def trial(looker):
     """What README shows of a trial is the content of the example, and the line that tools/run/trial.py writes."""
     text = README.read_text(encoding="utf-8")
-    for line in re.findall(r"^```xml\n(.*?)\n```$", text, re.MULTILINE | re.DOTALL) or ["no line of XML"]:
+    for line in re.findall(r"^<msg .*$", text, re.MULTILINE) or ["no line of XML"]:
         if line.encode() not in octets_of("query-list.hex"):
             looker.say(README, line_of(text, line), f"{line} is not the content of examples/query-list.hex")
     said = re.search(r'print\(f"([^"]*a trial[^"]*)"', (TOP / "tools" / "run" / "trial.py").read_text(encoding="utf-8"))
