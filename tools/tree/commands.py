@@ -14,8 +14,9 @@ A command goes on in the next line where its line ends in a backslash, `&&` or `
 
 The commands of a document run one after the other, in a folder of their own that has `examples/`, `tools/` and the programs, so what one
 writes the next may read, and nothing is left in the tree. Programs are tried without proofs (`RPKI_UNPROVED=1`; tools/run/trial.py), or
-are those of DIR, as DIR/rpkica or DIR/rpkica/out/rpkica. A command that needs what is not there is skipped, and so are those that prove
-something, and those that read what a skipped one would have written. `--list` shows all commands, and runs none.
+are those of DIR, as DIR/rpkica or DIR/rpkica/out/rpkica; `./calmizsed` needs what `make` makes in out/c. A command that needs what is not
+there is skipped, and so are those that prove something, and those that read what a skipped one would have written. `--list` shows all
+commands, and runs none.
 
 A line is written for each command, and the last line counts them. The exit status is 1 where one differs, 2 where the words are wrong, or
 else 0."""
@@ -36,6 +37,7 @@ from typing import Iterator, NamedTuple, Optional
 
 TOP = pathlib.Path(__file__).resolve().parents[2]
 PROGRAMS = ("rpkica", "rpkiguard", "rpkiarch", "rpkipub", "rpkiup", "rpkikeys")
+LIBRARY = TOP / "out" / "c" / "libcalmizsed.so.0"
 SECONDS = 1200
 LEFT_OUT = "..."
 BLOCK = re.compile(r"^( *)```sh\n(.*?)^\1```$", re.MULTILINE | re.DOTALL)
@@ -48,7 +50,7 @@ SHELL = {"read", "done", "cd", "export", "fi"}
 WRITTEN = re.compile(r"(?:>|-out)\s*([\w.-]+)")
 OF_TRIAL = re.compile(r"\w+: a trial: ")
 # What is not run, and why.
-PROVES = {"rt": "it proves", "tools/proofs/answers.py": "it writes proofs", "tools/run/build_crates.py": "it proves"}
+PROVES = {"rt": "it proves", "make": "it proves", "tools/proofs/answers.py": "it writes proofs", "tools/run/build_crates.py": "it proves"}
 
 
 class Command(NamedTuple):
@@ -143,7 +145,8 @@ class Runner:
         self.folder = folder
         self.programs = programs
         self.missing: set[str] = set()  # files that a skipped command would have written
-        (folder / "examples").symlink_to(TOP / "examples")
+        for name in ("examples", "calmizsed"):
+            (folder / name).symlink_to(TOP / name)
         (folder / "tools").mkdir()
         for part in (TOP / "tools").iterdir():
             if part.is_dir():
@@ -174,6 +177,8 @@ class Runner:
             return PROVES[name]
         if name == "tools/rpkikeys.py":
             return self.lacks("openssl") or self.lacks("./rpkikeys")
+        if name == "./calmizsed":
+            return None if LIBRARY.exists() else "make has made no library in out/c"
         program = name.removeprefix("./")
         if program in PROGRAMS:
             if self.programs is None:

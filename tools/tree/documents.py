@@ -69,7 +69,7 @@ ELSEWHERE = {
     "OpenSSL prints": "eContent notBefore notAfter Nov GMT X509v3 Authority Subject lastUpdate nextUpdate signerInfos signedAttrs "
     "subjectKeyIdentifier messageDigest signingTime certificates crls cont d",
     "the standards": "sid cA thisUpdate",
-    "programs": "openssl cms asn1parse xxd sha256sum pkcs11-tool rt ci",
+    "programs": "openssl cms asn1parse xxd sha256sum pkcs11-tool rt ci make pip cargo",
     "the toolchain": "rattle kit logic dac8208d650f15bf Lts antt goal Goals Given the_type",
     "the surroundings": "RT_JOBS LD_PRELOAD kernel.sched_autogroup_enabled nice malloc ipaddress",
     "the Rust crate": "bcder chrono rpki crypto compat validate_ta validate_ee BufRead IntoSource src/ca/ "
@@ -231,10 +231,12 @@ SAID = {
     "years": "1970 9999",
     "bits of numbers, and of RSA keys": "32 2048 4096",
     "the statuses of refusals, which are compared in statuses": "14 15",
+    "the status of the library alone, in crates/rpki_c/specs/HandingOver.antt": "16",
     "days of an anchor, by tools/rpkikeys.py": "365",
     "of a word on Linux": "131071",
     "minutes that a gate took, on the machines that CONTRIBUTING.md tells of": "21 45 46 53 55 84 106 110 130 197 244 320 472",
     "the status of a trial that can't be made, by tools/run/trial.py": "125",
+    "the status of an interrupted program": "130",
     "of a first run and a trial, by bench/first_run.py": "30 40 71",
     "instructions an octet, by bench/instructions.py": "22 48 49 82 88 97 142 147",
 }
@@ -260,6 +262,13 @@ def scripts():
     return [file for folder in FOLDERS for file in sorted((TOP / folder).glob("*")) if file.is_file()]
 
 
+def library_files():
+    """The files of the library for C, outside of crates/, and of what stands on it."""
+    found = [TOP / "Makefile", TOP / "calmizsed", *sorted((TOP / "include").glob("*.h"))]
+    return found + [file for file in sorted((TOP / "bindings").rglob("*")) if file.is_file() and "target" not in file.parts
+                    and file.suffix in ("", ".py", ".rs", ".c", ".toml")]
+
+
 class Names:
     """The names that stand in the tree."""
 
@@ -271,7 +280,7 @@ class Names:
         self.functions = {}  # of each name of a type: the names of its functions, variants and fields
         for name in self.tree.crates:
             self.add_crate(name)
-        for file in [*scripts(), TOP / ".ci" / "run", *(TOP / name for name in ("rpkica", "rpkiguard"))]:
+        for file in [*scripts(), *library_files(), TOP / ".ci" / "run", *(TOP / name for name in ("rpkica", "rpkiguard"))]:
             if file.is_file():
                 self.words |= set(NAME.findall(file.read_text(encoding="utf-8", errors="replace")))
         for file in TOP.rglob("*"):
@@ -363,7 +372,7 @@ class Looker:
 
     def paths(self, document, number, line):
         """What leads to a file of the tree has to be there."""
-        for path in re.findall(r"(?<![\w/.-])(?:\./)?((?:crates|tools|docs|examples|bench|\.ci)/[\w./-]*\w)", line):
+        for path in re.findall(r"(?<![\w/.-])(?:\./)?((?:crates|tools|docs|examples|bench|bindings|include|\.ci)/[\w./-]*\w)", line):
             if not (TOP / path).exists() and not set(re.split(r"[/.]", path)) & STANDS_FOR:
                 self.say(document, number, f"{path} is not there")
         for path in re.findall(r"\]\(([^)#]+)\)", line):
@@ -436,7 +445,7 @@ class Looker:
 
     def words_of_scripts(self):
         """The texts of all scripts, and of the programs' help."""
-        files = [file for file in scripts() if file.suffix == ".py"]
+        files = [file for file in [*scripts(), *library_files()] if file.suffix == ".py" or file.name == "check"]
         files += [*CRATES.glob("*/src/main.rt"), CRATES / "command_line/src/lib.rt"]
         return "\n".join(file.read_text(encoding="utf-8") for file in files)
 
@@ -557,6 +566,7 @@ def cells_of(row):
 def statuses(looker):
     """The tables of statuses in README and docs/PROGRAMS.md."""
     of_ca, _, of_keys = PROGRAMS.read_text(encoding="utf-8").partition("## Under real keys")
+    of_keys, _, of_package = of_keys.partition("## With the library for C")
     without = "KeyNotFound", "Signer"
     keys = {name: status for name, status in keys_refusals().items() if name not in without}
     for document, text, here in (
@@ -566,10 +576,24 @@ def statuses(looker):
         for name in sorted(set(told) | set(here)):
             if told.get(name) != here.get(name) and not (text is of_keys and name in ("ReadFault", "OutOfMemory")):
                 looker.say(document, 0, f"status of {name}: {told.get(name)} in the table, {here.get(name)} in the code")
+    names_of_package(looker, of_package)
     program = source("rpkica", "main.rt")
     for name, status in refusals().items():
         if not re.search(rf"^ *{status}  (?:[\w, ]*\b)?{name}\b|^        (?:[\w, ]*\b)?{name}\b", program, re.MULTILINE):
             looker.say(PROGRAMS, 0, f"the help of rpkica doesn't have {status} {name}")
+
+
+def names_of_package(looker, text):
+    """The names that docs/PROGRAMS.md gives the package for Python are those with which it raises errors, but for the library's."""
+    files = sorted((TOP / "bindings" / "python" / "src").rglob("*.py"))
+    source_text = "\n".join(file.read_text(encoding="utf-8") for file in files).replace("WRITE_FAULT,", "11,")
+    here = set(re.findall(r'raise \w+\("([A-Z]\w+)", (\d+),', source_text))
+    here |= {(name, "2") for name in re.findall(r'return .*_base64\(.*"(\w+)"\)', source_text)}
+    rows = re.findall(r"^\| ([\d, ]+) \| ((?:`[A-Z]\w+`(?:, )?)+) \|", text, re.MULTILINE)
+    told = {(name, status) for statuses, names in rows for name in re.findall(r"`(\w+)", names) for status in statuses.split(", ")}
+    known = {(name, str(status)) for name, status in keys_refusals().items()}
+    for name, status in sorted((here - known) ^ (told - known)):
+        looker.say(PROGRAMS, 0, f"{name} with status {status} is told of the package, or raised, and not the other")
 
 
 def checks(looker):

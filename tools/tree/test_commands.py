@@ -141,6 +141,11 @@ class Running(unittest.TestCase):
         self.assertIn(f"there is no rpkikeys in {self.programs}", self.last(block("$ tools/rpkikeys.py inspect\n...")))
         self.assertIn("there is no tools/none.py", self.last(block("tools/none.py a")))
 
+    def test_library_that_is_not_made(self) -> None:
+        with mock.patch("commands.LIBRARY", self.programs / "none"):
+            self.assertIn("make has made no library in out/c", self.last(block("$ ./calmizsed --version\n...")))
+        self.assertIn("it proves", self.last(block("make && cc -o a a.c\n./a")))
+
     def test_trial_needs_rt(self) -> None:
         self.assertIn("it is a trial", self.last(block("$ RPKI_UNPROVED=1 ./rpkica content\n...")))
         out = io.StringIO()
