@@ -135,7 +135,8 @@ def fits(shown: list[str], lines: list[str]) -> bool:
 def names_in(text: str) -> list[str]:
     """The names of the commands that a text calls."""
     whole = text.replace("\\\n", " ")
-    return [name for _, name in NAME.findall(whole) if name not in SHELL]
+    found = [name for _, name in NAME.findall(whole) if name not in SHELL]
+    return found + [name for name in re.findall(r"\s(\./[\w-]+)", whole) if name not in found]
 
 
 class Runner:

@@ -69,7 +69,7 @@ ELSEWHERE = {
     "OpenSSL prints": "eContent notBefore notAfter Nov GMT X509v3 Authority Subject lastUpdate nextUpdate signerInfos signedAttrs "
     "subjectKeyIdentifier messageDigest signingTime certificates crls cont d",
     "the standards": "sid cA thisUpdate",
-    "programs": "openssl cms asn1parse xxd sha256sum pkcs11-tool rt ci make pip cargo",
+    "programs": "openssl cms asn1parse xxd sha256sum pkcs11-tool rt ci make pip cargo parallel pipe",
     "the toolchain": "rattle kit logic dac8208d650f15bf Lts antt goal Goals Given the_type",
     "the surroundings": "RT_JOBS LD_PRELOAD kernel.sched_autogroup_enabled nice malloc ipaddress",
     "the Rust crate": "bcder chrono rpki crypto compat validate_ta validate_ee BufRead IntoSource src/ca/ "

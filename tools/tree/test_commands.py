@@ -168,6 +168,7 @@ class Running(unittest.TestCase):
         self.assertEqual(["./rpkipub", "echo", "./rpkica"], commands.names_in(
             './rpkipub 17 rsync://localhost/ca/ \\\n    30 < a.txt |\n    while read -r reply; do echo "$reply" | ./rpkica content; done'))
         self.assertEqual(["./rpkica"], commands.names_in("RPKI_UNPROVED=1 ./rpkica content < a"))
+        self.assertEqual(["ls", "xargs", "./rpkica"], commands.names_in("ls a/* | xargs -n 1 ./rpkica receive"))
 
 
 class Words(unittest.TestCase):
