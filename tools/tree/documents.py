@@ -6,8 +6,8 @@
 Asked is, and what is not so is printed:
 
 - that each name in backquotes stands in the tree: a path leads to a file; `A::b` is a function or a variant of a type A; an option is one
-  of the program or script that it stands behind; any other name is a word of the sources (comments left out), of a script or of a file's
-  name, or one of ELSEWHERE below, with where it comes from. Words in capitals stand for something, and so do single letters.
+  of the program or script that it stands behind; any other name is a word of the sources (comments left out), of a script, of bindings/
+  or of a file's name, or one of ELSEWHERE below, with where it comes from. Words in capitals stand for something, and so do single letters.
 - that what the tables of promises in docs/PROMISES.md and the table of laws in docs/READING.md name as clauses are functions, types or
   clauses of the crate of that row; that a clause stands behind a function that has it; and that each crate of the library has promises,
   but for UNPROMISED below;
@@ -15,8 +15,8 @@ Asked is, and what is not so is printed:
   each file of its folder;
 - that the commands in docs/PROGRAMS.md, and the statuses with their lines there and in README, are those of rpki_ca, and in the help of
   rpkica, and that README's checks are those of docs/PROGRAMS.md; that the examples which a help names are there, that the line of `make` in
-  docs/PROGRAMS.md is its stored case's, that the lines which README shows of a trial are written so, and that stored cases answer what
-  README says of the message of OpenSSL;
+  docs/PROGRAMS.md is its stored case's, that the lines which README shows of a trial are written so, that stored cases answer what README
+  says of the message of OpenSSL, and that the names of the package for Python alone are those with which it raises errors;
 - that docs/ARCHITECTURE.md has each crate of crates.txt, lowest first, and says of none that it stands on a crate which it doesn't use;
   that the crates that are trusted, by docs/PROMISES.md and by README, are those that are used;
 - that a number that NUMBERS below knows is what is counted, that a number in front of what figures.py counts is one of its counts, and that
