@@ -6,8 +6,8 @@
 Asked is, and what is not so is printed:
 
 - that each name in backquotes stands in the tree: a path leads to a file; `A::b` is a function or a variant of a type A; an option is one
-  of the program or script that it stands behind; any other name is a word of the sources (comments left out), of a script or of a file's
-  name, or one of ELSEWHERE below, with where it comes from. Words in capitals stand for something, and so do single letters.
+  of the program or script that it stands behind; any other name is a word of the sources (comments left out), of a script, of bindings/
+  or of a file's name, or one of ELSEWHERE below, with where it comes from. Words in capitals stand for something, and so do single letters.
 - that what the tables of promises in docs/PROMISES.md and the table of laws in docs/READING.md name as clauses are functions, types or
   clauses of the crate of that row; that a clause stands behind a function that has it; and that each crate of the library has promises,
   but for UNPROMISED below;
@@ -15,8 +15,8 @@ Asked is, and what is not so is printed:
   each file of its folder;
 - that the commands in docs/PROGRAMS.md, and the statuses with their lines there and in README, are those of rpki_ca, and in the help of
   rpkica, and that README's checks are those of docs/PROGRAMS.md; that the examples which a help names are there, that the line of `make` in
-  docs/PROGRAMS.md is its stored case's, that the lines which README shows of a trial are written so, and that stored cases answer what
-  README says of the message of OpenSSL;
+  docs/PROGRAMS.md is its stored case's, that the lines which README shows of a trial are written so, that stored cases answer what README
+  says of the message of OpenSSL, and that the names of the package for Python alone are those with which it raises errors;
 - that docs/ARCHITECTURE.md has each crate of crates.txt, lowest first, and says of none that it stands on a crate which it doesn't use;
   that the crates that are trusted, by docs/PROMISES.md and by README, are those that are used;
 - that a number that NUMBERS below knows is what is counted, that a number in front of what figures.py counts is one of its counts, and that
@@ -71,7 +71,7 @@ ELSEWHERE = {
     "OpenSSL prints": "eContent notBefore notAfter Nov GMT X509v3 Authority Subject lastUpdate nextUpdate signerInfos signedAttrs "
     "subjectKeyIdentifier messageDigest signingTime certificates crls cont d",
     "the standards": "sid cA thisUpdate",
-    "programs": "openssl cms asn1parse xxd sha256sum pkcs11-tool rt ci",
+    "programs": "openssl cms asn1parse xxd sha256sum pkcs11-tool rt ci make pip cargo parallel pipe",
     "the toolchain": "rattle kit logic dac8208d650f15bf Lts antt goal Goals Given the_type",
     "the surroundings": "RT_JOBS LD_PRELOAD kernel.sched_autogroup_enabled nice malloc ipaddress",
     "the Rust crate": "bcder chrono rpki crypto compat validate_ta validate_ee BufRead IntoSource src/ca/ "
@@ -233,10 +233,12 @@ SAID = {
     "years": "1970 9999",
     "bits of numbers, and of RSA keys": "32 2048 4096",
     "the statuses of refusals, which are compared in statuses": "14 15",
+    "the status of the library alone, in crates/rpki_c/specs/HandingOver.antt": "16",
     "days of an anchor, and bits of a key, by the command calmizsed": "365 2048",
     "of a word on Linux": "131071",
     "minutes that a gate took, on the machines that CONTRIBUTING.md tells of": "21 45 46 53 55 84 106 110 130 197 244 320 472",
     "the status of a trial that can't be made, by tools/run/trial.py": "125",
+    "the status of an interrupted program": "130",
     "of a first run and a trial, by bench/first_run.py": "30 40 71",
     "instructions an octet, by bench/instructions.py": "22 48 49 82 88 97 142 147",
 }
@@ -262,6 +264,13 @@ def scripts():
     return [file for folder in (*FOLDERS, *COMMAND) for file in sorted((TOP / folder).glob("*")) if file.is_file()]
 
 
+def library_files():
+    """The files of the library for C, outside of crates/, and of what stands on it."""
+    found = [TOP / "Makefile", TOP / "calmizsed", *sorted((TOP / "include").glob("*.h"))]
+    return found + [file for file in sorted((TOP / "bindings").rglob("*")) if file.is_file() and "target" not in file.parts
+                    and file.suffix in ("", ".py", ".rs", ".c", ".toml")]
+
+
 class Names:
     """The names that stand in the tree."""
 
@@ -273,7 +282,7 @@ class Names:
         self.functions = {}  # of each name of a type: the names of its functions, variants and fields
         for name in self.tree.crates:
             self.add_crate(name)
-        for file in [*scripts(), TOP / ".ci" / "run", *(TOP / name for name in ("rpkica", "rpkiguard"))]:
+        for file in [*scripts(), *library_files(), TOP / ".ci" / "run", *(TOP / name for name in ("rpkica", "rpkiguard"))]:
             if file.is_file():
                 self.words |= set(NAME.findall(file.read_text(encoding="utf-8", errors="replace")))
         for file in TOP.rglob("*"):
@@ -365,7 +374,7 @@ class Looker:
 
     def paths(self, document, number, line):
         """What leads to a file of the tree has to be there."""
-        for path in re.findall(r"(?<![\w/.-])(?:\./)?((?:crates|tools|docs|examples|bench|\.ci)/[\w./-]*\w)", line):
+        for path in re.findall(r"(?<![\w/.-])(?:\./)?((?:crates|tools|docs|examples|bench|bindings|include|\.ci)/[\w./-]*\w)", line):
             if not (TOP / path).exists() and not set(re.split(r"[/.]", path)) & STANDS_FOR:
                 self.say(document, number, f"{path} is not there")
         for path in re.findall(r"\]\(([^)#]+)\)", line):
@@ -438,7 +447,7 @@ class Looker:
 
     def words_of_scripts(self):
         """The texts of all scripts, and of the programs' help."""
-        files = [file for file in scripts() if file.suffix == ".py"]
+        files = [file for file in [*scripts(), *library_files()] if file.suffix == ".py" or file.name == "check"]
         files += [*CRATES.glob("*/src/main.rt"), CRATES / "command_line/src/lib.rt"]
         return "\n".join(file.read_text(encoding="utf-8") for file in files)
 
@@ -559,6 +568,7 @@ def cells_of(row):
 def statuses(looker):
     """The tables of statuses in README and docs/PROGRAMS.md."""
     of_ca, _, of_keys = PROGRAMS.read_text(encoding="utf-8").partition("## Under real keys")
+    of_keys, _, of_package = of_keys.partition("## With the library for C")
     without = "KeyNotFound", "Signer"
     keys = {name: status for name, status in keys_refusals().items() if name not in without}
     for document, text, here in (
@@ -568,10 +578,24 @@ def statuses(looker):
         for name in sorted(set(told) | set(here)):
             if told.get(name) != here.get(name) and not (text is of_keys and name in ("ReadFault", "OutOfMemory")):
                 looker.say(document, 0, f"status of {name}: {told.get(name)} in the table, {here.get(name)} in the code")
+    names_of_package(looker, of_package)
     program = source("rpkica", "main.rt")
     for name, status in refusals().items():
         if not re.search(rf"^ *{status}  (?:[\w, ]*\b)?{name}\b|^        (?:[\w, ]*\b)?{name}\b", program, re.MULTILINE):
             looker.say(PROGRAMS, 0, f"the help of rpkica doesn't have {status} {name}")
+
+
+def names_of_package(looker, text):
+    """The names that docs/PROGRAMS.md gives the package for Python are those with which it raises errors, but for the library's."""
+    files = sorted((TOP / "bindings" / "python" / "src").rglob("*.py"))
+    source_text = "\n".join(file.read_text(encoding="utf-8") for file in files).replace("WRITE_FAULT,", "11,")
+    here = set(re.findall(r'raise \w+\("([A-Z]\w+)", (\d+),', source_text))
+    here |= {(name, "2") for name in re.findall(r'return .*_base64\(.*"(\w+)"\)', source_text)}
+    rows = re.findall(r"^\| ([\d, ]+) \| ((?:`[A-Z]\w+`(?:, )?)+) \|", text, re.MULTILINE)
+    told = {(name, status) for statuses, names in rows for name in re.findall(r"`(\w+)", names) for status in statuses.split(", ")}
+    known = {(name, str(status)) for name, status in keys_refusals().items()}
+    for name, status in sorted((here - known) ^ (told - known)):
+        looker.say(PROGRAMS, 0, f"{name} with status {status} is told of the package, or raised, and not the other")
 
 
 def checks(looker):
@@ -601,7 +625,7 @@ def summary(looker):
 def trial(looker):
     """What README shows of a trial is the content of the example, and the line that tools/run/trial.py writes."""
     text = README.read_text(encoding="utf-8")
-    for line in re.findall(r"^```xml\n(.*?)\n```$", text, re.MULTILINE | re.DOTALL) or ["no line of XML"]:
+    for line in re.findall(r"^<msg .*$", text, re.MULTILINE) or ["no line of XML"]:
         if line.encode() not in octets_of("query-list.hex"):
             looker.say(README, line_of(text, line), f"{line} is not the content of examples/query-list.hex")
     said = re.search(r'print\(f"([^"]*a trial[^"]*)"', (TOP / "tools" / "run" / "trial.py").read_text(encoding="utf-8"))
