@@ -11,7 +11,7 @@ const HELP: &[u8] = b"\
 rpkikeys receives and makes messages under real keys. It holds no key and knows
 no signature scheme: it asks which signatures hold, takes the answers, writes
 what is to be signed, and takes the signatures. OpenSSL can stand behind it, or
-a device: tools/rpkikeys.py does both.
+a device. The command calmizsed asks both, over the library for C.
 
 Examples run in the top folder of the repository, behind these two lines:
     key=$(cat examples/rsa-key.hex)
