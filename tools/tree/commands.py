@@ -14,9 +14,9 @@ A command goes on in the next line where its line ends in a backslash, `&&` or `
 
 The commands of a document run one after the other, in a folder of their own that has `examples/`, `tools/` and the programs, so what one
 writes the next may read, and nothing is left in the tree. Programs are tried without proofs (`RPKI_UNPROVED=1`; tools/run/trial.py), or
-are those of DIR, as DIR/rpkica or DIR/rpkica/out/rpkica; `./calmizsed` needs what `make` makes in out/c. A command that needs what is not
-there is skipped, and so are those that prove something, and those that read what a skipped one would have written. `--list` shows all
-commands, and runs none.
+are those of DIR, as DIR/rpkica or DIR/rpkica/out/rpkica; `./calmizsed` needs what `make` makes in out/c, or the shared object that
+CALMIZSED_LIBRARY names, and Python's package `cryptography`. A command that needs what is not there is skipped, and so are those that prove
+something, and those that read what a skipped one would have written. `--list` shows all commands, and runs none.
 
 A line is written for each command, and the last line counts them. The exit status is 1 where one differs, 2 where the words are wrong, or
 else 0."""
@@ -38,7 +38,7 @@ from typing import Iterator, NamedTuple, Optional
 
 TOP = pathlib.Path(__file__).resolve().parents[2]
 PROGRAMS = ("rpkica", "rpkiguard", "rpkiarch", "rpkipub", "rpkiup", "rpkikeys")
-LIBRARY = TOP / "out" / "c" / "libcalmizsed.so.0"
+LIBRARY = pathlib.Path(os.environ.get("CALMIZSED_LIBRARY") or TOP / "out" / "c" / "libcalmizsed.so.0")
 SECONDS = 1200
 LEFT_OUT = "..."
 BLOCK = re.compile(r"^( *)```sh\n(.*?)^\1```$", re.MULTILINE | re.DOTALL)
