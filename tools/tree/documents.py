@@ -122,7 +122,7 @@ def values_in(octets):
         start, constructed, length, place = place, octets[place] & 0x20, octets[place + 1], place + 2
         if length > 127:
             size = length - 128
-            length = int.from_bytes(octets[place : place + size], "big")
+            length = int.from_bytes(octets[place:place + size], "big")
             place += size
         count, last = count + 1, (start, place + length - 1)
         place += 0 if constructed else length
