@@ -13,7 +13,7 @@ import subprocess
 import sys
 
 import pytest
-from launcher import AT_SIGNED, CHILD_REQUEST, KEY, LAUNCHER, LIST, PLACES, QUERY, Word, run
+from launcher import AT_SIGNED, CHILD_REQUEST, KEY, LAUNCHER, LIST, PLACES, QUERY, Ended, Word, run
 from support import EXAMPLES, SIGNED_AT, TREE, Keys, openssl, request_shown
 
 import calmizsed
@@ -328,6 +328,67 @@ def test_a_file_that_can_not_be_written(tmp_path: pathlib.Path) -> None:
         ended = run(*words, name)
         assert (ended.status, ended.out) == (11, b"") and ended.said.startswith("calmizsed: WriteFault: "), ended
     assert run(*words, "/dev/stdout") == (0, LIST, "")
+
+
+def started(words: str) -> Ended:
+    """A run by the shell, which says where its streams lead."""
+    ended = subprocess.run(
+        ["sh", "-c", f"'{LAUNCHER}' {words}"], stdout=subprocess.PIPE, stderr=subprocess.PIPE, check=False, cwd=EXAMPLES,
+        env={**os.environ, "PYTHON": sys.executable})
+    return Ended(ended.returncode, ended.stdout, ended.stderr.decode("utf-8"))
+
+
+RECEIVE = f"receive publication rsa-query.der --key rsa-issuer-public.pem --at {SIGNED_AT}"
+
+
+def test_standard_input_that_can_not_be_read() -> None:
+    """A folder, with which Python wouldn't begin, and a closed one; who reads a file needs none."""
+    folder = "calmizsed: NoFile: standard input: a folder, where a file is wanted\n"
+    assert started("inspect - < .") == (2, b"", folder)
+    assert started("inspect - <&-") == (2, b"", "calmizsed: NoFile: standard input: it is closed\n")
+    assert started(f"{RECEIVE} -q <&-") == (0, LIST, "")
+
+
+@pytest.mark.skipif(not os.path.exists("/dev/full"), reason="there is no full device")
+def test_standard_output_that_can_not_be_written() -> None:
+    """A full device, and a closed one: each command says so."""
+    words = [RECEIVE, "inspect rsa-query.der", f"explain rsa-query.der --key rsa-issuer-public.pem --at {SIGNED_AT}",
+             "setup read rsa-child-request.xml --at 1800000000", "request verify rsa-request.hex"]
+    for one in words:
+        for where, why in (("> /dev/full", "No space left on device"), (">&-", "it is closed")):
+            ended = started(f"{one} -q {where}")
+            assert ended == (11, b"", f"calmizsed: WriteFault: standard output: {why}\n")
+    ended = started(f"{RECEIVE.replace(str(SIGNED_AT), '5')} --json > /dev/full")
+    assert (ended.status, ended.said.count("calmizsed: "), ended.said.count("\n")) == (6, 2, 2)
+
+
+@pytest.mark.parametrize("where", ["2> /dev/full", "2>&-"])
+def test_standard_error_that_can_not_be_written(where: str) -> None:
+    """The result is written, and the status tells."""
+    if "full" in where and not os.path.exists("/dev/full"):
+        pytest.skip("there is no full device")
+    assert started(f"{RECEIVE} {where}") == (0, LIST, "")
+    assert started(f"{RECEIVE.replace(str(SIGNED_AT), '5')} {where}") == (6, b"", "")
+
+
+def test_a_certificate_that_is_none(keys: Keys, tmp_path: pathlib.Path) -> None:
+    """In a text of the provisioning protocol that has its form else."""
+    der = openssl("req", "-x509", "-key", keys.private("2048"), "-subj", "/CN=a", "-days", "2", "-outform", "DER")
+    held = provisioning.ResourceClass("one", "rsync://localhost/ca/a.cer", "", "10.0.0.0/8", "", calmizsed.now(), (), der)
+    text, spelled = provisioning.ResourceClassListResponse("parent", "child", (held,)).to_xml(), base64.b64encode(der).decode()
+    assert text.count(spelled) == 1
+    for certificate, status in ((der, 0), (der[:-1], 5), (b"none", 5)):
+        (tmp_path / "text").write_text(text.replace(spelled, base64.b64encode(certificate).decode()))
+        ended = run("create", "provisioning", tmp_path / "text", "--key", keys.private("2048"))
+        assert ended.status == status, ended
+        assert status == 0 or (ended.out == b"" and ended.said.startswith("calmizsed: CertSyntax: "))
+
+
+def test_an_input_that_is_longer_than_the_programs_take(tmp_path: pathlib.Path) -> None:
+    """The library has no limit of 2^26 octets: what stands behind a message is no part of it."""
+    octets = QUERY.read_bytes()
+    (tmp_path / "long").write_bytes(octets + bytes((1 << 26) + 1 - len(octets)))
+    assert run("receive", "publication", tmp_path / "long", "--key", KEY, "--at", SIGNED_AT, "-q") == (0, LIST, "")
 
 
 def test_the_protocol_as_an_option() -> None:

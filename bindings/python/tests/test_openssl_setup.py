@@ -219,6 +219,19 @@ def test_the_question_of_a_request(keys: Keys) -> None:
             assert said(f"{name}_verify", given, of, answers)[0] == wanted
 
 
+@pytest.mark.parametrize("name", ["2048", "4096"])
+def test_new_requests_of_openssl(keys: Keys, tmp_path: pathlib.Path, name: str) -> None:
+    """By itself and in an issue request, the key is the one that signed; with a bit of the signature changed there is none."""
+    (tmp_path / "child.cnf").write_text(rsa_messages.OF_CHILD)
+    words = "-config", tmp_path / "child.cnf", "-key", keys.private(name), "-subj", "/CN=Carol", "-outform", "DER"
+    der = openssl("req", "-new", *words)
+    issue = rsa_messages.ISSUE.format(base64.encodebytes(der).decode()).encode()
+    assert request.verify(der) == request.verify_issue(issue) == keys.der(name)
+    with pytest.raises(CheckFailed) as raised:
+        request.verify(flipped(der, len(der) - 1))
+    assert raised.value.name == "Signature"
+
+
 def test_requests_of_openssl() -> None:
     """By itself and in an issue request, the key is the one that OpenSSL finds."""
     der = bytes.fromhex((EXAMPLES / "rsa-request.hex").read_text())

@@ -9,7 +9,7 @@ import pathlib
 import secrets
 import stat
 import sys
-from typing import Optional
+from typing import Optional, TextIO
 
 from calmizsed import files, keys
 from calmizsed.errors import CalmizsedError
@@ -17,6 +17,21 @@ from calmizsed.files import FileError
 
 STANDARD_INPUT = "-"
 WRITE_FAULT = 11
+
+
+def is_terminal(stream: Optional[TextIO]) -> bool:
+    """Whether a stream is a terminal; a closed one is none."""
+    return stream is not None and stream.isatty()
+
+
+def tell(text: str) -> None:
+    """Says something on standard error, where that can be written to."""
+    if sys.stderr is None:
+        return
+    try:
+        print(f"calmizsed: {text}", file=sys.stderr, flush=True)
+    except OSError:
+        os.dup2(os.open(os.devnull, os.O_WRONLY), sys.stderr.fileno())
 
 
 def shown_name(name: str) -> str:
@@ -32,6 +47,8 @@ def with_name(error: CalmizsedError, name: str) -> CalmizsedError:
 
 def read(name: str) -> bytes:
     """The octets of a file, or of standard input."""
+    if name == STANDARD_INPUT and sys.stdin is None:
+        raise FileError("NoFile", 2, "standard input: it is closed")
     try:
         octets = sys.stdin.buffer.read() if name == STANDARD_INPUT else pathlib.Path(name).read_bytes()
     except IsADirectoryError:
@@ -68,7 +85,7 @@ def public_key(name: str) -> bytes:
 
 def may_ask(asked: argparse.Namespace) -> bool:
     """Whether a passphrase can be typed: standard input is a terminal, and nothing else is read from it."""
-    return sys.stdin is not None and sys.stdin.isatty() and STANDARD_INPUT not in (asked.key, getattr(asked, "file", None))
+    return is_terminal(sys.stdin) and STANDARD_INPUT not in (asked.key, getattr(asked, "file", None))
 
 
 def typed_passphrase(name: str) -> bytes:
@@ -131,6 +148,8 @@ def write(output: Optional[str], octets: bytes) -> None:
         if output is not None:
             write_file(output, octets)
             return
+        if sys.stdout is None:
+            raise FileError("WriteFault", WRITE_FAULT, "standard output: it is closed")
         sys.stdout.buffer.write(octets)
         sys.stdout.buffer.flush()
     except BrokenPipeError:

@@ -12,6 +12,7 @@ from xml.etree import ElementTree
 
 from calmizsed import CheckResult, Inspection, Kind, content, read
 from calmizsed._messages import shown_time
+from calmizsed.command.inputs import is_terminal
 from calmizsed.errors import CalmizsedError
 
 COLOURS = {"ok": "32", "FAILED": "31;1", "not reached": "33"}
@@ -23,7 +24,7 @@ INDENT = 15
 
 def columns(output: Optional[str]) -> Optional[int]:
     """How wide the terminal is that results are shown on; None where they go elsewhere, and no line is broken."""
-    if output is not None or not sys.stdout.isatty():
+    if output is not None or not is_terminal(sys.stdout):
         return None
     return max(shutil.get_terminal_size((80, 24)).columns, LEAST_COLUMNS)
 
@@ -114,7 +115,7 @@ def inspection(shown: Inspection, counted: dict[str, Any], width: Optional[int] 
 
 def bar(done: int, count: int) -> None:
     """How far work on many files is, on a terminal."""
-    if sys.stderr.isatty():
+    if is_terminal(sys.stderr):
         full = BAR * done // max(count, 1)
         end = "\r" + " " * (BAR + 24) + "\r" if done == count else ""
         sys.stderr.write(f"\r[{'#' * full}{'.' * (BAR - full)}] {done}/{count}{end}")

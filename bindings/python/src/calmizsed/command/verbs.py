@@ -19,7 +19,7 @@ from calmizsed import files, keys, setup
 from calmizsed._messages import shown_time
 from calmizsed._values import moment_of
 from calmizsed.command import shown
-from calmizsed.command.inputs import decoded, public_key, signer, write
+from calmizsed.command.inputs import decoded, is_terminal, public_key, signer, tell, write
 from calmizsed.command.words import KINDS
 from calmizsed.errors import CalmizsedError
 from calmizsed.files import FileError
@@ -36,7 +36,7 @@ def verifier(asked: argparse.Namespace) -> keys.RsaVerifier:
 def say(asked: argparse.Namespace, text: str) -> None:
     """Tells the user something, on standard error."""
     if not asked.quiet:
-        print(f"calmizsed: {text}", file=sys.stderr)
+        tell(text)
 
 
 def write_text(asked: argparse.Namespace, text: str) -> None:
@@ -58,7 +58,7 @@ def in_pem(label: str, octets: bytes) -> str:
 
 def write_made(asked: argparse.Namespace, label: str, octets: bytes) -> int:
     """Writes what was made, in the form that is asked for."""
-    if asked.form == "der" and asked.output is None and sys.stdout.isatty():
+    if asked.form == "der" and asked.output is None and is_terminal(sys.stdout):
         raise FileError("Terminal", 2, "DER isn't for a terminal: give -o OUT, or --form")
     forms = {
         "der": octets,
