@@ -119,14 +119,14 @@ def authority(folder, moment):
     for name in "entity", "revoked":
         openssl(folder, "req", "-new", "-config", "ca.cnf", "-key", "entity.pem", "-subj", f"/CN={name}", "-out", f"{name}.csr")
         openssl(folder, "ca", "-batch", "-config", "ca.cnf", "-notext", "-in", f"{name}.csr", "-out", f"{name}.crt",
-            "-startdate", spelled(moment - 300), "-enddate", spelled(moment + 300))
+                "-startdate", spelled(moment - 300), "-enddate", spelled(moment + 300))
     return key
 
 
 def list_of(folder, moment):
     """A CRL of the authority, in DER."""
     made = openssl(folder, "ca", "-gencrl", "-config", "ca.cnf",
-        "-crl_lastupdate", spelled(moment - 300), "-crl_nextupdate", spelled(moment + 300))
+                   "-crl_lastupdate", spelled(moment - 300), "-crl_nextupdate", spelled(moment + 300))
     return openssl(folder, "crl", "-outform", "DER", data=made)
 
 
@@ -166,7 +166,7 @@ def signed(folder, text):
     """The text in a message, without CRLs."""
     (folder / "content").write_text(text)
     return openssl(folder, "cms", "-sign", "-binary", "-nodetach", "-in", "content", "-signer", "entity.crt", "-inkey", "entity.pem",
-        "-md", "sha256", "-keyid", "-nosmimecap", "-econtent_type", CONTENT_TYPE, "-outform", "DER")
+                   "-md", "sha256", "-keyid", "-nosmimecap", "-econtent_type", CONTENT_TYPE, "-outform", "DER")
 
 
 def made(folder, name, kind, text, named=RSA, second=False):
