@@ -1,5 +1,5 @@
 -- Lists of records: what is written of them in turn, and which of them doesn't fit.
-use Rattle.std.proofs.Common.{◌≡◌, ◌++◌, ◌<◌, ℕ, zero, suc, List, [], ◌∷◌, arith, append_assoc, length, get_or, refl, sym, ap, subst, ◌∙◌}
+use Rattle.std.proofs.Common.{◌≡◌, ◌++◌, ◌<◌, ℕ, zero, suc, List, [], ◌∷◌, arith, append_assoc, append-nil, length, get_or, refl, sym, ap, subst, ◌∙◌}
 use Rattle.rpki_base.specs.PublicKey.{KeyFields, spelled_key}
 use Rattle.rpki_external.specs.Question.{QuestionsFields, SignedPartFields}
 use Rattle.rpki_external.specs.Spelling.{digest_of}
@@ -45,25 +45,26 @@ records_append [] behind = refl
 records_append (t ∷ front) behind = ap (λ (more : List ℕ). record_of t ++ more) (records_append front behind) ∙ sym (append_assoc (record_of t) (records_of front) (records_of behind))
 
 -- what is written in turn is written of all
-pub written_in_turn : (q : QuestionsFields) (own parts keys all : List ℕ) → own ≡ records_of (own_records q.own)
-    → parts ≡ own ++ records_of (part_records q.parts) → keys ≡ parts ++ records_of (key_records q.keys)
-    → all ≡ keys ++ record_of (tagged digest_tag (digest_of q)) → all ≡ records_of (question_records q)
-written_in_turn q own parts keys all o p k a = rw (a, k, p, o) (sym whole)
-  where
-    o' : List ℕ
-    o' = records_of (own_records q.own)
+module _ (q : QuestionsFields) where
+  behind : List Tagged
+  behind = key_records q.keys ++ tagged digest_tag (digest_of q) ∷ []
 
-    p' : List ℕ
-    p' = records_of (part_records q.parts)
+  spelled : records_of (question_records q) ≡ records_of (own_records q.own) ++ (records_of (part_records q.parts) ++ (records_of (key_records q.keys) ++ record_of (tagged digest_tag (digest_of q))))
+  unfolding behind
+  spelled =
+      records_append (own_records q.own) (part_records q.parts ++ behind)
+      ∙ ap (λ (l : List ℕ). records_of (own_records q.own) ++ l) (records_append (part_records q.parts) behind
+      ∙ ap (λ (l : List ℕ). records_of (part_records q.parts) ++ l) (records_append (key_records q.keys) (tagged digest_tag (digest_of q) ∷ [])
+      ∙ ap (λ (l : List ℕ). records_of (key_records q.keys) ++ l) (append-nil (record_of (tagged digest_tag (digest_of q))))))
 
-    k' : List ℕ
-    k' = records_of (key_records q.keys)
-
-    d : List Tagged
-    d = tagged digest_tag (digest_of q) ∷ []
-
-    whole : records_of (question_records q) ≡ ((o' ++ p') ++ k') ++ record_of (tagged digest_tag (digest_of q))
-    whole = simp (records_append, append_assoc)
+  pub written_in_turn : (own parts keys all : List ℕ) → own ≡ records_of (own_records q.own)
+      → parts ≡ own ++ records_of (part_records q.parts) → keys ≡ parts ++ records_of (key_records q.keys)
+      → all ≡ keys ++ record_of (tagged digest_tag (digest_of q)) → all ≡ records_of (question_records q)
+  written_in_turn own parts keys all o p k a =
+      let last = record_of (tagged digest_tag (digest_of q)) in
+      a ∙ (ap (λ (l : List ℕ). l ++ last) (k ∙ ap (λ (l : List ℕ). l ++ records_of (key_records q.keys)) (p ∙ ap (λ (l : List ℕ). l ++ records_of (part_records q.parts)) o))
+      ∙ (append_assoc (records_of (own_records q.own) ++ records_of (part_records q.parts)) (records_of (key_records q.keys)) last
+      ∙ (append_assoc (records_of (own_records q.own)) (records_of (part_records q.parts)) (records_of (key_records q.keys) ++ last) ∙ sym spelled)))
 
 -- where all records of questions fit, those of the parts do
 pub parts_fit : (q : QuestionsFields) → AllFit (question_records q) → AllFit (part_records q.parts)

@@ -1,5 +1,5 @@
 -- Arguments and octets that are read as nothing.
-use Rattle.std.proofs.Common.{◌≡◌, ◌≢◌, refl, Err, ℕ, ℤ, Option, None, Some, List, sym, ap, ◌∙◌, subst}
+use Rattle.std.proofs.Common.{◌≡◌, ◌≢◌, refl, Err, ℕ, Option, None, Some, List, sym, ap, ◌∙◌, subst}
 use Rattle.std.specs.Prelude.{is_none, if◌then◌else◌}
 use Rattle.std.specs.Str.{IsUtf8}
 use Rattle.rpki_base.specs.PublicKey.{KeyFields, public_key}
@@ -19,9 +19,10 @@ use Rattle.rpki_der.specs.declared.mode.Mode.TheVariants.{Ber}
 use Rattle.rpki_replay.proofs.Judging.{no_signed}
 use Rattle.rpki_sigmsg.specs.Message.{signed_message}
 use Rattle.rpki_external.specs.Running.{refusal_of_no_message}
-use Rattle.rpki_c.specs.Calls.{ReadsContent}
+use Rattle.rpki_ca.specs.Acceptance.{HoldsNoSigned}
+use Rattle.rpki_c.specs.Calls.{ReadsContent, no_cms}
 use Rattle.rpki_c.specs.HandingOver.{out_of_memory}
-use Rattle.rpki_c.specs.Arguments.{IsKeyIn, IsPlanIn, IsRequestPlanIn, IsRsyncIn, IsUnread}
+use Rattle.rpki_c.specs.Arguments.{IsKeyIn}
 
 malformed_key : (octets : List ℕ) → RefusesWhole public_key Der octets der.Malformed → (key : KeyFields) → IsKeyIn octets key → ⊥
 unfolding RefusesWhole
@@ -42,22 +43,12 @@ not_lawful kind octets none is =
     let some : lawful kind octets ≡ Some octets = ap (λ (fault : Option Error). if is_none fault then Some octets else None) is in
     none_some octets (sym (not_text kind octets none) ∙ some)
 
--- ---- plans, one of whose parts is read as nothing
-
-pub plan_issuing_key : (when : ℤ) (serial issuing_key one_off_key : List ℕ) → IsUnread (IsKeyIn issuing_key) → IsUnread (IsPlanIn when serial issuing_key one_off_key)
-plan_issuing_key when serial issuing_key one_off_key none p is = none p.issuing_key is.issuing_key_is
-
-pub plan_key : (when : ℤ) (serial issuing_key one_off_key : List ℕ) → IsUnread (IsKeyIn one_off_key) → IsUnread (IsPlanIn when serial issuing_key one_off_key)
-plan_key when serial issuing_key one_off_key none p is = none p.key is.key_is
-
-pub request_key : (key repository manifest notify : List ℕ) → IsUnread (IsKeyIn key) → IsUnread (IsRequestPlanIn key repository manifest notify)
-request_key key repository manifest notify none p is = none p.key is.key_is
-
-pub request_manifest : (key repository manifest notify : List ℕ) → IsUnread (IsRsyncIn manifest) → IsUnread (IsRequestPlanIn key repository manifest notify)
-request_manifest key repository manifest notify none p is = none p.rpki_manifest is.manifest_is
-
 -- ---- octets that begin with no signed message
 
 pub no_content : (octets : List ℕ) (e : DecodeError) → RefusesOctets (signed_message Ber) Ber octets e → refusal_of_no_message e ≢ out_of_memory → ReadsContent octets (Err (refusal_of_no_message e))
 no_content octets der.Malformed refused other = no_signed octets refused
 no_content octets der.OutOfMemory refused other = absurd (other refl)
+
+pub nothing_asked : (octets : List ℕ) (e : DecodeError) → (e ≡ der.Malformed → HoldsNoSigned octets) → refusal_of_no_message e ≢ out_of_memory → (refusal_of_no_message e ≡ no_cms) × HoldsNoSigned octets
+nothing_asked octets der.Malformed none other = (refl, none refl)
+nothing_asked octets der.OutOfMemory none other = absurd (other refl)

@@ -53,6 +53,10 @@ OnLineSo is (Err refusal) = is (Err refusal)
 abbrev pub no_xml : KeysRefusal
 no_xml = keys.General refusals.XmlError
 
+-- octets begin with no signed message
+abbrev pub no_cms : KeysRefusal
+no_cms = keys.General refusals.CmsDecode
+
 -- the content has another digest than the signed one
 abbrev pub other_digest : KeysRefusal
 other_digest = keys.General (refusals.Validation 2)
@@ -69,8 +73,7 @@ AreRecords list (Err refusal) = (refusal ≡ too_long) × (AllFit list → ⊥)
 -- of the signed message with which the octets begin, under these keys
 abbrev pub AsksMessage : List ℕ → List KeyFields → Written → Type 0
 AsksMessage octets list answer =
-    IsRefusedAs (λ refusal. (refusal ≡ keys.General refusals.CmsDecode) × HoldsNoSigned octets)
-    answer
+    IsRefusedAs (λ refusal. (refusal ≡ no_cms) × HoldsNoSigned octets) answer
     ⊎ ((q : QuestionsFields) × AreAskedOf octets list q × AreRecords (question_records q) answer)
 
 -- `message_questions`

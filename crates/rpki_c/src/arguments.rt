@@ -240,7 +240,6 @@ fn serial_in(octets: &[u8]) -> Result<Serial, KeysRefusal>
 }
 
 // The plan of a message.
-#[tactic(auto, using(crate::proofs::Unread::plan_issuing_key, crate::proofs::Unread::plan_key))]
 pub(crate) fn plan_in(
     alloc: Global,
     when: i64,
@@ -342,7 +341,6 @@ fn notify_in(alloc: Global, octets: &[u8]) -> Result<Option<Https>, KeysRefusal>
 }
 
 // The plan of a certificate request.
-#[tactic(auto, using(crate::proofs::Unread::request_key, crate::proofs::Unread::request_manifest))]
 pub(crate) fn request_plan_in(
     alloc: Global,
     key: &[u8],

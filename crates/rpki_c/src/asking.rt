@@ -1,6 +1,8 @@
 //! What is asked of signed messages, of trust anchors and of certificate requests.
 
 ghost use Rattle.std.specs.Prelude.{◌≡◌, ◌≢◌, Ok, Err, IfErr, IfOk};
+ghost use Rattle.rpki_ca.specs.Acceptance.{HoldsNoSigned};
+ghost use Rattle.rpki_external.specs.Receiving.{AreAskedOf};
 ghost use Rattle.rpki_c.specs.Calls as spec;
 ghost use Rattle.rpki_c.specs.HandingOver.{HandsOver, out_of_memory};
 
@@ -9,8 +11,31 @@ use crate::handing_over::hand_over;
 use crate::outcome::Outcome;
 use crate::records::question_records;
 use crate::texts::{no_message, request_at, request_in};
-use rpki_external::{KeysRefusal, questions, request_questions, setup_questions};
+use rpki_base::PublicKey;
+use rpki_external::{KeysRefusal, Questions, questions, request_questions, setup_questions};
 use std::alloc::Global;
+
+// The questions of a signed message under keys.
+fn asked(alloc: Global, octets: &[u8], keys: &[PublicKey]) -> Result<Questions, KeysRefusal>
+    ensures ok { IfOk result (AreAskedOf octets.now keys.now) }
+    ensures err { IfErr result (λ e. e ≢ out_of_memory
+        → (e ≡ spec.no_cms) × HoldsNoSigned octets.now) }
+{
+    match questions(alloc, octets, keys) {
+        Ok(questions) => Ok(questions),
+        Err(error) => Err(no_message(error)),
+    }
+}
+
+// Their records.
+fn asked_records(alloc: Global, octets: &[u8], keys: &[PublicKey]) -> Result<Vec<u8>, KeysRefusal>
+    ensures ok { IfOk result (λ text. spec.AsksMessage octets.now keys.now (Ok text.items)) }
+    ensures err { IfErr result (λ e. e ≢ out_of_memory
+        → spec.AsksMessage octets.now keys.now (Err e)) }
+{
+    let questions = asked(alloc, octets, keys)?;
+    question_records(alloc, &questions)
+}
 
 // The records of the questions of a signed message.
 fn ask_message(alloc: Global, octets: &[u8], keys: &[u8]) -> Result<Vec<u8>, KeysRefusal>
@@ -19,10 +44,7 @@ fn ask_message(alloc: Global, octets: &[u8], keys: &[u8]) -> Result<Vec<u8>, Key
         → spec.AsksMessageIn octets.now keys.now (Err e)) }
 {
     let keys = keys_in(alloc, keys)?;
-    match questions(alloc, octets, &keys) {
-        Ok(questions) => question_records(alloc, &questions),
-        Err(error) => Err(no_message(error)),
-    }
+    asked_records(alloc, octets, &keys)
 }
 
 /// The questions of the signed message with which `message` begins, in BER, under the one to eight keys that `keys` are in DER, one

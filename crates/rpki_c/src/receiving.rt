@@ -1,6 +1,7 @@
 //! What is received of signed messages, and what is in them.
 
-ghost use Rattle.std.specs.Prelude.{◌≡◌, ◌≢◌, Ok, Err, IfErr, IfOk, map};
+ghost use Rattle.std.specs.Prelude.{◌≡◌, ◌≢◌, ◌≤◌, Ok, Err, IfErr, IfOk, length, map};
+ghost use Rattle.rpki_common.specs.Limits.{most_keys};
 ghost use Rattle.sha2.specs.Sha256.{sha256};
 ghost use Rattle.rpki_c.specs.Arguments.{octet_of};
 ghost use Rattle.rpki_c.specs.Calls as spec;
@@ -27,6 +28,8 @@ fn received(
     last: Option<Time>,
     answers: &Answers,
 ) -> Result<Receipt, KeysRefusal>
+    requires some { 1 ≤ length keys.now }
+    requires few { length keys.now ≤ most_keys }
     ensures ok { IfOk result (λ r.
         spec.Receives kind message.now keys.now when last answers.now (Ok r)) }
     ensures err { IfErr result (λ e. e ≢ out_of_memory

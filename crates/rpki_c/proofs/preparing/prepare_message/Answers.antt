@@ -1,6 +1,8 @@
-use Rattle.std.proofs.Common.{inl, inr, ap, Err}
+use Rattle.std.proofs.Common.{◌≢◌, inl, inr, ap, Err, Ok}
 use Rattle.std.proofs.lemmas.Int.{to_z-of_z}
 use Rattle.std.proofs.lemmas.Result.{err_from_is_err_and, IfOk-weaker, IfErr-weaker}
+use Rattle.rpki_c.specs.Calls.{Prepares}
+use Rattle.rpki_c.specs.HandingOver.{out_of_memory}
 use Rattle.rpki_c.proofs.preparing.prepare_message.Goals as goal
 
 pub returns-in_err-kind-clause-err : goal.returns-in_err-kind-clause-err
@@ -28,7 +30,8 @@ returns-clause-ok c =
     let when = c.ranges.when in
     let kind_read = simp to_z-of_z at c.in_ok-kind.ensures.ok in
     let plan_read = simp to_z-of_z at c.in_ok-plan.ensures.ok in
-    IfOk-weaker c.message_to_sign.result _ _ (λ text so. inl (_, kind_read, inl (_, plan_read, so))) c.message_to_sign.ensures.ok
+    IfOk-weaker c.message_to_sign.result (λ text. Prepares c.in_ok-kind.kind c.args.text.now c.in_ok-plan.plan (Ok text.items)) _
+    (λ text so. inl (c.in_ok-kind.kind, kind_read, inl (c.in_ok-plan.plan, plan_read, so))) c.message_to_sign.ensures.ok
 
 pub returns-clause-err : goal.returns-clause-err
 returns-clause-err c =
@@ -36,4 +39,5 @@ returns-clause-err c =
     let when = c.ranges.when in
     let kind_read = simp to_z-of_z at c.in_ok-kind.ensures.ok in
     let plan_read = simp to_z-of_z at c.in_ok-plan.ensures.ok in
-    IfErr-weaker c.message_to_sign.result _ _ (λ e so other. inl (_, kind_read, inl (_, plan_read, so other))) c.message_to_sign.ensures.err
+    IfErr-weaker c.message_to_sign.result (λ e. e ≢ out_of_memory → Prepares c.in_ok-kind.kind c.args.text.now c.in_ok-plan.plan (Err e)) _
+    (λ e so other. inl (c.in_ok-kind.kind, kind_read, inl (c.in_ok-plan.plan, plan_read, so other))) c.message_to_sign.ensures.err
