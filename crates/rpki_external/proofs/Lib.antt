@@ -16,3 +16,4 @@ pub mod Saying
 pub mod Accepted
 pub mod Delivering
 pub mod Succeeding
+pub mod HandedOut

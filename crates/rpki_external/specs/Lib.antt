@@ -1,5 +1,5 @@
 -- Said in contracts, and to be believed: Question, Spelling, Answers, Receiving, Verifying, Making,
--- Inspection, KeysRefusal, Words, Running.
+-- Inspection, KeysRefusal, Words, Running, Lengths.
 pub mod Question
 pub mod Spelling
 pub mod Answers
@@ -10,3 +10,4 @@ pub mod Inspection
 pub mod KeysRefusal
 pub mod Words
 pub mod Running
+pub mod Lengths

@@ -19,6 +19,7 @@ mod asked;
 mod inspecting;
 mod keys_refusal;
 mod law;
+mod lengths;
 mod output;
 mod preparing;
 mod preparing_anchors;
@@ -46,6 +47,7 @@ pub use law::{
     nothing_but_memory_is_wanting, right_answers_are_the_schemes, right_answers_decide,
     right_answers_deliver, right_answers_verify,
 };
+pub use lengths::questions_are_short;
 pub use preparing::{Plan, PrepareError, Signatures, finish, prepare};
 pub use preparing_anchors::{finish_anchor, prepare_anchor};
 pub use preparing_requests::{RequestPlan, finish_request, prepare_request};
