@@ -1,5 +1,5 @@
 -- Keys that are read one behind the other.
-use Rattle.std.proofs.Common.{◌≡◌, ◌≢◌, ◌≤◌, ◌<◌, ◌⊎◌, inl, inr, ℕ, zero, suc, Option, None, Some, List, [], ◌∷◌, ◌++◌, ◌+◌, length, append_assoc, append-nil, length-append, refl, sym, ap, subst, ◌∙◌, arith}
+use Rattle.std.proofs.Common.{◌≡◌, ◌<◌, ◌⊎◌, inl, inr, ℕ, Option, Some, List, [], ◌∷◌, ◌++◌, ◌+◌, length, append-nil, length-append, refl, sym, ap, subst, ◌∙◌, arith}
 use Rattle.rpki_common.proofs.Truths.{none_some}
 use Rattle.rpki_der.specs.Position.{Position, AtEnd}
 use Rattle.rpki_der.specs.Takes.{NoneStands, TakesOne}

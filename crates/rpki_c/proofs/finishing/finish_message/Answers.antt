@@ -1,6 +1,6 @@
 use Rattle.std.proofs.Common.{◌≢◌, inl, inr, ap, Err}
 use Rattle.std.proofs.lemmas.Int.{to_z-of_z}
-use Rattle.std.proofs.lemmas.Result.{err_from_is_err_and, IfOk-weaker, IfErr-weaker}
+use Rattle.std.proofs.lemmas.Result.{err_from_is_err_and, IfErr-weaker}
 use Rattle.rpki_external.specs.Running.{IsFinishAnswer}
 use Rattle.rpki_c.specs.Calls.{SpelledSo, signatures_of}
 use Rattle.rpki_c.specs.HandingOver.{out_of_memory}

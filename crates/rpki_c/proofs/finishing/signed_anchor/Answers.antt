@@ -1,4 +1,4 @@
-use Rattle.std.proofs.Common.{refl, rules, ◌∙◌}
+use Rattle.std.proofs.Common.{refl, rules}
 use Rattle.rpki_external.proofs.Saying.{anchor_line}
 use Rattle.rpki_c.proofs.finishing.signed_anchor.Goals as goal
 
