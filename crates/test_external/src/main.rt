@@ -127,13 +127,13 @@ fn toy_digits(alloc: Global, list: &[Question]) -> io::Result<String> {
     Ok(digits)
 }
 
-// Whether the questions of a message, keys aside, have at most three times as many digits as its octets have.
+// Whether the questions of a message, keys aside, have at most four times as many characters as it has octets.
 pub(crate) fn is_short(alloc: Global, octets: &[u8]) -> io::Result<bool> {
     let Ok(questions) = questions(alloc, octets, &[]) else {
         return Ok(true);
     };
     let text = questions.to_text(alloc).map_err(memory)?;
-    Ok(text.len() / 6 <= octets.len())
+    Ok(text.len() / 4 <= octets.len())
 }
 
 // The digest of the questions of the input's message under these keys, and the toy scheme's answers to them; where there is no message,
