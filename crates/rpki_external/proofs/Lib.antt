@@ -14,5 +14,7 @@ pub mod Answered
 pub mod Nones
 pub mod Saying
 pub mod Accepted
+pub mod Under
+pub mod EndingWell
 pub mod Delivering
 pub mod Succeeding
