@@ -1,5 +1,5 @@
 -- What is written under right answers, and that `receive` writes an accepted message.
-use Rattle.std.proofs.Common.{◌≡◌, ◌⊎◌, inl, inr, T, ℕ, ℤ, Bool, true, false, if◌then◌else◌, Option, None, Some, Result, Ok, Err, List, refl, sym, ap, subst, ◌∙◌}
+use Rattle.std.proofs.Common.{◌≡◌, inl, inr, T, ℕ, ℤ, Bool, true, false, if◌then◌else◌, Option, None, Some, Result, Ok, Err, List, refl, sym, ap, subst, ◌∙◌}
 use Rattle.std.specs.Prelude.{◌<ℤ◌}
 use Rattle.std.specs.Int.Signed.{lt_z}
 use Rattle.rpki_base.specs.Algorithm.{format_of}
@@ -7,7 +7,7 @@ use Rattle.rpki_base.specs.PublicKey.{KeyFields}
 use Rattle.rpki_base.specs.Scheme.{Relation}
 use Rattle.rpki_base.specs.declared.algorithm.SigningAlgorithm.{SigningAlgorithm}
 use Rattle.rpki_sigmsg.specs.Message.{MessageFields}
-use Rattle.rpki_ca.specs.Acceptance.{Accepted, RefusesReceipt, accepted_text, refusal_of}
+use Rattle.rpki_ca.specs.Acceptance.{Accepted, RefusesReceipt, accepted_text}
 use Rattle.rpki_ca.specs.Answer.{BringsAccepted, IsReceiveAnswer as IsAcceptedAnswer}
 use Rattle.rpki_ca.specs.Hexadecimal.{hexadecimal}
 use Rattle.rpki_ca.specs.Seen.{Seen}

@@ -1,14 +1,12 @@
 -- What ends with 0, but for want of memory and a fault of the sink.
-use Rattle.std.proofs.Common.{◌≡◌, ◌⊎◌, inl, inr, ℕ, Result, Ok, Err, List, refl, sym, ap, subst, ◌∙◌}
+use Rattle.std.proofs.Common.{◌≡◌, ◌⊎◌, inl, inr, ℕ, Ok, Err, List, refl, ap, subst, ◌∙◌}
 use Rattle.rpki_base.specs.PublicKey.{KeyFields}
 use Rattle.rpki_base.specs.Validity.{ValidityFields}
 use Rattle.rpki_ca.specs.Acceptance.{ReadsAs, accepted_text}
 use Rattle.rpki_ca.specs.Answer.{Ends}
-use Rattle.rpki_ca.specs.Creation.{RefusesInput}
 use Rattle.rpki_ca.specs.Seen.{Seen}
 use Rattle.rpki_ca.specs.declared.receiving.Kind.{Kind}
 use Rattle.rpki_ca.specs.declared.receiving.Received.{Received}
-use Rattle.rpki_ca.specs.declared.refusals.Refusal.{Refusal}
 use Rattle.rpki_ca.specs.declared.refusals.Refusal.TheVariants as refusals
 use Rattle.rpki_ca.proofs.Laws.{one_reading}
 use Rattle.rpki_ca.proofs.Reasons.{no_reason, reason}

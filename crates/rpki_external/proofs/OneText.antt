@@ -18,7 +18,7 @@ use Rattle.rpki_ca.specs.Words.{key_of_word}
 use Rattle.rpki_replay.proofs.Texts.{IsApart, hex_apart, key_spelled}
 use Rattle.rpki_external.specs.Answers.{AnswersFields, CountFor}
 use Rattle.rpki_external.specs.Question.{QuestionFields, QuestionsFields, SignedPartFields, own_question}
-use Rattle.rpki_external.specs.Spelling.{AreWritable, Collide, SameUnlessCollide, HasSpelling, IsWritablePart, IsWritableQuestion, digest_of, four_words, key_line, part_line, part_name, question_line, question_lines, questions_text}
+use Rattle.rpki_external.specs.Spelling.{AreWritable, SameUnlessCollide, HasSpelling, IsWritablePart, IsWritableQuestion, digest_of, four_words, key_line, part_line, part_name, question_line, question_lines, questions_text}
 use Rattle.rpki_external.specs.declared.question.Part.{Part}
 use Rattle.rpki_external.specs.declared.question.Part.TheVariants.{Attributes, Certificate, Crl, Anchor, Request}
 

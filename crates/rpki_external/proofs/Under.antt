@@ -1,5 +1,5 @@
 -- What is verified by right answers is verified under the scheme for which they are right.
-use Rattle.std.proofs.Common.{◌≡◌, ◌⊎◌, inl, inr, ℕ, ℤ, Option, None, Some, Result, Ok, Err, List, [], ◌∷◌, refl, sym, ap, subst, ◌∙◌}
+use Rattle.std.proofs.Common.{◌≡◌, inl, inr, ℕ, ℤ, Option, None, Some, Result, Ok, Err, List, [], ◌∷◌, refl, sym, ap, subst, ◌∙◌}
 use Rattle.rpki_base.specs.Algorithm.{format_of}
 use Rattle.rpki_base.specs.PublicKey.{KeyFields}
 use Rattle.rpki_base.specs.Scheme.{Relation}
@@ -23,8 +23,8 @@ use Rattle.rpki_replay.specs.declared.guard.GuardError.TheVariants as guard
 use Rattle.rpki_external.specs.Answers.{AnswersFields, AreRight}
 use Rattle.rpki_external.specs.Question.{QuestionsFields, anchor_questions, listed, request_questions}
 use Rattle.rpki_external.specs.Receiving.{AreAskedOf, ByAnswers, RefusesByAnswers, RefusesUnder}
-use Rattle.rpki_external.specs.Running.{AreRightIn, AsksToIssue, IsExplainAnswer, IsExplainAnswerUnder, IsIssueAnswer, IsIssueAnswerUnder, IsReceiveAnswer, IsReceiveAnswerUnder, IsRequestAnswer, IsRequestAnswerUnder, IsSetupWritten, IsSetupWrittenUnder, IsVerifiedAnswer, IsVerifiedAnswerUnder, IsVerifiedSo, IsVerifiedUnder, OfSpelled, Written}
-use Rattle.rpki_external.specs.Verifying.{AreSetupQuestions, BeginsRequest, HoldsAnchor, IsAnchorVerified, IsAnchorVerifiedUnder, IsRequestVerified, IsRequestVerifiedUnder, IsSetupAnswered, IsSetupAnsweredUnder, IsSetupVerified, IsSetupVerifiedUnder}
+use Rattle.rpki_external.specs.Running.{AreRightIn, IsExplainAnswer, IsExplainAnswerUnder, IsIssueAnswer, IsIssueAnswerUnder, IsReceiveAnswer, IsReceiveAnswerUnder, IsRequestAnswer, IsRequestAnswerUnder, IsSetupWritten, IsSetupWrittenUnder, IsVerifiedAnswer, IsVerifiedAnswerUnder, IsVerifiedSo, IsVerifiedUnder, OfSpelled, Written}
+use Rattle.rpki_external.specs.Verifying.{AreSetupQuestions, HoldsAnchor, IsAnchorVerified, IsAnchorVerifiedUnder, IsRequestVerified, IsRequestVerifiedUnder, IsSetupAnswered, IsSetupAnsweredUnder, IsSetupVerified, IsSetupVerifiedUnder}
 use Rattle.rpki_external.specs.declared.receiving.AnsweredError.{AnsweredError}
 use Rattle.rpki_external.specs.declared.receiving.AnsweredError.TheVariants as errors
 use Rattle.rpki_external.specs.declared.setting_up.SetupError.{SetupError}
