@@ -20,9 +20,9 @@ use Rattle.rpki_ca.specs.declared.setup_message.SetupMessage.{SetupMessage}
 use Rattle.rpki_external.specs.Answers.{AnswersFields}
 use Rattle.rpki_external.specs.Making.{CanPrepare, CanPrepareAnchor, CanPrepareRequest, PrepareAnchorFails, PrepareFails, PrepareRequestFails, anchor_fields, request_to_sign}
 use Rattle.rpki_external.specs.Question.{QuestionsFields, request_questions}
-use Rattle.rpki_external.specs.Receiving.{AreAskedOf, ByAnswers, IsReceiptBy, RefusesByAnswers, RefusesChecks}
+use Rattle.rpki_external.specs.Receiving.{AreAskedOf, IsReceiptBy, RefusesByAnswers, RefusesChecks}
 use Rattle.rpki_external.specs.Running.{AsksToIssue, FailsAs, HoldsNoRequestAtAll, IsFinishAnchorAnswer, IsFinishAnswer, IsFinishRequestAnswer, IsInspectAnswer, IsIssueAnswer, IsPrepareRefusal, IsRefusedAs, IsRequestAnswer, IsSetupWritten, OfMessage, RefusesIssue, RefusesText, Written, on_line, refusal_of_answered, refusal_of_setup_error}
-use Rattle.rpki_external.specs.Verifying.{AreChecksOf, BeginsRequest, HoldsAnchor, IsSetupAsked}
+use Rattle.rpki_external.specs.Verifying.{AreChecksBy, BeginsRequest, HoldsAnchor, IsSetupAsked}
 use Rattle.rpki_external.specs.declared.keys_refusal.KeysRefusal.{KeysRefusal}
 use Rattle.rpki_external.specs.declared.keys_refusal.KeysRefusal.TheVariants as keys
 use Rattle.rpki_external.specs.declared.preparing.Plan.{Plan}
@@ -139,9 +139,7 @@ ReceivesIn kind message list when has_last last digest answers =
 -- an octet for each of the fourteen checks, 1 where it holds; or why they aren't told
 abbrev pub Explains : List ℕ → KeyFields → ℤ → AnswersFields → Written → Type 0
 Explains octets key when answers (Ok text) =
-    (list : List Bool)
-    × ByAnswers octets (key ∷ []) answers (λ scheme. AreChecksOf scheme octets key when list)
-    × (text ≡ map octet_of list)
+    (list : List Bool) × AreChecksBy octets key when answers list × (text ≡ map octet_of list)
 Explains octets key when answers (Err refusal) =
     (e : AnsweredError) × RefusesChecks octets key answers e × (refusal ≡ refusal_of_answered e)
 

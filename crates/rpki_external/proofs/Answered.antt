@@ -14,7 +14,7 @@ use Rattle.rpki_ca.specs.declared.receiving.Kind.{Kind}
 use Rattle.rpki_ca.specs.declared.receiving.ReceiveError.{ReceiveError}
 use Rattle.rpki_ca.specs.declared.receiving.ReceiveError.TheVariants as receive
 use Rattle.rpki_ca.specs.declared.receiving.Received.{Received}
-use Rattle.rpki_external.specs.Answers.{AnswersFields, AreTo, RefusesAnswers, answered_scheme}
+use Rattle.rpki_external.specs.Answers.{AnswersFields, CountFor, RefusesAnswers, answered_scheme}
 use Rattle.rpki_external.specs.Question.{QuestionsFields}
 use Rattle.rpki_external.specs.Receiving.{AreAskedOf, ByAnswers, IsReceiptBy, RefusesByAnswers, RefusesChecks, guarded, judged_answered, of_answers, of_decode, receipt_of}
 use Rattle.rpki_external.specs.declared.answers.AnswersError.{AnswersError}
@@ -40,14 +40,14 @@ module _ (kind : Kind) (octets : List ℕ) (keys : List KeyFields) (when : ℤ) 
     unmatched_so answers_errors.Number r = record { q = q; asked = asked; refused = r }
     unmatched_so answers_errors.OutOfMemory r = tt
 
-    module _ (to : AreTo answers q) where
+    module _ (count : CountFor answers q) where
       -- the message isn't received
       pub refused_so : (e : ReceiveError) → IsReceivedUnder (answered_scheme q answers) kind octets keys when (Err e) → RefusesByAnswers kind octets keys when answers last (errors.Receive e)
       refused_so receive.CmsDecode r = r
-      refused_so receive.XmlError r = record { q = q; asked = asked; answered = record { to = to; so = r } }
-      refused_so receive.InvalidCsrSyntax r = record { q = q; asked = asked; answered = record { to = to; so = r } }
-      refused_so receive.CertSyntax r = record { q = q; asked = asked; answered = record { to = to; so = r } }
-      refused_so (receive.Validation v) r = record { q = q; asked = asked; answered = record { to = to; so = r } }
+      refused_so receive.XmlError r = record { q = q; asked = asked; answered = record { count = count; so = r } }
+      refused_so receive.InvalidCsrSyntax r = record { q = q; asked = asked; answered = record { count = count; so = r } }
+      refused_so receive.CertSyntax r = record { q = q; asked = asked; answered = record { count = count; so = r } }
+      refused_so (receive.Validation v) r = record { q = q; asked = asked; answered = record { count = count; so = r } }
       refused_so receive.OutOfMemory r = tt
 
       module _ (message : Received) (place : ℕ) (received : IsReceivedUnder (answered_scheme q answers) kind octets keys when (Ok (message, place))) where
@@ -57,7 +57,7 @@ module _ (kind : Kind) (octets : List ℕ) (keys : List KeyFields) (when : ℤ) 
           q = q;
           asked = asked;
           answered = record {
-            to = to;
+            count = count;
             so = refusal_no_time (answered_scheme q answers) kind octets keys when last asked.signed message place asked.begins received e;
           };
         }
@@ -65,7 +65,7 @@ module _ (kind : Kind) (octets : List ℕ) (keys : List KeyFields) (when : ℤ) 
           q = q;
           asked = asked;
           answered = record {
-            to = to;
+            count = count;
             so = refusal_replayed (answered_scheme q answers) kind octets keys when last asked.signed message place before after asked.begins received e;
           };
         }
@@ -106,7 +106,7 @@ module _ (kind : Kind) (octets : List ℕ) (keys : List KeyFields) (when : ℤ) 
       receipt_so r received time e = record {
         q = q;
         asked = asked;
-        answered = record { to = to; so = receipt_is (answered_scheme q answers) kind octets keys when last asked.signed r asked.begins received time e };
+        answered = record { count = count; so = receipt_is (answered_scheme q answers) kind octets keys when last asked.signed r asked.begins received time e };
       }
 
       judged_so : (message : Received) (place : ℕ) → IsReceivedUnder (answered_scheme q answers) kind octets keys when (Ok (message, place))

@@ -14,6 +14,8 @@ pub mod Answered
 pub mod Nones
 pub mod Saying
 pub mod Accepted
+pub mod Under
+pub mod EndingWell
 pub mod Delivering
 pub mod Succeeding
 pub mod HandedOut

@@ -16,8 +16,9 @@ use Rattle.rpki_ca.proofs.Cutting.{IsOneLine, written_read}
 use Rattle.rpki_ca.specs.Lines.{answer_lines, lines_of, words_of}
 use Rattle.rpki_ca.specs.Words.{key_of_word}
 use Rattle.rpki_replay.proofs.Texts.{IsApart, hex_apart, key_spelled}
+use Rattle.rpki_external.specs.Answers.{AnswersFields, CountFor}
 use Rattle.rpki_external.specs.Question.{QuestionFields, QuestionsFields, SignedPartFields, own_question}
-use Rattle.rpki_external.specs.Spelling.{AreWritable, Collide, HasSpelling, IsWritablePart, IsWritableQuestion, digest_of, four_words, key_line, part_line, part_name, question_line, question_lines, questions_text}
+use Rattle.rpki_external.specs.Spelling.{AreWritable, SameUnlessCollide, HasSpelling, IsWritablePart, IsWritableQuestion, digest_of, four_words, key_line, part_line, part_name, question_line, question_lines, questions_text}
 use Rattle.rpki_external.specs.declared.question.Part.{Part}
 use Rattle.rpki_external.specs.declared.question.Part.TheVariants.{Attributes, Certificate, Crl, Anchor, Request}
 
@@ -321,10 +322,16 @@ one_text a b is other e =
     let keys : a.keys ≡ b.keys = sym (keys_told a is) ∙ ap (picked keys_in) lines ∙ keys_told b other in
     λ i. record { own = own i; parts = parts i; keys = keys i }
 
-pub one_digest : (a b : QuestionsFields) → AreWritable a → AreWritable b → digest_of a ≡ digest_of b
-    → (a ≡ b) ⊎ Collide (questions_text a) (questions_text b)
+one_digest : (a b : QuestionsFields) → AreWritable a → AreWritable b → digest_of a ≡ digest_of b → SameUnlessCollide a b
 one_digest a b is other e = by_case (bytes_eq (questions_text a) (questions_text b)) (bytes_eq-Decides (questions_text a) (questions_text b))
   where
-    by_case : (t : Bool) → Decides t (questions_text a ≡ questions_text b) → (a ≡ b) ⊎ Collide (questions_text a) (questions_text b)
+    by_case : (t : Bool) → Decides t (questions_text a ≡ questions_text b) → SameUnlessCollide a b
     by_case true d = inl (one_text a b is other (d.0 refl))
     by_case false d = inr (record { apart = λ s. let t : false ≡ true = d.1 s in cc; digest = e })
+
+-- answers count for one value
+pub one_given : (answers : AnswersFields) (a b : QuestionsFields) → CountFor answers a → AreWritable b → answers.digest ≡ digest_of b → SameUnlessCollide a b
+one_given answers a b one writable digest = one_digest a b one.writable writable (sym one.to.digest ∙ digest)
+
+pub one_value : (answers : AnswersFields) (a b : QuestionsFields) → CountFor answers a → CountFor answers b → SameUnlessCollide a b
+one_value answers a b one other = one_given answers a b one other.writable other.to.digest

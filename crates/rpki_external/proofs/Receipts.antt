@@ -50,12 +50,14 @@ at_length (x ∷ before) key behind = at_length before key behind
 one_key : (a b : KeyFields) → Some a ≡ Some b → a ≡ b
 one_key a b e = cc
 
+first_at : (scheme : Relation) (m : MessageFields) (keys : List KeyFields) (when : ℤ) (place : ℕ) → (f : IsFirstBelieved scheme m keys when place) → slice_get keys place ≡ Some f.key
+first_at scheme m keys when place f =
+    ap (λ (l : List KeyFields). slice_get l place) f.parts ∙ ap (slice_get (f.before ++ f.key ∷ f.behind)) f.number ∙ at_length f.before f.key f.behind
+
 believed_there : (scheme : Relation) (m : MessageFields) (keys : List KeyFields) (when : ℤ) (place : ℕ) → IsFirstBelieved scheme m keys when place
     → (key : KeyFields) → slice_get keys place ≡ Some key → IsBelieved scheme m key when
 believed_there scheme m keys when place f key at =
-    let there : slice_get keys place ≡ Some f.key =
-    ap (λ (l : List KeyFields). slice_get l place) f.parts ∙ ap (slice_get (f.before ++ f.key ∷ f.behind)) f.number ∙ at_length f.before f.key f.behind in
-    subst (λ (k : KeyFields). IsBelieved scheme m k when) (one_key f.key key (sym there ∙ at)) f.believed
+    subst (λ (k : KeyFields). IsBelieved scheme m k when) (one_key f.key key (sym (first_at scheme m keys when place f) ∙ at)) f.believed
 
 pub found_at : (P : KeyFields → Type 0) (keys : List KeyFields) (place : ℕ) (key : KeyFields) → slice_get keys place ≡ Some key → AllByRecursion P keys → P key
 found_at P [] place key e all = absurd (none_some e)
@@ -181,6 +183,17 @@ pub refusal_replayed : (scheme : Relation) (kind : Kind) (octets : List ℕ) (ke
 refusal_replayed scheme kind octets keys when last signed message place before after begins received e =
     let told = replayed scheme signed keys when place (first_of scheme kind octets keys when signed message place begins received) last signed.signing_time before after refl e in
     record { signed = signed; begins = begins; message = message; place = place; received = received; admitted = told.0; handed = told.1; refused = told.2 }
+
+-- what the guard refuses isn't later than what it holds
+pub refused_judged : (scheme : Relation) (kind : Kind) (octets : List ℕ) (keys : List KeyFields) (when : ℤ) (last : Option ℤ) (error : GuardError) → (r : IsGuardRefusal scheme kind octets keys when last error)
+    → judged (Some r.admitted) r.signed.signing_time ≡ Err error
+refused_judged scheme kind octets keys when last error r =
+    let first = first_of scheme kind octets keys when r.signed r.message r.place r.begins r.received in
+    let at : slice_get keys r.place ≡ Some first.key = first_at scheme r.signed keys when r.place first in
+    let told = r.refused first.key at in
+    let passed : told.validation ≡ Ok tt = told.validates.believed.1 (believed_there scheme r.signed keys when r.place first first.key at) in
+    sym (told.is ∙ ap (λ (v : Result (Unit {0}) ValidationError). answer_behind v (last_of (peer first.key r.admitted) first.key) r.signed.signing_time) passed
+    ∙ ap (λ (l : Option ℤ). answer_behind (Ok tt) l r.signed.signing_time) (held first.key r.admitted))
 
 -- ---- two schemes
 

@@ -14,12 +14,12 @@ use Rattle.rpki_cert.specs.Making.{CaRequest}
 use Rattle.rpki_idcert.specs.Checks.{has_own_identifier, is_true, is_within, names_itself, ta_checks, ta_kind}
 use Rattle.rpki_idcert.specs.IdCert.{CertificateFields}
 use Rattle.rpki_replay.specs.declared.guard.GuardError.{GuardError}
-use Rattle.rpki_sigmsg.specs.Checks.{AreAttributesSigned, SameAnswers, SameAnswersUnder}
+use Rattle.rpki_sigmsg.specs.Checks.{AreAttributesSigned, AreChecks, SameAnswers, SameAnswersUnder}
 use Rattle.rpki_sigmsg.specs.Crl.{CrlFields}
 use Rattle.rpki_sigmsg.specs.CrlChecks.{AreCrlsSigned}
 use Rattle.rpki_sigmsg.specs.Message.{MessageFields}
 use Rattle.rpki_sigmsg.proofs.AnyKey.{backwards}
-use Rattle.rpki_sigmsg.proofs.Meaning.{moved, turned}
+use Rattle.rpki_sigmsg.proofs.Meaning.{moved, same_back, turned}
 use Rattle.rpki_ca.specs.Acceptance.{IsReceivedUnder}
 use Rattle.rpki_ca.specs.declared.receiving.Kind.{Kind}
 use Rattle.rpki_ca.specs.declared.receiving.ReceiveError.{ReceiveError}
@@ -29,7 +29,7 @@ use Rattle.rpki_ca.proofs.Keys.{key_is, key_itself}
 use Rattle.rpki_ca.proofs.Laws.{one_signed, same_receipt}
 use Rattle.rpki_external.specs.Answers.{AnswersFields, AreRight, answer_to, answered_scheme, asks, by_answers}
 use Rattle.rpki_external.specs.Receiving.{AreAskedOf, IsGuardRefusal, IsReceipt}
-use Rattle.rpki_external.specs.Verifying.{IsRequestSigned, IsTaValidation}
+use Rattle.rpki_external.specs.Verifying.{AreChecksOf, IsRequestSigned, IsTaValidation}
 use Rattle.rpki_external.specs.declared.receiving.Receipt.{Receipt}
 use Rattle.rpki_external.proofs.Receipts.{found_at, guarded_too, passes_too}
 use Rattle.rpki_external.specs.Question.{QuestionFields, QuestionsFields, SignatureHolds, anchor_asked, anchor_question, anchor_questions, attributes_question, certificate_part, crl_part, listed, message_questions, own_question, request_question, request_questions, under, under_each}
@@ -193,6 +193,36 @@ refusal_too scheme fits kind octets keys when last q answers error h right p =
           guarded_too (answered_scheme q answers) scheme key p.admitted p.signed when (Err error)
           (found_at (SameAnswers (answered_scheme q answers) scheme p.signed) keys p.place key at same) (p.refused key at);
     }
+
+-- ---- the checks of a message
+
+checks_too : (s t : Relation) (m : MessageFields) (key : KeyFields) (when : ℤ) (list : List Bool) → SameAnswers s t m key → AreChecks s m key when list → AreChecks t m key when list
+checks_too s t m key when list same c = record {
+  asked = record {
+    q3 = c.asked.q3;
+    q8 = c.asked.q8;
+    q10 = c.asked.q10;
+    attributes = moved c.asked.q3 same.attributes c.asked.attributes;
+    certificate = moved c.asked.q8 same.certificate c.asked.certificate;
+    crls = moved c.asked.q10 same.crls c.asked.crls;
+  };
+  are = c.are;
+}
+
+pub checks_decided : (scheme : Relation) → ((kind : SigningAlgorithm) (key : KeyFields) (message signature : List ℕ) → scheme kind key message signature → key.format ≡ format_of kind)
+    → (octets : List ℕ) (key : KeyFields) (when : ℤ) (q : QuestionsFields) (answers : AnswersFields) (list : List Bool)
+    → AreAskedOf octets (key ∷ []) q → AreRight scheme (listed q) answers.values
+    → AreChecksOf (answered_scheme q answers) octets key when list ↔ AreChecksOf scheme octets key when list
+checks_decided scheme fits octets key when q answers list h right =
+    let same : (m : MessageFields) → BeginsSigned octets m → SameAnswers (answered_scheme q answers) scheme m key =
+    λ m begins. (agree_begun scheme fits octets (key ∷ []) q answers h right m begins).0 in (
+      (λ c. record { signed = c.signed; begins = c.begins; are = checks_too (answered_scheme q answers) scheme c.signed key when list (same c.signed c.begins) c.are }),
+      (λ c. record {
+        signed = c.signed;
+        begins = c.begins;
+        are = checks_too scheme (answered_scheme q answers) c.signed key when list (same_back (answered_scheme q answers) scheme c.signed key (same c.signed c.begins)) c.are;
+      }),
+    )
 
 -- ---- a trust anchor's certificate and a request
 

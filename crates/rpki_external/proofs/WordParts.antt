@@ -164,6 +164,9 @@ no_equals word name rest s t digits e = not_front rest.now (codes "=") t digits 
 pub no_name : (word name : List ℕ) → IsFrontOf word name false → (digits : List ℕ) → word ≡ name ++ codes "=" ++ digits → ⊥
 no_name word name s digits e = not_front word name s (codes "=" ++ digits) (e ∙ append_assoc name (codes "=") digits)
 
+-- what stands behind a name
+pub ruleset behind_names = (behind_equals, no_equals, no_name)
+
 pub named_in_vain : (words : List (List ℕ)) (index : ℕ) (name word digits : List ℕ) → HasWord words index word → word ≡ name ++ codes "=" ++ digits → result_ok (decode_of digits) ≡ None → (octets : List ℕ) → SpellsNamed words index name octets → ⊥
 named_in_vain words index name word digits stands is none octets s =
     let same : name ++ codes "=" ++ digits ≡ name ++ codes "=" ++ s.digits = sym is ∙ one_word words index word (name ++ codes "=" ++ s.digits) stands s.stands in

@@ -8,7 +8,7 @@ use Rattle.rpki_ca.specs.Keys.{same_key}
 use Rattle.rpki_external.specs.declared.answers.AnswersError.{AnswersError}
 use Rattle.rpki_external.specs.declared.answers.AnswersError.TheVariants as errors
 use Rattle.rpki_external.specs.Question.{QuestionFields, QuestionsFields, SignatureHolds, listed}
-use Rattle.rpki_external.specs.Spelling.{digest_of}
+use Rattle.rpki_external.specs.Spelling.{AreWritable, digest_of}
 
 -- the digest of the questions' text, and a truth value for each question, in their order
 pub record AnswersFields : Type 0 where
@@ -21,6 +21,11 @@ pub record AnswersFields : Type 0 where
 pub record AreTo (a : AnswersFields) (q : QuestionsFields) : Type 0 where
   pub digest : a.digest ≡ digest_of q
   pub number : length a.values ≡ length (listed q)
+
+-- they count for the questions: they are to them, whose text is that of no other value
+pub record CountFor (a : AnswersFields) (q : QuestionsFields) : Type 0 where
+  pub to : AreTo a q
+  pub writable : AreWritable q
 
 -- why they aren't: the digest is another; or it is the same, and there are more or fewer
 abbrev pub RefusesAnswers : AnswersFields → QuestionsFields → AnswersError → Type 0
@@ -65,8 +70,8 @@ by_answers questions answers kind key message signature =
 abbrev pub answered_scheme : QuestionsFields → AnswersFields → Relation
 answered_scheme q a = by_answers (listed q) a.values
 
--- the answers are to the questions, and under the scheme that they are this is so
+-- the answers count for the questions, and under the scheme that they are this is so
 pub record IsAnsweredSo (a : AnswersFields) (q : QuestionsFields) (is : Relation → Type 0) : Type 0
   where
-    pub to : AreTo a q
+    pub count : CountFor a q
     pub so : is (answered_scheme q a)

@@ -124,5 +124,6 @@ request_question r = record {
 }
 
 -- what the check of a request asks
-abbrev pub request_questions : {T : Type 0} → Signed RpkiAlgorithm (RequestFields T) → QuestionsFields
+abbrev pub request_questions : {T : Type 0} → Signed RpkiAlgorithm (RequestFields T)
+    → QuestionsFields
 request_questions r = record { own = Some (request_question r); parts = []; keys = [] }

@@ -1,5 +1,5 @@
 -- What is received by answers (RFC 6492, 3.1; RFC 8181, 2).
-use Rattle.std.specs.Prelude.{◌≡◌, ◌≢◌, ℕ, ℤ, Bool, Option, None, Some, List, [], ◌∷◌, length, slice_get, if◌then◌else◌, Result, Ok, Err, ⊤}
+use Rattle.std.specs.Prelude.{◌≡◌, ◌≢◌, ◌<ℤ◌, ℕ, ℤ, Bool, Option, None, Some, List, [], ◌∷◌, length, slice_get, if◌then◌else◌, Result, Ok, Err, ⊤}
 use Rattle.std.specs.Int.Signed.{lt_z}
 use Rattle.rpki_base.specs.PublicKey.{KeyFields}
 use Rattle.rpki_base.specs.Scheme.{Relation}
@@ -20,8 +20,8 @@ use Rattle.rpki_external.specs.declared.answers.AnswersError.TheVariants as answ
 use Rattle.rpki_external.specs.declared.receiving.AnsweredError.{AnsweredError}
 use Rattle.rpki_external.specs.declared.receiving.AnsweredError.TheVariants as errors
 use Rattle.rpki_external.specs.declared.receiving.Receipt.{Receipt}
-use Rattle.rpki_external.specs.Answers.{AnswersFields, AreRight, IsAnsweredSo, RefusesAnswers}
-use Rattle.rpki_external.specs.Question.{QuestionsFields, listed, message_questions}
+use Rattle.rpki_external.specs.Answers.{AnswersFields, IsAnsweredSo, RefusesAnswers}
+use Rattle.rpki_external.specs.Question.{QuestionsFields, message_questions}
 
 -- ---- the questions of octets
 
@@ -30,12 +30,6 @@ pub record AreAskedOf (octets : List ℕ) (keys : List KeyFields) (q : Questions
   pub signed : MessageFields
   pub begins : BeginsSigned octets signed
   pub are : q ≡ message_questions signed keys
-
--- the answers are right under the scheme, of the message with which the octets begin, if they begin
--- with one
-abbrev pub AreRightOf : Relation → List ℕ → List KeyFields → AnswersFields → Type 0
-AreRightOf scheme octets keys answers =
-    (q : QuestionsFields) → AreAskedOf octets keys q → AreRight scheme (listed q) answers.values
 
 -- ---- what is received under a scheme, where a last time may be handed in
 
@@ -53,6 +47,11 @@ PassesGuard scheme keys (Some last) m when place =
     (key : KeyFields) → slice_get keys place ≡ Some key
     → (seen : ℤ) × (m.signing_time ≡ Some seen) × IsGuarded scheme key last m when (Ok seen)
 
+-- where a last time is handed in, the message says a later signing time
+abbrev pub IsLater : Option ℤ → MessageFields → Type 0
+IsLater None m = ⊤
+IsLater (Some last) m = (seen : ℤ) × (m.signing_time ≡ Some seen) × (last <ℤ seen)
+
 -- The octets begin with a signed message, of which this is received under the key at the place; it
 -- says this signing time, and passes the guard.
 pub record IsReceipt (scheme : Relation) (kind : Kind) (octets : List ℕ) (keys : List KeyFields)
@@ -65,8 +64,8 @@ pub record IsReceipt (scheme : Relation) (kind : Kind) (octets : List ℕ) (keys
 
 -- The octets begin with a signed message, of which this is received under the key at the place; a
 -- last time was handed in, and the guard that holds it for the key refuses the message so.
-pub record IsGuardRefusal (scheme : Relation) (kind : Kind) (octets : List ℕ) (keys : List KeyFields)
-    (when : ℤ) (last : Option ℤ) (error : GuardError) : Type 0 where
+pub record IsGuardRefusal (scheme : Relation) (kind : Kind) (octets : List ℕ)
+    (keys : List KeyFields) (when : ℤ) (last : Option ℤ) (error : GuardError) : Type 0 where
   pub signed : MessageFields
   pub begins : BeginsSigned octets signed
   pub message : Received
@@ -99,7 +98,7 @@ guarded (Err error) passed = Err (errors.Receive error)
 
 -- ---- what is received by answers
 
--- the octets begin with a signed message, the answers are to its questions, and under the scheme
+-- the octets begin with a signed message, the answers count for its questions, and under the scheme
 -- that they are this is so
 pub record ByAnswers (octets : List ℕ) (keys : List KeyFields) (answers : AnswersFields)
     (is : Relation → Type 0) : Type 0 where
@@ -131,7 +130,8 @@ RefusesByAnswers kind octets keys when answers last (errors.Receive receive.CmsD
     HoldsNoSigned octets
 RefusesByAnswers kind octets keys when answers last (errors.Receive receive.OutOfMemory) = ⊤
 RefusesByAnswers kind octets keys when answers last (errors.Receive error) =
-    ByAnswers octets keys answers (λ scheme. IsReceivedUnder scheme kind octets keys when (Err error))
+    ByAnswers octets keys answers (λ scheme.
+    IsReceivedUnder scheme kind octets keys when (Err error))
 RefusesByAnswers kind octets keys when answers last errors.NoTime =
     ByAnswers octets keys answers (λ scheme.
     IsGuardRefusal scheme kind octets keys when last guard.NoTime)

@@ -14,7 +14,9 @@ use Rattle.rpki_der.specs.declared.error.DecodeError.TheVariants as decode
 use Rattle.rpki_idcert.specs.Spelling.{spelled_tbs}
 use Rattle.rpki_provisioning.specs.declared.payload.Payload.{Payload}
 use Rattle.rpki_provisioning.specs.declared.payload.Payload.TheVariants as payloads
+use Rattle.rpki_sigmsg.specs.Beginning.{BeginsSigned}
 use Rattle.rpki_sigmsg.specs.Making.{UnsignedFields, made_covered}
+use Rattle.rpki_sigmsg.specs.Message.{MessageFields}
 use Rattle.rpki_sigmsg.specs.Spelling.{CanSpellMessage, rewritten, spelled_tbs_crl}
 use Rattle.rpki_ca.specs.Acceptance.{HoldsNoSigned, ReadsAs, accepted_text, refusal_of}
 use Rattle.rpki_ca.specs.Answer.{Ends}
@@ -55,14 +57,14 @@ use Rattle.rpki_external.specs.declared.task.Task.{Task}
 use Rattle.rpki_external.specs.declared.task.Task.TheVariants as tasks
 use Rattle.rpki_external.specs.declared.verifying.VerifyError.{VerifyError}
 use Rattle.rpki_external.specs.declared.verifying.VerifyError.TheVariants as verify
-use Rattle.rpki_external.specs.Answers.{AnswersFields, AreTo}
+use Rattle.rpki_external.specs.Answers.{AnswersFields, AreRight, AreTo}
 use Rattle.rpki_external.specs.Inspection.{IsInspectedAs}
 use Rattle.rpki_external.specs.KeysRefusal.{keys_name_of, keys_status_of}
 use Rattle.rpki_external.specs.Making.{AreShort, IsAcceptedSo, CanPrepare, CanPrepareAnchor, CanPrepareRequest, FinishAnchorFails, FinishFails, FinishRequestFails, PrepareAnchorFails, PrepareFails, PrepareRequestFails, anchor_fields, attributes_to_sign, certificate_to_sign, crl_to_sign, finished, finished_anchor, finished_request, request_to_sign}
-use Rattle.rpki_external.specs.Question.{QuestionsFields, request_questions}
-use Rattle.rpki_external.specs.Receiving.{AreAskedOf, AreRightOf, ByAnswers, IsReceipt, IsReceiptBy, RefusesByAnswers, RefusesChecks, RefusesUnder}
+use Rattle.rpki_external.specs.Question.{QuestionsFields, listed, request_questions}
+use Rattle.rpki_external.specs.Receiving.{AreAskedOf, IsLater, IsReceipt, IsReceiptBy, RefusesByAnswers, RefusesChecks, RefusesUnder}
 use Rattle.rpki_external.specs.Spelling.{digest_of, question_lines}
-use Rattle.rpki_external.specs.Verifying.{AreChecksOf, BeginsRequest, IsRequestVerified, IsSetupAnswered, IsSetupAsked}
+use Rattle.rpki_external.specs.Verifying.{AreChecksBy, AreChecksOf, AreSetupQuestions, BeginsRequest, IsRequestVerified, IsRequestVerifiedUnder, IsSetupAnswered, IsSetupAnsweredUnder, IsSetupAsked}
 
 -- ---- how errors are answered
 
@@ -112,7 +114,8 @@ Written = Result (List ℕ) KeysRefusal
 
 -- the lines of questions, and behind them the word digest and their digest
 abbrev pub asked_lines : QuestionsFields → List ℕ
-asked_lines q = answer_lines (question_lines q ++ (codes "digest " ++ encode_lower (digest_of q)) ∷ [])
+asked_lines q =
+    answer_lines (question_lines q ++ (codes "digest " ++ encode_lower (digest_of q)) ∷ [])
 
 -- a text on a line
 abbrev pub on_line : List ℕ → List ℕ
@@ -214,8 +217,7 @@ IsReceiveAnswer kind octets list when last answers (Err refusal) =
 -- `explain`: a digit for each of the fourteen checks, 1 where it holds
 abbrev pub IsExplainAnswer : List ℕ → KeyFields → ℤ → AnswersFields → Written → Type 0
 IsExplainAnswer octets key when answers (Ok output) =
-    (list : List Bool)
-    × ByAnswers octets (key ∷ []) answers (λ scheme. AreChecksOf scheme octets key when list)
+    (list : List Bool) × AreChecksBy octets key when answers list
     × (output ≡ on_line (map digit_of list))
 IsExplainAnswer octets key when answers (Err refusal) =
     (e : AnsweredError) × RefusesChecks octets key answers e × (refusal ≡ refusal_of_answered e)
@@ -447,10 +449,39 @@ EndsKeysTask task input status sink =
 
 -- ---- what holds at the end of a call, said of a scheme
 
--- the answers are right of the message that the input spells, if it spells one
-abbrev pub AreRightIn : Relation → List ℕ → List KeyFields → AnswersFields → Type 0
-AreRightIn scheme input list answers =
-    (octets : List ℕ) → hexadecimal input ≡ Some octets → AreRightOf scheme octets list answers
+-- the octets that the input spells have these questions
+pub record SpellsQuestions (input : List ℕ) (ask : List ℕ → QuestionsFields → Type 0)
+    (q : QuestionsFields) : Type 0 where
+  pub octets : List ℕ
+  pub spells : hexadecimal input ≡ Some octets
+  pub are : ask octets q
+
+-- the octets begin with a request, and these are its questions
+pub record AreRequestQuestions (octets : List ℕ) (q : QuestionsFields) : Type 0 where
+  pub request : CaRequest
+  pub begins : BeginsRequest octets request
+  pub are : q ≡ request_questions request
+
+-- the input reads as an issue request, and these are the questions of the request in it
+pub record AreIssueQuestions (input : List ℕ) (q : QuestionsFields) : Type 0 where
+  pub request : CaRequest
+  pub asks : AsksToIssue input request
+  pub are : q ≡ request_questions request
+
+-- these are the questions of what is to be verified of the input
+abbrev pub AreQuestionsIn : Verified → List ℕ → QuestionsFields → Type 0
+AreQuestionsIn (verified.Message kind when last list) input q =
+    SpellsQuestions input (λ octets. AreAskedOf octets list) q
+AreQuestionsIn (verified.Checks when key) input q =
+    SpellsQuestions input (λ octets. AreAskedOf octets (key ∷ [])) q
+AreQuestionsIn (verified.Setup kind when) input q = AreSetupQuestions kind input q
+AreQuestionsIn verified.Request input q = SpellsQuestions input AreRequestQuestions q
+AreQuestionsIn verified.Issue input q = AreIssueQuestions input q
+
+-- the answers are right under the scheme, of these questions, if there are such
+abbrev pub AreRightIn : Relation → Verified → List ℕ → AnswersFields → Type 0
+AreRightIn scheme what input answers = (q : QuestionsFields) → AreQuestionsIn what input q
+    → AreRight scheme (listed q) answers.values
 
 -- `receive` under a scheme: the line of the receipt and the text of its message, each on a line
 abbrev pub IsReceiveAnswerUnder : Relation → Kind → List ℕ → List KeyFields → ℤ → Option ℤ
@@ -462,20 +493,72 @@ IsReceiveAnswerUnder scheme kind octets list when last answers (Err refusal) =
     (e : AnsweredError) × RefusesUnder scheme kind octets list when answers last e
     × (refusal ≡ refusal_of_answered e)
 
--- the call ends with what `receive` answers to the input under a scheme
-pub record EndsReceivedUnder (scheme : Relation) (kind : Kind) (list : List KeyFields) (when : ℤ)
-    (last : Option ℤ) (answers : AnswersFields) (input : List ℕ) (status : ℕ) (sink : Seen) : Type 0
-  where
-    pub answer : Written
-    pub is : OfSpelled (λ octets. IsReceiveAnswerUnder scheme kind octets list when last answers)
-        (hexadecimal input) answer
-    pub ends : EndsOn answer status sink
+-- `explain` under a scheme: a digit for each of the fourteen checks
+abbrev pub IsExplainAnswerUnder : Relation → List ℕ → KeyFields → ℤ → AnswersFields → Written
+    → Type 0
+IsExplainAnswerUnder scheme octets key when answers (Ok output) =
+    (list : List Bool) × AreChecksOf scheme octets key when list
+    × (output ≡ on_line (map digit_of list))
+IsExplainAnswerUnder scheme octets key when answers (Err refusal) =
+    (e : AnsweredError) × RefusesChecks octets key answers e × (refusal ≡ refusal_of_answered e)
+
+-- `setup` under a scheme: the text of the setup message
+abbrev pub IsSetupWrittenUnder : Relation → SetupKind → List ℕ → ℤ → AnswersFields → Written
+    → Type 0
+IsSetupWrittenUnder scheme kind input when answers (Ok output) =
+    (m : SetupMessage) × IsSetupAnsweredUnder scheme kind input when answers (Ok m)
+    × (output ≡ on_line (setup_text m))
+IsSetupWrittenUnder scheme kind input when answers (Err refusal) =
+    (e : SetupError) × IsSetupAnsweredUnder scheme kind input when answers (Err e)
+    × (refusal ≡ refusal_of_setup_error e)
+
+-- what is written of a request that is verified under a scheme: its key
+abbrev pub IsVerifiedAnswerUnder : Relation → CaRequest → AnswersFields → Written → Type 0
+IsVerifiedAnswerUnder scheme r answers (Ok output) =
+    IsRequestVerifiedUnder scheme r answers (Ok tt)
+    × (output ≡ on_line (encode_lower (spelled_key r.tbs.key)))
+IsVerifiedAnswerUnder scheme r answers (Err refusal) =
+    (e : VerifyError) × IsRequestVerifiedUnder scheme r answers (Err e)
+    × (refusal ≡ refusal_of_verify e)
+
+-- `request` under a scheme
+abbrev pub IsRequestAnswerUnder : Relation → List ℕ → AnswersFields → Written → Type 0
+IsRequestAnswerUnder scheme octets answers answer =
+    (HoldsNoRequestAtAll octets × (answer ≡ Err (keys.General refusals.InvalidCsrSyntax)))
+    ⊎ ((r : CaRequest) × BeginsRequest octets r × IsVerifiedAnswerUnder scheme r answers answer)
+
+-- `issue` under a scheme
+abbrev pub IsIssueAnswerUnder : Relation → List ℕ → AnswersFields → Written → Type 0
+IsIssueAnswerUnder scheme input answers answer =
+    IsRefusedAs (RefusesIssue input) answer
+    ⊎ ((r : CaRequest) × AsksToIssue input r × IsVerifiedAnswerUnder scheme r answers answer)
+
+-- the answer to input of what is verified under a scheme for which the answers are right
+abbrev pub IsVerifiedUnder : Relation → Verified → AnswersFields → List ℕ → Written → Type 0
+IsVerifiedUnder scheme (verified.Message kind when last list) answers input answer =
+    OfSpelled (λ octets. IsReceiveAnswerUnder scheme kind octets list when last answers)
+    (hexadecimal input) answer
+IsVerifiedUnder scheme (verified.Checks when key) answers input answer =
+    OfSpelled (λ octets. IsExplainAnswerUnder scheme octets key when answers) (hexadecimal input)
+    answer
+IsVerifiedUnder scheme (verified.Setup kind when) answers input answer =
+    IsSetupWrittenUnder scheme kind input when answers answer
+IsVerifiedUnder scheme verified.Request answers input answer =
+    OfSpelled (λ octets. IsRequestAnswerUnder scheme octets answers) (hexadecimal input) answer
+IsVerifiedUnder scheme verified.Issue answers input answer =
+    IsIssueAnswerUnder scheme input answers answer
+
+-- the call ends with what is answered to the input under a scheme
+pub record EndsVerifiedUnder (scheme : Relation) (what : Verified) (answers : AnswersFields)
+    (input : List ℕ) (status : ℕ) (sink : Seen) : Type 0 where
+  pub answer : Written
+  pub is : IsVerifiedUnder scheme what answers input answer
+  pub ends : EndsOn answer status sink
 
 -- the same, or the call ends for want of memory
-abbrev pub EndsAsReceived : Relation → Kind → List KeyFields → ℤ → Option ℤ → AnswersFields
-    → List ℕ → ℕ → Seen → Type 0
-EndsAsReceived scheme kind list when last answers input status sink =
-    EndsReceivedUnder scheme kind list when last answers input status sink
+abbrev pub EndsAsVerified : Relation → Verified → AnswersFields → List ℕ → ℕ → Seen → Type 0
+EndsAsVerified scheme what answers input status sink =
+    EndsVerifiedUnder scheme what answers input status sink
     ⊎ Ends (Err refusals.OutOfMemory) status sink
 
 -- the input spells octets of which there is a receipt under the scheme, and its line and its text
@@ -489,10 +572,15 @@ pub record DeliversReceipt (scheme : Relation) (kind : Kind) (list : List KeyFie
   pub written : Appends sink.before sink.after
       (answer_lines (receipt_line receipt ∷ accepted_text receipt.message ∷ []))
 
--- the answers are to the questions of the message that the input spells, if it spells one
-abbrev pub AreToIn : List ℕ → List KeyFields → AnswersFields → Type 0
-AreToIn input list answers = (octets : List ℕ) → hexadecimal input ≡ Some octets
-    → (q : QuestionsFields) → AreAskedOf octets list q → AreTo answers q
+-- the answers are to the questions of what is to be verified of the input, if there are such
+abbrev pub AreToIn : Verified → List ℕ → AnswersFields → Type 0
+AreToIn what input answers =
+    (q : QuestionsFields) → AreQuestionsIn what input q → AreTo answers q
+
+-- where a last time is handed in, the message that the input spells says a later one
+abbrev pub IsLaterIn : Option ℤ → List ℕ → Type 0
+IsLaterIn last input = (octets : List ℕ) → hexadecimal input ≡ Some octets
+    → (m : MessageFields) → BeginsSigned octets m → IsLater last m
 
 -- the status is 0; or memory ran out, or a write failed
 abbrev pub EndsWell : ℕ → Seen → Type 0

@@ -1,5 +1,5 @@
 -- Questions as a text, and its digest, to which answers are bound.
-use Rattle.std.specs.Prelude.{◌≡◌, ◌≢◌, ℕ, List, [], ◌∷◌, ◌++◌, codes, map}
+use Rattle.std.specs.Prelude.{◌≡◌, ◌≢◌, ◌⊎◌, ℕ, List, [], ◌∷◌, ◌++◌, codes, map}
 use Rattle.std.specs.List.{AllByRecursion}
 use Rattle.hex.specs.Hex.{IsBytes, encode_lower}
 use Rattle.sha2.specs.Sha256.{sha256}
@@ -19,7 +19,8 @@ part_name Request = codes "request"
 
 -- words, with one space between
 abbrev pub four_words : List ℕ → List ℕ → List ℕ → List ℕ → List ℕ
-four_words one two three four = one ++ (codes " " ++ (two ++ (codes " " ++ (three ++ (codes " " ++ four)))))
+four_words one two three four =
+    one ++ (codes " " ++ (two ++ (codes " " ++ (three ++ (codes " " ++ four)))))
 
 -- a question: the name of its part, the key in DER, the octets and the signature
 abbrev pub question_line : QuestionFields → List ℕ
@@ -76,3 +77,7 @@ pub record AreWritable (q : QuestionsFields) : Type 0 where
 pub record Collide (one other : List ℕ) : Type 0 where
   pub apart : one ≢ other
   pub digest : sha256 one ≡ sha256 other
+
+-- the questions are the same, or their texts, which differ, have one SHA-256
+abbrev pub SameUnlessCollide : QuestionsFields → QuestionsFields → Type 0
+SameUnlessCollide a b = (a ≡ b) ⊎ Collide (questions_text a) (questions_text b)

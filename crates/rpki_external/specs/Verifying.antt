@@ -1,6 +1,6 @@
 -- What is verified by answers, beside the receipt of messages: a trust anchor's certificate, a
 -- request, and each of a message's checks.
-use Rattle.std.specs.Prelude.{◌≡◌, ◌↔◌, false, true, ℕ, ℤ, Bool, Decides, List, Result, Ok, Err, ⊤}
+use Rattle.std.specs.Prelude.{◌≡◌, ◌↔◌, false, true, ℕ, ℤ, Bool, Decides, List, [], ◌∷◌, Result, Ok, Err, ⊤}
 use Rattle.rpki_base.specs.Checks.{first_failure, failing, IsSigned}
 use Rattle.rpki_base.specs.PublicKey.{KeyFields}
 use Rattle.rpki_base.specs.Scheme.{Relation}
@@ -29,6 +29,7 @@ use Rattle.rpki_external.specs.declared.verifying.VerifyError.{VerifyError}
 use Rattle.rpki_external.specs.declared.verifying.VerifyError.TheVariants as errors
 use Rattle.rpki_external.specs.Answers.{AnswersFields, IsAnsweredSo, RefusesAnswers}
 use Rattle.rpki_external.specs.Question.{QuestionsFields, anchor_questions, request_questions}
+use Rattle.rpki_external.specs.Receiving.{ByAnswers}
 
 -- ---- a trust anchor's certificate (RFC 8183, 5)
 
@@ -56,6 +57,19 @@ IsAnchorVerified c when answers (Err (errors.Validation e)) =
     IsAnsweredSo answers (anchor_questions c) (λ scheme. IsTaValidation scheme c when (Err e))
 IsAnchorVerified c when answers (Err errors.Signature) = ⊥
 IsAnchorVerified c when answers (Err errors.OutOfMemory) = ⊤
+
+-- the same under a scheme for which the answers are right
+abbrev pub IsAnchorVerifiedUnder : Relation → CertificateFields → ℤ → AnswersFields
+    → Result (Unit {0}) VerifyError → Type 0
+IsAnchorVerifiedUnder scheme c when answers (Ok done) = IsTaValidation scheme c when (Ok tt)
+IsAnchorVerifiedUnder scheme c when answers (Err errors.OtherQuestions) =
+    RefusesAnswers answers (anchor_questions c) answers_errors.OtherQuestions
+IsAnchorVerifiedUnder scheme c when answers (Err errors.Number) =
+    RefusesAnswers answers (anchor_questions c) answers_errors.Number
+IsAnchorVerifiedUnder scheme c when answers (Err (errors.Validation e)) =
+    IsTaValidation scheme c when (Err e)
+IsAnchorVerifiedUnder scheme c when answers (Err errors.Signature) = ⊥
+IsAnchorVerifiedUnder scheme c when answers (Err errors.OutOfMemory) = ⊤
 
 -- ---- the certificate in a setup message (RFC 8183, 5)
 
@@ -118,9 +132,33 @@ IsSetupAnswered kind octets when answers (Ok m) =
 IsSetupAnswered kind octets when answers (Err setup_errors.XmlError) = IsNoSetup kind octets
 IsSetupAnswered kind octets when answers (Err setup_errors.InvalidTaCertEncoding) =
     HoldsNoAnchorIn kind octets
+IsSetupAnswered kind octets when answers (Err (setup_errors.Verify errors.OutOfMemory)) = ⊥
 IsSetupAnswered kind octets when answers (Err (setup_errors.Verify e)) =
     (m : SetupMessage) × IsSetupVerified kind octets when answers m (Err e)
 IsSetupAnswered kind octets when answers (Err setup_errors.OutOfMemory) = ⊤
+
+-- the certificate of this message is verified so under a scheme
+pub record IsSetupVerifiedUnder (scheme : Relation) (kind : SetupKind) (octets : List ℕ)
+    (when : ℤ) (answers : AnswersFields) (m : SetupMessage)
+    (answer : Result (Unit {0}) VerifyError) : Type 0 where
+  pub certificate : CertificateFields
+  pub holds : HoldsAnchor kind octets m certificate
+  pub verified : IsAnchorVerifiedUnder scheme certificate when answers answer
+
+-- the same as by answers, under a scheme for which they are right
+abbrev pub IsSetupAnsweredUnder : Relation → SetupKind → List ℕ → ℤ → AnswersFields
+    → Result SetupMessage SetupError → Type 0
+IsSetupAnsweredUnder scheme kind octets when answers (Ok m) =
+    IsSetupVerifiedUnder scheme kind octets when answers m (Ok tt)
+IsSetupAnsweredUnder scheme kind octets when answers (Err setup_errors.XmlError) =
+    IsNoSetup kind octets
+IsSetupAnsweredUnder scheme kind octets when answers (Err setup_errors.InvalidTaCertEncoding) =
+    HoldsNoAnchorIn kind octets
+IsSetupAnsweredUnder scheme kind octets when answers
+    (Err (setup_errors.Verify errors.OutOfMemory)) = ⊥
+IsSetupAnsweredUnder scheme kind octets when answers (Err (setup_errors.Verify e)) =
+    (m : SetupMessage) × IsSetupVerifiedUnder scheme kind octets when answers m (Err e)
+IsSetupAnsweredUnder scheme kind octets when answers (Err setup_errors.OutOfMemory) = ⊤
 
 -- ---- a certificate request (RFC 2986, 4.2)
 
@@ -147,6 +185,18 @@ IsRequestVerified r answers (Err errors.Signature) =
     IsAnsweredSo answers (request_questions r) (λ scheme. IsRequestSigned scheme r → ⊥)
 IsRequestVerified r answers (Err errors.OutOfMemory) = ⊤
 
+-- the same under a scheme for which the answers are right
+abbrev pub IsRequestVerifiedUnder : Relation → CaRequest → AnswersFields
+    → Result (Unit {0}) VerifyError → Type 0
+IsRequestVerifiedUnder scheme r answers (Ok done) = IsRequestSigned scheme r
+IsRequestVerifiedUnder scheme r answers (Err errors.OtherQuestions) =
+    RefusesAnswers answers (request_questions r) answers_errors.OtherQuestions
+IsRequestVerifiedUnder scheme r answers (Err errors.Number) =
+    RefusesAnswers answers (request_questions r) answers_errors.Number
+IsRequestVerifiedUnder scheme r answers (Err (errors.Validation e)) = ⊥
+IsRequestVerifiedUnder scheme r answers (Err errors.Signature) = IsRequestSigned scheme r → ⊥
+IsRequestVerifiedUnder scheme r answers (Err errors.OutOfMemory) = ⊤
+
 -- ---- the checks of a message
 
 -- the octets begin with a signed message, and these are its fourteen checks
@@ -155,6 +205,11 @@ pub record AreChecksOf (scheme : Relation) (octets : List ℕ) (key : KeyFields)
   pub signed : MessageFields
   pub begins : BeginsSigned octets signed
   pub are : AreChecks scheme signed key when list
+
+-- these are told by answers to the message's questions under this key alone
+abbrev pub AreChecksBy : List ℕ → KeyFields → ℤ → AnswersFields → List Bool → Type 0
+AreChecksBy octets key when answers list =
+    ByAnswers octets (key ∷ []) answers (λ scheme. AreChecksOf scheme octets key when list)
 
 -- ---- errors that become others
 

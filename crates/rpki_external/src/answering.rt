@@ -114,7 +114,8 @@ pub(crate) fn ask_message(
     octets: &[u8],
     keys: &[PublicKey],
 ) -> Result<Vec<u8>, KeysRefusal>
-    ensures ok { IfOk result (λ output. spec.IsQuestionsAnswer octets.now keys.now (Ok output.items)) }
+    ensures ok { IfOk result (λ output.
+        spec.IsQuestionsAnswer octets.now keys.now (Ok output.items)) }
     ensures err { IfErr result (λ e. e ≢ variant.General refusals.OutOfMemory
         → spec.IsQuestionsAnswer octets.now keys.now (Err e)) }
 {
@@ -154,7 +155,8 @@ fn request_at(alloc: Global, octets: &[u8]) -> Result<RpkiCaCsr, KeysRefusal>
 
 /// `questions request`: the line of the question of a certificate request.
 pub(crate) fn ask_request(alloc: Global, octets: &[u8]) -> Result<Vec<u8>, KeysRefusal>
-    ensures ok { IfOk result (λ output. spec.IsRequestQuestionsAnswer octets.now (Ok output.items)) }
+    ensures ok { IfOk result (λ output.
+        spec.IsRequestQuestionsAnswer octets.now (Ok output.items)) }
     ensures err { IfErr result (λ e. e ≢ variant.General refusals.OutOfMemory
         → spec.IsRequestQuestionsAnswer octets.now (Err e)) }
 {
@@ -300,7 +302,8 @@ pub(crate) fn verify_issue(
     input: &[u8],
     answers: &Answers,
 ) -> Result<Vec<u8>, KeysRefusal>
-    ensures ok { IfOk result (λ output. spec.IsIssueAnswer input.now answers.now (Ok output.items)) }
+    ensures ok { IfOk result (λ output.
+        spec.IsIssueAnswer input.now answers.now (Ok output.items)) }
     ensures err { IfErr result (λ e. e ≢ variant.General refusals.OutOfMemory
         → spec.IsIssueAnswer input.now answers.now (Err e)) }
 {

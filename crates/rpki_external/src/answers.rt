@@ -1,9 +1,9 @@
 //! Answers to questions.
 
-ghost use Rattle.std.specs.Prelude.{◌≡◌, ◌≢◌, IfErr, IfOk, length};
-ghost use Rattle.rpki_external.specs.Answers.{AreTo, RefusesAnswers};
+ghost use Rattle.std.specs.Prelude.{◌≡◌, ◌≢◌, IfErr, IfOk, OnOk, length};
+ghost use Rattle.rpki_external.specs.Answers.{CountFor, RefusesAnswers};
 ghost use Rattle.rpki_external.specs.Question.{listed};
-ghost use Rattle.rpki_external.specs.Spelling.{digest_of};
+ghost use Rattle.rpki_external.specs.Spelling.{AreWritable, digest_of};
 ghost use Rattle.rpki_external.specs.declared.answers.AnswersError.TheVariants as variant;
 
 use crate::question::Question;
@@ -71,10 +71,11 @@ impl Answers {
         questions: &Questions,
         values: Vec<bool>,
     ) -> Result<Answers, OutOfMemory>
-        ensures { IfOk result (λ a. a ≡ record {
+        ensures answers { IfOk result (λ a. a ≡ record {
           digest = digest_of questions.now;
           values = values.items;
         }) }
+        ensures writable { OnOk result (AreWritable questions.now) }
     {
         Ok(Answers::new(questions.digest(alloc)?, values))
     }
@@ -100,7 +101,7 @@ impl Answers {
         questions: &Questions,
     ) -> Result<Vec<Question>, AnswersError>
         ensures list { IfOk result (λ list. list.items ≡ listed questions.now) }
-        ensures to { IfOk result (λ _. AreTo self.now questions.now) }
+        ensures count { IfOk result (λ _. CountFor self.now questions.now) }
         ensures err { IfErr result (RefusesAnswers self.now questions.now) }
     {
         if self.digest != questions.digest(alloc)? {

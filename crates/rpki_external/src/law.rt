@@ -1,6 +1,6 @@
 //! What holds of all answers, and of all that is made.
 
-ghost use Rattle.std.specs.Prelude.{◌≡◌, ◌↔◌, ◌⊎◌, ◌≤ℤ◌, ℕ, ℤ, List, None, Option, Result, true};
+ghost use Rattle.std.specs.Prelude.{◌≡◌, ◌↔◌, ◌∷◌, ◌≤ℤ◌, [], ℕ, ℤ, Bool, List, Ok, Option, Result, true};
 ghost use Rattle.rpki_base.specs.PublicKey.{KeyFields};
 ghost use Rattle.rpki_base.specs.Validity.{ValidityFields};
 ghost use Rattle.rpki_base.specs.declared.algorithm.SigningAlgorithm.TheVariants.{RsaSha256};
@@ -9,13 +9,17 @@ ghost use Rattle.rpki_ca.specs.Acceptance.{IsReceivedUnder, ReadsAs, accepted_te
 ghost use Rattle.rpki_ca.specs.Answer.{BringsAccepted};
 ghost use Rattle.rpki_ca.specs.Seen.{Seen};
 ghost use Rattle.rpki_sigmsg.specs.Spelling.{CanSpellMessage, rewritten};
-ghost use Rattle.rpki_external.specs.Running.{AreRightIn, AreToIn, DeliversReceipt, EndsAsReceived, EndsKeysTask, EndsWell, Finishes};
+ghost use Rattle.rpki_external.specs.Running.{AreRightIn, AreToIn, DeliversReceipt, EndsAsVerified, EndsKeysTask, EndsWell, Finishes, IsLaterIn};
 ghost use Rattle.rpki_external.specs.declared.task.Finished.TheVariants as finishing;
+ghost use Rattle.rpki_external.specs.declared.task.Prepared.TheVariants as preparing;
 ghost use Rattle.rpki_external.specs.declared.task.Task.TheVariants as tasks;
+ghost use Rattle.rpki_external.specs.declared.task.Verified.{Verified};
 ghost use Rattle.rpki_external.specs.declared.task.Verified.TheVariants as verified;
 ghost use Rattle.rpki_ca.specs.declared.receiving.Kind.{Kind};
 ghost use Rattle.rpki_ca.specs.declared.receiving.ReceiveError.{ReceiveError};
 ghost use Rattle.rpki_ca.specs.declared.receiving.Received.{Received};
+ghost use Rattle.rpki_ca.specs.declared.setup_message.SetupKind.{SetupKind};
+ghost use Rattle.rpki_ca.specs.declared.setup_message.SetupMessage.{SetupMessage};
 ghost use Rattle.rpki_base.specs.RpkiSignatureAlgorithm.{spelled_x509};
 ghost use Rattle.rpki_base.specs.SignedData.{spelled_data};
 ghost use Rattle.rpki_cert.specs.Making.{CaRequest, IsRequestMade};
@@ -27,12 +31,12 @@ ghost use Rattle.rpki_replay.specs.declared.guard.GuardError.{GuardError};
 ghost use Rattle.rpki_sigmsg.specs.Checks.{IsBelieved, SameAnswersUnder};
 ghost use Rattle.rpki_sigmsg.specs.Making.{IsMessageMade};
 ghost use Rattle.rpki_sigmsg.specs.Message.{MessageFields};
-ghost use Rattle.rpki_external.specs.Answers.{AnswersFields, AreRight, AreTo, answered_scheme};
+ghost use Rattle.rpki_external.specs.Answers.{AnswersFields, AreRight, CountFor, answered_scheme};
 ghost use Rattle.rpki_external.specs.Making.{AreShort, AreSignatures, CanPrepare, CanPrepareAnchor, CanPrepareRequest, FinishAnchorFails, FinishFails, FinishRequestFails, IsAcceptedSo, IsInWindow, PrepareAnchorFails, PrepareFails, PrepareRequestFails, anchor_fields, finished, finished_anchor, finished_request, request_to_sign, unsigned_request};
 ghost use Rattle.rpki_external.specs.Question.{QuestionsFields, anchor_questions, listed, message_questions, request_questions};
-ghost use Rattle.rpki_external.specs.Receiving.{AreAskedOf, IsGuardRefusal, IsReceipt};
-ghost use Rattle.rpki_external.specs.Spelling.{AreWritable, Collide, questions_text};
-ghost use Rattle.rpki_external.specs.Verifying.{IsRequestSigned, IsTaValidation};
+ghost use Rattle.rpki_external.specs.Receiving.{AreAskedOf, IsGuardRefusal, IsReceipt, IsReceiptBy};
+ghost use Rattle.rpki_external.specs.Spelling.{AreWritable, SameUnlessCollide, digest_of};
+ghost use Rattle.rpki_external.specs.Verifying.{AreChecksBy, AreChecksOf, AreSetupQuestions, IsAnchorVerified, IsRequestSigned, IsRequestVerified, IsSetupAnswered, IsSetupAnsweredUnder, IsTaValidation};
 ghost use Rattle.rpki_external.specs.declared.answers.AnswersError.{AnswersError};
 ghost use Rattle.rpki_external.specs.declared.preparing.Plan.{Plan};
 ghost use Rattle.rpki_external.specs.declared.preparing.PrepareError.{PrepareError};
@@ -54,6 +58,7 @@ use crate::receiving::AnsweredError;
 use crate::setting_up::SetupError;
 use crate::verifying::VerifyError;
 use rpki_base::Scheme;
+use rpki_setup::at_most_one;
 use rpki_signer::Signer;
 
 /// `==` holds exactly between the same parts, and between the same errors.
@@ -71,12 +76,37 @@ pub fn equal_values_are_the_same()
         → (⟦<PrepareError as PartialEq>⟧.eq a b ≡ true) ↔ (a ≡ b) }
 {}
 
-/// Answers count for one value of questions: where they are to two, these are the same, or their texts, which differ, have one SHA-256.
+/// Answers count for one value of questions: where they do for two, these are the same, or their texts, which differ, have one SHA-256.
 /// So no answer that was given for one key, message or part counts for another.
 pub fn answers_are_to_one_value()
-    ensures { (answers : AnswersFields) (a b : QuestionsFields) → AreWritable a → AreWritable b
-        → AreTo answers a → AreTo answers b
-        → (a ≡ b) ⊎ Collide (questions_text a) (questions_text b) }
+    ensures counted { (answers : AnswersFields) (a b : QuestionsFields)
+        → CountFor answers a → CountFor answers b → SameUnlessCollide a b }
+
+    // So it is where they count for one, and were given to the other, whose digest is theirs.
+    ensures given { (answers : AnswersFields) (a b : QuestionsFields) → CountFor answers a
+        → AreWritable b → answers.digest ≡ digest_of b → SameUnlessCollide a b }
+{}
+
+/// By the same answers two messages are received, or their checks told, two certificates are verified, and two requests, only where what
+/// is asked of them is the same, with the same keys: or else two texts differ that have one SHA-256.
+pub fn same_answers_have_the_same_questions()
+    ensures received { (answers : AnswersFields) (kind other_kind : Kind)
+        (octets others : List ℕ) (keys other_keys : List KeyFields) (when then : ℤ)
+        (last before : Option ℤ) (r s : Receipt)
+        (one : IsReceiptBy kind octets keys when answers last r)
+        (other : IsReceiptBy other_kind others other_keys then answers before s)
+        → SameUnlessCollide one.q other.q }
+    ensures told { (answers : AnswersFields) (octets others : List ℕ) (key other_key : KeyFields)
+        (when then : ℤ) (list other_list : List Bool)
+        (one : AreChecksBy octets key when answers list)
+        (other : AreChecksBy others other_key then answers other_list)
+        → SameUnlessCollide one.q other.q }
+    ensures anchors { (answers : AnswersFields) (c d : CertificateFields) (when then : ℤ)
+        → IsAnchorVerified c when answers (Ok tt) → IsAnchorVerified d then answers (Ok tt)
+        → SameUnlessCollide (anchor_questions c) (anchor_questions d) }
+    ensures requests { (answers : AnswersFields) (r s : CaRequest)
+        → IsRequestVerified r answers (Ok tt) → IsRequestVerified s answers (Ok tt)
+        → SameUnlessCollide (request_questions r) (request_questions s) }
 {}
 
 /// Each question that the checks of a message ask under the keys has the same answer under the scheme that right answers are as under the
@@ -89,7 +119,7 @@ pub fn right_answers_are_the_schemes<P: Scheme>()
 {}
 
 /// What is received by answers is what is received under each scheme for which the answers are right; so is each receipt, and each
-/// refusal of the guard.
+/// refusal of the guard; and each of the fourteen checks of a message is told as it is there.
 pub fn right_answers_decide<P: Scheme>()
     ensures received { (kind : Kind) (octets : List ℕ) (keys : List KeyFields) (when : ℤ)
         (q : QuestionsFields) (answers : AnswersFields)
@@ -107,31 +137,38 @@ pub fn right_answers_decide<P: Scheme>()
         → AreAskedOf octets keys q → AreRight P.checks (listed q) answers.values
         → IsGuardRefusal (answered_scheme q answers) kind octets keys when last error
         → IsGuardRefusal P.checks kind octets keys when last error }
+    ensures checks { (octets : List ℕ) (key : KeyFields) (when : ℤ) (q : QuestionsFields)
+        (answers : AnswersFields) (list : List Bool)
+        → AreAskedOf octets (key ∷ []) q → AreRight P.checks (listed q) answers.values
+        → (AreChecksOf (answered_scheme q answers) octets key when list
+        ↔ AreChecksOf P.checks octets key when list) }
 {}
 
-/// Under each scheme for which the answers are right, `receive` ends with what it answers there, each refusal among them, or for want of
-/// memory. With 0 it wrote a receipt of the message that the input spells, of which there is one there; and where a message is accepted
-/// there, the answers are to its questions and no last time is handed in, it ends with 0, but for want of memory and a fault of the sink.
+/// Under each scheme for which the answers are right, `receive`, `explain`, `setup`, `request` and `issue` end with what they answer there,
+/// each refusal among it, or for want of memory. With 0 `receive` wrote a receipt of the message that the input spells, of which there is
+/// one there; and where a message is accepted there, the answers are to its questions and it says a later time than the last one that is
+/// handed in, if one is, `receive` ends with 0, but for want of memory and a fault of the sink.
 pub fn right_answers_deliver<P: Scheme>()
-    ensures answered { (kind : Kind) (keys : List KeyFields) (when : ℤ) (last : Option ℤ)
-        (answers : AnswersFields) (input : List ℕ) (status : ℕ) (sink : Seen)
-        → EndsKeysTask (tasks.Verify (verified.Message kind when last keys) answers) input status
-        sink → AreRightIn P.checks input keys answers
-        → EndsAsReceived P.checks kind keys when last answers input status sink }
+    ensures answered { (what : Verified) (answers : AnswersFields) (input : List ℕ) (status : ℕ)
+        (sink : Seen) → EndsKeysTask (tasks.Verify what answers) input status sink
+        → AreRightIn P.checks what input answers
+        → EndsAsVerified P.checks what answers input status sink }
     ensures received { (kind : Kind) (keys : List KeyFields) (when : ℤ) (last : Option ℤ)
         (answers : AnswersFields) (input : List ℕ) (sink : Seen)
         → EndsKeysTask (tasks.Verify (verified.Message kind when last keys) answers) input 0 sink
-        → AreRightIn P.checks input keys answers
+        → AreRightIn P.checks (verified.Message kind when last keys) input answers
         → DeliversReceipt P.checks kind keys when last input sink }
-    ensures accepted { (kind : Kind) (keys : List KeyFields) (when : ℤ) (answers : AnswersFields)
-        (input : List ℕ) (status : ℕ) (sink : Seen)
-        → EndsKeysTask (tasks.Verify (verified.Message kind when None keys) answers) input status
-        sink → AreRightIn P.checks input keys answers → AreToIn input keys answers
-        → BringsAccepted P.checks kind keys when input → EndsWell status sink }
+    ensures accepted { (kind : Kind) (keys : List KeyFields) (when : ℤ) (last : Option ℤ)
+        (answers : AnswersFields) (input : List ℕ) (status : ℕ) (sink : Seen)
+        → EndsKeysTask (tasks.Verify (verified.Message kind when last keys) answers) input status
+        sink → AreRightIn P.checks (verified.Message kind when last keys) input answers
+        → AreToIn (verified.Message kind when last keys) input answers
+        → BringsAccepted P.checks kind keys when input → IsLaterIn last input
+        → EndsWell status sink }
 {}
 
 /// What the checks of a trust anchor's certificate, and that of a request, answer by answers is what they answer under each scheme for
-/// which the answers are right.
+/// which the answers are right; so is what is answered to a setup message.
 pub fn right_answers_verify<P: Scheme>()
     ensures anchor { (c : CertificateFields) (when : ℤ) (answers : AnswersFields)
         (answer : Result (Unit {0}) ValidationError)
@@ -142,7 +179,14 @@ pub fn right_answers_verify<P: Scheme>()
         → AreRight P.checks (listed (request_questions r)) answers.values
         → (IsRequestSigned (answered_scheme (request_questions r) answers) r
         ↔ IsRequestSigned P.checks r) }
-{}
+    ensures setup { (kind : SetupKind) (octets : List ℕ) (when : ℤ) (q : QuestionsFields)
+        (answers : AnswersFields) (answer : Result SetupMessage SetupError)
+        → AreSetupQuestions kind octets q → AreRight P.checks (listed q) answers.values
+        → IsSetupAnswered kind octets when answers answer
+        → IsSetupAnsweredUnder P.checks kind octets when answers answer }
+{
+    at_most_one();
+}
 
 /// What can be prepared is, and what can be prepared and whose signatures are short enough is finished, but for want of memory: no other
 /// error comes then.
@@ -162,6 +206,36 @@ pub fn nothing_but_memory_is_wanting()
     ensures request_finished { (plan : RequestPlan) (signature : List ℕ) (e : PrepareError)
         → CanPrepareRequest plan → IsShort signature → FinishRequestFails plan signature e
         → e ≡ prepare.OutOfMemory }
+{}
+
+/// Where the input reads as a message of the kind that can be prepared, `prepare message` ends with 0, but for want of memory and a fault
+/// of the sink; so does `finish message`, where the signatures are short enough. So do the two of anchors and of requests, which look at
+/// no input.
+pub fn preparing_and_finishing_succeed()
+    ensures message { (kind : Kind) (plan : Plan) (input : List ℕ) (m : Received) (status : ℕ)
+        (sink : Seen)
+        → EndsKeysTask (tasks.Prepare (preparing.Message kind plan)) input status sink
+        → ReadsAs kind input m → CanPrepare (accepted_text m) plan → EndsWell status sink }
+    ensures anchor { (validity : ValidityFields) (key : KeyFields) (input : List ℕ) (status : ℕ)
+        (sink : Seen)
+        → EndsKeysTask (tasks.Prepare (preparing.Anchor validity key)) input status sink
+        → CanPrepareAnchor key → EndsWell status sink }
+    ensures request { (plan : RequestPlan) (input : List ℕ) (status : ℕ) (sink : Seen)
+        → EndsKeysTask (tasks.Prepare (preparing.Request plan)) input status sink
+        → CanPrepareRequest plan → EndsWell status sink }
+    ensures message_finished { (kind : Kind) (plan : Plan) (signatures : Signatures)
+        (input : List ℕ) (m : Received) (status : ℕ) (sink : Seen)
+        → EndsKeysTask (tasks.Finish (finishing.Message kind plan signatures)) input status sink
+        → ReadsAs kind input m → CanPrepare (accepted_text m) plan → AreShort signatures
+        → EndsWell status sink }
+    ensures anchor_finished { (validity : ValidityFields) (key : KeyFields) (signature : List ℕ)
+        (input : List ℕ) (status : ℕ) (sink : Seen)
+        → EndsKeysTask (tasks.Finish (finishing.Anchor validity key signature)) input status sink
+        → CanPrepareAnchor key → IsShort signature → EndsWell status sink }
+    ensures request_finished { (plan : RequestPlan) (signature : List ℕ) (input : List ℕ)
+        (status : ℕ) (sink : Seen)
+        → EndsKeysTask (tasks.Finish (finishing.Request plan signature)) input status sink
+        → CanPrepareRequest plan → IsShort signature → EndsWell status sink }
 {}
 
 /// A message with three signatures of what is prepared of it is believed under the issuing key, at each second from 300 before the

@@ -1,16 +1,20 @@
 //! Signed messages under keys that are held elsewhere, by OpenSSL or a hardware module.
 //!
-//! What the checks of a message ask of a scheme are a few yes-or-no questions, and what is made of a message needs three signatures.
-//! This crate hands out the questions and takes answers; it hands out the octets to be signed and takes signatures.
+//! What is asked of a scheme are a few yes-or-no questions, and what is made of a message needs three signatures. This crate hands out the
+//! questions and takes answers; it hands out the octets to be signed and takes signatures. Answers are bound, by the digest of a text, to
+//! the one value of questions for which they were given.
 //!
-//! - [`questions`] are those of a signed message under one to eight keys: one for the attributes, and under each key one for the
-//!   certificate and one for each CRL.
-//! - [`receive_answered`] receives it by answers; [`AnswerScheme`] is the scheme that answers are, and [`AnswerVerifier`] decides it.
-//! - [`prepare`] makes what is to be signed of a message, and [`finish`] the message with the signatures.
+//! - [`questions`] are those of a signed message under one to eight keys, [`anchor_questions`], [`request_questions`] and
+//!   [`setup_questions`] those of a trust anchor's certificate, of a certificate request and of a setup message.
+//! - [`receive_answered`] receives a message by answers, [`checks_answered`] tells each of its checks, and [`anchor_answered`],
+//!   [`request_answered`] and [`setup_answered`] verify the others; [`AnswerScheme`] is the scheme that answers are.
+//! - [`prepare`], [`prepare_anchor`] and [`prepare_request`] make what is to be signed, and [`finish`], [`finish_anchor`] and
+//!   [`finish_request`] what it is with the signatures; [`inspect`] tells what is in a message.
 //! - [`run_keys`] is what the program `rpkikeys` does.
 //!
-//! What is asked stands in specs/Question.antt, which answers are right in specs/Answers.antt, what is to be signed in
-//! specs/Making.antt, and what is answered to words and input in specs/Running.antt.
+//! What is asked stands in specs/Question.antt and its text in Spelling.antt, which answers are right in Answers.antt, what is received
+//! and verified in Receiving.antt and Verifying.antt, what is to be signed in Making.antt, what is told in Inspection.antt, and what is
+//! answered to words and input in Words.antt, KeysRefusal.antt and Running.antt.
 #![tactic(auto)]
 
 mod answering;
@@ -44,8 +48,9 @@ pub use law::{
     answers_are_to_one_value, equal_values_are_the_same, finished_anchor_is_believed,
     finished_is_accepted, finished_is_believed, finished_request_is_verified,
     made_anchor_is_finished, made_is_finished, made_request_is_finished,
-    nothing_but_memory_is_wanting, right_answers_are_the_schemes, right_answers_decide,
-    right_answers_deliver, right_answers_verify,
+    nothing_but_memory_is_wanting, preparing_and_finishing_succeed, right_answers_are_the_schemes,
+    right_answers_decide, right_answers_deliver, right_answers_verify,
+    same_answers_have_the_same_questions,
 };
 pub use lengths::questions_are_short;
 pub use preparing::{Plan, PrepareError, Signatures, finish, prepare};

@@ -1,9 +1,9 @@
 //! What is verified by answers, beside the receipt of messages.
 
-ghost use Rattle.std.specs.Prelude.{◌≡◌, ◌↔◌, ◌∷◌, [], IfErr, IfOk, IsOk};
+ghost use Rattle.std.specs.Prelude.{◌≡◌, ◌↔◌, IfErr, IfOk, IsOk};
 ghost use Rattle.rpki_sigmsg.specs.Checks.{AreChecks};
 ghost use Rattle.rpki_external.specs.Answers.{by_answers};
-ghost use Rattle.rpki_external.specs.Receiving.{ByAnswers, RefusesChecks};
+ghost use Rattle.rpki_external.specs.Receiving.{RefusesChecks};
 ghost use Rattle.rpki_external.specs.Verifying as spec;
 ghost use Rattle.rpki_external.specs.declared.verifying.VerifyError.TheVariants as variant;
 
@@ -89,7 +89,8 @@ fn validate_by<A: AnsweredQuestions>(
 ) -> Result<(), ValidationError>
     requires questions { questions.now ≡ A.questions }
     requires answers { answers.now ≡ A.answers }
-    ensures { spec.IsTaValidation (by_answers questions.now answers.now) certificate.now when result }
+    ensures { spec.IsTaValidation (by_answers questions.now answers.now) certificate.now when
+        result }
 {
     let verifier = AnswerVerifier::<A>::new(questions, answers);
     certificate.validate_ta_at::<AnswerScheme<A>, AnswerVerifier<A>>(&verifier, when)
@@ -102,7 +103,8 @@ fn validate_given(
     questions: &[Question],
     answers: &[bool],
 ) -> Result<(), ValidationError>
-    ensures { spec.IsTaValidation (by_answers questions.now answers.now) certificate.now when result }
+    ensures { spec.IsTaValidation (by_answers questions.now answers.now) certificate.now when
+        result }
 {
     validate_by::<Brand>(certificate, when, questions, answers)
 }
@@ -212,8 +214,7 @@ pub fn checks_answered(
     when: Time,
     answers: &Answers,
 ) -> Result<[bool; 14], AnsweredError>
-    ensures ok { IfOk result (λ list. ByAnswers octets.now (key.now ∷ []) answers.now
-        (λ scheme. spec.AreChecksOf scheme octets.now key.now when list)) }
+    ensures ok { IfOk result (spec.AreChecksBy octets.now key.now when answers.now) }
     ensures err { IfErr result (RefusesChecks octets.now key.now answers.now) }
 {
     let message = SignedMessage::decode(alloc, octets, false)?;

@@ -218,7 +218,7 @@ pub(crate) fn plan_at(
 // ---- signatures
 
 // What stands in a word behind a name and an equals sign.
-#[tactic(auto, using(crate::proofs::WordParts::behind_equals, crate::proofs::WordParts::no_equals, crate::proofs::WordParts::no_name))]
+#[tactic(auto, using(crate::proofs::WordParts::behind_names))]
 fn behind_name<'a>(word: &'a [u8], name: &[u8]) -> Option<&'a [u8]>
     ensures some { IfSome result (λ digits. word.now ≡ name.now ++ codes "=" ++ digits.now) }
     ensures none { IsNone result → (digits : List ℕ)

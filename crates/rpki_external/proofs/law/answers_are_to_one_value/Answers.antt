@@ -1,6 +1,8 @@
-use Rattle.std.proofs.Common.{◌∙◌, sym}
-use Rattle.rpki_external.proofs.OneText.{one_digest}
+use Rattle.rpki_external.proofs.OneText.{one_given, one_value}
 use Rattle.rpki_external.proofs.law.answers_are_to_one_value.Goals as goal
 
-pub returns : goal.returns
-returns c = λ answers a b writable other to_one to_other. one_digest a b writable other (sym to_one.digest ∙ to_other.digest)
+pub returns-clause-counted : goal.returns-clause-counted
+returns-clause-counted c = one_value
+
+pub returns-clause-given : goal.returns-clause-given
+returns-clause-given c = one_given

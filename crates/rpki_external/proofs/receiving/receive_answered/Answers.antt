@@ -17,4 +17,4 @@ returns-in_err-list c =
 pub returns : goal.returns
 returns c =
     rw (c.guarded.ensures, c.receipt_of-receipt.ensures) (received_so c.args.kind c.args.octets.now c.args.keys.now c.args.when c.args.answers.now c.args.last c.in_ok-questions.questions
-    (record { signed = c.in_ok-signed.signed; begins = c.in_ok-signed.ensures; are = c.in_ok-questions.ensures }) c.in_ok-list.ensures.to c.receive_given.result (rw (c.deref.ensures.value, c.in_ok-list.ensures.list, c.values.ensures) at c.receive_given.ensures))
+    (record { signed = c.in_ok-signed.signed; begins = c.in_ok-signed.ensures; are = c.in_ok-questions.ensures }) c.in_ok-list.ensures.count c.receive_given.result (rw (c.deref.ensures.value, c.in_ok-list.ensures.list, c.values.ensures) at c.receive_given.ensures))
