@@ -26,15 +26,34 @@ fn errors_are_printed(rt: HostRuntime) -> Result<(), Fail> {
 #[test]
 fn errors_of_texts_are_printed(rt: HostRuntime) -> Result<(), Fail> {
     let text = format!(in rt.alloc();
-        "{}; {}; {}; {}",
+        "{}; {}; {}; {}; {}; {}",
         InvalidHandle::Pattern,
         uri::Error::BadUri,
         Base64Error::Malformed,
-        JsonError::Malformed
+        Base64Error::OutOfMemory,
+        JsonError::Malformed,
+        JsonError::OutOfMemory
     )?;
     assert_eq!(rt;
         text.as_str(),
-        "Handle MUST have pattern: [-_A-Za-z0-9/]{1,255}; the URI lacks its host or its module; malformed base64; malformed JSON"
+        "Handle MUST have pattern: [-_A-Za-z0-9/]{1,255}; the URI lacks its host or its module; malformed base64; out of memory; malformed JSON; out of memory"
+    );
+    Ok(())
+}
+
+#[test]
+fn errors_of_uris_are_printed(rt: HostRuntime) -> Result<(), Fail> {
+    let text = format!(in rt.alloc();
+        "{}/{}/{}/{}/{}",
+        uri::Error::TooLong,
+        uri::Error::BadCharacter,
+        uri::Error::BadScheme,
+        uri::Error::DotSegments,
+        uri::Error::OutOfMemory
+    )?;
+    assert_eq!(rt;
+        text.as_str(),
+        "the URI is too long/the URI has a character that is not allowed/the URI has another scheme/the URI has a segment of dots/out of memory"
     );
     Ok(())
 }
