@@ -33,7 +33,7 @@ from stored_cases import SIZES, terms, write
 ROOT = pathlib.Path(__file__).resolve().parents[2]
 CRATE = ROOT / "crates" / "test_lines"
 MESSAGE = (ROOT / "examples" / "query-list.hex").read_text().strip()
-PROGRAMS = "guard", "state", "arch", "pub", "up", "parent", "issuer", "class"
+PROGRAMS = "guard", "state", "arch", "pub", "up", "parent", "issuer", "class", "decide"
 
 MOMENT = 1700000000
 KEY = "3022300d06092a864886f70d010101050003110000000000000000010000000000000000"
@@ -327,6 +327,47 @@ def server_rows():
         yield row(name, ["x"], ["Usage"], wrong, 2)
 
 
+def decided_rows():
+    """Queries that are decided by what is known of objects: what is replied, and whether the changes are made."""
+    done = "<success/>"
+    one, other = publish("f1.txt", b"a"), publish("f1.txt", b"b", b"a")
+
+    def at(name, octets=None, base=BASE):
+        return f"{base}{name}={'-' if octets is None else hash_of(octets)}"
+
+    def row(name, elements, known, made, reply, kind="query"):
+        text = f"{'made' if made else 'kept'}\n".encode() + protocol_text("reply", reply)
+        return case(f"decide-{name}", "decide", (BASE, *known), protocol_text(kind, *elements), 0, text)
+
+    def unknown(name, elements, known):
+        return case(f"decide-{name}", "decide", (BASE, *known), protocol_text("query", *elements), 1, b"")
+
+    f1 = at("f1.txt")
+    objects = ("b", b"1"), ("a", b"2")
+    yield row("list", ["<list/>"], [at(*objects[0]), at("aa"), at(*objects[1])], False, listed(*objects))
+    yield row("list-of-none", ["<list/>"], [], False, "")
+    yield row("reply", [done], [], False, error("xml_error"), "reply")
+    yield row("no-changes", [], [], True, done)
+    yield row("published", [one], [f1], True, done)
+    yield row("one-behind-the-other", [one, other, withdraw("f1.txt", b"b"), one], [at("f2.txt", b"x"), f1], True, done)
+    yield row("there-already", [one], [at("f1.txt", b"z")], False, error("object_already_present", one))
+    yield row("published-twice", [one, one], [f1], False, error("object_already_present", one))
+    yield row("replaced", [other], [at("f1.txt", b"a")], True, done)
+    yield row("replaced-where-none-is", [other], [f1], False, error("no_object_present", other))
+    yield row("old-digest", [other], [at("f1.txt", b"b")], False, error("no_object_matching_hash", other))
+    gone = withdraw("f1.txt", b"a")
+    yield row("withdrawn", [gone], [at("f1.txt", b"a")], True, done)
+    yield row("withdrawn-twice", [gone, gone], [at("f1.txt", b"a")], False, error("no_object_present", gone))
+    outside = one.replace(BASE, BASE[:-1] + "x/")
+    yield row("outside-of-the-base", [outside], [at("f1.txt", base=BASE[:-1] + "x/")], False, error("permission_failure", outside))
+    yield row("the-first-that-is-known", [one], [f1, at("f1.txt", b"a")], True, done)
+    yield unknown("nothing-known", [one], [])
+    yield unknown("another-known", [one], [at("f1.tx"), at("f1.txt.")])
+    yield unknown("unknown-behind-a-refused-one", [one, publish("f2.txt", b"b")], [at("f1.txt", b"a")])
+    sizes = [(f"{size}.roa", bytes(size)) for size in (127, 128, 256, 65536)]
+    yield row("sizes", [publish(*each) for each in sizes], [at(name) for name, _ in sizes], True, done)
+
+
 def parent_rows():
     """Messages of a child, and what its parent answers; each call of a signer fails."""
     words = str(MOMENT), KEY
@@ -381,7 +422,7 @@ def guarded_rows():
 
 ROWS = {
     "guard": guarded_rows, "state": state_rows, "arch": archive_rows, "pub": server_rows, "up": parent_rows, "parent": class_rows,
-    "issuer": issuing_rows, "class": told_rows}
+    "issuer": issuing_rows, "class": told_rows, "decide": decided_rows}
 
 
 def main():

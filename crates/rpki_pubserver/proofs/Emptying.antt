@@ -1,11 +1,6 @@
 -- Places of which none is empty, at the URIs of changes and elsewhere.
-use Rattle.std.proofs.Common.{◌≡◌, ◌+◌, ◌<◌, ◌||◌, ℕ, suc, Bool, true, false, cond, Option, None, Some, List, [], ◌∷◌, length, get_or, take, refl, sym, ap, subst, ◌∙◌}
-use Rattle.std.specs.BTreeMap.{insert_entry}
-use Rattle.std.specs.Cmp.Lexicographic.{slice_cmp}
-use Rattle.std.specs.Map.{keys_of, lookup, remove_entry}
-use Rattle.std.specs.Ordering.{match_ordering, nat_cmp}
-use Rattle.std.specs.declared.cmp.Ordering.{Ordering}
-use Rattle.std.specs.declared.cmp.Ordering.TheVariants.{Less, Equal, Greater}
+use Rattle.std.proofs.Common.{◌≡◌, ◌+◌, ◌<◌, ◌||◌, ℕ, suc, Bool, true, false, cond, None, Some, List, [], ◌∷◌, length, get_or, take, refl, sym, ap, subst, ◌∙◌}
+use Rattle.std.specs.Map.{keys_of, lookup}
 use Rattle.std.specs.Str.{bytes_eq}
 use Rattle.std.proofs.lemmas.List.Folds.{list_any_at, list_any_more}
 use Rattle.std.proofs.lemmas.Map.Keys.{sorted_head, sorted_tail}
@@ -13,51 +8,10 @@ use Rattle.std.proofs.lemmas.Slice.Eq.{bytes_eq-Decides}
 use Rattle.rpki_common.proofs.Truths.{equal_octets}
 use Rattle.rpki_publication.specs.declared.publish_delta_element.PublishDeltaElement.{PublishDeltaElement}
 use Rattle.rpki_pubserver.specs.Changes.{uri_of}
-use Rattle.rpki_pubserver.specs.Places.{IsEmptyAt, IsSameAt, IsSameElsewhere, NoneIsEmpty, Places, has_change, live, with_object}
-use Rattle.rpki_pubserver.proofs.Live.{AreBehind, AreSorted, no_place_among, text_cmp}
-use Rattle.rpki_pubserver.proofs.Placing.{equal_text}
+use Rattle.rpki_pubserver.specs.Places.{IsEmptyAt, IsSameAt, IsSameElsewhere, NoneIsEmpty, Places, has_change, live}
+use Rattle.rpki_pubserver.proofs.Entries.{AreBehind, AreSorted, none_at}
 
--- ---- at other URIs
-
-apart_key : (other uri key : List ℕ) → bytes_eq other uri ≡ false → bytes_eq uri key ≡ true → bytes_eq other key ≡ false
-apart_key other uri key apart same = subst (λ (k : List ℕ). bytes_eq other k ≡ false) ((bytes_eq-Decides uri key).0 same) apart
-
-module _ (other uri : List ℕ) (apart : bytes_eq other uri ≡ false) where
-  pub same_by_object : (places : Places) (object : Option (List ℕ)) → IsSameAt other places (with_object places uri object)
-  same_by_object [] object = refl
-  same_by_object ((key, there) ∷ places) object = by (bytes_eq uri key) refl (same_by_object places object)
-    where
-      by : (b : Bool) → bytes_eq uri key ≡ b → IsSameAt other places (with_object places uri object) → IsSameAt other ((key, there) ∷ places) (cond b ((key, object) ∷ places) ((key, there) ∷ with_object places uri object))
-      by true same more = rw (apart_key other uri key apart same) refl
-      by false same more = ap (λ (o : Option (Option (List ℕ))). cond (bytes_eq other key) (Some there) o) more
-
-  pub same_by_removal : (places : Places) → IsSameAt other places (remove_entry (bytes_eq uri) places)
-  same_by_removal [] = refl
-  same_by_removal ((key, there) ∷ places) = by (bytes_eq uri key) refl (same_by_removal places)
-    where
-      by : (b : Bool) → bytes_eq uri key ≡ b → IsSameAt other places (remove_entry (bytes_eq uri) places) → IsSameAt other ((key, there) ∷ places) (cond b places ((key, there) ∷ remove_entry (bytes_eq uri) places))
-      by true same more = rw (apart_key other uri key apart same) refl
-      by false same more = ap (λ (o : Option (Option (List ℕ))). cond (bytes_eq other key) (Some there) o) more
-
-  pub same_by_place : (places : Places) (object : Option (List ℕ)) → IsSameAt other places (insert_entry (slice_cmp nat_cmp) places uri object)
-  same_by_place [] object = rw apart refl
-  same_by_place ((key, there) ∷ places) object = by (text_cmp uri key) refl (same_by_place places object)
-    where
-      by : (r : Ordering) → text_cmp uri key ≡ r → IsSameAt other places (insert_entry (slice_cmp nat_cmp) places uri object)
-          → IsSameAt other ((key, there) ∷ places) (match_ordering r ((uri, object) ∷ (key, there) ∷ places) ((key, object) ∷ places) ((key, there) ∷ insert_entry (slice_cmp nat_cmp) places uri object))
-      by Less e more = rw apart refl
-      by Equal e more = rw (apart_key other uri key apart (equal_text uri key e)) refl
-      by Greater e more = ap (λ (o : Option (Option (List ℕ))). cond (bytes_eq other key) (Some there) o) more
-
--- ---- where a place is taken out
-
-pub removed_gone : (uri : List ℕ) (places : Places) → AreSorted places → lookup (bytes_eq uri) (remove_entry (bytes_eq uri) places) ≡ None
-removed_gone uri [] sorted = refl
-removed_gone uri ((key, there) ∷ places) sorted = by (bytes_eq uri key) refl (removed_gone uri places (sorted_tail _ key (keys_of places) sorted))
-  where
-    by : (b : Bool) → bytes_eq uri key ≡ b → lookup (bytes_eq uri) (remove_entry (bytes_eq uri) places) ≡ None → lookup (bytes_eq uri) (cond b places ((key, there) ∷ remove_entry (bytes_eq uri) places)) ≡ None
-    by true same more = no_place_among uri places (subst (λ (k : List ℕ). AreBehind k places) (sym ((bytes_eq-Decides uri key).0 same)) (sorted_head _ key (keys_of places) sorted))
-    by false apart more = rw apart more
+-- ---- what is no empty place
 
 pub not_empty_none : (uri : List ℕ) (places : Places) → lookup (bytes_eq uri) places ≡ None → IsEmptyAt places uri → ⊥
 not_empty_none uri places none empty = let no : None ≡ Some None = sym none ∙ empty in cc
@@ -73,7 +27,7 @@ none_empty_count ((key, None) ∷ places) sorted none = absurd (none key (rw (eq
 none_empty_count ((key, Some octets) ∷ places) sorted none = ap (λ (n : ℕ). suc n) (none_empty_count places (sorted_tail _ key (keys_of places) sorted) (λ uri empty. none uri (by uri (bytes_eq uri key) refl empty)))
   where
     by : (uri : List ℕ) (b : Bool) → bytes_eq uri key ≡ b → IsEmptyAt places uri → cond b (Some (Some octets)) (lookup (bytes_eq uri) places) ≡ Some None
-    by uri true same empty = absurd (not_empty_none uri places (no_place_among uri places (subst (λ (k : List ℕ). AreBehind k places) (sym ((bytes_eq-Decides uri key).0 same)) (sorted_head _ key (keys_of places) sorted))) empty)
+    by uri true same empty = absurd (not_empty_none uri places (none_at uri places (subst (λ (k : List ℕ). AreBehind k places) (sym ((bytes_eq-Decides uri key).0 same)) (sorted_head _ key (keys_of places) sorted))) empty)
     by uri false apart empty = empty
 
 -- ---- by changes

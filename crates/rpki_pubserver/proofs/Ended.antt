@@ -1,11 +1,9 @@
 -- How a run ends.
-use Rattle.std.proofs.Common.{◌≡◌, ◌≤◌, ◌<◌, ◌^◌, ℕ, ℤ, Some, List, length, take, inl, inr}
+use Rattle.std.proofs.Common.{◌≡◌, ◌≤◌, ◌^◌, ℕ, ℤ, Some, List, length, take, inl, inr}
 use Rattle.rpki_base.specs.Scheme.{Relation}
 use Rattle.rpki_ca.specs.Creation.{CanSign}
 use Rattle.rpki_ca.specs.Lines.{EndsRun, lines_of}
 use Rattle.rpki_ca.specs.Seen.{HasFailed, Seen, SignerSeen}
-use Rattle.rpki_signer.specs.Limits.{Keeps}
-use Rattle.rpki_signer.specs.Signer.{SignerState}
 use Rattle.rpki_sigmsg.specs.Making.{HasWindow}
 use Rattle.rpki_ca.specs.declared.receiving.Received.TheVariants as received
 use Rattle.rpki_ca.specs.declared.refusals.Refusal.{Refusal}

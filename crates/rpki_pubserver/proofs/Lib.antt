@@ -1,10 +1,13 @@
+pub mod Entries
 pub mod Live
 pub mod Placing
 pub mod Emptying
 pub mod Listing
-pub mod Undoing
 pub mod Making
 pub mod Ordered
+pub mod Keeping
+pub mod Telling
+pub mod Decided
 pub mod Lying
 pub mod Writable
 pub mod Asked

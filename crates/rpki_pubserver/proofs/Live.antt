@@ -1,12 +1,11 @@
 -- The objects in places, where one is put, taken or asked for.
 use Rattle.std.proofs.Common.{◌≡◌, ◌||◌, ℕ, Bool, true, false, cond, Option, None, Some, List, [], ◌∷◌, refl, sym, ap, subst, ◌∙◌}
 use Rattle.std.specs.BTreeMap.{insert_entry}
-use Rattle.std.specs.Cmp.Lexicographic.{slice_cmp, nat_list_cmp_total}
+use Rattle.std.specs.Cmp.Lexicographic.{slice_cmp}
 use Rattle.std.specs.List.{AllByRecursion, list_any}
 use Rattle.std.specs.List.Sorted.{IsStrictlySortedBy}
 use Rattle.std.specs.Map.{keys_of, lookup, remove_entry}
-use Rattle.std.specs.Ordering.{is_eq, match_ordering, nat_cmp, ordering_reverse}
-use Rattle.std.specs.declared.cmp.Ordering.{Ordering}
+use Rattle.std.specs.Ordering.{is_eq, match_ordering, nat_cmp}
 use Rattle.std.specs.declared.cmp.Ordering.TheVariants.{Less, Equal, Greater}
 use Rattle.std.specs.Str.{bytes_eq}
 use Rattle.std.proofs.lemmas.Map.Keys.{sorted_head, sorted_tail}
@@ -17,39 +16,9 @@ use Rattle.rpki_publication.specs.declared.publish_delta_element.PublishDeltaEle
 use Rattle.rpki_pubserver.specs.Store.{Store, IsStore, octets_at, put, without}
 use Rattle.rpki_pubserver.specs.Changes.{changed, uri_of}
 use Rattle.rpki_pubserver.specs.Places.{HasPlace, Places, flattened, live, object_of, with_object, with_octets}
+use Rattle.rpki_pubserver.proofs.Entries.{AreBehind, AreSorted, equal_from_same, greater_from_less, other_before, text_cmp}
 
--- ---- texts in order
-
-abbrev pub text_cmp : List ℕ → List ℕ → Ordering
-text_cmp one other = slice_cmp nat_cmp one other
-
--- each text of these places is behind this one
-abbrev pub AreBehind : List ℕ → Places → Type 0
-AreBehind uri places = AllByRecursion (λ other. text_cmp uri other ≡ Less) (keys_of places)
-
-abbrev pub AreSorted : Places → Type 0
-AreSorted places = IsStrictlySortedBy (slice_cmp nat_cmp) (keys_of places)
-
-less_equal : (o : Ordering) → o ≡ Less → is_eq o ≡ false
-less_equal o e = rw e refl
-
-greater_from_less : (one other : List ℕ) → text_cmp one other ≡ Less → text_cmp other one ≡ Greater
-greater_from_less one other e = nat_list_cmp_total.antisymm other one ∙ ap ordering_reverse e
-
--- a text behind another is another one, both ways
-other_before : (one other : List ℕ) → text_cmp one other ≡ Less → bytes_eq one other ≡ false
-other_before one other e = sym (is_eq-slice_cmp one other) ∙ less_equal (text_cmp one other) e
-
-other_behind : (one other : List ℕ) → text_cmp one other ≡ Less → bytes_eq other one ≡ false
-other_behind one other e = sym (is_eq-slice_cmp other one) ∙ ap is_eq (greater_from_less one other e)
-
-equal_from_same : (one other : List ℕ) → bytes_eq one other ≡ true → text_cmp one other ≡ Equal
-equal_from_same one other e = is_equal (text_cmp one other) (is_eq-slice_cmp one other ∙ e)
-  where
-    is_equal : (o : Ordering) → is_eq o ≡ true → o ≡ Equal
-    is_equal Less h = cc
-    is_equal Equal h = refl
-    is_equal Greater h = cc
+-- ---- texts behind another
 
 -- a text that has a place among those behind another is behind it
 behind_from_place : (uri one : List ℕ) (places : Places) → AreBehind one places → HasPlace places uri → text_cmp one uri ≡ Less
@@ -66,11 +35,6 @@ none_among : (uri : List ℕ) (places : Places) → AreBehind uri places → oct
 none_among uri [] behind = refl
 none_among uri ((key, None) ∷ places) behind = none_among uri places behind.1
 none_among uri ((key, Some octets) ∷ places) behind = rw (other_before uri key behind.0) (none_among uri places behind.1)
-
--- a text that is before all of these has no place among them
-pub no_place_among : (uri : List ℕ) (places : Places) → AreBehind uri places → lookup (bytes_eq uri) places ≡ None
-no_place_among uri [] behind = refl
-no_place_among uri ((key, there) ∷ places) behind = rw (other_before uri key behind.0) (no_place_among uri places behind.1)
 
 kept_without : (uri : List ℕ) (places : Places) → AreBehind uri places → without (live places) uri ≡ live places
 kept_without uri [] behind = refl

@@ -13,7 +13,7 @@ use Rattle.rpki_publication.specs.declared.publish_delta_element.PublishDeltaEle
 use Rattle.rpki_publication.specs.declared.report_error_code.ReportErrorCode.TheVariants as code
 use Rattle.rpki_publication.specs.ListReply.{withdrawal_of}
 use Rattle.rpki_pubserver.specs.Changes.{Refused, after_all, after_element, changed, code_at, code_of, uri_of}
-use Rattle.rpki_pubserver.specs.Store.{LieUnder, Store, listed_store, octets_at, put, without}
+use Rattle.rpki_pubserver.specs.Store.{LieUnder, Store, digest_at, listed_store, put, without}
 use Rattle.rpki_common.proofs.Truths.{equal_octets}
 
 -- ---- one change
@@ -47,7 +47,7 @@ lie_changed base store (change.Withdraw w) here lie = lie_without base w.uri sto
 under_made : (base : List ℕ) (store : Store) (e : PublishDeltaElement) → code_of base store e ≡ None → IsUnder base (uri_of e)
 under_made base store e none = by (starts_with nat_eq (uri_of e) base) none
   where
-    by : (b : Bool) → (if b then code_at e (octets_at store (uri_of e)) else Some code.PermissionFailure) ≡ None → b ≡ true
+    by : (b : Bool) → (if b then code_at e (digest_at store (uri_of e)) else Some code.PermissionFailure) ≡ None → b ≡ true
     by true n = refl
     by false n = cc
 

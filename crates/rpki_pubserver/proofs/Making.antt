@@ -3,7 +3,7 @@ use Rattle.std.proofs.Common.{◌≡◌, ◌+◌, ◌<◌, ℕ, zero, suc, Optio
 use Rattle.rpki_pubserver.specs.Store.{Store}
 use Rattle.rpki_publication.specs.declared.publish_delta_element.PublishDeltaElement.{PublishDeltaElement}
 use Rattle.rpki_publication.specs.declared.report_error_code.ReportErrorCode.{ReportErrorCode}
-use Rattle.rpki_pubserver.specs.Changes.{Refused, after_all, changed, code_of, refused_or}
+use Rattle.rpki_pubserver.specs.Changes.{Refused, after_all, all_made, changed, code_of, refused_or}
 use Rattle.rpki_ca.proofs.Stepping.{take_more}
 
 after_append : (base : List ℕ) (so_far : Result Store Refused) (one other : List PublishDeltaElement) → after_all base so_far (one ++ other) ≡ after_all base (after_all base so_far one) other
@@ -35,3 +35,16 @@ one_refused base first changes i e store code lt at so_far some =
     ∙ after_append base first (take i changes) (e ∷ drop (suc i) changes)
     ∙ ap (λ (r : Result Store Refused). after_all base r (e ∷ drop (suc i) changes)) so_far
     ∙ ap (λ (o : Option ReportErrorCode). after_all base (refused_or e (changed store e) o) (drop (suc i) changes)) (sym some)
+
+-- ---- where all are made
+
+all_made_more : (store : Store) (elements : List PublishDeltaElement) (e : PublishDeltaElement) → all_made store (elements ++ e ∷ []) ≡ changed (all_made store elements) e
+all_made_more store [] e = refl
+all_made_more store (x ∷ elements) e = all_made_more (changed store x) elements e
+
+pub one_more_made : (first : Store) (changes : List PublishDeltaElement) (i : ℕ) (e : PublishDeltaElement) (store : Store) → i < length changes → e ≡ get_or changes i e → store ≡ all_made first (take i changes)
+    → changed store e ≡ all_made first (take (i + 1) changes)
+one_more_made first changes i e store lt at is =
+    ap (λ (s : Store). changed s e) is
+    ∙ sym (all_made_more first (take i changes) e)
+    ∙ sym (ap (λ (l : List PublishDeltaElement). all_made first l) (take_more changes i e lt at))

@@ -12,7 +12,7 @@ use Rattle.rpki_publication.specs.declared.publish_delta_element.PublishDeltaEle
 use Rattle.rpki_publication.specs.declared.publish_delta_element.PublishDeltaElement.TheVariants as change
 use Rattle.rpki_pubserver.specs.Changes.{changed}
 use Rattle.rpki_pubserver.specs.Store.{IsStore, Store, put, without}
-use Rattle.rpki_pubserver.proofs.Live.{text_cmp}
+use Rattle.rpki_pubserver.proofs.Entries.{text_cmp}
 
 -- each URI is behind this one
 abbrev AreAfter : List ℕ → Store → Type 0

@@ -6,7 +6,7 @@ use Rattle.std.specs.Cmp.Lexicographic.{slice_cmp}
 use Rattle.std.specs.List.{AllByRecursion, list_any}
 use Rattle.std.specs.List.Sorted.{IsStrictlySortedBy}
 use Rattle.std.specs.Map.{keys_of, lookup, remove_entry, set_value}
-use Rattle.std.specs.Ordering.{is_eq, match_ordering, nat_cmp}
+use Rattle.std.specs.Ordering.{match_ordering, nat_cmp}
 use Rattle.std.specs.declared.cmp.Ordering.{Ordering}
 use Rattle.std.specs.declared.cmp.Ordering.TheVariants.{Less, Equal, Greater}
 use Rattle.std.specs.String.{string_cmp}
@@ -14,6 +14,7 @@ use Rattle.std.specs.Str.{bytes_eq}
 use Rattle.std.proofs.lemmas.Map.Text.{is_eq-slice_cmp}
 use Rattle.rpki_pubserver.specs.Places.{HasPlace, Places, placed}
 use Rattle.rpki_common.proofs.Truths.{equal_octets}
+use Rattle.rpki_pubserver.proofs.Entries.{equal_text}
 
 module _ {Z : Type 0} where
   -- the test by which the map looks a text up
@@ -78,9 +79,6 @@ pub not_nowhere : (uri : List ℕ) (places : Places) → HasPlace places uri →
 not_nowhere uri places has none = let no : false ≡ true = ap is_some (sym none) ∙ some_found uri places ∙ has in cc
 
 -- ---- a new place
-
-pub equal_text : (uri key : List ℕ) → slice_cmp nat_cmp uri key ≡ Equal → bytes_eq uri key ≡ true
-equal_text uri key e = sym (is_eq-slice_cmp uri key) ∙ ap is_eq e
 
 pub new_place : (uri : List ℕ) (places : Places) (object : Option (List ℕ)) → HasPlace (insert_entry (slice_cmp nat_cmp) places uri object) uri
 new_place uri [] object = rw (equal_octets uri) refl

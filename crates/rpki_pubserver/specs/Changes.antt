@@ -3,12 +3,11 @@
 use Rattle.std.specs.Prelude.{ℕ, if◌then◌else◌, Option, None, Some, Result, Ok, Err, List, [], ◌∷◌, nat_eq}
 use Rattle.std.specs.List.{starts_with}
 use Rattle.std.specs.Str.{bytes_eq}
-use Rattle.sha2.specs.Sha256.{sha256}
 use Rattle.rpki_publication.specs.declared.publish_delta_element.PublishDeltaElement.{PublishDeltaElement}
 use Rattle.rpki_publication.specs.declared.publish_delta_element.PublishDeltaElement.TheVariants as change
 use Rattle.rpki_publication.specs.declared.report_error_code.ReportErrorCode.{ReportErrorCode}
 use Rattle.rpki_publication.specs.declared.report_error_code.ReportErrorCode.TheVariants as code
-use Rattle.rpki_pubserver.specs.Store.{Store, octets_at, put, without}
+use Rattle.rpki_pubserver.specs.Store.{Store, digest_at, put, without}
 
 -- the URI of a change
 abbrev pub uri_of : PublishDeltaElement → List ℕ
@@ -24,25 +23,28 @@ tag_of_change (change.Withdraw w) = w.tag
 
 -- ---- one change
 
--- why a replacement or a withdrawal that names this digest is refused, by the octets at the URI, if
--- any
+-- why a replacement or a withdrawal that names this digest is refused, by the digest of the object at
+-- the URI, if there is one
 abbrev pub code_by_hash : List ℕ → Option (List ℕ) → Option ReportErrorCode
 code_by_hash hash None = Some code.NoObjectPresent
-code_by_hash hash (Some octets) =
-    if bytes_eq (sha256 octets) hash then None else Some code.NoObjectMatchingHash
+code_by_hash hash (Some digest) =
+    if bytes_eq digest hash then None else Some code.NoObjectMatchingHash
 
--- why a change isn't made where these octets are there: an object is published where none is
+-- why a change isn't made where the object with this digest is there: one is published where none is
 abbrev pub code_at : PublishDeltaElement → Option (List ℕ) → Option ReportErrorCode
 code_at (change.Publish p) None = None
-code_at (change.Publish p) (Some octets) = Some code.ObjectAlreadyPresent
+code_at (change.Publish p) (Some digest) = Some code.ObjectAlreadyPresent
 code_at (change.Update u) there = code_by_hash u.hash there
 code_at (change.Withdraw w) there = code_by_hash w.hash there
 
--- why a change isn't made: its URI has to begin with the base
+-- why a change isn't made where this is there: its URI has to begin with the base
+abbrev pub code_under : List ℕ → PublishDeltaElement → Option (List ℕ) → Option ReportErrorCode
+code_under base e there =
+    if starts_with nat_eq (uri_of e) base then code_at e there else Some code.PermissionFailure
+
+-- why a change of a store isn't made
 abbrev pub code_of : List ℕ → Store → PublishDeltaElement → Option ReportErrorCode
-code_of base store e =
-    if starts_with nat_eq (uri_of e) base then code_at e (octets_at store (uri_of e))
-    else Some code.PermissionFailure
+code_of base store e = code_under base e (digest_at store (uri_of e))
 
 -- the store where it is made
 abbrev pub changed : Store → PublishDeltaElement → Store
@@ -72,3 +74,8 @@ abbrev pub after_all : List ℕ → Result Store Refused → List PublishDeltaEl
 after_all base (Err refused) elements = Err refused
 after_all base (Ok store) [] = Ok store
 after_all base (Ok store) (e ∷ more) = after_all base (after_element base store e) more
+
+-- the store where all these changes are made, one behind the other
+abbrev pub all_made : Store → List PublishDeltaElement → Store
+all_made store [] = store
+all_made store (e ∷ more) = all_made (changed store e) more

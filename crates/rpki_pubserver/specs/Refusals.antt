@@ -1,7 +1,7 @@
 -- A change that isn't made, by its place among all. A means for the loop over them.
 use Rattle.std.specs.Prelude.{◌≡◌, ℕ, Some, Ok, Err, List, slice_get}
 use Rattle.rpki_publication.specs.declared.publish_delta_element.PublishDeltaElement.{PublishDeltaElement}
-use Rattle.rpki_pubserver.specs.declared.changes.Refused as held
+use Rattle.rpki_pubserver.specs.declared.deciding.Refused as held
 use Rattle.rpki_pubserver.specs.Changes.{after_all}
 use Rattle.rpki_pubserver.specs.Store.{Store}
 

@@ -1,5 +1,5 @@
 -- A publication server for one publisher (RFC 8181, 1 and 2).
-use Rattle.std.specs.Prelude.{◌≡◌, ◌≢◌, ◌<◌, ◌^◌, ℕ, ℤ, Result, Err, List, [], ◌∷◌, length}
+use Rattle.std.specs.Prelude.{◌≡◌, ◌≢◌, ◌<◌, ℕ, ℤ, Result, Err, List, [], ◌∷◌, length}
 use Rattle.rpki_common.specs.Limits.{most_content}
 use Rattle.rpki_base.specs.PublicKey.{KeyFields}
 use Rattle.rpki_base.specs.Scheme.{Relation}

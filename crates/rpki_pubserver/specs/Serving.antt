@@ -1,5 +1,5 @@
 -- What the publication server's program answers to its lines.
-use Rattle.std.specs.Prelude.{◌≡◌, ◌≢◌, ◌≤◌, ◌<◌, ◌^◌, ℕ, ℤ, Some, List, [], length, slice_get}
+use Rattle.std.specs.Prelude.{◌≡◌, ◌≢◌, ◌≤◌, ◌<◌, ℕ, ℤ, Some, List, [], length, slice_get}
 use Rattle.rpki_common.specs.Limits.{most_content}
 use Rattle.rpki_base.specs.Scheme.{Relation}
 use Rattle.rpki_publication.specs.Message.{text_of}

@@ -5,6 +5,7 @@ use Rattle.std.specs.Cmp.Lexicographic.{slice_cmp}
 use Rattle.std.specs.List.{AllByRecursion, starts_with}
 use Rattle.std.specs.List.Sorted.{IsStrictlySortedBy}
 use Rattle.std.specs.Map.{keys_of, lookup, remove_entry}
+use Rattle.std.specs.Option.{option_map}
 use Rattle.std.specs.Ordering.{nat_cmp}
 use Rattle.std.specs.Str.{bytes_eq}
 use Rattle.sha2.specs.Sha256.{sha256}
@@ -21,6 +22,10 @@ IsStore store = IsStrictlySortedBy (slice_cmp nat_cmp) (keys_of store)
 -- the octets at a URI
 abbrev pub octets_at : Store → List ℕ → Option (List ℕ)
 octets_at store uri = lookup (bytes_eq uri) store
+
+-- the SHA-256 of the octets at a URI
+abbrev pub digest_at : Store → List ℕ → Option (List ℕ)
+digest_at store uri = option_map sha256 (octets_at store uri)
 
 -- the store with these octets at a URI: in the place of those that are there, or in a new pair at
 -- its place in the order

@@ -1,16 +1,16 @@
-//! What a query changes, one change behind the other, all of them or none (RFC 8181, 2.2).
+//! What a query changes, one change behind the other (RFC 8181, 2.2).
 
-ghost use Rattle.std.specs.Prelude.{◌≡◌, ◌≤◌, ℕ, IfOk, IfErr, List, Ok, OnErr, OnOk, length, map, true};
+ghost use Rattle.std.specs.Prelude.{◌≡◌, ℕ, IfOk, List, OnOk, map, true};
 ghost use Rattle.std.specs.Option.{option_map};
 ghost use Rattle.std.specs.Rc.{rc_str_bytes};
+ghost use Rattle.sha2.specs.Sha256.{sha256};
 ghost use Rattle.rpki_pubserver.specs.Changes as definitions;
-ghost use Rattle.rpki_pubserver.specs.Places.{HavePlaces, IsEmptyAt, IsSameElsewhere, has_change, live, object_of, undone};
-ghost use Rattle.rpki_pubserver.specs.Refusals.{IsChangeRefused};
+ghost use Rattle.rpki_pubserver.specs.Places.{HavePlaces, IsEmptyAt, IsSameElsewhere, has_change, live, object_of};
 
 use crate::object::Object;
 use crate::objects::Objects;
 use rpki_common::OutOfMemory;
-use rpki_publication::{PublishDeltaElement, ReportErrorCode};
+use rpki_publication::PublishDeltaElement;
 use rpki_text::{Hash, uri};
 use std::alloc::Global;
 use std::rc::RcStr;
@@ -48,49 +48,18 @@ fn object_of(alloc: Global, change: &PublishDeltaElement) -> Result<Option<Objec
     }
 }
 
-// Why an object isn't replaced or taken out that has to have this digest.
-fn code_by_hash(hash: &Hash, there: Option<&Object>) -> Option<ReportErrorCode>
-    ensures { result ≡ definitions.code_by_hash hash.now (option_map (λ o. o.now) there.entry) }
-{
-    match there {
-        None => Some(ReportErrorCode::NoObjectPresent),
-        Some(object) => {
-            if object.hash() == hash {
-                None
-            } else {
-                Some(ReportErrorCode::NoObjectMatchingHash)
-            }
-        }
-    }
-}
-
-// Why a change isn't made to what is there at its URI.
-fn code_at(change: &PublishDeltaElement, there: Option<&Object>) -> Option<ReportErrorCode>
-    ensures { result ≡ definitions.code_at change.now (option_map (λ o. o.now) there.entry) }
+/// The SHA-256 of the object that is at the URI behind a change; none behind a withdraw.
+pub(crate) fn hash_of(
+    alloc: Global,
+    change: &PublishDeltaElement,
+) -> Result<Option<Hash>, OutOfMemory>
+    ensures { IfOk result (λ hash. hash ≡ option_map sha256 (object_of change.now)) }
 {
     match change {
-        PublishDeltaElement::Publish(_) => match there {
-            None => None,
-            Some(_) => Some(ReportErrorCode::ObjectAlreadyPresent),
-        },
-        PublishDeltaElement::Update(update) => code_by_hash(update.hash(), there),
-        PublishDeltaElement::Withdraw(withdraw) => code_by_hash(withdraw.hash(), there),
+        PublishDeltaElement::Publish(publish) => Ok(Some(publish.content().to_hash(alloc)?)),
+        PublishDeltaElement::Update(update) => Ok(Some(update.content().to_hash(alloc)?)),
+        PublishDeltaElement::Withdraw(_) => Ok(None),
     }
-}
-
-// Why a change isn't made.
-fn code_of(
-    base: &uri::Rsync,
-    objects: &Objects,
-    change: &PublishDeltaElement,
-) -> Option<ReportErrorCode>
-    ensures { result ≡ definitions.code_of base.now (live objects.now) change.now }
-{
-    let uri = uri_of(change).as_str();
-    if !uri.as_bytes().starts_with(base.as_str().as_bytes()) {
-        return Some(ReportErrorCode::PermissionFailure);
-    }
-    code_at(change, objects.get(uri))
 }
 
 /// What the changes put at their URIs, and a place for each: then they take no memory.
@@ -112,65 +81,21 @@ pub(crate) fn prepare(
     Ok(next)
 }
 
-/// The first change that isn't made, by its place from 0, and why.
-#[derive(Clone, Copy)]
-pub(crate) struct Refused {
-    pub(crate) place: usize,
-    pub(crate) code: ReportErrorCode,
-}
-
-/// Makes all changes, or none where one of them can't be made behind those before it. `next` is what they
-/// put at their URIs; where they are made it is then what was there before.
-pub(crate) fn change_all(
-    base: &uri::Rsync,
+/// Puts at the URI of each change, one behind the other, what is next there. It takes no memory.
+pub(crate) fn make_all(
     objects: &mut Objects,
     changes: &[PublishDeltaElement],
     next: &mut [Option<Object>],
-) -> Result<(), Refused>
+)
     requires next { next.old ≡ map object_of changes.now }
     requires places { HavePlaces objects.old changes.now }
-
-    // On Ok the store is the one behind all of them, and undoing them gives back what was there.
-    ensures made { OnOk result
-        (definitions.after_all base.now (Ok (live objects.old)) changes.now
-        ≡ Ok (live objects.new)) }
-    ensures undone { OnOk result (undone changes.now next.new objects.new ≡ objects.old) }
-    ensures places { OnOk result (HavePlaces objects.new changes.now) }
-    ensures elsewhere { OnOk result (IsSameElsewhere changes.now objects.old objects.new) }
-    ensures length { length next.new ≡ length changes.now }
-
-    // An error tells the first one that isn't made, and all is as it was.
-    ensures refused { IfErr result (IsChangeRefused base.now (live objects.old) changes.now) }
-    ensures unchanged { OnErr result (objects.new ≡ objects.old) }
+    ensures made { live objects.new ≡ definitions.all_made (live objects.old) changes.now }
+    ensures elsewhere { IsSameElsewhere changes.now objects.old objects.new }
 {
     let mut place = 0;
     'making: while place < changes.len() {
-        let change = &changes[place];
-        if let Some(code) = code_of(base, objects, change) {
-            undo(objects, &changes[..place], next);
-            return Err(Refused { place, code });
-        }
-        objects.exchange(uri_of(change).as_str(), &mut next[place]);
+        objects.exchange(uri_of(&changes[place]).as_str(), &mut next[place]);
         place += 1;
-    }
-    Ok(())
-}
-
-/// Puts back what was there before these changes, which are the last that were made.
-pub(crate) fn undo(
-    objects: &mut Objects,
-    changes: &[PublishDeltaElement],
-    before: &mut [Option<Object>],
-)
-    requires places { HavePlaces objects.old changes.now }
-    requires length { length changes.now ≤ length before.old }
-    ensures objects { objects.new ≡ undone changes.now before.old objects.old }
-    ensures length { length before.new ≡ length before.old }
-{
-    let mut place = changes.len();
-    'undoing: while place > 0 {
-        place -= 1;
-        objects.exchange(uri_of(&changes[place]).as_str(), &mut before[place]);
     }
 }
 

@@ -6,13 +6,16 @@ ghost use Rattle.std.specs.List.{AllByRecursion};
 ghost use Rattle.std.specs.Map.{lookup};
 ghost use Rattle.std.specs.Str.{bytes_eq};
 ghost use Rattle.rpki_publication.specs.ListReply.{IsWritableListElement};
+ghost use Rattle.rpki_pubserver.specs.Deciding.{AgreesOn};
 ghost use Rattle.rpki_pubserver.specs.Places.{HasPlace, IsEmptyAt, IsSameAt, NoneIsEmpty, live, with_object, with_octets};
-ghost use Rattle.rpki_pubserver.specs.Store.{IsStore, listed_store, octets_at};
+ghost use Rattle.rpki_pubserver.specs.Store.{IsStore, digest_at, listed_store, octets_at};
 
+use crate::changes::uri_of;
 use crate::object::Object;
+use crate::told::Told;
 use rpki_common::OutOfMemory;
-use rpki_publication::{ListElement, ListReply};
-use rpki_text::uri;
+use rpki_publication::{ListElement, ListReply, PublishDeltaElement};
+use rpki_text::{Hash, uri};
 use std::alloc::Global;
 use std::collections::BTreeMap;
 use std::marker::Model;
@@ -29,6 +32,7 @@ pub(crate) struct Objects {
 impl Model for Objects {
     ghost use Rattle.std.specs.BTreeMap.{IsOrdered};
     ghost use Rattle.std.specs.String.{string_cmp};
+    ghost use Rattle.rpki_pubserver.specs.Deciding.{AgreesOn};
     ghost use Rattle.rpki_pubserver.specs.Places.{Places, placed};
 
     ghost Value = { Places };
@@ -53,6 +57,35 @@ impl Objects {
         ensures { option_map (λ o. o.now) result ≡ octets_at (live self.now) uri.now }
     {
         self.places.get(uri)?.as_ref()
+    }
+
+    /// The SHA-256 of the object at a URI.
+    fn hash_at(&self, uri: &str) -> Option<Hash>
+        ensures { result ≡ digest_at (live self.now) uri.now }
+    {
+        match self.get(uri) {
+            Some(object) => Some(*object.hash()),
+            None => None,
+        }
+    }
+
+    /// What is so of the objects at the URIs of changes.
+    pub(crate) fn told(
+        &self,
+        alloc: Global,
+        changes: &[PublishDeltaElement],
+    ) -> Result<Told, OutOfMemory>
+        ensures told { IfOk result (λ told. AgreesOn (live self.now) told changes.now) }
+        ensures ordered { IsStore (live self.now) }
+    {
+        // For the proof: the places are in the order of their texts.
+        let _ = &self.places;
+        let mut told = Told::new(alloc);
+        for change in changes {
+            let uri = uri_of(change).as_str();
+            told.tell(alloc, uri, self.hash_at(uri))?;
+        }
+        Ok(told)
     }
 
     /// How many objects there are, which is how many places, since none is empty.

@@ -26,7 +26,7 @@ fn one_error(alloc: Global, error: ReportError) -> Result<Message, OutOfMemory>
 }
 
 /// The reply with an error that is of no change: its code, and the code's text.
-pub(crate) fn error_alone(alloc: Global, code: ReportErrorCode) -> Result<Message, OutOfMemory>
+pub fn error_reply(alloc: Global, code: ReportErrorCode) -> Result<Message, OutOfMemory>
     ensures message { IfOk result (λ m. m ≡ definitions.error_alone code) }
     ensures writable { IfOk result IsWritable }
 {
@@ -50,10 +50,9 @@ pub(crate) fn error_of(
     change: &PublishDeltaElement,
     code: ReportErrorCode,
 ) -> Result<Message, OutOfMemory>
-    requires { IsWritableChange change.now }
     ensures message { IfOk result (λ m.
         m ≡ definitions.error_about (record { element = change.now; code = code })) }
-    ensures writable { IfOk result IsWritable }
+    ensures writable { IsWritableChange change.now → IfOk result IsWritable }
 {
     let tag = copied(tag_of(change))?;
     let text = RcStr::from_str(alloc, code.to_text())?;

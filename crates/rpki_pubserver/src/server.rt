@@ -18,9 +18,10 @@ ghost use Rattle.rpki_pubserver.specs.Server.{FailsReply, IsQueryAnswered, IsSig
 ghost use Rattle.rpki_pubserver.specs.Store.{IsStore, LieUnder, listed_store, octets_at};
 
 use crate::asking::{Asked, asked_by};
-use crate::changes::{change_all, drop_places, prepare, undo};
+use crate::changes::{drop_places, make_all, prepare};
+use crate::deciding::decision_of;
 use crate::objects::Objects;
-use crate::replies::{error_alone, error_of};
+use crate::replies::error_reply;
 use crate::signing::signed;
 use rpki_base::{PublicKey, Scheme, Time, Verifier};
 use rpki_ca::{Kind, receive};
@@ -170,7 +171,7 @@ impl Server {
                 signed(self.alloc, Message::list_reply(list), when, key, signer)
             }
             Asked::Nothing(code) => {
-                let reply = error_alone(self.alloc, code)?;
+                let reply = error_reply(self.alloc, code)?;
                 signed(self.alloc, reply, when, key, signer)
             }
         }
@@ -235,18 +236,13 @@ fn answer_changes<P: Scheme, S: Signer<P>>(
     ensures keeps { Keeps (S.state signer.old) (S.state signer.new) }
 {
     let changes = delta.elements();
-    let mut next = prepare(alloc, objects, changes)?;
-    match change_all(base, objects, changes, &mut next) {
-        Ok(()) => {
-            let answer = signed(alloc, Message::success(), when, key, signer);
-            if answer.is_err() {
-                undo(objects, changes, &mut next);
-            }
-            answer
-        }
-        Err(refused) => {
-            let reply = error_of(alloc, &changes[refused.place], refused.code)?;
-            signed(alloc, reply, when, key, signer)
-        }
+    let mut told = objects.told(alloc, changes)?;
+    let decision = decision_of(alloc, base, &mut told, changes)?;
+    if !decision.made {
+        return signed(alloc, decision.reply, when, key, signer);
     }
+    let mut next = prepare(alloc, objects, changes)?;
+    let answer = signed(alloc, decision.reply, when, key, signer)?;
+    make_all(objects, changes, &mut next);
+    Ok(answer)
 }

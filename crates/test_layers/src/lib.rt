@@ -15,6 +15,8 @@ mod outside;
 #[cfg(test)]
 mod printed;
 #[cfg(test)]
+mod replies;
+#[cfg(test)]
 mod running;
 #[cfg(test)]
 mod setup;

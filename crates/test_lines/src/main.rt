@@ -2,8 +2,8 @@
 //! differ from the expected.
 //!
 //! A line of data/cases.txt is `NAME PROGRAM STATUS OUTPUT INPUT WORD..`: PROGRAM is `guard`, `arch`, `pub`, `up`,
-//! or what is no program: `parent`, a parent of several classes; `issuer`, its issuer; `class`, a class; or `state`,
-//! the state of a guard. Behind `pub` may stand the number of a call of the signer that fails, counted from 0, the
+//! or what is no program: `parent`, a parent of several classes; `issuer`, its issuer; `class`, a class; `state`,
+//! the state of a guard; or `decide`, the decision of a query by what is known of objects, which isn't made with 1. Behind `pub` may stand the number of a call of the signer that fails, counted from 0, the
 //! one that makes its key; behind `up` and `parent` `,s` and such a number; and behind these or `issuer` `,i` and one
 //! of the issuer's signer.
 //! OUTPUT is what has to be written, and it and INPUT are octets as in other stored cases; `-` is an empty field.
@@ -11,12 +11,14 @@
 //! from this tree, or are stated in the script.
 #![tactic(auto)]
 
+mod deciding;
 mod guarded;
 mod issuing;
 mod parents;
 mod server;
 mod up;
 
+use crate::deciding::holds_decision;
 use crate::guarded::{admits_alike, holds_state};
 use crate::issuing::{holds_class, holds_issuer};
 use crate::parents::run_parent;
@@ -256,6 +258,7 @@ fn holds_case(alloc: Global, program: &str, case: &Case) -> io::Result<bool> {
     }
     match program {
         "class" => holds_class(alloc, case),
+        "decide" => holds_decision(alloc, case),
         "state" => holds_state(alloc, case),
         _ => holds_run(alloc, program, case),
     }

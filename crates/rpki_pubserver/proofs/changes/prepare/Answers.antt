@@ -4,7 +4,7 @@ use Rattle.rpki_publication.specs.declared.publish_delta_element.PublishDeltaEle
 use Rattle.rpki_pubserver.specs.Places.{HasPlace, HavePlaces, object_of}
 use Rattle.rpki_ca.proofs.Stepping.{take_more}
 use Rattle.rpki_pubserver.proofs.Emptying.{same_still}
-use Rattle.rpki_pubserver.proofs.Undoing.{have_more, one_place_more}
+use Rattle.rpki_pubserver.proofs.Keeping.{have_more, one_place_more}
 use Rattle.rpki_pubserver.proofs.changes.prepare.Goals as goal
 
 pub loop-change-preserved : goal.loop-change-preserved

@@ -7,4 +7,4 @@ pub returns-clause-message : goal.returns-clause-message
 returns-clause-message c = search rules
 
 pub returns-clause-writable : goal.returns-clause-writable
-returns-clause-writable c = ok_writable c.one_error.result (error_about (record { element = c.args.change.now; code = c.args.code })) (returns-clause-message c) (error_writable (record { element = c.args.change.now; code = c.args.code }) c.requires)
+returns-clause-writable c = λ writable. ok_writable c.one_error.result (error_about (record { element = c.args.change.now; code = c.args.code })) (returns-clause-message c) (error_writable (record { element = c.args.change.now; code = c.args.code }) writable)

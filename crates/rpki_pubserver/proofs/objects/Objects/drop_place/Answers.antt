@@ -1,8 +1,9 @@
-use Rattle.std.proofs.Common.{◌≡◌, ◌∙◌, Some, None, ap, subst, sym, List, ℕ}
+use Rattle.std.proofs.Common.{◌≡◌, ◌∙◌, Some, None, ap, sym}
 use Rattle.std.specs.Map.{lookup, remove_entry}
 use Rattle.std.specs.Str.{bytes_eq}
-use Rattle.rpki_pubserver.specs.Places.{IsEmptyAt, Places, live, placed}
-use Rattle.rpki_pubserver.proofs.Emptying.{not_empty_none, not_empty_some, removed_gone, same_by_removal}
+use Rattle.rpki_pubserver.specs.Places.{Places, live, placed}
+use Rattle.rpki_pubserver.proofs.Emptying.{not_empty_none, not_empty_some}
+use Rattle.rpki_pubserver.proofs.Entries.{removed_elsewhere, removed_here}
 use Rattle.rpki_pubserver.proofs.Live.{live_dropped}
 use Rattle.rpki_pubserver.proofs.Placing.{lookup_placed, placed_ordered, removed_placed}
 use Rattle.rpki_pubserver.proofs.objects.Objects.drop_place.Goals.{in-Some-remove+in-Some-remove-2, in-Some-remove+in-None-1, in-None-1}
@@ -22,14 +23,14 @@ pub returns-in-Some-None-clause-dropped : goal.returns-in-Some-None-clause-dropp
 returns-in-Some-None-clause-dropped c =
     let es = c.self.inside.places.entries in
     let uri = c.args.uri.now in
-    not_empty_none uri c.match-remove.self (ap (λ (p : Places). lookup (bytes_eq uri) p) (taken_out c) ∙ removed_gone uri (placed es) (placed_ordered es c.self.invariant))
+    not_empty_none uri c.match-remove.self (ap (λ (p : Places). lookup (bytes_eq uri) p) (taken_out c) ∙ removed_here uri (placed es) (placed_ordered es c.self.invariant))
 
 pub returns-in-Some-None-clause-elsewhere : goal.returns-in-Some-None-clause-elsewhere
 returns-in-Some-None-clause-elsewhere c =
     let uri = c.args.uri.now in
     λ other apart.
     ap (λ (p : Places). lookup (bytes_eq other) p) (taken_out c)
-    ∙ same_by_removal other uri apart (placed c.self.inside.places.entries)
+    ∙ removed_elsewhere other uri apart (placed c.self.inside.places.entries)
     ∙ ap (λ (p : Places). lookup (bytes_eq other) p) c.self.view_is
 
 pub returns-in-Some-None-clause-live : goal.returns-in-Some-None-clause-live

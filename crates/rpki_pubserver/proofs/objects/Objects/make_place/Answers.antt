@@ -7,7 +7,7 @@ use Rattle.std.specs.Map.{keys_of, lookup}
 use Rattle.std.specs.Ordering.{nat_cmp}
 use Rattle.std.specs.Str.{bytes_eq}
 use Rattle.rpki_pubserver.specs.Places.{HasPlace, Places, live, placed}
-use Rattle.rpki_pubserver.proofs.Emptying.{same_by_place}
+use Rattle.rpki_pubserver.proofs.Entries.{put_elsewhere}
 use Rattle.rpki_pubserver.proofs.Live.{live_new}
 use Rattle.rpki_pubserver.proofs.Placing.{lookup_placed, inserted_placed, some_found, new_place, place_still}
 use Rattle.rpki_pubserver.proofs.objects.Objects.make_place.Goals as goal
@@ -40,7 +40,7 @@ returns-clause-elsewhere c =
     let uri = c.args.uri.now in
     let put : placed c.insert.new.self.entries ≡ insert_entry (slice_cmp nat_cmp) (placed es) uri None =
     ap placed c.in_ok-insert.ensures.entries ∙ inserted_placed es c.in_ok-text.text None ∙ ap (λ (k : List ℕ). insert_entry (slice_cmp nat_cmp) (placed es) k None) c.in_ok-text.ensures.ok in
-    λ other apart. ap (λ (p : Places). lookup (bytes_eq other) p) put ∙ same_by_place other uri apart (placed es) None ∙ ap (λ (p : Places). lookup (bytes_eq other) p) c.self.view_is
+    λ other apart. ap (λ (p : Places). lookup (bytes_eq other) p) put ∙ put_elsewhere other uri apart (placed es) None ∙ ap (λ (p : Places). lookup (bytes_eq other) p) c.self.view_is
 
 pub returns-clause-live : goal.returns-clause-live
 returns-clause-live c =

@@ -1,24 +1,15 @@
-use Rattle.std.proofs.Common.{◌≡◌, ◌∙◌, None, Some, Ok, Option, ap, arith, get_or, refl, sym, ℕ, List}
+use Rattle.std.proofs.Common.{◌≡◌, ◌∙◌, None, Option, ap, arith, get_or, refl, sym, ℕ, List}
 use Rattle.std.specs.Map.{keys_of, lookup}
 use Rattle.std.specs.Str.{bytes_eq}
 use Rattle.std.proofs.lemmas.List.{get_or-map, length-set}
-use Rattle.std.proofs.lemmas.Option.{slice_get-get_or}
 use Rattle.rpki_pubserver.specs.Changes.{changed, uri_of}
 use Rattle.rpki_pubserver.specs.Places.{Places, live, object_of, with_object, with_octets}
-use Rattle.rpki_pubserver.proofs.Emptying.{same_by_object, same_still}
+use Rattle.rpki_pubserver.proofs.Emptying.{same_still}
+use Rattle.rpki_pubserver.proofs.Entries.{set_elsewhere}
+use Rattle.rpki_pubserver.proofs.Keeping.{get_any, get_behind, same_keys}
 use Rattle.rpki_pubserver.proofs.Live.{octets_changed}
-use Rattle.rpki_pubserver.proofs.Making.{one_made, one_refused}
-use Rattle.rpki_pubserver.proofs.Undoing.{get_any, get_behind, have_still, same_keys, undone_made}
-use Rattle.rpki_pubserver.proofs.changes.change_all.Goals as goal
-
-pub returns-in-Some-clause-refused : goal.returns-in-Some-clause-refused
-returns-in-Some-clause-refused c =
-    let e = c.index-changes-place.result in
-    record {
-      element = e;
-      stands = slice_get-get_or c.args.changes.now c.making.place e c.making-test.true ∙ ap Some (sym c.index-changes-place.is);
-      first = one_refused c.args.base.now (Ok (live c.args.objects.now)) c.args.changes.now c.making.place e (live c.making.objects) c.in-Some.code c.making-test.true c.index-changes-place.is c.making.invariant.made c.in-Some.ensures;
-    }
+use Rattle.rpki_pubserver.proofs.Making.{one_more_made}
+use Rattle.rpki_pubserver.proofs.changes.make_all.Goals as goal
 
 pub making-preserved : goal.making-preserved
 making-preserved c =
@@ -37,18 +28,13 @@ making-preserved c =
     ∙ ap (λ (u : List ℕ). with_octets (live c.making.objects) u (get_or c.making.next i c.index-next-place.result)) uri
     ∙ ap (λ (o : Option (List ℕ)). with_octets (live c.making.objects) (uri_of e) o) object
     ∙ octets_changed (live c.making.objects) e in
-    let was : Some c.exchange.new.object ≡ lookup (bytes_eq (uri_of e)) c.making.objects = c.exchange.ensures.taken ∙ ap (λ (u : List ℕ). lookup (bytes_eq u) c.making.objects) uri in
     record {
       within = omega (arith, lt);
       size = length-set c.making.next i c.exchange.new.object ∙ size;
       rest = λ k le. get_behind c.making.next i k c.exchange.new.object None (omega (arith, le)) ∙ so_far.rest k (omega (arith, le));
-      made = one_made c.args.base.now (Ok (live c.args.objects.now)) c.args.changes.now i e (live c.making.objects) (live c.exchange.new.self) lt c.index-changes-place.is so_far.made (sym c.in_default.is ∙ c.code_of.ensures) next;
-      back = undone_made c.args.changes.now i e c.making.next _ c.args.objects.now c.making.objects c.exchange.new.self (object_of e) c.exchange.new.object lt c.index-changes-place.is size so_far.back put was refl;
+      made = next ∙ one_more_made (live c.args.objects.now) c.args.changes.now i e (live c.making.objects) lt c.index-changes-place.is so_far.made;
       elsewhere = same_still c.args.changes.now i e (uri_of e) c.making.objects c.exchange.new.self lt c.index-changes-place.is refl
-          (λ other apart. ap (λ (p : Places). lookup (bytes_eq other) p) put ∙ same_by_object other (uri_of e) apart c.making.objects (object_of e))
+          (λ other apart. ap (λ (p : Places). lookup (bytes_eq other) p) put ∙ set_elsewhere other (uri_of e) apart c.making.objects (object_of e))
           c.args.objects.now so_far.elsewhere;
       keys = ap (λ (p : Places). keys_of p) put ∙ same_keys (uri_of e) c.making.objects (object_of e) ∙ so_far.keys;
     }
-
-pub returns-clause-places : goal.returns-clause-places
-returns-clause-places c = have_still c.args.objects.now c.making.objects c.args.changes.now c.making.invariant.keys c.requires.places

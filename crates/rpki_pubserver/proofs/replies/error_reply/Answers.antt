@@ -1,7 +1,7 @@
 use Rattle.std.proofs.Common.{rules}
 use Rattle.rpki_pubserver.specs.Messages.{error_alone}
 use Rattle.rpki_pubserver.proofs.Writable.{alone_writable, ok_writable}
-use Rattle.rpki_pubserver.proofs.replies.error_alone.Goals as goal
+use Rattle.rpki_pubserver.proofs.replies.error_reply.Goals as goal
 
 pub returns-clause-message : goal.returns-clause-message
 returns-clause-message c = search rules
