@@ -198,6 +198,12 @@ def requests_asked():
         yield f"of-{n}", request(request_of(key=("rsa", b"\1" * n), signature=b"\3" * n)), "1", True
 
 
+def held_by(octets):
+    """The bits of the key of a request."""
+    (_, key, _, _), _, _ = questions.of_request(octets)
+    return questions.values(questions.inner(key))[1][1][1:]
+
+
 def key_digits(octets):
     """The key of a request, as the program writes it."""
     (_, key, _, _), _, _ = questions.of_request(octets)
@@ -213,6 +219,9 @@ def request_rows():
         yield of_call("request", label, (digest, digits), octets, *((DONE,) if holds else (b"refused", SAID[SIGNATURE])))
         answer = (0, key_digits(octets)) if holds else SIGNATURE
         text = updown(b"issue", asked(base64.b64encode(octets)))
+        bits = held_by(octets)
+        yield of_call("request-at", label, (), octets, bits)
+        yield of_call("request-in", label, (), text, bits)
         for call, field in ("request", octets.hex().encode()), ("issue", text):
             yield row(f"questions-{call}-{label}", ("questions", call), field, (0, questions.asked_lines(asked_of)))
             yield row(f"{call}-{label}", (call, digest, digits), field, answer)
@@ -227,11 +236,14 @@ def request_rows():
             ("of-a-router", openssl_requests.PLACES["router"][0].hex().encode(), syntax)):
         yield row(f"questions-request-{label}", ("questions", "request"), field, answer)
         yield row(f"request-{label}", ("request", NO_DIGEST, ""), field, answer)
+        if answer == syntax:
+            yield of_call("request-at", f"no-{label}", (), bytes.fromhex(field.decode()), b"refused", syntax[1])
     for label, field, answer in (
             ("list", updown(b"list"), xml), ("query", QUERY, xml), ("empty", b"", xml),
             ("value", updown(b"issue", asked(NO_VALUE)), syntax)):
         yield row(f"questions-issue-{label}", ("questions", "issue"), field, answer)
         yield row(f"issue-of-no-{label}", ("issue", NO_DIGEST, ""), field, answer)
+        yield of_call("request-in", f"no-{label}", (), field, b"refused", answer[1])
     digest = questions.digest_of(questions.of_request(toy))
     yield row("request-with-octets-behind", ("request", digest, "1"), toy.hex().encode() + b"00", (0, key_digits(toy)))
     for call, more in (

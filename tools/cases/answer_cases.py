@@ -30,12 +30,17 @@ them, each of them stored octets:
     guarded   MOMENT ANSWERS KEY                                       the same, and what a guard says to the message, twice
     prepared  MOMENT SERIAL ISSUER-KEY ONE-OFF-KEY                     attributes, CRL and certificate; INPUT is the content
     finished  MOMENT SERIAL ISSUER-KEY ONE-OFF-KEY SIGNATURE..         the message
+    octets    KEY..                 the octets of the questions
+    record    PART                  the record of INPUT under the part's tag, behind `abc`
+    message   KIND                  the text of the message that INPUT is
+    request-at, request-in          the bits of the key of the request with which INPUT begins, or that stands in it, an issue request
     printed   WORD                  the errors, parts and refusals that the word names, as they are printed and shown, or which of them
                                     are equal; or as what they are passed on
 
 or one of tools/cases/anchor_cases.py; or `refused` and the error as it is printed.
 """
 
+import base64
 import hashlib
 import pathlib
 import subprocess
@@ -48,6 +53,7 @@ import questions
 import signed_messages as messages
 from answer_lines import MOST, USAGE, case, of_call, row
 from inspection import inspected
+from publication_cases import element, root
 from questions import header_of, inner, openssl_says, parts_of
 from rsa_messages import values
 from run_cases import NO_VALUE, asked, issued, issuer, resource_class, updown
@@ -766,6 +772,28 @@ def call_rows():
     yield of_call("checked", "no-message", (str(NOW), NO_DIGEST, "1", key), message[:-1], b"refused", b"Could not decode CMS")
 
 
+def written_rows():
+    """Octets that are written, and what stands in octets and texts."""
+    for n in 0, 1, *SIZES:
+        held, digits = (b"\1" * max(n, 1), b"\2" * n), listed(b"\3" * n, b"\4" * n, b"\5" * n)
+        message, key = made_with(*held, QUERY, NOW, SERIAL, digits)[2], key_of(held[0])
+        yield of_call("octets", f"of-{n}", (key,), message, questions.octets_of(questions.of_message(message, key)))
+        yield of_call("record", f"of-{n}", ("crl",), b"\6" * n, b"abc" + questions.record(3, b"\6" * n))
+        content = base64.b64encode(b"c" * n)
+        text = root(b"query", element(b"publish", content, tag=b"t" * min(n, 1024), uri=b"rsync://localhost/ca/f"))
+        yield of_call("message", f"of-{n}", ("publication",), text, text)
+    message, keys = messages.two_crls({}, {}), (toy_key(0), toy_key(1))
+    yield of_call("octets", "under-two-keys", keys, message, questions.octets_of(questions.of_message(message, *keys)))
+    yield of_call("octets", "no-message", keys, message[:-1], b"refused", b"malformed value")
+    for part, tag in questions.TAGS.items():
+        yield of_call("record", part, (part,), b"octets", b"abc" + questions.record(tag, b"octets"))
+    yield of_call("message", "provisioning", ("provisioning",), updown(b"list"), updown(b"list"))
+    for kind, text in ("publication", updown(b"list")), ("provisioning", QUERY), ("publication", b""):
+        yield of_call("message", f"{kind}-no-{len(text)}", (kind,), text, b"refused", b"XmlError")
+    for label, text, refusal in ("certificate", NO_CERTIFICATE, b"CertSyntax"), ("request", NO_REQUEST, b"InvalidCsrSyntax"):
+        yield of_call("message", f"no-{label}", ("provisioning",), text, b"refused", refusal)
+
+
 def rows():
     """All rows of this script."""
     yield toy_case("toy-example", ("receive", "publication", str(NOW), toy_key(0)), INPUT, 0, QUERY + b"\n")
@@ -775,6 +803,7 @@ def rows():
     yield from size_rows()
     yield from content_rows()
     yield from call_rows()
+    yield from written_rows()
     yield from inspected_rows()
     yield from toy_rows()
     yield from anchor_cases.rows()

@@ -1,4 +1,4 @@
-"""What is asked of signed messages, certificates and requests, read from their octets; its text, its digest, and answers to it.
+"""What is asked of signed messages, certificates and requests, read from their octets; its text, its octets, its digest, and answers.
 
 tools/cases/answer_cases.py and tools/cases/anchor_cases.py write cases with it. Questions are a question under a key of its own or None,
 parts that are asked under each of the keys, and the keys, in hexadecimal: each question and part begins with its name.
@@ -140,9 +140,31 @@ def text_of(questions):
     return "".join(" ".join(line) + "\n" for line in lines).encode()
 
 
+TAGS = {"attributes": 1, "certificate": 2, "crl": 3, "anchor": 4, "request": 5}
+SIGNATURE, OWN_KEY, KEY = 16, 17, 18
+
+
+def record(tag, octets):
+    """A tag octet, the number of octets behind it, in eight octets with the most significant first, and these."""
+    return bytes([tag]) + len(octets).to_bytes(8, "big") + octets
+
+
+def octets_of(questions):
+    """Records: of the own question key, octets and signature; of each part octets and signature; of each key itself."""
+    own, parts, keys = questions
+    records = []
+    if own:
+        name, key, octets, signature = own
+        records += [(OWN_KEY, key), (TAGS[name], octets), (SIGNATURE, signature)]
+    for name, octets, signature in parts:
+        records += [(TAGS[name], octets), (SIGNATURE, signature)]
+    records += [(KEY, bytes.fromhex(key)) for key in keys]
+    return b"".join(record(tag, octets) for tag, octets in records)
+
+
 def digest_of(questions):
     """The digest of questions."""
-    return hashlib.sha256(text_of(questions)).hexdigest()
+    return hashlib.sha256(octets_of(questions)).hexdigest()
 
 
 def asked_lines(questions):

@@ -52,7 +52,8 @@ use Rattle.rpki_external.specs.Lengths.{question_length, part_length, keys_lengt
 use Rattle.rpki_external.specs.Question.{QuestionFields, QuestionsFields, SignedPartFields, attributes_question, certificate_part, crl_part, message_questions}
 use Rattle.rpki_external.specs.Receiving.{AreAskedOf}
 use Rattle.rpki_external.specs.Running.{asked_lines, IsQuestionsAnswer}
-use Rattle.rpki_external.specs.Spelling.{digest_of, four_words, key_line, part_line, part_name, question_line, question_lines, questions_text}
+use Rattle.rpki_external.specs.Records.{digest_of, questions_octets}
+use Rattle.rpki_external.specs.Spelling.{four_words, key_line, part_line, part_name, question_line, question_lines, questions_text}
 
 -- ---- what is read is within the octets
 
@@ -369,7 +370,7 @@ text_size m keys =
 written_size : (q : QuestionsFields) → length (asked_lines q) ≡ length (questions_text q) + 72
 written_size q =
     let last' = codes "digest " ++ encode_lower (digest_of q) in
-    omega (arith, both (question_lines q) (last' ∷ []), line last' [], digits (digest_of q), length-sha256 (questions_text q))
+    omega (arith, both (question_lines q) (last' ∷ []), line last' [], digits (digest_of q), length-sha256 (questions_octets q))
 
 pub short_text : (octets : List ℕ) (keys : List KeyFields) (q : QuestionsFields) → AreAskedOf octets keys q → length (questions_text q) + 72 ≤ 4 * length octets + key_lines_length keys
 short_text octets keys q a = rw a.are (omega (arith, asked_within octets a.signed a.begins, text_size a.signed keys))

@@ -1,7 +1,8 @@
 pub mod RightAnswers
 pub mod Finishing
 pub mod Passing
-pub mod OneText
+pub mod OneValue
+pub mod RecordLists
 pub mod Receipts
 pub mod Anchors
 pub mod Significant

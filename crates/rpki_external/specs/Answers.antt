@@ -8,9 +8,9 @@ use Rattle.rpki_ca.specs.Keys.{same_key}
 use Rattle.rpki_external.specs.declared.answers.AnswersError.{AnswersError}
 use Rattle.rpki_external.specs.declared.answers.AnswersError.TheVariants as errors
 use Rattle.rpki_external.specs.Question.{QuestionFields, QuestionsFields, SignatureHolds, listed}
-use Rattle.rpki_external.specs.Spelling.{AreWritable, digest_of}
+use Rattle.rpki_external.specs.Records.{AreWritable, digest_of}
 
--- the digest of the questions' text, and a truth value for each question, in their order
+-- the digest of the questions, and a truth value for each of them, in their order
 pub record AnswersFields : Type 0 where
   pub digest : List ℕ
   pub values : List Bool
@@ -22,7 +22,7 @@ pub record AreTo (a : AnswersFields) (q : QuestionsFields) : Type 0 where
   pub digest : a.digest ≡ digest_of q
   pub number : length a.values ≡ length (listed q)
 
--- they count for the questions: they are to them, whose text is that of no other value
+-- they count for the questions: they are to them, whose octets are those of no other value
 pub record CountFor (a : AnswersFields) (q : QuestionsFields) : Type 0 where
   pub to : AreTo a q
   pub writable : AreWritable q

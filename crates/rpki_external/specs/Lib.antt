@@ -1,7 +1,8 @@
--- Said in contracts, and to be believed: Question, Spelling, Answers, Receiving, Verifying, Making,
--- Inspection, KeysRefusal, Words, Running, Lengths.
+-- Said in contracts, and to be believed: Question, Spelling, Records, Answers, Receiving, Verifying,
+-- Making, Inspection, KeysRefusal, Words, Running, Lengths.
 pub mod Question
 pub mod Spelling
+pub mod Records
 pub mod Answers
 pub mod Receiving
 pub mod Verifying

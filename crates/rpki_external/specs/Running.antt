@@ -63,7 +63,8 @@ use Rattle.rpki_external.specs.KeysRefusal.{keys_name_of, keys_status_of}
 use Rattle.rpki_external.specs.Making.{AreShort, IsAcceptedSo, CanPrepare, CanPrepareAnchor, CanPrepareRequest, FinishAnchorFails, FinishFails, FinishRequestFails, PrepareAnchorFails, PrepareFails, PrepareRequestFails, anchor_fields, attributes_to_sign, certificate_to_sign, crl_to_sign, finished, finished_anchor, finished_request, request_to_sign}
 use Rattle.rpki_external.specs.Question.{QuestionsFields, listed, request_questions}
 use Rattle.rpki_external.specs.Receiving.{AreAskedOf, IsLater, IsReceipt, IsReceiptBy, RefusesByAnswers, RefusesChecks, RefusesUnder}
-use Rattle.rpki_external.specs.Spelling.{digest_of, question_lines}
+use Rattle.rpki_external.specs.Records.{digest_of}
+use Rattle.rpki_external.specs.Spelling.{question_lines}
 use Rattle.rpki_external.specs.Verifying.{AreChecksBy, AreChecksOf, AreSetupQuestions, BeginsRequest, IsRequestVerified, IsRequestVerifiedUnder, IsSetupAnswered, IsSetupAnsweredUnder, IsSetupAsked}
 
 -- ---- how errors are answered

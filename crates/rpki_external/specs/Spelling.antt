@@ -1,9 +1,7 @@
--- Questions as a text, and its digest, to which answers are bound.
-use Rattle.std.specs.Prelude.{◌≡◌, ◌≢◌, ◌⊎◌, ℕ, List, [], ◌∷◌, ◌++◌, codes, map}
-use Rattle.std.specs.List.{AllByRecursion}
-use Rattle.hex.specs.Hex.{IsBytes, encode_lower}
-use Rattle.sha2.specs.Sha256.{sha256}
-use Rattle.rpki_base.specs.PublicKey.{CanSpellKey, KeyFields, spelled_key}
+-- Questions as a text of lines.
+use Rattle.std.specs.Prelude.{ℕ, List, ◌++◌, codes, map}
+use Rattle.hex.specs.Hex.{encode_lower}
+use Rattle.rpki_base.specs.PublicKey.{KeyFields, spelled_key}
 use Rattle.rpki_ca.specs.Lines.{answer_lines}
 use Rattle.rpki_external.specs.declared.question.Part.{Part}
 use Rattle.rpki_external.specs.declared.question.Part.TheVariants.{Attributes, Certificate, Crl, Anchor, Request}
@@ -44,40 +42,3 @@ question_lines q = map question_line (own_question q.own)
 -- the text of questions
 abbrev pub questions_text : QuestionsFields → List ℕ
 questions_text q = answer_lines (question_lines q)
-
--- the SHA-256 of the text
-abbrev pub digest_of : QuestionsFields → List ℕ
-digest_of q = sha256 (questions_text q)
-
--- ---- one text for each value
-
--- the key has a spelling in octets
-pub record HasSpelling (key : KeyFields) : Type 0 where
-  pub spelled : CanSpellKey key
-  pub octets : IsBytes (spelled_key key)
-
--- the key has a spelling, and the rest are octets
-pub record IsWritableQuestion (q : QuestionFields) : Type 0 where
-  pub key : HasSpelling q.key
-  pub octets : IsBytes q.octets
-  pub signature : IsBytes q.signature
-
--- the octets and the signature are octets
-pub record IsWritablePart (p : SignedPartFields) : Type 0 where
-  pub octets : IsBytes p.octets
-  pub signature : IsBytes p.signature
-
--- each key has a spelling, and all else are octets, as it is of all questions of a program
-pub record AreWritable (q : QuestionsFields) : Type 0 where
-  pub own : AllByRecursion IsWritableQuestion (own_question q.own)
-  pub parts : AllByRecursion IsWritablePart q.parts
-  pub keys : AllByRecursion HasSpelling q.keys
-
--- two texts that aren't the same have one SHA-256
-pub record Collide (one other : List ℕ) : Type 0 where
-  pub apart : one ≢ other
-  pub digest : sha256 one ≡ sha256 other
-
--- the questions are the same, or their texts, which differ, have one SHA-256
-abbrev pub SameUnlessCollide : QuestionsFields → QuestionsFields → Type 0
-SameUnlessCollide a b = (a ≡ b) ⊎ Collide (questions_text a) (questions_text b)

@@ -98,8 +98,8 @@ impl From<SetupError> for KeysRefusal {
     }
 }
 
-// How it is answered that octets begin with no signed message.
-fn no_message(error: DecodeError) -> KeysRefusal
+/// How it is answered that octets begin with no signed message: `CmsDecode`, or that memory ran out.
+pub fn no_message(error: DecodeError) -> KeysRefusal
     ensures { result ≡ spec.refusal_of_no_message error }
 {
     match error {
@@ -140,8 +140,8 @@ pub(crate) fn ask_setup(
     Ok(asked_lines(alloc, &questions)?)
 }
 
-// The request with which the octets begin.
-fn request_at(alloc: Global, octets: &[u8]) -> Result<RpkiCaCsr, KeysRefusal>
+/// The certificate request with which the octets begin, in DER (RFC 6487, 6). `InvalidCsrSyntax` where they begin with none.
+pub fn request_at(alloc: Global, octets: &[u8]) -> Result<RpkiCaCsr, KeysRefusal>
     ensures ok { IfOk result (BeginsRequest octets.now) }
     ensures err { IfErr result (λ e. e ≢ variant.General refusals.OutOfMemory
         → (e ≡ variant.General refusals.InvalidCsrSyntax) × spec.HoldsNoRequestAtAll octets.now) }
@@ -180,8 +180,9 @@ fn request_of(alloc: Global, message: &Received) -> Result<RpkiCaCsr, KeysRefusa
     }
 }
 
-// The request in the issue request that the input is.
-fn request_in(alloc: Global, input: &[u8]) -> Result<RpkiCaCsr, KeysRefusal>
+/// The certificate request in the issue request of the provisioning protocol that the input is, in XML (RFC 6492, 3.4.1). `XmlError` where it
+/// is none, and what [`message_of`] refuses.
+pub fn request_in(alloc: Global, input: &[u8]) -> Result<RpkiCaCsr, KeysRefusal>
     ensures ok { IfOk result (spec.AsksToIssue input.now) }
     ensures err { IfErr result (λ e. e ≢ variant.General refusals.OutOfMemory
         → spec.RefusesIssue input.now e) }
@@ -311,8 +312,8 @@ pub(crate) fn verify_issue(
     verify(alloc, &request, answers)
 }
 
-// The message of this kind that the input reads as.
-fn message_of(alloc: Global, kind: Kind, input: &[u8]) -> Result<Received, KeysRefusal>
+/// The message of this protocol that the input is, in XML. `XmlError`, `CertSyntax` or `InvalidCsrSyntax` where it is none.
+pub fn message_of(alloc: Global, kind: Kind, input: &[u8]) -> Result<Received, KeysRefusal>
     ensures ok { IfOk result (ReadsAs kind input.now) }
     ensures writable { IfOk result IsWritable }
     ensures err { IfErr result (λ e. e ≢ variant.General refusals.OutOfMemory

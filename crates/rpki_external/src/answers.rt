@@ -3,7 +3,7 @@
 ghost use Rattle.std.specs.Prelude.{◌≡◌, ◌≢◌, IfErr, IfOk, OnOk, length};
 ghost use Rattle.rpki_external.specs.Answers.{CountFor, RefusesAnswers};
 ghost use Rattle.rpki_external.specs.Question.{listed};
-ghost use Rattle.rpki_external.specs.Spelling.{AreWritable, digest_of};
+ghost use Rattle.rpki_external.specs.Records.{AreWritable, digest_of};
 ghost use Rattle.rpki_external.specs.declared.answers.AnswersError.TheVariants as variant;
 
 use crate::question::Question;
@@ -36,7 +36,7 @@ impl From<OutOfMemory> for AnswersError {
     }
 }
 
-/// Answers to questions: the digest of the text of these questions, and a truth value for each of them, in their order: whether the
+/// Answers to questions: the digest of these questions, and a truth value for each of them, in their order: whether the
 /// signature that it asks for holds. They count for these questions alone.
 ///
 /// In a clause it is the record of the two.
@@ -55,7 +55,7 @@ impl Model for Answers {
 }
 
 impl Answers {
-    /// These answers to the questions whose text has this SHA-256, in their order. It takes no memory.
+    /// These answers to the questions with this digest ([`Questions::digest`]), in their order. It takes no memory.
     pub fn new(digest: Hash, values: Vec<bool>) -> Answers
         ensures { result ≡ record { digest = digest; values = values.items } }
     {
@@ -80,7 +80,7 @@ impl Answers {
         Ok(Answers::new(questions.digest(alloc)?, values))
     }
 
-    /// The SHA-256 of the text of the questions that they answer.
+    /// The digest of the questions that they answer.
     pub fn digest(&self) -> Hash
         ensures { result ≡ self.now.digest }
     {

@@ -35,7 +35,7 @@ ghost use Rattle.rpki_external.specs.Answers.{AnswersFields, AreRight, CountFor,
 ghost use Rattle.rpki_external.specs.Making.{AreShort, AreSignatures, CanPrepare, CanPrepareAnchor, CanPrepareRequest, FinishAnchorFails, FinishFails, FinishRequestFails, IsAcceptedSo, IsInWindow, PrepareAnchorFails, PrepareFails, PrepareRequestFails, anchor_fields, finished, finished_anchor, finished_request, request_to_sign, unsigned_request};
 ghost use Rattle.rpki_external.specs.Question.{QuestionsFields, anchor_questions, listed, message_questions, request_questions};
 ghost use Rattle.rpki_external.specs.Receiving.{AreAskedOf, IsGuardRefusal, IsReceipt, IsReceiptBy};
-ghost use Rattle.rpki_external.specs.Spelling.{AreWritable, SameUnlessCollide, digest_of};
+ghost use Rattle.rpki_external.specs.Records.{AreWritable, SameUnlessCollide, digest_of};
 ghost use Rattle.rpki_external.specs.Verifying.{AreChecksBy, AreChecksOf, AreSetupQuestions, IsAnchorVerified, IsRequestSigned, IsRequestVerified, IsSetupAnswered, IsSetupAnsweredUnder, IsTaValidation};
 ghost use Rattle.rpki_external.specs.declared.answers.AnswersError.{AnswersError};
 ghost use Rattle.rpki_external.specs.declared.preparing.Plan.{Plan};
@@ -76,7 +76,7 @@ pub fn equal_values_are_the_same()
         → (⟦<PrepareError as PartialEq>⟧.eq a b ≡ true) ↔ (a ≡ b) }
 {}
 
-/// Answers count for one value of questions: where they do for two, these are the same, or their texts, which differ, have one SHA-256.
+/// Answers count for one value of questions: where they do for two, these are the same, or their octets, which differ, have one SHA-256.
 /// So no answer that was given for one key, message or part counts for another.
 pub fn answers_are_to_one_value()
     ensures counted { (answers : AnswersFields) (a b : QuestionsFields)
@@ -88,7 +88,7 @@ pub fn answers_are_to_one_value()
 {}
 
 /// By the same answers two messages are received, or their checks told, two certificates are verified, and two requests, only where what
-/// is asked of them is the same, with the same keys: or else two texts differ that have one SHA-256.
+/// is asked of them is the same, with the same keys: or else octets differ that have one SHA-256.
 pub fn same_answers_have_the_same_questions()
     ensures received { (answers : AnswersFields) (kind other_kind : Kind)
         (octets others : List ℕ) (keys other_keys : List KeyFields) (when then : ℤ)

@@ -11,7 +11,6 @@ use crate::receiving::Receipt;
 use rpki_base::Time;
 use rpki_common::OutOfMemory;
 use rpki_sigmsg::UnsignedMessage;
-use rpki_text::Hash;
 use std::alloc::Global;
 
 // A name, and octets in hexadecimal digits, on a line.
@@ -27,7 +26,7 @@ pub(crate) fn asked_lines(alloc: Global, questions: &Questions) -> Result<Vec<u8
     ensures { IfOk result (λ text. text.items ≡ spec.asked_lines questions.now) }
 {
     let mut text = questions.to_text(alloc)?;
-    let digest = Hash::from_data(&text);
+    let digest = questions.digest(alloc)?;
     let line = named_line(alloc, "digest", digest.as_slice())?;
     text.extend_from_slice(&line)?;
     Ok(text)

@@ -1,12 +1,14 @@
-//! Questions, and their text.
+//! Questions, their text and their octets.
 
 ghost use Rattle.std.specs.Prelude.{◌≡◌, ◌++◌, IfOk, OnOk, map};
 ghost use Rattle.std.specs.Option.{option_copied};
 ghost use Rattle.rpki_external.specs.Question as spec;
-ghost use Rattle.rpki_external.specs.Spelling.{AreWritable, digest_of, questions_text};
+ghost use Rattle.rpki_external.specs.Records.{AreWritable, digest_of, questions_octets};
+ghost use Rattle.rpki_external.specs.Spelling.{questions_text};
 
 use crate::question::{Question, SignedPart};
 use crate::question_text::question_text;
+use crate::records::question_records;
 use rpki_base::PublicKey;
 use rpki_common::{OutOfMemory, Sequence};
 use rpki_text::Hash;
@@ -132,18 +134,29 @@ impl Questions {
     /// First the question under its own key, if there is one: its part's name, the key in DER, the octets and the signature. Then each
     /// part: its name, a hyphen, the octets and the signature. Then each key: the word `key`, and the key in DER.
     pub fn to_text(&self, alloc: Global) -> Result<Vec<u8>, OutOfMemory>
-        ensures text { IfOk result (λ text. text.items ≡ questions_text self.now) }
-        ensures writable { OnOk result (AreWritable self.now) }
+        ensures { IfOk result (λ text. text.items ≡ questions_text self.now) }
     {
         question_text(alloc, self)
     }
 
-    /// The SHA-256 of the text, to which answers are bound.
+    /// The octets of the questions: records, one behind the other. A record is a tag octet, the number of octets behind it, in eight octets
+    /// with the most significant first, and these.
+    ///
+    /// First the question under its own key, if there is one: 17, the key in DER; the tag of its part ([`crate::tag_of`]), the octets; and 16, the
+    /// signature. Then each part: its tag, the octets; and 16, the signature. Then each key: 18, the key in DER.
+    pub fn to_octets(&self, alloc: Global) -> Result<Vec<u8>, OutOfMemory>
+        ensures octets { IfOk result (λ octets. octets.items ≡ questions_octets self.now) }
+        ensures writable { OnOk result (AreWritable self.now) }
+    {
+        question_records(alloc, self)
+    }
+
+    /// The SHA-256 of the octets, to which answers are bound.
     pub fn digest(&self, alloc: Global) -> Result<Hash, OutOfMemory>
         ensures digest { IfOk result (λ digest. digest ≡ digest_of self.now) }
         ensures writable { OnOk result (AreWritable self.now) }
     {
-        let text = self.to_text(alloc)?;
-        Ok(Hash::from_data(&text))
+        let octets = self.to_octets(alloc)?;
+        Ok(Hash::from_data(&octets))
     }
 }

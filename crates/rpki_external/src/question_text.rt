@@ -1,9 +1,8 @@
 //! The text of questions.
 
 ghost use Rattle.std.specs.Prelude.{◌≡◌, ◌++◌, ◌∷◌, [], IfOk, OnOk, map, string_bytes};
-ghost use Rattle.std.specs.List.{AllByRecursion};
 ghost use Rattle.std.specs.Option.{option_copied};
-ghost use Rattle.hex.specs.Hex.{IsBytes, encode_lower};
+ghost use Rattle.hex.specs.Hex.{encode_lower};
 ghost use Rattle.rpki_base.specs.PublicKey.{spelled_key};
 ghost use Rattle.rpki_ca.specs.Lines.{answer_lines};
 ghost use Rattle.rpki_external.specs.Question.{own_question};
@@ -18,16 +17,14 @@ use std::alloc::Global;
 
 // The octets in hexadecimal digits of lower case.
 fn digits_of(alloc: Global, octets: &[u8]) -> Result<String, OutOfMemory>
-    ensures text { IfOk result (λ text. string_bytes text ≡ encode_lower octets.now) }
-    ensures octets { IsBytes octets.now }
+    ensures { IfOk result (λ text. string_bytes text ≡ encode_lower octets.now) }
 {
     Ok(hex::encode(alloc, octets)?)
 }
 
 // The key in DER, in the same digits.
 fn key_digits(alloc: Global, key: &PublicKey) -> Result<String, OutOfMemory>
-    ensures text { IfOk result (λ text. string_bytes text ≡ encode_lower (spelled_key key.now)) }
-    ensures spelled { OnOk result (spec.HasSpelling key.now) }
+    ensures { IfOk result (λ text. string_bytes text ≡ encode_lower (spelled_key key.now)) }
 {
     let mut out = Writer::new(alloc);
     key.encode_ref(&mut out)?;
@@ -36,9 +33,8 @@ fn key_digits(alloc: Global, key: &PublicKey) -> Result<String, OutOfMemory>
 
 // The line of a question, with its line feed.
 fn question_line(alloc: Global, question: &Question) -> Result<String, OutOfMemory>
-    ensures line { IfOk result (λ line.
+    ensures { IfOk result (λ line.
         string_bytes line ≡ spec.question_line question.now ++ 10 ∷ []) }
-    ensures writable { OnOk result (spec.IsWritableQuestion question.now) }
 {
     let part = question.part();
     let key = key_digits(alloc, question.key())?;
@@ -49,8 +45,7 @@ fn question_line(alloc: Global, question: &Question) -> Result<String, OutOfMemo
 
 // The line of a part, with its line feed.
 fn part_line(alloc: Global, part: &SignedPart) -> Result<String, OutOfMemory>
-    ensures line { IfOk result (λ line. string_bytes line ≡ spec.part_line part.now ++ 10 ∷ []) }
-    ensures writable { OnOk result (spec.IsWritablePart part.now) }
+    ensures { IfOk result (λ line. string_bytes line ≡ spec.part_line part.now ++ 10 ∷ []) }
 {
     let name = part.part();
     let octets = digits_of(alloc, part.octets().as_slice())?;
@@ -60,8 +55,7 @@ fn part_line(alloc: Global, part: &SignedPart) -> Result<String, OutOfMemory>
 
 // The line of a key, with its line feed.
 fn key_line(alloc: Global, key: &PublicKey) -> Result<String, OutOfMemory>
-    ensures line { IfOk result (λ line. string_bytes line ≡ spec.key_line key.now ++ 10 ∷ []) }
-    ensures spelled { OnOk result (spec.HasSpelling key.now) }
+    ensures { IfOk result (λ line. string_bytes line ≡ spec.key_line key.now ++ 10 ∷ []) }
 {
     let key = key_digits(alloc, key)?;
     Ok(format!(in alloc; "key {key}\n")?)
@@ -69,10 +63,8 @@ fn key_line(alloc: Global, key: &PublicKey) -> Result<String, OutOfMemory>
 
 // The line of the question under its own key, if there is one.
 fn own_text(alloc: Global, own: Option<&Question>) -> Result<Vec<u8>, OutOfMemory>
-    ensures text { IfOk result (λ text. text.items
+    ensures { IfOk result (λ text. text.items
         ≡ answer_lines (map spec.question_line (own_question (option_copied own.entry)))) }
-    ensures writable { OnOk result
-        (AllByRecursion spec.IsWritableQuestion (own_question (option_copied own.entry))) }
 {
     let mut text = Vec::new(alloc);
     if let Some(question) = own {
@@ -84,9 +76,8 @@ fn own_text(alloc: Global, own: Option<&Question>) -> Result<Vec<u8>, OutOfMemor
 
 // Appends the lines of parts.
 fn push_parts(alloc: Global, parts: &[SignedPart], text: &mut Vec<u8>) -> Result<(), OutOfMemory>
-    ensures text { OnOk result (text.new.items
+    ensures { OnOk result (text.new.items
         ≡ text.old.items ++ answer_lines (map spec.part_line parts.now)) }
-    ensures writable { OnOk result (AllByRecursion spec.IsWritablePart parts.now) }
 {
     for part in parts {
         let line = part_line(alloc, part)?;
@@ -97,9 +88,8 @@ fn push_parts(alloc: Global, parts: &[SignedPart], text: &mut Vec<u8>) -> Result
 
 // Appends the lines of keys.
 fn push_keys(alloc: Global, keys: &[PublicKey], text: &mut Vec<u8>) -> Result<(), OutOfMemory>
-    ensures text { OnOk result (text.new.items
+    ensures { OnOk result (text.new.items
         ≡ text.old.items ++ answer_lines (map spec.key_line keys.now)) }
-    ensures spelled { OnOk result (AllByRecursion spec.HasSpelling keys.now) }
 {
     for key in keys {
         let line = key_line(alloc, key)?;
@@ -110,8 +100,7 @@ fn push_keys(alloc: Global, keys: &[PublicKey], text: &mut Vec<u8>) -> Result<()
 
 /// The lines of questions, each with its line feed.
 pub(crate) fn question_text(alloc: Global, questions: &Questions) -> Result<Vec<u8>, OutOfMemory>
-    ensures text { IfOk result (λ text. text.items ≡ spec.questions_text questions.now) }
-    ensures writable { OnOk result (spec.AreWritable questions.now) }
+    ensures { IfOk result (λ text. text.items ≡ spec.questions_text questions.now) }
 {
     let mut text = own_text(alloc, questions.own())?;
     push_parts(alloc, questions.parts(), &mut text)?;

@@ -47,7 +47,7 @@ The lines are, in this order:
     key KEY                             (message: a KEY that was handed in)
     digest DIGEST
 A question is: is SIGNATURE one of RSA with SHA-256 of OCTETS under KEY? DIGEST
-is the SHA-256 of the lines before it.
+is that of the questions, and of no other ones.
 
 ANSWERS. Each of these commands takes DIGEST, for which questions the answers
 are, and ANSWERS, a digit for each question, 1 for yes and 0 for no: first the
@@ -61,14 +61,14 @@ questions ANSWERS is an empty word.
         next line the message of the protocol KIND, as `rpkica receive` does.
         LAST is a hyphen, or a moment: then the message has to be signed later.
         Example: ./rpkikeys receive publication 1795927341 - \\
-            3207937f18d9e9665b3c515185ad573b223991a63239bf42d2b39b10c303fb07 \\
+            b4332e7c87719fd309a60dfc95c54c0e2e0aa41c0f4d37784f5daaba5dd69d91 \\
             111 $key < examples/rsa-query.hex
 
     rpkikeys explain MOMENT DIGEST ANSWERS KEY < MESSAGE
         Writes fourteen digits, one for each check of `rpkica --help`, which
         is 1 where the check holds under KEY.
         Example: ./rpkikeys explain 1795927642 \\
-            3207937f18d9e9665b3c515185ad573b223991a63239bf42d2b39b10c303fb07 \\
+            b4332e7c87719fd309a60dfc95c54c0e2e0aa41c0f4d37784f5daaba5dd69d91 \\
             111 $key < examples/rsa-query.hex
 
     rpkikeys setup SETUP-KIND MOMENT DIGEST ANSWERS < TEXT

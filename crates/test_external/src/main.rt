@@ -15,6 +15,7 @@ mod calls;
 mod parts;
 mod printed;
 mod verifying;
+mod written;
 
 use rpki_base::{PublicKey, SigningAlgorithm, Verifier};
 use rpki_ca::{Status, Words, spelled_octets};
@@ -237,6 +238,11 @@ fn called(alloc: Global, call: &str, input: &[u8], words: &Words) -> io::Result<
         "request-prepared" => verifying::request_prepared(alloc, words),
         "request-finished" => verifying::request_finished(alloc, words),
         "request-made" => verifying::request_made(alloc, words),
+        "octets" => written::octets(alloc, input, words),
+        "record" => written::record(alloc, input, words),
+        "message" => written::message(alloc, input, words),
+        "request-at" => written::at(alloc, input),
+        "request-in" => written::within(alloc, input),
         "printed" => printed::printed(alloc, words),
         _ => Err(invalid()),
     }

@@ -1,4 +1,4 @@
-use Rattle.rpki_external.proofs.OneText.{one_given, one_value}
+use Rattle.rpki_external.proofs.OneValue.{one_given, one_value}
 use Rattle.rpki_external.proofs.law.answers_are_to_one_value.Goals as goal
 
 pub returns-clause-counted : goal.returns-clause-counted

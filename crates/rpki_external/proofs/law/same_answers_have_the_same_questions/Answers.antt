@@ -1,4 +1,4 @@
-use Rattle.rpki_external.proofs.OneText.{one_value}
+use Rattle.rpki_external.proofs.OneValue.{one_value}
 use Rattle.rpki_external.specs.Question.{anchor_questions, request_questions}
 use Rattle.rpki_external.proofs.law.same_answers_have_the_same_questions.Goals as goal
 
