@@ -14,6 +14,8 @@
  *   2. Sign each of them.
  *   3. calmizsed_message_finish takes the same arguments and the signatures, and gives the signed message.
  * Setup messages and certificate requests go the same two ways.
+ * ANSWER a query, as a publication server: calmizsed_publication_decide takes what is known of the objects that the query names, and gives
+ * the reply, which is then made a signed message, and says whether the changes are to be made. The objects are yours to keep.
  *
  * CALLS. All calls have one shape:
  *   - Octets that go in are a pointer and a length. They are only read.
@@ -75,7 +77,7 @@ enum calmizsed_status {
     CALMIZSED_WRONG_KEY = 7,
     /* Moment: the 300 seconds before or after the moment leave the years 1970 to 9999. */
     CALMIZSED_NO_WINDOW = 8,
-    /* TooLong: a key or a signature of more than 2^16 octets, a message's text of more than 2^31, or a record of 2^32 or more. */
+    /* TooLong: a key or a signature of more than 2^16 octets, or a message's text of more than 2^31. */
     CALMIZSED_TOO_LONG = 9,
     /* OutOfMemory: memory ran out. */
     CALMIZSED_OUT_OF_MEMORY = 12,
@@ -85,7 +87,9 @@ enum calmizsed_status {
      * Replayed LAST TIME: the message was signed at outcome->signing_time, not later than outcome->last_time. */
     CALMIZSED_REPLAYED = 15,
     /* NoRoom: `out` is too small. */
-    CALMIZSED_NO_ROOM = 16
+    CALMIZSED_NO_ROOM = 16,
+    /* UnknownObject: the query names a URI of which nothing is known. */
+    CALMIZSED_UNKNOWN_OBJECT = 17
 };
 
 /* The protocol of a message: RFC 8181, RFC 6492. */
@@ -123,18 +127,22 @@ struct calmizsed_outcome {
 };
 
 /*
- * RECORDS. A result with several parts is records, one behind the other: a tag octet, a length of four octets (the most significant
+ * RECORDS. A result with several parts is records, one behind the other: a tag octet, a length of eight octets (the most significant
  * first), and so many octets.
  *
  * Questions are
  *   - at most one question under a key of its own: the records 17 (the key), the part, and 16 (its signature);
  *   - then parts that are asked under each of the keys that were handed in: the part and 16, for each;
  *   - then 18 for each of these keys, in their order;
- *   - then 19, the digest of the questions (32 octets), to which the answers are bound.
+ *   - then 19, the digest of the questions, to which the answers are bound: the 32 octets of the SHA-256 of all records before it, with
+ *     their tags and lengths.
  * The part's tag says what it is, and its octets are exactly those that are signed: no digest was made of them.
  *
  * Answers are one octet for each question, 1 where the signature holds and 0 where it doesn't: first for the question with a key of its
  * own; then, for one key after the other, for each part. So a message with one CRL has 3 answers under one key, and 5 under two.
+ *
+ * What is known of objects is handed in as records, each of one URI: 22 for an object that is there, with the 32 octets of its SHA-256 and
+ * then its URI; 23 where there is none, with the URI. Of a URI the first record counts.
  */
 enum calmizsed_tag {
     CALMIZSED_ATTRIBUTES = 1,
@@ -145,7 +153,11 @@ enum calmizsed_tag {
     CALMIZSED_SIGNATURE = 16,
     CALMIZSED_OWN_KEY = 17,
     CALMIZSED_KEY = 18,
-    CALMIZSED_DIGEST = 19
+    CALMIZSED_DIGEST = 19,
+    CALMIZSED_REPLY = 20,
+    CALMIZSED_REPLY_AND_CHANGES = 21,
+    CALMIZSED_OBJECT = 22,
+    CALMIZSED_NO_OBJECT = 23
 };
 
 struct calmizsed_record {
@@ -160,19 +172,53 @@ struct calmizsed_record {
  */
 static inline int calmizsed_next_record(const uint8_t *records, size_t length, size_t *place, struct calmizsed_record *record) {
     const uint8_t *head;
-    size_t count;
-    if (*place > length || length - *place < 5) {
+    uint64_t count = 0;
+    int i;
+    if (*place > length || length - *place < 9) {
         return 0;
     }
     head = records + *place;
-    count = ((size_t)head[1] << 24) | ((size_t)head[2] << 16) | ((size_t)head[3] << 8) | (size_t)head[4];
-    if (length - *place - 5 < count) {
+    for (i = 1; i < 9; i++) {
+        count = (count << 8) | head[i];
+    }
+    if (length - *place - 9 < count) {
         return 0;
     }
     record->tag = head[0];
-    record->length = count;
-    record->octets = head + 5;
-    *place += 5 + count;
+    record->length = (size_t)count;
+    record->octets = head + 9;
+    *place += 9 + record->length;
+    return 1;
+}
+
+/*
+ * Adds what is known of a URI to records, whose buffer has so many octets: the SHA-256 of the object that is there, or, where `sha256` is
+ * null, that there is none. `*place` is where the records end, and is moved behind the new one: then 1. Where there is too little room, 0,
+ * and nothing is changed.
+ */
+static inline int calmizsed_add_known(
+    uint8_t *known, size_t room, size_t *place, const uint8_t *uri, size_t uri_length, const uint8_t *sha256) {
+    const size_t of_digest = sha256 ? 32 : 0;
+    uint64_t count;
+    uint8_t *head;
+    size_t i;
+    if (*place > room || room - *place < 9 + of_digest || room - *place - 9 - of_digest < uri_length) {
+        return 0;
+    }
+    head = known + *place;
+    count = (uint64_t)uri_length + of_digest;
+    head[0] = (uint8_t)(sha256 ? CALMIZSED_OBJECT : CALMIZSED_NO_OBJECT);
+    for (i = 8; i > 0; i--) {
+        head[i] = (uint8_t)count;
+        count >>= 8;
+    }
+    for (i = 0; i < of_digest; i++) {
+        head[9 + i] = sha256[i];
+    }
+    for (i = 0; i < uri_length; i++) {
+        head[9 + of_digest + i] = uri[i];
+    }
+    *place += 9 + of_digest + uri_length;
     return 1;
 }
 
@@ -183,6 +229,7 @@ static inline int calmizsed_next_record(const uint8_t *records, size_t length, s
  *     struct calmizsed_outcome outcome;      how the call ended
  *     int64_t when = (int64_t)time(NULL);    now
  *     digest, answers, answers_length        what the call of the questions gave, and one octet for each question
+ *     known, known_length                    what is known of objects
  *
  * Behind them stands what to do with outcome.status, as in the example at the end.
  */
@@ -196,7 +243,7 @@ static inline int calmizsed_next_record(const uint8_t *records, size_t length, s
  * keys      one to eight keys of whom it should come from, one behind the other.
  * Result    records. The question of the attributes has a key of its own, that of the message's certificate. The certificate and each CRL
  *           are asked under each of the keys.
- * Statuses  Usage (no key, more than eight, or one that is none), CmsDecode, TooLong, OutOfMemory, NoRoom.
+ * Statuses  Usage (no key, more than eight, or one that is none), CmsDecode, OutOfMemory, NoRoom.
  *
  * Example:
  *     calmizsed_message_questions(message, message_length, key, key_length, out, sizeof out, &outcome);
@@ -340,7 +387,7 @@ int32_t calmizsed_message_finish(
  * text      the setup message, in XML.
  * Result    records. The certificate is asked under its own key, where it names that as its issuer's. Else there is no question and no
  *           answer, and its signature isn't looked at.
- * Statuses  Usage, XmlError, InvalidTaCertEncoding, TooLong, OutOfMemory, NoRoom.
+ * Statuses  Usage, XmlError, InvalidTaCertEncoding, OutOfMemory, NoRoom.
  *
  * Example:
  *     calmizsed_setup_questions(CALMIZSED_CHILD_REQUEST, setup, setup_length, out, sizeof out, &outcome);
@@ -446,7 +493,7 @@ int32_t calmizsed_anchor_finish(
  *
  * request   the certificate request, in DER. What stands behind it isn't read.
  * Result    records: it is asked under its own key.
- * Statuses  InvalidCsrSyntax, TooLong, OutOfMemory, NoRoom.
+ * Statuses  InvalidCsrSyntax, OutOfMemory, NoRoom.
  *
  * Example:
  *     calmizsed_request_questions(request, request_length, out, sizeof out, &outcome);
@@ -475,7 +522,7 @@ int32_t calmizsed_request_verify(
  *
  * text      the issue request (RFC 6492, 3.4.1), in XML.
  * Result    records.
- * Statuses  XmlError, CertSyntax, InvalidCsrSyntax, TooLong, OutOfMemory, NoRoom.
+ * Statuses  XmlError, CertSyntax, InvalidCsrSyntax, OutOfMemory, NoRoom.
  *
  * Example:
  *     calmizsed_issue_questions(issue, issue_length, out, sizeof out, &outcome);
@@ -536,6 +583,46 @@ int32_t calmizsed_request_finish(
     const uint8_t *manifest, size_t manifest_length, const uint8_t *notify, size_t notify_length,
     const uint8_t *signature, size_t signature_length,
     uint8_t *out, size_t out_length, struct calmizsed_outcome *outcome);
+
+/* ---- what a publication server replies (RFC 8181, 2) ---- */
+
+/*
+ * What a publication server replies to a message, and whether it makes the changes that are asked for: all of them, or none.
+ *
+ * It takes no more than what is known of the URIs that the message's changes name, or, where it asks for the list, of all objects of its
+ * sender. So the objects can be kept in any database, and a query costs as much as it names.
+ *
+ * base      the directory in which the sender may publish: an rsync URI. A URI is in it where its octets begin with those of the base, so
+ *           the base should end with a slash. Another URI gets the error permission_failure.
+ * query     the message, in XML. That it is of this sender isn't looked at here: hand in what calmizsed_message_receive gave.
+ * known     what is known, as the records 22 (object) and 23 (no object), which calmizsed_add_known writes. There may be none. A list has
+ *           the objects in their order.
+ * Result    one record: 21 where the changes are to be made, one behind the other, and 20 where nothing is to be changed. Its octets are
+ *           the reply, in XML: with 21 the success; with 20 the list, or the error of the first change that can't be made, behind those
+ *           before it. To a message that is no query it is the error xml_error.
+ * Statuses  of these the first decides: Usage (the base is no rsync URI, or what is known is none of these records), XmlError,
+ *           UnknownObject (a change names a URI of which nothing is known). OutOfMemory and NoRoom may come besides.
+ *
+ * The reply says what is so as long as what is known is so: look the objects up, make the changes and keep them in one transaction.
+ *
+ * Example:
+ *     calmizsed_publication_decide(base, base_length, query, query_length, known, known_length, out, sizeof out, &outcome);
+ */
+int32_t calmizsed_publication_decide(
+    const uint8_t *base, size_t base_length, const uint8_t *query, size_t query_length, const uint8_t *known, size_t known_length,
+    uint8_t *out, size_t out_length, struct calmizsed_outcome *outcome);
+
+/*
+ * What a publication server replies to a message that calmizsed_message_receive refused: an error, of no change.
+ *
+ * status    with what it was refused: 4 (no message) and 6 (a check fails) give the error bad_cms_signature, and 5 (no query) xml_error.
+ * Result    the reply, in XML.
+ * Statuses  Usage (another status), OutOfMemory, NoRoom.
+ *
+ * Example:
+ *     calmizsed_publication_refuse(CALMIZSED_CHECK_FAILS, out, sizeof out, &outcome);
+ */
+int32_t calmizsed_publication_refuse(int32_t status, uint8_t *out, size_t out_length, struct calmizsed_outcome *outcome);
 
 /* ---- others ---- */
 

@@ -5,7 +5,9 @@ use Rattle.rpki_ca.specs.Acceptance.{accepted_text}
 use Rattle.rpki_external.specs.Running.{Written}
 use Rattle.rpki_external.specs.declared.keys_refusal.KeysRefusal.{KeysRefusal}
 use Rattle.rpki_external.specs.declared.receiving.Receipt.{Receipt}
-use Rattle.rpki_c.specs.HandingOver.{HandsOver, HandsReceiptOver, IsGiven, IsRefused, LacksRoom, done, out_of_memory, received}
+use Rattle.rpki_c.specs.HandingOver.{Decided, HandsDecisionOver, HandsOver, HandsReceiptOver, IsCallRefused, IsGiven, IsRefused, LacksRoom, done, out_of_memory, received}
+use Rattle.rpki_c.specs.declared.outcome.CallRefusal.{CallRefusal}
+use Rattle.rpki_c.specs.declared.outcome.CallRefusal.TheVariants as calls
 use Rattle.rpki_c.specs.declared.outcome.Outcome.{Outcome}
 
 -- what is said of an answer by cases holds of what is handed over
@@ -36,4 +38,14 @@ pub hands_receipt_over : (is : Result Receipt KeysRefusal → Type 0) (answer : 
     → IfErr answer (λ e. IsRefused e old new outcome) → HandsReceiptOver is old new outcome
 hands_receipt_over is (Ok r) old new outcome ok err given refused = receipt_given is r old new outcome ok given
 hands_receipt_over is (Err e) old new outcome ok err given refused =
+    record { answer = Err e; is_so = λ other. err (λ same. other (ap (λ x. Err x) same)); handed = refused }
+
+-- the same of an answer whose refusal can be that nothing is known of an object
+pub hands_decision_over : (is : Decided → Type 0) (answer : Result (Vec ℕ) CallRefusal) (old new : List ℕ) (outcome : Outcome)
+    → IfOk answer (λ text. is (Ok text.items)) → IfErr answer (λ e. e ≢ calls.General out_of_memory → is (Err e))
+    → IfOk answer (λ text. IsGiven text.items (done (length text.items)) old new outcome ⊎ LacksRoom text.items old new outcome)
+    → IfErr answer (λ e. IsCallRefused e old new outcome) → HandsDecisionOver is old new outcome
+hands_decision_over is (Ok text) old new outcome ok err given refused =
+    record { answer = Ok text.items; is_so = λ other. ok; handed = given }
+hands_decision_over is (Err e) old new outcome ok err given refused =
     record { answer = Err e; is_so = λ other. err (λ same. other (ap (λ x. Err x) same)); handed = refused }

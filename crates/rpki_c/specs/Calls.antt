@@ -20,6 +20,7 @@ use Rattle.rpki_ca.specs.declared.setup_message.SetupMessage.{SetupMessage}
 use Rattle.rpki_external.specs.Answers.{AnswersFields}
 use Rattle.rpki_external.specs.Making.{CanPrepare, CanPrepareAnchor, CanPrepareRequest, PrepareAnchorFails, PrepareFails, PrepareRequestFails, anchor_fields, request_to_sign}
 use Rattle.rpki_external.specs.Question.{QuestionsFields, request_questions}
+use Rattle.rpki_external.specs.Records.{Tagged, records_of, tag_of, tagged}
 use Rattle.rpki_external.specs.Receiving.{AreAskedOf, IsReceiptBy, RefusesByAnswers, RefusesChecks}
 use Rattle.rpki_external.specs.Running.{AsksToIssue, FailsAs, HoldsNoRequestAtAll, IsFinishAnchorAnswer, IsFinishAnswer, IsFinishRequestAnswer, IsInspectAnswer, IsIssueAnswer, IsPrepareRefusal, IsRefusedAs, IsRequestAnswer, IsSetupWritten, OfMessage, RefusesIssue, RefusesText, Written, on_line, refusal_of_answered, refusal_of_setup_error}
 use Rattle.rpki_external.specs.Verifying.{AreChecksBy, BeginsRequest, HoldsAnchor, IsSetupAsked}
@@ -33,7 +34,7 @@ use Rattle.rpki_external.specs.declared.receiving.AnsweredError.{AnsweredError}
 use Rattle.rpki_external.specs.declared.receiving.Receipt.{Receipt}
 use Rattle.rpki_external.specs.declared.setting_up.SetupError.{SetupError}
 use Rattle.rpki_c.specs.Arguments.{AreAnswersIn, AreFewKeysIn, IsKeyIn, IsKindIn, IsLastIn, IsMomentIn, IsPlanIn, IsRequestPlanIn, IsSetupKindIn, IsValidityIn, OfRead, octet_of}
-use Rattle.rpki_c.specs.Records.{AllFit, Tagged, message_records, question_records, records_of, tag_of, tagged, too_long}
+use Rattle.rpki_c.specs.Records.{asked_records, message_records}
 
 -- ---- answers of the program rpkikeys in other letters
 
@@ -63,10 +64,9 @@ other_digest = keys.General (refusals.Validation 2)
 
 -- ---- records
 
--- the answer is these records, or TooLong where four octets don't tell how long one is
+-- the answer is these records
 abbrev pub AreRecords : List Tagged → Written → Type 0
-AreRecords list (Ok text) = text ≡ records_of list
-AreRecords list (Err refusal) = (refusal ≡ too_long) × (AllFit list → ⊥)
+AreRecords list answer = answer ≡ Ok (records_of list)
 
 -- ---- questions
 
@@ -74,7 +74,7 @@ AreRecords list (Err refusal) = (refusal ≡ too_long) × (AllFit list → ⊥)
 abbrev pub AsksMessage : List ℕ → List KeyFields → Written → Type 0
 AsksMessage octets list answer =
     IsRefusedAs (λ refusal. (refusal ≡ no_cms) × HoldsNoSigned octets) answer
-    ⊎ ((q : QuestionsFields) × AreAskedOf octets list q × AreRecords (question_records q) answer)
+    ⊎ ((q : QuestionsFields) × AreAskedOf octets list q × AreRecords (asked_records q) answer)
 
 -- `message_questions`
 abbrev pub AsksMessageIn : List ℕ → List ℕ → Written → Type 0
@@ -90,7 +90,7 @@ abbrev pub AsksSetup : SetupKind → List ℕ → Written → Type 0
 AsksSetup kind text answer =
     IsRefusedAs (RefusesToAsk kind text) answer
     ⊎ ((q : QuestionsFields) × IsSetupAsked kind text (Ok q)
-    × AreRecords (question_records q) answer)
+    × AreRecords (asked_records q) answer)
 
 -- `setup_questions`
 abbrev pub AsksSetupIn : ℤ → List ℕ → Written → Type 0
@@ -106,14 +106,14 @@ abbrev pub AsksRequest : List ℕ → Written → Type 0
 AsksRequest octets answer =
     IsRefusedAs (RefusesRequest octets) answer
     ⊎ ((r : CaRequest) × BeginsRequest octets r
-    × AreRecords (question_records (request_questions r)) answer)
+    × AreRecords (asked_records (request_questions r)) answer)
 
 -- `issue_questions`: of the request in the issue request that the text is
 abbrev pub AsksIssue : List ℕ → Written → Type 0
 AsksIssue text answer =
     IsRefusedAs (RefusesIssue text) answer
     ⊎ ((r : CaRequest) × AsksToIssue text r
-    × AreRecords (question_records (request_questions r)) answer)
+    × AreRecords (asked_records (request_questions r)) answer)
 
 -- ---- what is received
 

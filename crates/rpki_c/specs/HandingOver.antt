@@ -7,7 +7,13 @@ use Rattle.rpki_external.specs.Running.{Written}
 use Rattle.rpki_external.specs.declared.keys_refusal.KeysRefusal.{KeysRefusal}
 use Rattle.rpki_external.specs.declared.keys_refusal.KeysRefusal.TheVariants as keys
 use Rattle.rpki_external.specs.declared.receiving.Receipt.{Receipt}
+use Rattle.rpki_c.specs.declared.outcome.CallRefusal.{CallRefusal}
+use Rattle.rpki_c.specs.declared.outcome.CallRefusal.TheVariants as calls
 use Rattle.rpki_c.specs.declared.outcome.Outcome.{Outcome}
+
+-- the octets of a result, or why there is none
+abbrev pub Decided : Type 0
+Decided = Result (List ℕ) CallRefusal
 
 -- the refusal for want of memory
 abbrev pub out_of_memory : KeysRefusal
@@ -75,6 +81,11 @@ refused (keys.Replayed last seen) =
     with_times last seen (bare 15 (keys_name_of (keys.Replayed last seen)))
 refused refusal = bare (keys_status_of refusal) (keys_name_of refusal)
 
+-- a refusal of a call: as the programs have it; or that nothing is known of an object
+abbrev pub refused_call : CallRefusal → Outcome
+refused_call (calls.General refusal) = refused refusal
+refused_call calls.UnknownObject = bare 17 (codes "UnknownObject")
+
 -- ---- handing over
 
 -- the text stands at the front of the buffer, whose rest is as it was, and this is told
@@ -95,6 +106,12 @@ pub record IsRefused (refusal : KeysRefusal) (old new : List ℕ) (outcome : Out
   pub octets : new ≡ old
   pub tells : outcome ≡ refused refusal
 
+-- the same of the refusal of a call
+pub record IsCallRefused (refusal : CallRefusal) (old new : List ℕ) (outcome : Outcome) : Type 0
+  where
+    pub octets : new ≡ old
+    pub tells : outcome ≡ refused_call refusal
+
 -- an answer is handed over
 abbrev pub IsHandedOver : Written → List ℕ → List ℕ → Outcome → Type 0
 IsHandedOver (Ok text) old new outcome =
@@ -108,6 +125,12 @@ IsReceiptHandedOver (Ok r) old new outcome =
     IsGiven text (received (length text) r) old new outcome ⊎ LacksRoom text old new outcome
 IsReceiptHandedOver (Err refusal) old new outcome = IsRefused refusal old new outcome
 
+-- an answer is handed over, or why there is none
+abbrev pub IsDecisionHandedOver : Decided → List ℕ → List ℕ → Outcome → Type 0
+IsDecisionHandedOver (Ok text) old new outcome =
+    IsGiven text (done (length text)) old new outcome ⊎ LacksRoom text old new outcome
+IsDecisionHandedOver (Err refusal) old new outcome = IsCallRefused refusal old new outcome
+
 -- an answer of which this is so is handed over; of want of memory nothing is said
 pub record HandsOver (is : Written → Type 0) (old new : List ℕ) (outcome : Outcome) : Type 0 where
   pub answer : Written
@@ -120,3 +143,10 @@ pub record HandsReceiptOver (is : Result Receipt KeysRefusal → Type 0) (old ne
   pub answer : Result Receipt KeysRefusal
   pub is_so : answer ≢ Err out_of_memory → is answer
   pub handed : IsReceiptHandedOver answer old new outcome
+
+-- the same where the refusal can be that nothing is known of an object
+pub record HandsDecisionOver (is : Decided → Type 0) (old new : List ℕ) (outcome : Outcome) : Type 0
+  where
+    pub answer : Decided
+    pub is_so : answer ≢ Err (calls.General out_of_memory) → is answer
+    pub handed : IsDecisionHandedOver answer old new outcome

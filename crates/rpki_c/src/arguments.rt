@@ -23,7 +23,7 @@ use std::alloc::Global;
 const MOST_KEYS: usize = 8;
 
 // Arguments that are read as nothing.
-const USAGE: KeysRefusal = KeysRefusal::General(Refusal::Usage);
+pub(crate) const USAGE: KeysRefusal = KeysRefusal::General(Refusal::Usage);
 
 // ---- numbers
 
@@ -158,7 +158,7 @@ fn digits_of(alloc: Global, octets: &[u8]) -> Result<String, OutOfMemory>
 }
 
 // The digest that the octets are.
-fn digest_in(alloc: Global, octets: &[u8]) -> Result<Option<Hash>, OutOfMemory>
+pub(crate) fn digest_in(alloc: Global, octets: &[u8]) -> Result<Option<Hash>, OutOfMemory>
     ensures some { IfOk result (λ o. IfSome o (λ digest. digest ≡ octets.now)) }
     ensures whole { IfOk result (λ o. IsSome o → length octets.now ≡ 32) }
     ensures none { IfOk result (λ o. IsNone o → length octets.now ≢ 32) }
@@ -298,18 +298,30 @@ fn no_uri(error: uri::Error) -> KeysRefusal
     }
 }
 
+// The rsync URI that the octets are, if they are one.
+pub(crate) fn rsync_uri(alloc: Global, octets: &[u8]) -> Result<Option<Rsync>, OutOfMemory>
+    ensures some { IfOk result (λ o. IfSome o (spec.IsRsyncIn octets.now)) }
+    ensures none { IfOk result (λ o. IsNone o → spec.IsUnread (spec.IsRsyncIn octets.now)) }
+{
+    let Ok(text) = str::from_utf8(octets) else {
+        return Ok(None);
+    };
+    match Rsync::from_str(alloc, text) {
+        Ok(uri) => Ok(Some(uri)),
+        Err(uri::Error::OutOfMemory) => Err(OutOfMemory),
+        Err(_) => Ok(None),
+    }
+}
+
 // The rsync URI that the octets are.
-fn rsync_in(alloc: Global, octets: &[u8]) -> Result<Rsync, KeysRefusal>
+pub(crate) fn rsync_in(alloc: Global, octets: &[u8]) -> Result<Rsync, KeysRefusal>
     ensures ok { IfOk result (spec.IsRsyncIn octets.now) }
     ensures err { IfErr result (λ e. e ≢ out_of_memory
         → (e ≡ spec.usage) × spec.IsUnread (spec.IsRsyncIn octets.now)) }
 {
-    let Ok(text) = str::from_utf8(octets) else {
-        return Err(USAGE);
-    };
-    match Rsync::from_str(alloc, text) {
-        Ok(uri) => Ok(uri),
-        Err(error) => Err(no_uri(error)),
+    match rsync_uri(alloc, octets)? {
+        Some(uri) => Ok(uri),
+        None => Err(USAGE),
     }
 }
 

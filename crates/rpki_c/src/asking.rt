@@ -9,10 +9,12 @@ ghost use Rattle.rpki_c.specs.HandingOver.{HandsOver, out_of_memory};
 use crate::arguments::{keys_in, setup_kind_in};
 use crate::handing_over::hand_over;
 use crate::outcome::Outcome;
-use crate::records::question_records;
-use crate::texts::{no_message, request_at, request_in};
+use crate::records::asked_records;
 use rpki_base::PublicKey;
-use rpki_external::{KeysRefusal, Questions, questions, request_questions, setup_questions};
+use rpki_external::{
+    KeysRefusal, Questions, no_message, questions, request_at, request_in, request_questions,
+    setup_questions,
+};
 use std::alloc::Global;
 
 // The questions of a signed message under keys.
@@ -28,13 +30,13 @@ fn asked(alloc: Global, octets: &[u8], keys: &[PublicKey]) -> Result<Questions, 
 }
 
 // Their records.
-fn asked_records(alloc: Global, octets: &[u8], keys: &[PublicKey]) -> Result<Vec<u8>, KeysRefusal>
+fn ask_under(alloc: Global, octets: &[u8], keys: &[PublicKey]) -> Result<Vec<u8>, KeysRefusal>
     ensures ok { IfOk result (λ text. spec.AsksMessage octets.now keys.now (Ok text.items)) }
     ensures err { IfErr result (λ e. e ≢ out_of_memory
         → spec.AsksMessage octets.now keys.now (Err e)) }
 {
     let questions = asked(alloc, octets, keys)?;
-    question_records(alloc, &questions)
+    Ok(asked_records(alloc, &questions)?)
 }
 
 // The records of the questions of a signed message.
@@ -44,13 +46,13 @@ fn ask_message(alloc: Global, octets: &[u8], keys: &[u8]) -> Result<Vec<u8>, Key
         → spec.AsksMessageIn octets.now keys.now (Err e)) }
 {
     let keys = keys_in(alloc, keys)?;
-    asked_records(alloc, octets, &keys)
+    ask_under(alloc, octets, &keys)
 }
 
 /// The questions of the signed message with which `message` begins, in BER, under the one to eight keys that `keys` are in DER, one
 /// behind the other: records.
 ///
-/// Usage, CmsDecode, TooLong, OutOfMemory.
+/// Usage, CmsDecode, OutOfMemory.
 #[unsafe(no_mangle)]
 pub extern "C" fn calmizsed_message_questions(
     message: &[u8],
@@ -73,13 +75,13 @@ fn ask_setup(alloc: Global, kind: i32, text: &[u8]) -> Result<Vec<u8>, KeysRefus
 {
     let kind = setup_kind_in(kind)?;
     let questions = setup_questions(alloc, kind, text)?;
-    question_records(alloc, &questions)
+    Ok(asked_records(alloc, &questions)?)
 }
 
 /// The questions of the trust anchor's certificate in the setup message of this kind that `text` is (RFC 8183, 5.2): records. There is
 /// one question where the certificate names its own key as its issuer's, and else none.
 ///
-/// Usage, XmlError, InvalidTaCertEncoding, TooLong, OutOfMemory.
+/// Usage, XmlError, InvalidTaCertEncoding, OutOfMemory.
 #[unsafe(no_mangle)]
 pub extern "C" fn calmizsed_setup_questions(
     kind: i32,
@@ -101,12 +103,12 @@ fn ask_request(alloc: Global, octets: &[u8]) -> Result<Vec<u8>, KeysRefusal>
 {
     let request = request_at(alloc, octets)?;
     let questions = request_questions(alloc, &request)?;
-    question_records(alloc, &questions)
+    Ok(asked_records(alloc, &questions)?)
 }
 
 /// The question of the certificate request with which `request` begins, in DER (RFC 6487, 6): records.
 ///
-/// InvalidCsrSyntax, TooLong, OutOfMemory.
+/// InvalidCsrSyntax, OutOfMemory.
 #[unsafe(no_mangle)]
 pub extern "C" fn calmizsed_request_questions(
     request: &[u8],
@@ -127,12 +129,12 @@ fn ask_issue(alloc: Global, text: &[u8]) -> Result<Vec<u8>, KeysRefusal>
 {
     let request = request_in(alloc, text)?;
     let questions = request_questions(alloc, &request)?;
-    question_records(alloc, &questions)
+    Ok(asked_records(alloc, &questions)?)
 }
 
 /// The question of the certificate request in the issue request of the provisioning protocol that `text` is (RFC 6492, 3.4.1): records.
 ///
-/// XmlError, CertSyntax, InvalidCsrSyntax, TooLong, OutOfMemory.
+/// XmlError, CertSyntax, InvalidCsrSyntax, OutOfMemory.
 #[unsafe(no_mangle)]
 pub extern "C" fn calmizsed_issue_questions(
     text: &[u8],

@@ -10,11 +10,11 @@ use crate::arguments::{
 };
 use crate::handing_over::hand_over;
 use crate::outcome::Outcome;
-use crate::texts::{copied, text_in};
+use crate::texts::copied;
 use rpki_base::{PublicKey, Validity};
 use rpki_ca::Kind;
 use rpki_external::{
-    KeysRefusal, Plan, RequestPlan, Signatures, finish, finish_anchor, finish_request,
+    KeysRefusal, Plan, RequestPlan, Signatures, finish, finish_anchor, finish_request, message_of,
 };
 use std::alloc::Global;
 
@@ -31,7 +31,7 @@ fn finished_message(
     ensures err { IfErr result (λ e. e ≢ out_of_memory → spec.SpelledSo
         (IsFinishAnswer kind text.now plan.now signatures) (Err e)) }
 {
-    let message = text_in(alloc, kind, text)?;
+    let message = message_of(alloc, kind, text)?;
     let signed = finish(alloc, message.to_xml_bytes(alloc)?, plan, signatures)?;
     Ok(copied(alloc, signed.to_captured(alloc)?.as_slice())?)
 }

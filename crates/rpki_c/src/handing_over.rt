@@ -4,7 +4,7 @@ ghost use Rattle.std.specs.Prelude.{◌≡◌, ◌⊎◌, IfErr, IfOk, length};
 ghost use Rattle.rpki_ca.specs.Acceptance.{accepted_text};
 ghost use Rattle.rpki_c.specs.HandingOver as spec;
 
-use crate::outcome::Outcome;
+use crate::outcome::{CallRefusal, Outcome};
 use rpki_external::{KeysRefusal, Receipt};
 use std::alloc::Global;
 
@@ -60,6 +60,25 @@ pub(crate) fn hand_receipt_over(
             Err(error) => *outcome = Outcome::refused(KeysRefusal::from(error)),
         },
         Err(refusal) => *outcome = Outcome::refused(refusal),
+    }
+    outcome.status
+}
+
+/// Hands an answer over whose refusal can be that nothing is known of an object. It takes no memory.
+pub(crate) fn hand_decision_over(
+    answer: Result<Vec<u8>, CallRefusal>,
+    out: &mut [u8],
+    outcome: &mut Outcome,
+) -> i32
+    ensures given { IfOk answer (λ text.
+        spec.IsGiven text.items (spec.done (length text.items)) out.old out.new outcome.new
+        ⊎ spec.LacksRoom text.items out.old out.new outcome.new) }
+    ensures refused { IfErr answer (λ e. spec.IsCallRefused e out.old out.new outcome.new) }
+    ensures status { result ≡ outcome.new.status }
+{
+    match answer {
+        Ok(text) => give(&text, Outcome::done(text.len()), out, outcome),
+        Err(refusal) => *outcome = Outcome::refused_call(refusal),
     }
     outcome.status
 }

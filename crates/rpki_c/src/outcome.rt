@@ -13,11 +13,23 @@ pub const OK: i32 = 0;
 /// The status where the buffer is too small for the result.
 pub const NO_ROOM: i32 = 16;
 
+/// The status where the query names an object of which nothing is known.
+pub const UNKNOWN_OBJECT: i32 = 17;
+
+/// Why a call gives no result.
+#[derive(Clone, Copy, Debug)]
+pub enum CallRefusal {
+    /// A refusal that the programs have too, under their status and name.
+    General(KeysRefusal),
+    /// A query names an object of which nothing is known.
+    UnknownObject,
+}
+
 /// How a call ended. Each call sets every field.
 #[repr(C)]
 #[derive(Clone, Copy, Debug)]
 pub struct Outcome {
-    /// What the call returned: 0 where there is a result, else why there is none, as the programs have it; or 16.
+    /// What the call returned: 0 where there is a result, else why there is none, as the programs have it; or 16 or 17.
     pub status: i32,
     /// With `Validation`, the number of the check that fails, from 1 to 14; else 0.
     pub check: i32,
@@ -132,6 +144,26 @@ impl Outcome {
             KeysRefusal::Replayed { last, seen } => bare.with_times(*last, *seen),
             _ => bare,
         }
+    }
+
+    /// There is none, for this cause, which other calls don't have.
+    pub(crate) fn refused_call(refusal: CallRefusal) -> Outcome
+        ensures { result ≡ spec.refused_call refusal }
+    {
+        match refusal {
+            CallRefusal::General(refusal) => Outcome::refused(refusal),
+            CallRefusal::UnknownObject => Outcome::bare(17, b"UnknownObject"),
+        }
+    }
+}
+
+impl From<KeysRefusal> for CallRefusal {
+    ghost use Rattle.rpki_c.specs.declared.outcome.CallRefusal.TheVariants as calls;
+
+    ghost from_gives = { λ refusal e. e ≡ calls.General refusal };
+
+    fn from(refusal: KeysRefusal) -> CallRefusal {
+        CallRefusal::General(refusal)
     }
 }
 

@@ -1,29 +1,28 @@
 //! What is to be signed of messages, trust anchors and certificate requests.
 
 ghost use Rattle.std.specs.Prelude.{◌≡◌, ◌≢◌, Ok, Err, IfErr, IfOk};
+ghost use Rattle.rpki_external.specs.Records.{records_of};
 ghost use Rattle.rpki_c.specs.Calls as spec;
 ghost use Rattle.rpki_c.specs.HandingOver.{HandsOver, out_of_memory};
-ghost use Rattle.rpki_c.specs.Records as records;
+ghost use Rattle.rpki_c.specs.Records.{unsigned_records};
 
 use crate::arguments::{key_in, kind_in, plan_in, request_plan_in, validity_in};
 use crate::handing_over::hand_over;
 use crate::outcome::Outcome;
-use crate::records::{one_record, push_record, tag_of};
-use crate::texts::text_in;
+use crate::records::one_record;
 use rpki_base::{PublicKey, Validity};
 use rpki_ca::Kind;
+use rpki_common::OutOfMemory;
 use rpki_external::{
-    KeysRefusal, Part, Plan, RequestPlan, prepare, prepare_anchor, prepare_request,
+    KeysRefusal, Part, Plan, RequestPlan, message_of, prepare, prepare_anchor, prepare_request,
+    push_record, tag_of,
 };
 use rpki_sigmsg::UnsignedMessage;
 use std::alloc::Global;
 
 // The records of what is to be signed of a message: attributes, CRL, certificate.
-fn message_records(alloc: Global, unsigned: &UnsignedMessage) -> Result<Vec<u8>, KeysRefusal>
-    ensures ok { IfOk result (λ text.
-        text.items ≡ records.records_of (records.unsigned_records unsigned.now)) }
-    ensures err { IfErr result (λ e. e ≢ out_of_memory → (e ≡ records.too_long)
-        × (records.AllFit (records.unsigned_records unsigned.now) → ⊥)) }
+fn message_records(alloc: Global, unsigned: &UnsignedMessage) -> Result<Vec<u8>, OutOfMemory>
+    ensures { IfOk result (λ text. text.items ≡ records_of (unsigned_records unsigned.now)) }
 {
     let mut text = one_record(alloc, tag_of(Part::Attributes), unsigned.attributes())?;
     push_record(tag_of(Part::Crl), unsigned.crl(), &mut text)?;
@@ -43,9 +42,9 @@ fn message_to_sign(
     ensures err { IfErr result (λ e. e ≢ out_of_memory
         → spec.Prepares kind text.now plan.now (Err e)) }
 {
-    let message = text_in(alloc, kind, text)?;
+    let message = message_of(alloc, kind, text)?;
     let unsigned = prepare(alloc, message.to_xml_bytes(alloc)?, plan)?;
-    message_records(alloc, &unsigned)
+    Ok(message_records(alloc, &unsigned)?)
 }
 
 // What is to be signed of a message.
@@ -110,7 +109,7 @@ fn anchor_to_sign(
         → spec.PreparesAnchor validity key.now (Err e)) }
 {
     let unsigned = prepare_anchor(alloc, key, validity)?;
-    one_record(alloc, tag_of(Part::Anchor), unsigned.as_slice())
+    Ok(one_record(alloc, tag_of(Part::Anchor), unsigned.as_slice())?)
 }
 
 // What is to be signed of the own certificate of the key that the octets are.
@@ -157,7 +156,7 @@ fn request_to_sign(alloc: Global, plan: &RequestPlan) -> Result<Vec<u8>, KeysRef
         → spec.PreparesRequest plan.now (Err e)) }
 {
     let unsigned = prepare_request(alloc, plan)?;
-    one_record(alloc, tag_of(Part::Request), unsigned.as_slice())
+    Ok(one_record(alloc, tag_of(Part::Request), unsigned.as_slice())?)
 }
 
 // What is to be signed of a certificate request.

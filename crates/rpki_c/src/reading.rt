@@ -8,9 +8,9 @@ ghost use Rattle.rpki_c.specs.HandingOver.{HandsOver, IsHandedOver, out_of_memor
 use crate::arguments::{answers_in, key_in, kind_in};
 use crate::handing_over::{give, hand_over};
 use crate::outcome::Outcome;
-use crate::texts::{copied, key_octets, request_at, request_in, text_in};
+use crate::texts::{copied, key_octets};
 use rpki_cert::RpkiCaCsr;
-use rpki_external::{Answers, KeysRefusal, request_answered};
+use rpki_external::{Answers, KeysRefusal, message_of, request_answered, request_at, request_in};
 use std::alloc::Global;
 
 // The version of the library, which the Makefile reads too.
@@ -117,7 +117,7 @@ fn rewrite(alloc: Global, kind: i32, text: &[u8]) -> Result<Vec<u8>, KeysRefusal
         → spec.RewritesTextIn kind text.now (Err e)) }
 {
     let kind = kind_in(kind)?;
-    let message = text_in(alloc, kind, text)?;
+    let message = message_of(alloc, kind, text)?;
     Ok(message.to_xml_vec(alloc)?)
 }
 

@@ -10,11 +10,13 @@ ghost use Rattle.rpki_c.specs.HandingOver.{HandsOver, HandsReceiptOver, out_of_m
 use crate::arguments::{answers_in, key_in, keys_in, kind_in, last_in, moment_in};
 use crate::handing_over::{hand_over, hand_receipt_over};
 use crate::outcome::Outcome;
-use crate::texts::{copied, no_message};
+use crate::texts::copied;
 use rpki_base::{PublicKey, Time};
 use rpki_ca::{Kind, Refusal};
 use rpki_common::OutOfMemory;
-use rpki_external::{Answers, KeysRefusal, Receipt, checks_answered, inspect, receive_answered};
+use rpki_external::{
+    Answers, KeysRefusal, Receipt, checks_answered, inspect, no_message, receive_answered,
+};
 use rpki_sigmsg::SignedMessage;
 use std::alloc::Global;
 

@@ -1,7 +1,5 @@
-use Rattle.std.proofs.Common.{refl}
-use Rattle.rpki_text.specs.Uri.{rsync}
-use Rattle.rpki_c.proofs.Unread.{not_lawful}
+use Rattle.std.proofs.Common.{ap, is_some, refl}
 use Rattle.rpki_c.proofs.arguments.rsync_in.Goals as goal
 
-pub returns-in_default-clause-err : goal.returns-in_default-clause-err
-returns-in_default-clause-err c = λ other. (refl, λ uri is. not_lawful rsync c.args.octets.now c.in_default.ensures.cases.0 is.1)
+pub returns-in-None-clause-err : goal.returns-in-None-clause-err
+returns-in-None-clause-err c = λ other. (refl, c.in_ok-uri.ensures.none (ap is_some c.in-None.is))

@@ -1,8 +1,9 @@
-use Rattle.std.proofs.Common.{inl, inr, ap, refl, subst, sym, ◌∙◌, List, ℕ}
-use Rattle.std.proofs.lemmas.Result.{err_from_is_err_and, IfErr-weaker, IfOk-weaker}
+use Rattle.std.proofs.Common.{◌∙◌, Ok, inl, inr, ap, refl, List, ℕ}
+use Rattle.std.proofs.lemmas.Result.{err_from_is_err_and}
 use Rattle.rpki_sigmsg.specs.Making.{UnsignedFields}
 use Rattle.rpki_external.specs.Making.{unsigned}
-use Rattle.rpki_c.specs.Records.{AllFit, records_of, unsigned_records}
+use Rattle.rpki_external.specs.Records.{records_of}
+use Rattle.rpki_c.specs.Records.{unsigned_records}
 use Rattle.rpki_c.proofs.preparing.message_to_sign.Goals as goal
 
 pub returns-in_err-unsigned-clause-err : goal.returns-in_err-unsigned-clause-err
@@ -15,18 +16,8 @@ pub returns-clause-ok : goal.returns-clause-ok
 returns-clause-ok c =
     let can = rw c.in_ok-to_xml_bytes.ensures at c.in_ok-unsigned.ensures.can in
     let made = c.in_ok-unsigned.ensures.prepared ∙ ap (λ (t : List ℕ). unsigned t c.args.plan.now) c.in_ok-to_xml_bytes.ensures in
-    IfOk-weaker c.message_records.result _ _ (λ output is. inr (record {
+    inr (record {
       message = c.in_ok-message.message;
       reads = c.in_ok-message.ensures.ok;
-      answered = (can, is ∙ ap (λ (u : UnsignedFields). records_of (unsigned_records u)) made);
-    })) c.message_records.ensures.ok
-
-pub returns-clause-err : goal.returns-clause-err
-returns-clause-err c =
-    let can = rw c.in_ok-to_xml_bytes.ensures at c.in_ok-unsigned.ensures.can in
-    let made = c.in_ok-unsigned.ensures.prepared ∙ ap (λ (t : List ℕ). unsigned t c.args.plan.now) c.in_ok-to_xml_bytes.ensures in
-    IfErr-weaker c.message_records.result _ _ (λ e so other. inr (record {
-      message = c.in_ok-message.message;
-      reads = c.in_ok-message.ensures.ok;
-      answered = (can, ((so other).0, λ all. (so other).1 (subst (λ (u : UnsignedFields). AllFit (unsigned_records u)) (sym made) all)));
-    })) c.message_records.ensures.err
+      answered = (can, ap Ok (c.in_ok-message_records.ensures ∙ ap (λ (u : UnsignedFields). records_of (unsigned_records u)) made));
+    })

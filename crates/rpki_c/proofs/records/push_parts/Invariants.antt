@@ -1,7 +1,0 @@
-use Rattle.std.proofs.Common.{◌≡◌, ◌++◌, drop}
-use Rattle.rpki_c.specs.Records.{part_records, records_of}
-use Rattle.rpki_c.proofs.records.push_parts.Given as goal
-
-abbrev pub invariant-loop-part : goal.invariant-loop-part
-invariant-loop-part l =
-    l.text.items ++ records_of (part_records (drop l.part-index l.parts)) ≡ l.initial.text.items ++ records_of (part_records l.parts)

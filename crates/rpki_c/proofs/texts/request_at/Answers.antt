@@ -1,6 +1,0 @@
-use Rattle.std.proofs.Common.{refl}
-use Rattle.rpki_external.proofs.Nones.{no_request_begins}
-use Rattle.rpki_c.proofs.texts.request_at.Goals as goal
-
-pub returns-in-Err-Malformed-clause-err : goal.returns-in-Err-Malformed-clause-err
-returns-in-Err-Malformed-clause-err c = λ other. (refl, no_request_begins _ c.in-Err-Malformed.field-0 c.in-Err-Malformed.field-0-is c.in-Err-Malformed.ensures)
