@@ -34,6 +34,12 @@ static uint8_t one_off[] = {0x30, 0x22, 0x30, 0x0d, 0x06, 0x09, 0x2a, 0x86, 0x48
                             0x11, 0x00, 0,    0,    0,    0,    0,    0,    0,    1,    0,    0,    0,    0,    0,    0,    0,    1};
 static const uint8_t yes[4] = {1, 1, 1, 1}, serial[20] = {1, 2, 3};
 static const char repository[] = "rsync://localhost/ca/", manifest[] = "rsync://localhost/ca/ca.mft", notify[] = "https://localhost/n.xml";
+static const char changes[] =
+    "<msg xmlns=\"http://www.hactrn.net/uris/rpki/publication-spec/\" version=\"4\" type=\"query\">"
+    "<withdraw uri=\"rsync://localhost/ca/ca.mft\" hash=\"0101010101010101010101010101010101010101010101010101010101010101\"/>"
+    "<publish uri=\"rsync://localhost/ca/ca.mft\">YQ==</publish><publish uri=\"rsync://localhost/ca/ca.mft\">Yg==</publish></msg>";
+static uint8_t known[256];
+static size_t known_length, known_no_more;
 
 /* ---- memory, which a growth may be refused of */
 
@@ -251,6 +257,18 @@ static int32_t key_identifier(uint8_t *out, size_t room, struct calmizsed_outcom
     return calmizsed_key_identifier(OCTETS(key), out, room, outcome);
 }
 
+static int32_t publication_decide(uint8_t *out, size_t room, struct calmizsed_outcome *outcome) {
+    return calmizsed_publication_decide(TEXT(repository), OCTETS(text), known, known_length, out, room, outcome);
+}
+
+static int32_t publication_decide_changes(uint8_t *out, size_t room, struct calmizsed_outcome *outcome) {
+    return calmizsed_publication_decide(TEXT(repository), TEXT(changes), known, known_length, out, room, outcome);
+}
+
+static int32_t publication_refuse(uint8_t *out, size_t room, struct calmizsed_outcome *outcome) {
+    return calmizsed_publication_refuse(CALMIZSED_NO_FORM, out, room, outcome);
+}
+
 static const struct call calls[] = {
     {"version", version},
     {"message_questions", message_questions},
@@ -275,6 +293,9 @@ static const struct call calls[] = {
     {"request_finish", request_finish},
     {"text_read", text_read},
     {"key_identifier", key_identifier},
+    {"publication_decide", publication_decide},
+    {"publication_decide_changes", publication_decide_changes},
+    {"publication_refuse", publication_refuse},
 };
 enum { CALLS = sizeof calls / sizeof calls[0] };
 
@@ -690,6 +711,30 @@ static void bad_made(void) {
     free(signature.at);
 }
 
+static void bad_decided(void) {
+    struct octets cut = copied(known, known_length - 1), no_known = copied("", 0);
+    const struct octets *none[2] = {&nothing, &garbage};
+    int32_t status;
+    int i;
+    for (i = 0; i < 2; i++) {
+        expect("base", calmizsed_publication_decide(OCTETS(*none[i]), OCTETS(text), known, known_length, out, room(), &o), 2, "Usage");
+        expect("query", calmizsed_publication_decide(TEXT(repository), OCTETS(*none[i]), known, known_length, out, room(), &o), 5,
+               "XmlError");
+    }
+    expect("known", calmizsed_publication_decide(TEXT(repository), OCTETS(text), OCTETS(garbage), out, room(), &o), 2, "Usage");
+    expect("known", calmizsed_publication_decide(TEXT(repository), OCTETS(text), OCTETS(cut), out, room(), &o), 2, "Usage");
+    expect("known", calmizsed_publication_decide(TEXT(repository), TEXT(changes), OCTETS(no_known), out, room(), &o), 17, "UnknownObject");
+    expect("known", calmizsed_publication_decide(TEXT(repository), TEXT(changes), known, known_no_more, out, room(), &o), 17,
+           "UnknownObject");
+    for (status = -1; status <= 18; status++) {
+        if (status < 4 || status > 6) {
+            expect("status", calmizsed_publication_refuse(status, out, room(), &o), 2, "Usage");
+        }
+    }
+    free(cut.at);
+    free(no_known.at);
+}
+
 static void try_bad(void) {
     struct octets all = copied(OCTETS(key)), behind = joined(&key, "", 1), cut = copied(key.at, key.length - 1), next;
     const struct octets digests[3] = {nothing, {zeros.at, 31}, zeros};
@@ -714,6 +759,7 @@ static void try_bad(void) {
     bad_numbers();
     bad_received();
     bad_made();
+    bad_decided();
     free(all.at);
     free(behind.at);
     free(cut.at);
@@ -752,6 +798,9 @@ static void read_all(const char *folder) {
     other_digest = filled(32, 1);
     ecdsa = filled(sizeof ecdsa_head + 64, 7);
     memcpy(ecdsa.at, ecdsa_head, sizeof ecdsa_head);
+    calmizsed_add_known(known, sizeof known, &known_length, TEXT(repository), NULL);
+    known_no_more = known_length;
+    calmizsed_add_known(known, sizeof known, &known_length, TEXT(manifest), other_digest.at);
     certificate = made(&calls[11], AMPLE, &outcome);
     certificate.length = outcome.written;
     asked = digest_of(&calls[1]);

@@ -27,6 +27,10 @@ static const uint8_t one_off_key[] = {0x30, 0x1a, 0x30, 0x0d, 0x06, 0x09, 0x2a, 
 static const size_t one_off_key_length = sizeof one_off_key;
 static const uint8_t repository[] = "rsync://localhost/ca/", manifest[] = "rsync://localhost/ca/ca.mft", notify[] = "https://localhost/n.xml";
 static const size_t repository_length = sizeof repository - 1, manifest_length = sizeof manifest - 1, notify_length = sizeof notify - 1;
+static const uint8_t base[] = "rsync://localhost/ca/";
+static const size_t base_length = sizeof base - 1;
+static uint8_t query[ROOM], known[ROOM];
+static size_t query_length, known_length;
 
 static void stop(const char *what, const char *why) {
     printf("%s: %s\n", what, why);
@@ -84,6 +88,10 @@ int main(int count, char **words) {
     }
     message_length = read_file(words[1], "rsa-query.der", message);
     text_length = read_file(words[1], "query-list.xml", text);
+    query_length = read_file(words[1], "query-list.xml", query);
+    if (!calmizsed_add_known(known, sizeof known, &known_length, manifest, manifest_length, attributes)) {
+        stop("known", "there is no room");
+    }
     setup_length = read_file(words[1], "rsa-child-request.xml", setup);
     issue_length = read_file(words[1], "rsa-issue.xml", issue);
     key_length = read_hexadecimal(words[1], "rsa-key.hex", key);

@@ -5,9 +5,10 @@ from __future__ import annotations
 import hashlib
 import importlib
 import pathlib
+import struct
 import subprocess
 import sys
-from typing import Iterator, NamedTuple
+from typing import Iterator, NamedTuple, Optional
 
 TREE = pathlib.Path(__file__).resolve().parents[3]
 EXAMPLES = TREE / "examples"
@@ -39,15 +40,21 @@ def _word(field: str) -> str:
     return "" if field == "-" else field
 
 
-def cases(crate: str, verb: str) -> Iterator[Case]:
-    """The stored runs of a program with this verb."""
+def cases(crate: str, verb: Optional[str]) -> Iterator[Case]:
+    """The stored runs of a program with this verb, or all."""
     for line in (TREE / "crates" / crate / "data" / "cases.txt").read_text(encoding="utf-8").splitlines():
         name, *fields = line.split(" ")
-        fields = fields[1:] if fields[0] == "keys" else fields
+        fields = fields[1:] if fields[0] in ("keys", "decide") else fields
         if fields[0].isdigit():
             status, written, given, *words = fields
-            if words and _word(words[0]) == verb:
+            if words and (verb is None or _word(words[0]) == verb):
                 yield Case(name, int(status), octets_of(written), octets_of(given), [_word(word) for word in words])
+
+
+def with_digest(asked: list[tuple[int, bytes]]) -> list[tuple[int, bytes]]:
+    """Records of questions, and that of their digest behind them: the SHA-256 of their octets, each with a length of eight octets."""
+    spelled = b"".join(struct.pack(">BQ", tag, len(octets)) + octets for tag, octets in asked)
+    return [*asked, (19, hashlib.sha256(spelled).digest())]
 
 
 def is_hexadecimal(word: str) -> bool:

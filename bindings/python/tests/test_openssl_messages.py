@@ -13,7 +13,7 @@ from typing import Any, Optional
 
 import pytest
 from octets import SIGNING_TIME, Message, flipped, in_pem, of_utc_time, parsed, shown_moment
-from support import EXAMPLES, Keys, openssl
+from support import EXAMPLES, Keys, openssl, with_digest
 
 import calmizsed
 from calmizsed import Kind, _library
@@ -30,7 +30,7 @@ NOW, DAY = moment_of(SECONDS), datetime.timedelta(days=1)
 WINDOW = 300
 CHECKS = range(1, 15)
 TEXTS = {Kind.PUBLICATION: rsa_messages.DELTA, Kind.PROVISIONING: rsa_messages.CLASSES}
-ATTRIBUTES, CERTIFICATE, CRL, SIGNATURE, OWN_KEY, KEY, DIGEST = 1, 2, 3, 16, 17, 18, 19
+ATTRIBUTES, CERTIFICATE, CRL, SIGNATURE, OWN_KEY, KEY = 1, 2, 3, 16, 17, 18
 
 
 def private(keys: Keys, name: str) -> PrivateKey:
@@ -259,20 +259,15 @@ def answered(message: bytes, of: bytes, answers: str, *keys: bytes, last: Option
 
 
 def test_questions_are_about_the_octets_that_openssl_finds(keys: Keys, message: bytes, tmp_path: pathlib.Path) -> None:
-    """Record by record; the digest is that of the lines which the program rpkikeys writes of them."""
+    """Record by record; the digest is that of the records before it."""
     found, public = Message(message), [keys.der("2048"), keys.der("other")]
     entity = in_pem(tmp_path / "entity.crt", found.certificate.octets)
     own = openssl("pkey", "-pubin", "-outform", "DER", data=openssl("x509", "-noout", "-pubkey", "-in", entity))
     attributes = bytes([0x31]) + found.attributes.octets[1:]
     certificate, crl = ((part[0].octets, part[2].contents[1:]) for part in (found.certificate, found.crl))
-    lines = [
-        f"attributes {own.hex()} {attributes.hex()} {found.signature.contents.hex()}",
-        f"certificate - {certificate[0].hex()} {certificate[1].hex()}",
-        f"crl - {crl[0].hex()} {crl[1].hex()}", *(f"key {key.hex()}" for key in public)]
-    assert asked(message, *public) == [
+    assert asked(message, *public) == with_digest([
         (OWN_KEY, own), (ATTRIBUTES, attributes), (SIGNATURE, found.signature.contents), (CERTIFICATE, certificate[0]),
-        (SIGNATURE, certificate[1]), (CRL, crl[0]), (SIGNATURE, crl[1]), (KEY, public[0]), (KEY, public[1]),
-        (DIGEST, hashlib.sha256("".join(line + "\n" for line in lines).encode()).digest())]
+        (SIGNATURE, certificate[1]), (CRL, crl[0]), (SIGNATURE, crl[1]), (KEY, public[0]), (KEY, public[1])])
 
 
 @pytest.mark.parametrize(("answers", "name"), [

@@ -4,7 +4,6 @@ from __future__ import annotations
 
 import base64
 import datetime
-import hashlib
 import importlib
 import pathlib
 import time
@@ -12,7 +11,7 @@ from typing import Any
 
 import pytest
 from octets import Message, flipped, in_pem, parsed, shown_moment
-from support import EXAMPLES, Keys, openssl, request_shown
+from support import EXAMPLES, Keys, openssl, request_shown, with_digest
 
 import calmizsed
 from calmizsed import Kind, SetupKind, _library, anchor, request, setup
@@ -26,7 +25,7 @@ rsa_messages: Any = importlib.import_module("rsa_messages")
 SECONDS = 1800000000
 NOW, DAY = moment_of(SECONDS), datetime.timedelta(days=1)
 REPOSITORY, MANIFEST, NOTIFY = "rsync://localhost/repo/carol/", "rsync://localhost/repo/carol/ca.mft", "https://localhost/n.xml"
-ANCHOR, REQUEST, SIGNATURE, OWN_KEY, DIGEST = 4, 5, 16, 17, 19
+ANCHOR, REQUEST, SIGNATURE, OWN_KEY = 4, 5, 16, 17
 
 
 def private(keys: Keys, name: str) -> PrivateKey:
@@ -133,12 +132,11 @@ def said(call: str, *arguments: Any) -> tuple[str, int]:
     return "Ok", 0
 
 
-def expected(part: int, name: str, key: bytes, der: bytes) -> list[tuple[int, bytes]]:
-    """The records of the question of an anchor or a request: its digest is that of the line which the program rpkikeys writes of it."""
+def expected(part: int, key: bytes, der: bytes) -> list[tuple[int, bytes]]:
+    """The records of the question of an anchor or a request."""
     found = parsed(der)
     octets, signature = found[0].octets, found[2].contents[1:]
-    line = f"{name} {key.hex()} {octets.hex()} {signature.hex()}\n"
-    return [(OWN_KEY, key), (part, octets), (SIGNATURE, signature), (DIGEST, hashlib.sha256(line.encode()).digest())]
+    return with_digest([(OWN_KEY, key), (part, octets), (SIGNATURE, signature)])
 
 
 def test_the_question_of_an_anchor(keys: Keys) -> None:
@@ -146,7 +144,7 @@ def test_the_question_of_an_anchor(keys: Keys) -> None:
     der, now = self_signed(keys, "2048"), int(time.time())
     text, kind = text_with(der).encode(), SetupKind.CHILD_REQUEST
     found = list(records(_library.library().call("setup_questions", kind, text).octets))
-    assert found == expected(ANCHOR, "anchor", keys.der("2048"), der)
+    assert found == expected(ANCHOR, keys.der("2048"), der)
     digest = found[-1][1]
     for of, answers, name in (
             (digest, b"\1", "Ok"), (digest, b"\0", "InvalidTaCert"), (digest, b"", "Usage"), (digest, b"\1\1", "Usage"),
@@ -157,8 +155,8 @@ def test_the_question_of_an_anchor(keys: Keys) -> None:
 def test_an_anchor_of_ours_has_no_question(keys: Keys) -> None:
     """And takes no answer."""
     text, kind = text_with(anchor.create(private(keys, "2048"), NOW, NOW + DAY)).encode(), SetupKind.CHILD_REQUEST
-    digest = hashlib.sha256(b"").digest()
-    assert list(records(_library.library().call("setup_questions", kind, text).octets)) == [(DIGEST, digest)]
+    (_, digest), = found = with_digest([])
+    assert list(records(_library.library().call("setup_questions", kind, text).octets)) == found
     assert said("setup_receive", kind, text, SECONDS, digest, b"") == ("Ok", 0)
     assert said("setup_receive", kind, text, SECONDS, digest, b"\1") == ("Usage", 2)
 
@@ -211,7 +209,7 @@ def test_the_question_of_a_request(keys: Keys) -> None:
     issue = rsa_messages.ISSUE.format(base64.b64encode(der).decode()).encode()
     for name, given in (("request", der), ("issue", issue)):
         found = list(records(_library.library().call(f"{name}_questions", given).octets))
-        assert found == expected(REQUEST, "request", keys.der("2048"), der)
+        assert found == expected(REQUEST, keys.der("2048"), der)
         digest = found[-1][1]
         for of, answers, wanted in (
                 (digest, b"\1", "Ok"), (digest, b"\0", "Signature"), (digest, b"", "Usage"), (digest, b"\1\1", "Usage"),

@@ -2,16 +2,17 @@
 
 from __future__ import annotations
 
+import hashlib
 import json
 import re
-from typing import Callable
+from typing import Callable, Union
 
 import pytest
 from support import Case, cases, is_hexadecimal, toy_verifier
 
 import calmizsed
 from calmizsed import Kind, Refusal, SetupKind, request, setup
-from calmizsed._asking import questions_of
+from calmizsed._asking import DIGEST, questions_of, record
 from calmizsed._values import moment_of
 
 KINDS = {kind.name.lower(): kind for kind in Kind}
@@ -149,6 +150,25 @@ def test_there_are_cases() -> None:
 def test_content(case: Case) -> None:
     """As rpkica."""
     assert found_of(lambda: calmizsed.content(given(case))) == (case.status, case.written)
+
+
+def digested(call: str, *arguments: Union[bytes, int]) -> bool:
+    """Whether the digest of questions, the last record, is the SHA-256 of the octets before it."""
+    octets = calmizsed.library().call(call, *arguments).octets
+    end = len(octets) - len(record(DIGEST, bytes(32)))
+    return octets[end:] == record(DIGEST, hashlib.sha256(octets[:end]).digest())
+
+
+def test_the_digest_of_questions_is_that_of_the_records_before_it() -> None:
+    """Of messages under one key and several, of setup messages, of certificate requests and issue requests."""
+    for case in (case for case in rsa_receives() if case.status == 0):
+        assert digested("message_questions", given(case), bytes.fromhex("".join(case.words[6:]))), case.name
+    for case in (case for case in setups() if case.status == 0):
+        assert digested("setup_questions", SETUP_KINDS[case.words[1]], case.given), case.name
+    for case in (case for case in requests() if case.status == 0):
+        assert digested("request_questions", given(case)), case.name
+    for case in (case for case in issues() if case.status == 0):
+        assert digested("issue_questions", case.given), case.name
 
 
 def answers_these(call: str, arguments: list[bytes], kinds: list[int], digest: str, digits: str) -> bool:

@@ -70,16 +70,22 @@ pub(crate) mod tag {
     pub(crate) const OWN_KEY: u8 = 17;
     pub(crate) const KEY: u8 = 18;
     pub(crate) const DIGEST: u8 = 19;
+    pub(crate) const REPLY_AND_CHANGES: u8 = 21;
+    pub(crate) const OBJECT: u8 = 22;
+    pub(crate) const NO_OBJECT: u8 = 23;
 }
+
+/// The octets of a tag and a length, which each record has before its own.
+const HEAD: usize = 9;
 
 /// The tag of each record, and where its octets stand. They end where no record begins.
 pub(crate) fn records(octets: &[u8]) -> impl Iterator<Item = (u8, Range<usize>)> + '_ {
     let mut place = 0;
     std::iter::from_fn(move || {
-        let head: [u8; 5] = octets.get(place..)?.get(..5)?.try_into().ok()?;
+        let head: [u8; HEAD] = octets.get(place..)?.get(..HEAD)?.try_into().ok()?;
         let [tag, length @ ..] = head;
-        let begin = place + 5;
-        let end = begin.checked_add(usize::try_from(u32::from_be_bytes(length)).ok()?)?;
+        let begin = place + HEAD;
+        let end = begin.checked_add(usize::try_from(u64::from_be_bytes(length)).ok()?)?;
         octets.get(begin..end)?;
         place = end;
         Some((tag, begin..end))
@@ -93,9 +99,17 @@ pub(crate) fn record(octets: &[u8], tag: u8) -> Vec<u8> {
         .map_or_else(Vec::new, |(_, range)| octets[range].to_vec())
 }
 
+/// Adds the record with this tag, whose octets are these, one behind the other.
+pub(crate) fn push_record(records: &mut Vec<u8>, tag: u8, parts: &[&[u8]]) {
+    let length: usize = parts.iter().map(|part| part.len()).sum();
+    records.push(tag);
+    records.extend((length as u64).to_be_bytes());
+    records.extend(parts.iter().copied().flatten());
+}
+
 #[cfg(test)]
 mod tests {
-    use super::{call, record, records};
+    use super::{call, push_record, record, records};
     use crate::ffi::Outcome;
     use crate::Refusal;
     use std::cell::Cell;
@@ -140,15 +154,26 @@ mod tests {
 
     #[test]
     fn records_end_where_none_begins() {
-        let whole = [1, 0, 0, 0, 2, 8, 9, 19, 0, 0, 0, 0];
+        let whole = [1, 0, 0, 0, 0, 0, 0, 0, 2, 8, 9, 19, 0, 0, 0, 0, 0, 0, 0, 0];
         let found: Vec<_> = records(&whole).collect();
-        assert_eq!(found, [(1, 5..7), (19, 12..12)]);
+        assert_eq!(found, [(1, 9..11), (19, 20..20)]);
         assert_eq!(record(&whole, 1), [8, 9]);
         assert_eq!(record(&whole, 2), []);
-        for end in 0..12 {
+        for end in 0..20 {
             let count = records(&whole[..end]).count();
-            assert_eq!(count, usize::from(end >= 7), "of {end} octets");
+            assert_eq!(count, usize::from(end >= 11), "of {end} octets");
         }
-        assert_eq!(records(&[1, 255, 255, 255, 255, 0]).count(), 0);
+        assert_eq!(records(&[255; 20]).count(), 0);
+        assert_eq!(records(&[1, 0, 0, 0, 1, 0, 0, 0, 0]).count(), 0);
+    }
+
+    #[test]
+    fn records_are_read_as_they_were_added() {
+        let mut all = Vec::new();
+        push_record(&mut all, 22, &[&[1; 300], b"u"]);
+        push_record(&mut all, 23, &[]);
+        let found: Vec<_> = records(&all).collect();
+        assert_eq!(found, [(22, 9..310), (23, 319..319)]);
+        assert_eq!(record(&all, 22), [[1; 300].as_slice(), b"u"].concat());
     }
 }

@@ -121,6 +121,8 @@ calls! {
         key: octets, repository: octets, manifest: octets, notify: octets);
     "calmizsed_request_finish" request_finish(
         key: octets, repository: octets, manifest: octets, notify: octets, signature: octets);
+    "calmizsed_publication_decide" publication_decide(base: octets, query: octets, known: octets);
+    "calmizsed_publication_refuse" publication_refuse(status: i32);
     "calmizsed_text_read" text_read(kind: i32, text: octets);
     "calmizsed_key_identifier" key_identifier(key: octets);
     "calmizsed_version" version();

@@ -7,6 +7,8 @@
 //!
 //! - To **receive**, a closure says of each [`Question`] whether a signature holds.
 //! - To **create**, a [`Signer`] signs what it is handed.
+//! - To **answer** a query, as a publication server, [`publication::decide`] takes what is known of
+//!   the objects, which are yours to keep.
 //!
 //! A library for RSA can stand behind them, a program, or a device. `examples/receive.rs` has the
 //! `openssl` command behind the closure.
@@ -60,6 +62,7 @@ mod time;
 
 pub mod anchor;
 pub mod message;
+pub mod publication;
 pub mod request;
 pub mod setup;
 
@@ -120,7 +123,7 @@ pub struct Receipt {
 /// # Errors
 ///
 /// Of these the first decides: `Usage`, `CmsDecode`, `XmlError`, `CertSyntax`, `InvalidCsrSyntax`,
-/// `Validation`. `TooLong` and `OutOfMemory` may come at any time.
+/// `Validation`. `OutOfMemory` may come at any time.
 ///
 /// ```
 /// # fn example_key() -> Result<Vec<u8>, Box<dyn std::error::Error>> {
@@ -179,7 +182,7 @@ where
 ///
 /// # Errors
 ///
-/// `Usage`, `CmsDecode`, `TooLong`, `OutOfMemory`.
+/// `Usage`, `CmsDecode`, `OutOfMemory`.
 pub fn explain<A>(
     message: &[u8],
     key: &PublicKey,

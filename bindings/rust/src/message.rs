@@ -43,7 +43,7 @@ fn joined(keys: &[PublicKey]) -> Vec<u8> {
 ///
 /// # Errors
 ///
-/// `Usage`, `CmsDecode`, `TooLong`, `OutOfMemory`.
+/// `Usage`, `CmsDecode`, `OutOfMemory`.
 pub fn questions(message: &[u8], keys: &[PublicKey]) -> Result<Questions, Refusal> {
     let keys = joined(keys);
     octets(message.len() + keys.len(), |out, outcome| {

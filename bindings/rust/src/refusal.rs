@@ -48,8 +48,7 @@ pub enum Refusal {
     KeyReused,
     /// The 300 seconds before or after the time leave the years 1970 to 9999.
     Moment,
-    /// A key or a signature has more than 2^16 octets, a message's text more than 2^31, or a part
-    /// that is to be signed 2^32 or more.
+    /// A key or a signature has more than 2^16 octets, or a message's text more than 2^31.
     TooLong,
     /// Memory ran out. The call can be made again.
     OutOfMemory,
@@ -64,6 +63,8 @@ pub enum Refusal {
         /// When the message was signed.
         signing_time: Time,
     },
+    /// The query names a URI of which nothing is known.
+    UnknownObject,
     /// What a library of another version may say.
     Other {
         /// What it calls this.
@@ -99,6 +100,7 @@ impl Refusal {
                 last: Time::from_seconds(outcome.last_time),
                 signing_time: Time::from_seconds(outcome.signing_time),
             }),
+            "UnknownObject" => Some(Self::UnknownObject),
             _ => None,
         };
         known
@@ -138,6 +140,7 @@ impl Refusal {
             Self::OutOfMemory => 12,
             Self::OtherQuestions => 14,
             Self::NoTime | Self::Replayed { .. } => 15,
+            Self::UnknownObject => 17,
             Self::Other { status, .. } => *status,
         }
     }
@@ -175,6 +178,7 @@ impl Refusal {
             Self::OtherQuestions => "the answers are to other questions",
             Self::NoTime => "the message doesn't say when it was signed",
             Self::Replayed { .. } => "the message was signed no later than the last one",
+            Self::UnknownObject => "the query names a URI of which nothing is known",
             Self::Other { .. } => "the library is of another version",
         }
     }
@@ -242,7 +246,7 @@ mod tests {
         let names = names();
         assert_eq!(
             names.len(),
-            18,
+            19,
             "InvalidCsrSyntax stands there twice: {names:?}"
         );
         for (name, status) in names {

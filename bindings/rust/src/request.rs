@@ -32,7 +32,7 @@ impl Locations<'_> {
 ///
 /// # Errors
 ///
-/// `InvalidCsrSyntax`, `Signature`, `Usage`, `TooLong`, `OutOfMemory`.
+/// `InvalidCsrSyntax`, `Signature`, `Usage`, `OutOfMemory`.
 pub fn verify<A>(request: &[u8], answer: A) -> Result<PublicKey, Refusal>
 where
     A: FnMut(Question<'_>) -> bool,
@@ -57,7 +57,7 @@ where
 ///
 /// # Errors
 ///
-/// `InvalidCsrSyntax`, `TooLong`, `OutOfMemory`.
+/// `InvalidCsrSyntax`, `OutOfMemory`.
 pub fn questions(request: &[u8]) -> Result<Questions, Refusal> {
     octets(request.len(), |out, outcome| {
         ffi::request_questions(request, out, outcome)
@@ -69,7 +69,7 @@ pub fn questions(request: &[u8]) -> Result<Questions, Refusal> {
 ///
 /// # Errors
 ///
-/// `XmlError`, `CertSyntax`, `InvalidCsrSyntax`, `TooLong`, `OutOfMemory`.
+/// `XmlError`, `CertSyntax`, `InvalidCsrSyntax`, `OutOfMemory`.
 pub fn issue_questions(message: impl AsRef<[u8]>) -> Result<Questions, Refusal> {
     let message = message.as_ref();
     octets(message.len(), |out, outcome| {

@@ -55,7 +55,7 @@ impl Kind {
 ///
 /// # Errors
 ///
-/// `XmlError`, `InvalidTaCertEncoding`, `InvalidTaCert`, `Usage`, `TooLong`, `OutOfMemory`.
+/// `XmlError`, `InvalidTaCertEncoding`, `InvalidTaCert`, `Usage`, `OutOfMemory`.
 pub fn receive<A>(
     kind: Kind,
     message: impl AsRef<[u8]>,
@@ -75,7 +75,7 @@ where
 ///
 /// # Errors
 ///
-/// `XmlError`, `InvalidTaCertEncoding`, `TooLong`, `OutOfMemory`.
+/// `XmlError`, `InvalidTaCertEncoding`, `OutOfMemory`.
 pub fn questions(kind: Kind, message: impl AsRef<[u8]>) -> Result<Questions, Refusal> {
     let message = message.as_ref();
     octets(message.len(), |out, outcome| {

@@ -7,8 +7,9 @@ mod common;
 use calmizsed::message::{self, Parts, Plan};
 use calmizsed::setup::{self, Kind as SetupKind};
 use calmizsed::{
-    anchor, content, create, explain, inspect, receive, receive_after, request, Answers, Check,
-    CreateError, Kind, Part, PublicKey, Questions, Receipt, Refusal, SerialNumber, Time,
+    anchor, content, create, explain, inspect, publication, receive, receive_after, request,
+    Answers, Check, CreateError, Kind, Part, PublicKey, Questions, Receipt, Refusal, SerialNumber,
+    Time,
 };
 use common::cases::{cases, Case};
 use common::toy::{self, ToySigner};
@@ -179,6 +180,41 @@ fn shown(receipt: &Receipt) -> String {
     format!("{} {time}\n{}\n", receipt.place, receipt.text)
 }
 
+/// A record, as the header of the library for C has it.
+fn record(tag: u8, octets: &[u8]) -> Vec<u8> {
+    let length = (octets.len() as u64).to_be_bytes();
+    [&[tag][..], &length, octets].concat()
+}
+
+/// The records of questions: one with a key of its own, those that are asked under each key, and
+/// the keys.
+fn octets_asked(
+    own: &[calmizsed::Question<'_>],
+    shared: &[calmizsed::Question<'_>],
+    keys: &[PublicKey],
+) -> Vec<u8> {
+    let tag = |part| match part {
+        Part::Attributes => 1,
+        Part::Certificate => 2,
+        Part::Crl => 3,
+        Part::Anchor => 4,
+        _ => 5,
+    };
+    let part = |question: &calmizsed::Question<'_>| {
+        [
+            record(tag(question.part), question.octets),
+            record(16, question.signature),
+        ]
+        .concat()
+    };
+    let of_own = own
+        .iter()
+        .flat_map(|question| [record(17, question.key), part(question)]);
+    let of_keys = keys.iter().map(|key| record(18, key.as_der()));
+    let all = of_own.chain(shared.iter().map(part)).chain(of_keys);
+    all.flatten().collect()
+}
+
 /// Questions as the program writes them: those under the keys that were handed in only once.
 fn lines_of(questions: &Questions, keys: &[PublicKey]) -> String {
     let is_own = |part| matches!(part, Part::Attributes | Part::Anchor | Part::Request);
@@ -211,6 +247,11 @@ fn lines_of(questions: &Questions, keys: &[PublicKey]) -> String {
             "each key is asked the same"
         );
     }
+    assert_eq!(
+        questions.digest(),
+        toy::sha256(&octets_asked(&own, &shared[..each], keys)),
+        "the digest is that of the records before it"
+    );
     let keys: String = keys
         .iter()
         .map(|key| format!("key {}\n", digits(key.as_der())))
@@ -420,6 +461,30 @@ fn by_toy_with_time(case: &Case) -> Written {
     Ok(shown(&receive(kind, &message, &keys, when, toy::holds)?))
 }
 
+// ---- queries that are decided
+
+/// What is known by a word: a URI, an equals sign, and the digest of the object there or a hyphen.
+fn known(word: &str) -> Result<publication::Known<'_>, Stop> {
+    let (uri, digest) = word.split_once('=').ok_or(NoCall)?;
+    let sha256 = match digest {
+        "-" => None,
+        digest => Some(spelled(digest)?.try_into().map_err(|_| NoCall)?),
+    };
+    Ok(publication::Known { uri, sha256 })
+}
+
+/// Whether the changes are made, and the reply.
+fn decided(case: &Case) -> Written {
+    let known: Vec<_> = (1..case.words.len())
+        .map(|place| known(word(case, place)?))
+        .collect::<Result<_, _>>()?;
+    match publication::decide(word(case, 0)?, &case.given, known) {
+        Ok(decision) if decision.changes => Ok(format!("made\n{}", decision.reply)),
+        Ok(decision) => Ok(format!("kept\n{}", decision.reply)),
+        Err(refusal) => Err(refusal.into()),
+    }
+}
+
 // ---- all of them
 
 /// Makes each case of this kind, and gives how many there were of each verb.
@@ -514,6 +579,33 @@ fn the_cases_of_rpkikeys_with_the_toy_scheme() {
         &check("test_external", Some("toy"), by_toy_with_time),
         &[("receive", 300)],
     );
+}
+
+/// Where nothing is known of a URI, 1 and nothing are stored.
+#[test]
+fn the_cases_of_decisions() {
+    let mut made = BTreeMap::new();
+    let is_decided = |case: &&Case| case.how.as_deref() == Some("decide");
+    for case in cases("test_lines").iter().filter(is_decided) {
+        let (status, written) = match decided(case) {
+            Ok(written) => ("0".to_owned(), written),
+            Err(Stop::Refused(17, name)) if name == "UnknownObject" => {
+                ("1".to_owned(), String::new())
+            }
+            Err(Stop::Refused(status, name)) => (status.to_string(), name),
+            Err(NoCall) => panic!("{} is no call", case.name),
+        };
+        assert_eq!(
+            (&status, written.as_bytes()),
+            (&case.status, case.written.as_slice()),
+            "{}",
+            case.name
+        );
+        *made
+            .entry(written.get(..4).unwrap_or("none").to_owned())
+            .or_default() += 1;
+    }
+    at_least(&made, &[("made", 5), ("kept", 5), ("none", 3)]);
 }
 
 /// What is received in a case that the toy scheme answers.

@@ -1,4 +1,4 @@
-"""Questions and answers: which signatures hold. include/calmizsed.h says how records and answers are laid out."""
+"""Questions and answers: which signatures hold; and records. include/calmizsed.h says how records and answers are laid out."""
 
 from __future__ import annotations
 
@@ -6,7 +6,8 @@ from typing import Callable, Iterator, NamedTuple, Optional
 
 ATTRIBUTES, CERTIFICATE, CRL, ANCHOR, REQUEST = 1, 2, 3, 4, 5
 SIGNATURE, OWN_KEY, KEY, DIGEST = 16, 17, 18, 19
-HEAD = 5
+REPLY, REPLY_AND_CHANGES, OBJECT, NO_OBJECT = 20, 21, 22, 23
+HEAD = 9
 
 Verifier = Callable[[bytes, bytes, bytes], bool]
 """Whether, under a key in DER, of these octets, this is a signature of RSA with SHA-256, in PKCS #1 v1.5."""
@@ -19,6 +20,11 @@ def records(octets: bytes) -> Iterator[tuple[int, bytes]]:
         end = place + HEAD + int.from_bytes(octets[place + 1:place + HEAD], "big")
         yield octets[place], octets[place + HEAD:end]
         place = end
+
+
+def record(tag: int, octets: bytes) -> bytes:
+    """A record with this tag."""
+    return bytes([tag]) + len(octets).to_bytes(HEAD - 1, "big") + octets
 
 
 class Question(NamedTuple):

@@ -89,6 +89,7 @@ REFUSALS = {
     "OtherQuestions": "the answers are to other questions",
     "NoTime": "the message doesn't say when it was signed, so it can't be later than the last one",
     "Replayed": "the message was signed at the second of these times, which is not later than the first, that of the last one",
+    "UnknownObject": "the query names a URI of which nothing is known",
 }
 
 SHORT_KEY = "a signature holds under an RSA key of fewer than 2048 bits alone, which isn't taken (RFC 7935, 3)"

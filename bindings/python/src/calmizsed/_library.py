@@ -19,7 +19,7 @@ NAME = "libcalmizsed.so.0"
 NO_ROOM = 16
 LEAST_ROOM = 4096
 
-# The arguments of each call before its buffer: octets (a pointer and a length), a kind (32 bits), a moment (64 bits).
+# The arguments of each call before its buffer: octets (a pointer and a length), a kind or a status (32 bits), a moment (64 bits).
 CALLS = {
     "message_questions": "oo",
     "message_receive": "koomkmoo",
@@ -41,6 +41,8 @@ CALLS = {
     "issue_verify": "ooo",
     "request_prepare": "oooo",
     "request_finish": "ooooo",
+    "publication_decide": "ooo",
+    "publication_refuse": "k",
     "text_read": "ko",
     "key_identifier": "o",
     "version": "",

@@ -23,12 +23,16 @@ def written_anew(call: str, kind: int, text: Text) -> str:
 
 
 def parsed(call: str, kind: int, text: Text) -> Element:
-    """The root of a text, which the library reads and writes anew before.
+    """The root of a text, which the library reads and writes anew before."""
+    return root_of(written_anew(call, kind, text))
+
+
+def root_of(anew: str) -> Element:
+    """The root of a text that the library wrote.
 
     The library writes a line feed or a tab as it is, also in an attribute, where a reader of XML makes a space of it (XML 1.0, 3.3.3). In
     what it writes these stand in attributes and texts alone, so that references can take their place.
     """
-    anew = written_anew(call, kind, text)
     for character, reference in REFERENCES:
         anew = anew.replace(character, reference)
     return ElementTree.fromstring(anew)

@@ -46,7 +46,7 @@ class Refusal(CalmizsedError):
 
 
 class WrongUse(Refusal):
-    """An argument is none of those that are allowed: a key that is none, or more than eight keys (`Usage`)."""
+    """An argument is none of those that are allowed: a key or a URI that is none, or more than eight keys (`Usage`)."""
 
 
 class NotAMessage(Refusal):
@@ -96,6 +96,10 @@ class Replayed(Refusal):
         self.signing_time = signing_time
 
 
+class UnknownObject(Refusal):
+    """A query names a URI of which nothing is known (`UnknownObject`)."""
+
+
 BY_STATUS: dict[int, type[Refusal]] = {
     2: WrongUse,
     4: NotAMessage,
@@ -106,6 +110,7 @@ BY_STATUS: dict[int, type[Refusal]] = {
     9: TooLong,
     12: OutOfMemory,
     14: OtherQuestions,
+    17: UnknownObject,
 }
 
 

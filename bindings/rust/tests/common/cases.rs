@@ -5,7 +5,7 @@ use super::{file, octets_of_digits};
 /// A run of a program.
 pub struct Case {
     pub name: String,
-    /// Which scheme answers, where the words have no answers.
+    /// Which scheme answers, where the words have no answers, or which of several programs it is.
     pub how: Option<String>,
     pub status: String,
     /// What the program writes.
@@ -24,7 +24,7 @@ pub fn cases(of: &str) -> Vec<Case> {
 fn case(line: &str) -> Option<Case> {
     let mut fields = line.split(' ').peekable();
     let name = fields.next()?.to_owned();
-    let how = fields.next_if(|field| matches!(*field, "keys" | "toy"));
+    let how = fields.next_if(|field| matches!(*field, "keys" | "toy" | "decide"));
     let status = fields.next()?;
     status.parse::<u8>().ok()?;
     Some(Case {
