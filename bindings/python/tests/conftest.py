@@ -1,8 +1,11 @@
-"""Keys that the openssl command draws, once for all tests."""
+"""Keys that the openssl command draws, once for all tests, and a PostgreSQL server."""
 
 from __future__ import annotations
 
+import importlib
+import importlib.util
 import pathlib
+from typing import Any, Iterator
 
 import pytest
 from support import Keys, openssl
@@ -21,3 +24,14 @@ def keys(tmp_path_factory: pytest.TempPathFactory) -> Keys:
     for name in ("1024", "2048", "4096", "other", "pss", "curve"):
         openssl("pkey", "-in", folder / f"{name}.pem", "-pubout", "-out", folder / f"{name}-public.pem")
     return Keys(folder)
+
+
+@pytest.fixture(scope="session")
+def postgres() -> Iterator[Any]:
+    """A PostgreSQL server that runs, where its programs and psycopg2 are there: `server/clusters.py`."""
+    clusters = importlib.import_module("clusters")
+    if not clusters.is_there() or importlib.util.find_spec("psycopg2") is None:
+        pytest.skip("there is no PostgreSQL, or no psycopg2")
+    cluster = clusters.Cluster()
+    yield cluster
+    cluster.remove()

@@ -33,7 +33,8 @@ def main(words: Optional[Sequence[str]] = None) -> int:
     asked = asked_of(words)
     try:
         try:
-            status: int = getattr(verbs, asked.verb)(asked)
+            run = asked.run if "run" in asked else getattr(verbs, asked.verb)
+            status: int = run(asked)
             return status
         except CalmizsedError as error:
             return refused(asked, error)

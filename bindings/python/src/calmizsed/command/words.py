@@ -177,13 +177,17 @@ class Words:
         return self
 
     def with_signer(self) -> Words:
+        """Who signs, and the form of what is made."""
+        self.with_signing_key().parser.add_argument("--form", choices=FORMS, default="der", help="how what is made is written")
+        return self
+
+    def with_signing_key(self) -> Words:
         """Who signs."""
         add = self.parser.add_argument
         of_files(add("--key", metavar="PRIVATE-KEY", help="file of a private RSA key, in PEM or DER"))
         of_files(add("--passphrase-file", metavar="FILE", help="its first line is the passphrase of an encrypted key"))
         of_files(add("--public-key", metavar="KEY", help="public key, where something else holds the private one"))
         add("--sign-command", metavar="COMMAND", help="gets octets on standard input, and writes their signature")
-        add("--form", choices=FORMS, default="der", help="how what is made is written")
         return self
 
 
@@ -235,6 +239,8 @@ def _add_others(commands: Any) -> None:
 
 def parser_of() -> argparse.ArgumentParser:
     """The parser of all words."""
+    from calmizsed.command import publishing, serving  # their words are made of those here
+
     parser = argparse.ArgumentParser(
         prog="calmizsed", description="Signed messages of the RPKI's publication and provisioning protocols.", epilog=WHOLE,
         formatter_class=argparse.RawDescriptionHelpFormatter)
@@ -243,6 +249,8 @@ def parser_of() -> argparse.ArgumentParser:
     _add_messages(commands)
     _add_setup(commands)
     _add_others(commands)
+    publishing.add_words(commands)
+    serving.add_words(commands)
     return parser
 
 
@@ -259,7 +267,8 @@ def placed(words: Sequence[str]) -> list[str]:
 
 def inputs_of(asked: argparse.Namespace) -> list[str]:
     """The files that are read."""
-    named = [vars(asked).get(name) for name in ("file", "key", "public_key", "passphrase_file", "anchor")]
+    named = [vars(asked).get(name) for name in (
+        "file", "key", "public_key", "passphrase_file", "anchor", "response", "server_key")]
     return [name for one in named if one is not None for name in (one if isinstance(one, list) else [one])]
 
 
@@ -268,7 +277,8 @@ def asked_of(words: Optional[Sequence[str]]) -> argparse.Namespace:
     asked = parser_of().parse_args(placed(sys.argv[1:] if words is None else words))
     if "sign_command" in asked:
         device = asked.public_key is not None, asked.sign_command is not None
-        if (asked.key is None) != all(device) or (asked.key is not None and any(device)):
+        draws = getattr(asked, "may_draw", False) and asked.key is None and not any(device)
+        if not draws and (asked.key is None) != all(device) or (asked.key is not None and any(device)):
             asked.parser.error("give --key, or --public-key and --sign-command")
         if asked.key is None and asked.passphrase_file is not None:
             asked.parser.error("--passphrase-file is for --key")

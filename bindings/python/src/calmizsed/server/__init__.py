@@ -1,0 +1,1 @@
+"""A publication server: what `calmizsed serve` runs."""
