@@ -59,7 +59,7 @@ DOCUMENTS = [*sorted(TOP.glob("*.md")), *sorted((TOP / "docs").glob("*.md"))]
 # Where scripts stand.
 FOLDERS = ("tools", "tools/cases", "tools/tree", "tools/proofs", "tools/run", "bench")
 # Where the command calmizsed stands, which has names and options too.
-COMMAND = ("bindings/python/src/calmizsed", "bindings/python/src/calmizsed/command")
+COMMAND = tuple(f"bindings/python/src/calmizsed{folder}" for folder in ("", "/command", "/server"))
 FENCE = re.compile(r"^ *```.*?^ *```$", re.MULTILINE | re.DOTALL)
 SPAN = re.compile(r"`([^`\n]+)`")
 NAME = re.compile(r"[A-Za-z_][\w']*")
@@ -77,6 +77,8 @@ ELSEWHERE = {
     "the Rust crate": "bcder chrono rpki crypto compat validate_ta validate_ee BufRead IntoSource src/ca/ "
     "src/crypto/signer.rs",
     "examples of texts": "cars roa",
+    "the data folder of a server": "rrdp/ tree/ tree/current notification.xml database.sqlite server.json trial/data/rrdp "
+    "trial/data/tree/current",
 }
 BEYOND = {name: place for place, names in ELSEWHERE.items() for name in names.split()}
 
@@ -233,12 +235,13 @@ SAID = {
     "years": "1970 9999",
     "bits of numbers, and of RSA keys": "32 2048 4096",
     "the statuses of refusals, which are compared in statuses": "14 15",
-    "the status of the library alone, in crates/rpki_c/specs/HandingOver.antt": "16",
+    "the statuses of the library alone, in crates/rpki_c/specs/HandingOver.antt": "16 17",
     "days of an anchor, and bits of a key, by the command calmizsed": "365 2048",
     "of a word on Linux": "131071",
     "minutes that a gate took, on the machines that CONTRIBUTING.md tells of": "21 45 46 53 55 84 106 110 130 197 244 320 472",
     "the status of a trial that can't be made, by tools/run/trial.py": "125",
     "the status of an interrupted program": "130",
+    "the mode of a file": "0600",
     "of a first run and a trial, by bench/first_run.py": "30 40 71",
     "instructions an octet, by bench/instructions.py": "22 48 49 82 88 97 142 147",
 }
