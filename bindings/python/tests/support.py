@@ -5,6 +5,7 @@ from __future__ import annotations
 import hashlib
 import importlib
 import pathlib
+import random
 import struct
 import subprocess
 import sys
@@ -13,14 +14,20 @@ from typing import Iterator, NamedTuple, Optional
 TREE = pathlib.Path(__file__).resolve().parents[3]
 EXAMPLES = TREE / "examples"
 SIGNED_AT = 1795927350  # when examples/rsa-query.der says that it was signed, as OpenSSL shows it
-sys.path.insert(0, str(TREE / "tools" / "cases"))
+sys.path[0:0] = [str(TREE / "tools" / "cases"), str(TREE / "tools" / "run")]
 _values = importlib.import_module("rsa_messages").values
 _octets_of = importlib.import_module("stored_cases").octets_of
+_broken = importlib.import_module("fuzz").broken
 
 
 def octets_of(terms: str) -> bytes:
     """The octets that the terms of a stored case spell."""
     return bytes(_octets_of(terms))
+
+
+def broken(chance: random.Random, octets: bytes, other: bytes) -> bytes:
+    """The octets after one change, as the fuzzer of the programs makes it."""
+    return bytes(_broken(chance, octets, other))
 
 
 class Case(NamedTuple):

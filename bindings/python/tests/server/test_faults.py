@@ -1,6 +1,7 @@
 """Faults: the server is killed under load, the disk is full, clients are slow or many, messages are none. What was acknowledged is there.
 
-CALMIZSED_KILLS says how often the server is killed, and CALMIZSED_CONNECTIONS how many connections are held open at once.
+CALMIZSED_KILLS says how often the server is killed, CALMIZSED_CONNECTIONS how many connections are held open at once, and CALMIZSED_BROKEN
+how many messages are broken as the fuzzer of the programs breaks them.
 """
 
 from __future__ import annotations
@@ -23,15 +24,18 @@ from typing import Iterator, Optional, Union
 
 import pytest
 from served import SECONDS, TYPE, Sender, Served, codes, done
+from support import broken, cases, is_hexadecimal
 from test_answering import URI, Talk
 from working import Party
 
+import calmizsed
 from calmizsed.publication import ChangeQuery, ErrorReply, ListQuery, Publish, SuccessReply, Withdraw
 from calmizsed.server import listening
 from calmizsed.server.session import LEASE_SECONDS
 
 KILLS = int(os.environ.get("CALMIZSED_KILLS", "5"))
 CONNECTIONS = int(os.environ.get("CALMIZSED_CONNECTIONS", "1500"))
+BROKEN = int(os.environ.get("CALMIZSED_BROKEN", "200"))
 PAIRS = 3
 
 
@@ -300,6 +304,29 @@ def test_malformed_messages(served: Served, carol: Sender) -> None:
                 while one_connection.recv(65536):
                     pass
     assert carol.listed() == {}
+
+
+def test_broken_messages(served: Served, carol: Sender) -> None:
+    """A query that the fuzzer broke is answered, and done only where it still is the query that was signed."""
+    given = [case.given.decode("latin-1").removesuffix("\n") for case in cases("test_external", "receive")]
+    others = [bytes.fromhex(digits) for digits in given if digits and is_hexadecimal(digits)]
+    chance, before = random.Random(20261), served.memory()
+    done_as_signed = 0
+    for number in range(BROKEN):
+        query = carol.signed(ChangeQuery((Publish(f"{carol.base}broken/{number}", b"octets"),)), int(time.time()))
+        octets = query
+        for _ in range(chance.choice([1, 1, 1, 2, 3, 8])):
+            octets = broken(chance, octets, chance.choice(others))
+        code, body = carol.post(octets)
+        assert code == 200, (number, code)
+        if carol.read(body) == SuccessReply():
+            assert calmizsed.content(octets) == calmizsed.content(query), number
+            done_as_signed += 1
+    listed = carol.listed()
+    assert len(listed) == done_as_signed < BROKEN / 4
+    if listed:
+        assert carol.ask(*(Withdraw(uri, one) for uri, one in listed.items())) == SuccessReply()
+    assert served.memory() - before < 64 << 20
 
 
 def test_memory_is_bounded(served: Served, carol: Sender) -> None:
