@@ -58,7 +58,7 @@ from signed_messages import (
     drawn_serial, indefinite, integer, key_bits, key_identifier, name, octet_string, oid, overlong, seq, sign, time,
     value,
 )
-from stored_cases import DONE, MALFORMED, SIZES, step, terms, write
+from stored_cases import DONE, MALFORMED, SIZES, line, step, write
 from value_cases import EC, P256, attribute, relative
 
 OTHER = bytes(range(20))
@@ -156,11 +156,6 @@ def tbs_fields(o):
 def fields(o, outer=None):
     """What is read of a certificate."""
     return *tbs_fields(o), signed_part(o), signature_of(o), seq(signed_part(o), outer or o.outer, bits(signature_of(o)))
-
-
-def line(label, mode, octets, *steps):
-    """A line of the cases."""
-    return " ".join([label, mode, terms(octets) or "'", *steps])
 
 
 def read(label, mode="both", written_outer=None, **options):
@@ -464,7 +459,7 @@ OPENSSL_KEY = bytes.fromhex("ea7f8191d3b9099e0d8df9b33c1ebf8203f68edd")
 
 # Two of the library `cryptography` 48, a CA with a path length of 3 and an end entity below it, whose key is on a curve.
 ROUTER = bytes.fromhex(
-"308201cf30820138a00302010202147123456789abcdef0123456789abcdef01234567300d06092a864886f70d01010b0500301a310b300906035504061302"
+    "308201cf30820138a00302010202147123456789abcdef0123456789abcdef01234567300d06092a864886f70d01010b0500301a310b300906035504061302"
     "4e4c310b300906035504030c0263613020170d3439313233313233353935395a180f32303530303130313030303030305a3011310f300d06035504030c0672"
     "6f757465723059301306072a8648ce3d020106082a8648ce3d03010703420004c639ff6d4f8e5a289bd3f08c33ca752dcd5a92c6cb1fb6a91dd21256bd0b41"
     "1b8cabb63b51f112eb6608579515aff563299d014f1c704543fdfb7dfefc86153ca360305e300c0603551d130101ff04023000300e0603551d0f0101ff0404"

@@ -60,7 +60,7 @@ from signed_messages import (
     BREAKS, CONTENT_A, FIRST, LAST, NOW, NULL, bits, created, indefinite, key_bits, key_identifier, message,
     name, overlong, printable, segmented, seq, value,
 )
-from stored_cases import DONE, NOTHING, SIZES, repeated, step, terms, within, write
+from stored_cases import DONE, NOTHING, SIZES, ber_line as line, repeated, step, terms, within, write
 
 NO_XML, NO_REQUEST, NO_CERTIFICATE, NO_CMS = (("refused", text) for text in (
     "malformed XML", "Could not decode CSR", "Could not decode certificate", "Could not decode CMS"))
@@ -141,11 +141,6 @@ LIST = MESSAGES[b"list"]
 
 
 # ---- lines
-
-
-def line(label, octets, *steps):
-    """A line of the cases."""
-    return " ".join([label, "ber", terms(octets) or "'", *steps])
 
 
 def read(label, text, written=None):
@@ -759,8 +754,8 @@ def size_lines():
         yield read(f"description-of-{n}", root(b"error_response", status(b"1", words)))
         yield read(f"spaced-description-of-{n}", root(b"error_response", status(b"1", b" " * n + b"a" + b"\n" * n)), root(b"error_response",
             status(b"1", b"a")))
-        for kind, inside in (b"list_response", class_of(class_name=words)), (b"issue", asked(class_name=words)), (b"revoke",
-            key(class_name=words)):
+        for kind, inside in (
+                (b"list_response", class_of(class_name=words)), (b"issue", asked(class_name=words)), (b"revoke", key(class_name=words))):
             yield read(f"{kind.decode()}-named-by-{n}", root(kind, inside))
         octets = certificate_of(key=("rsa", b"k" * n))
         yield read(f"certificate-with-a-key-of-{n}", root(b"list_response", class_of(certificate(octets), issuer(octets))))

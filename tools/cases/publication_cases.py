@@ -42,7 +42,7 @@ from signed_messages import (
     BREAKS, CONTENT_A, FIRST, LAST, NOW, OUTER_TWO, QUERY, QUERY_MESSAGE, broken, created, indefinite, message,
     overlong, printable, segmented,
 )
-from stored_cases import DONE, NOTHING, SIZES, repeated, step, terms, within, write
+from stored_cases import DONE, NOTHING, SIZES, ber_line as line, repeated, step, within, write
 
 REPLY = b'<msg xmlns="http://www.hactrn.net/uris/rpki/publication-spec/" version="4" type="reply"><success/></msg>'
 
@@ -81,11 +81,6 @@ NO_TEXTS = [
 NO_MESSAGES = [b"", b"a", b"<msg version='4' type='query'><success/></msg>", b"<msg version='5' type='query'><list/></msg>",
     QUERY + b"."]
 NO_XML, NO_CMS = ("refused", "malformed XML"), ("refused", "Could not decode CMS")
-
-
-def line(label, octets, *steps):
-    """A line of the cases."""
-    return " ".join([label, "ber", terms(octets) or "'", *steps])
 
 
 def read(label, octets, content, written):

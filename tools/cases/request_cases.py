@@ -391,8 +391,8 @@ def flag_cases():
         (EXTENDED_KEY_USAGE, seq(BGPSEC_ROUTER))]
     for label, flag in (("unflagged", b""), ("flagged-false", FALSE), ("flagged-true", TRUE)):
         yield from both(label, extensions=[extension(kind, held, flag) for kind, held in known], purposes=[BGPSEC_ROUTER])
-    for label, flag in (("flagged-01", b"\1\1\1"), ("flagged-twice", TRUE * 2), ("flagged-null", NULL),
-        ("flagged-long", b"\1\2\xff\xff")):
+    flags = ("flagged-01", b"\1\1\1"), ("flagged-twice", TRUE * 2), ("flagged-null", NULL), ("flagged-long", b"\1\2\xff\xff")
+    for label, flag in flags:
         yield from neither(label, extensions=[extension(kind, held, flag) for kind, held in known])
 
 

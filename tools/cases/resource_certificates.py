@@ -9,7 +9,7 @@ from signed_messages import (
     ALGORITHM, BASIC_CONSTRAINTS, FIRST, LAST, NULL, RSA, RSA_SHA256, SUBJECT_KEY, bits, indefinite, integer, key_bits,
     name, octet_string, oid, overlong, seq, time, value,
 )
-from stored_cases import MALFORMED, SIZES, step, terms
+from stored_cases import MALFORMED, SIZES, line, step
 from value_cases import ROUTER, attribute, relative
 
 UNKNOWN = oid("1.3.6.1.4.1.99999.1")
@@ -20,11 +20,6 @@ def key_fields(key):
     """What is read of a key."""
     form, octets = key_of(key)
     return form, octets, hashlib.sha1(octets).digest()
-
-
-def line(label, mode, octets, *steps):
-    """A line of the cases."""
-    return " ".join([label, mode, terms(octets) or "'", *steps])
 
 
 def answered(call, shown):

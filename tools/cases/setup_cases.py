@@ -24,15 +24,10 @@ import base64
 from certificate_cases import certificate, own_anchor
 from run_cases import ROOTS, setup_message
 from signed_messages import NOW
-from stored_cases import SIZES, step, terms, write
+from stored_cases import SIZES, ber_line as line, step, write
 
 NO_XML, NO_ENCODING, NO_ANCHOR = (("refused", text) for text in ("malformed XML", "Cannot decode TA cert", "Invalid TA cert"))
 FILE = "rsync://localhost/repo/"
-
-
-def line(label, octets, *steps):
-    """A line of the cases."""
-    return " ".join([label, "ber", terms(octets) or "'", *steps])
 
 
 def written(call, text, tag="-"):

@@ -45,6 +45,16 @@ def octets_of_term(term):
     return bytes.fromhex(digits) * int(times or 1)
 
 
+def line(label, mode, octets, *steps):
+    """A line of the cases: a name, a mode, octets, and what calls answer to them."""
+    return " ".join([label, mode, terms(octets) or "'", *steps])
+
+
+def ber_line(label, octets, *steps):
+    """The same in the mode that is BER."""
+    return line(label, "ber", octets, *steps)
+
+
 def text(characters):
     """A text, legible where it can be."""
     octets = characters.encode()

@@ -12,8 +12,8 @@ Asked is, and what is not so is printed:
 - that a file can be called exactly where it begins with `#!`, and then does nothing when it is imported;
 - that tools/README.md has one row for each file of a folder, under the folder's name, and for nothing else.
 
-Names that are unused or unknown are found by `ruff check`, or where there is no ruff by `python3 -m pyflakes tools bench`. The exit status
-is 0 where all is so, else 1."""
+Names that are unused or unknown, and how lines are laid out, are what `ruff check` finds, or where there is no ruff `flake8 tools bench`
+(.flake8). The exit status is 0 where all is so, else 1."""
 
 import ast
 import os
