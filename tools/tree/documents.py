@@ -238,11 +238,12 @@ SAID = {
     "the statuses of the library alone, in crates/rpki_c/specs/HandingOver.antt": "16 17",
     "days of an anchor, and bits of a key, by the command calmizsed": "365 2048",
     "of a word on Linux": "131071",
-    "minutes that a gate took, on the machines that CONTRIBUTING.md tells of": "21 45 46 53 55 84 106 110 130 197 244 320 472",
+    "minutes that a gate is to take at most": "320",
+    "dates of what was measured": "2026 30",
     "the status of a trial that can't be made, by tools/run/trial.py": "125",
     "the status of an interrupted program": "130",
     "the mode of a file": "0600",
-    "of a first run and a trial, by bench/first_run.py": "30 40 71",
+    "of a first run and a trial, by bench/first_run.py, and for its crates by the table in CONTRIBUTING.md": "30 40 46 71 82",
     "instructions an octet, by bench/instructions.py": "22 48 49 82 88 97 142 147",
 }
 OUTSIDE = {int(number): place for place, numbers in SAID.items() for number in numbers.split()}
