@@ -20,7 +20,7 @@ VERSION := $(shell sed -n 's/^const VERSION.*b"\(.*\)";$$/\1/p' crates/rpki_c/sr
 SOURCES := $(shell find $$(tools/run/build_crates.py --list rpki_c | awk 'NF == 3 && NR > 1 { print "crates/" $$1 }') \
     -name out -prune -o -type f -print)
 NAME = calmizsed-$(VERSION)
-PAGES = README.md CHANGELOG.md SECURITY.md LICENSE docs bindings/c bindings/rust bindings/python examples calmizsed
+PAGES = README.md CHANGELOG.md CONTRIBUTING.md SECURITY.md LICENSE docs bindings/c bindings/rust bindings/python examples calmizsed
 # The time of what is in the tar: so two of one commit are the same.
 SOURCE_DATE_EPOCH ?= $(shell git log -1 --format=%ct 2>/dev/null || echo 0)
 TAR = tar --sort=name --owner=0 --group=0 --numeric-owner --mtime=@$(SOURCE_DATE_EPOCH)
