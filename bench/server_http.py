@@ -2,16 +2,19 @@
 """Measures the publication server over HTTP: queries a second, by how many publishers, with how large deltas, for how much is held.
 
     bench/server_http.py [--held 1000,1000000] [--publishers 1,4,16] [--objects 1,100,10000] [--seconds 10] [--database ADDRESS]
+                         [--processes N]
 
 It takes what `calmizsed serve` takes; PYTHON names another Python. A publisher signs at most one query for each second, and signs 500
-of them ahead, in the window for which messages are valid; so the queries are there before the clock runs. What signing alone allows is
-measured by the calls that the server makes for a reply, on as many threads as it has. The aims count on a machine that does nothing
-else."""
+of them ahead, in the window for which messages are valid; so the queries are there before the clock runs. With --processes several servers
+run over one database, and a publisher has one of them. What signing alone allows is measured by the calls that a server makes for a reply,
+in as many processes and on as many threads. The aims count on a machine that does nothing else; SQLite's file is in TMPDIR, and each
+commit waits for its disk."""
 from __future__ import annotations
 
 import argparse
 import hashlib
 import http.client
+import multiprocessing
 import os
 import pathlib
 import signal
@@ -52,16 +55,25 @@ class Measured(NamedTuple):
     times: list[float]
 
 
+def free_ports(count: int) -> list[int]:
+    """Ports that nobody listens at."""
+    held = [socket.socket() for _ in range(count)]
+    for one in held:
+        one.bind(("127.0.0.1", 0))
+    found = [int(one.getsockname()[1]) for one in held]
+    for one in held:
+        one.close()
+    return found
+
+
 class Bench:
     """A server in a folder, with publishers that have keys."""
 
-    def __init__(self, folder: pathlib.Path, database: Optional[str], most: int) -> None:
+    def __init__(self, folder: pathlib.Path, database: Optional[str], most: int, processes: int) -> None:
         self.folder = folder
-        with socket.socket() as one:
-            one.bind(("127.0.0.1", 0))
-            self.port = int(one.getsockname()[1])
+        self.ports = free_ports(processes)
         words = [
-            "--url", f"http://127.0.0.1:{self.port}", "--rsync-base", "rsync://localhost/repo/", "--rrdp-uri", "https://localhost/rrdp/"]
+            "--url", "http://127.0.0.1", "--rsync-base", "rsync://localhost/repo/", "--rrdp-uri", "https://localhost/rrdp/"]
         self.command("init", *words, *([] if database is None else ["--database", database]))
         self.opened = running.opened(folder)
         self.keys = [keys.PrivateKey.generate() for _ in range(most)]
@@ -70,31 +82,34 @@ class Bench:
             self.publishers = [
                 publishers.add(connection, "rsync://localhost/repo/", f"bench{number}", key.public_key, 0)
                 for number, key in enumerate(self.keys)]
-        self._process: Optional[subprocess.Popen[bytes]] = None
+        self._processes: list[subprocess.Popen[bytes]] = []
 
     def command(self, verb: str, *words: str) -> None:
         """Runs one of the server's commands."""
         subprocess.run([str(TOP / "calmizsed"), "serve", verb, "-q", "--data", str(self.folder), *words], check=True)
 
     def start(self) -> None:
-        """Starts the server."""
-        self._process = subprocess.Popen(
-            [str(TOP / "calmizsed"), "serve", "run", "--data", str(self.folder), "--listen", f"127.0.0.1:{self.port}", "--most",
-             str(1 << 28), "--no-worker"],
-            stdin=subprocess.DEVNULL, stdout=subprocess.DEVNULL, stderr=subprocess.DEVNULL, start_new_session=True)
-        while True:
-            try:
-                socket.create_connection(("127.0.0.1", self.port)).close()
-                return
-            except ConnectionRefusedError:
-                time.sleep(0.1)
+        """Starts the servers."""
+        for port in self.ports:
+            self._processes.append(subprocess.Popen(
+                [str(TOP / "calmizsed"), "serve", "run", "--data", str(self.folder), "--listen", f"127.0.0.1:{port}", "--most",
+                 str(1 << 28), "--no-worker"],
+                stdin=subprocess.DEVNULL, stdout=subprocess.DEVNULL, stderr=subprocess.DEVNULL, start_new_session=True))
+        for port in self.ports:
+            while True:
+                try:
+                    socket.create_connection(("127.0.0.1", port)).close()
+                    break
+                except ConnectionRefusedError:
+                    time.sleep(0.1)
 
     def stop(self) -> None:
-        """Ends the server."""
-        if self._process is not None:
-            os.killpg(self._process.pid, signal.SIGTERM)
-            self._process.wait()
-            self._process = None
+        """Ends the servers."""
+        for process in self._processes:
+            os.killpg(process.pid, signal.SIGTERM)
+        for process in self._processes:
+            process.wait()
+        self._processes = []
 
     def hold(self, wanted: int) -> None:
         """Has the first publisher hold so many objects, and none know of a signing time."""
@@ -129,11 +144,11 @@ class Bench:
         """Has so many publishers send what they signed, each a query behind the other, for so long."""
         wanted = 2 * WINDOW if objects == 1 else 40 if objects <= 100 else 3
         all_queries = [self.signed(place, objects, wanted) for place in range(count)]
-        times: list[float] = []
+        times, bodies = list[float](), list[bytes]()
         end = time.perf_counter() + seconds
 
         def work(place: int) -> None:
-            connection = http.client.HTTPConnection("127.0.0.1", self.port, timeout=SECONDS)
+            connection = http.client.HTTPConnection("127.0.0.1", self.ports[place % len(self.ports)], timeout=SECONDS)
             path = f"/rfc8181/{self.publishers[place].word}"
             for query in all_queries[place]:
                 begin = time.perf_counter()
@@ -146,9 +161,8 @@ class Bench:
                     if answer.status != 503:
                         break
                     time.sleep(0.05)
-                if answer.status != 200 or b"success" not in calmizsed.content(body):
-                    raise SystemExit(f"an answer that is no success: {answer.status}")
                 times.append(time.perf_counter() - begin)
+                bodies.append(body if answer.status == 200 else b"")
 
         begin = time.perf_counter()
         threads = [threading.Thread(target=work, args=(place,)) for place in range(count)]
@@ -156,7 +170,10 @@ class Bench:
             thread.start()
         for thread in threads:
             thread.join()
-        return Measured(len(times), time.perf_counter() - begin, times)
+        found = Measured(len(times), time.perf_counter() - begin, times)
+        if not all(body and b"success" in calmizsed.content(body) for body in bodies):
+            raise SystemExit("an answer that is no success")
+        return found
 
 
 def signing_alone(seconds: float) -> float:
@@ -179,6 +196,12 @@ def signing_alone(seconds: float) -> float:
     return sum(made) / (time.perf_counter() - begin)
 
 
+def signing_in(processes: int, seconds: float) -> float:
+    """The same in several processes at once, one of which draws its key while others begin."""
+    with multiprocessing.get_context("spawn").Pool(processes) as pool:
+        return sum(pool.map(signing_alone, [seconds] * processes, chunksize=1))
+
+
 def numbers(word: str) -> list[int]:
     """Numbers with commas between them."""
     return [int(one) for one in word.split(",")]
@@ -192,11 +215,12 @@ def main() -> None:
     parser.add_argument("--objects", type=numbers, default=[1, 100, 10000])
     parser.add_argument("--seconds", type=float, default=10.0)
     parser.add_argument("--database")
+    parser.add_argument("--processes", type=int, default=1)
     asked = parser.parse_args()
-    print(f"signing alone: {signing_alone(asked.seconds):.0f} replies a second", flush=True)
+    print(f"signing alone: {signing_in(asked.processes, asked.seconds):.0f} replies a second", flush=True)
     print("held, publishers, objects a delta: queries a second, milliseconds of the middle one and of the slowest of twenty")
     with tempfile.TemporaryDirectory(prefix="bench-") as folder:
-        bench = Bench(pathlib.Path(folder), asked.database, max(asked.publishers))
+        bench = Bench(pathlib.Path(folder), asked.database, max(asked.publishers), asked.processes)
         for held in sorted(asked.held):
             for count in asked.publishers:
                 for objects in asked.objects:
