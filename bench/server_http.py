@@ -2,13 +2,13 @@
 """Measures the publication server over HTTP: queries a second, by how many publishers, with how large deltas, for how much is held.
 
     bench/server_http.py [--held 1000,1000000] [--publishers 1,4,16] [--objects 1,100,10000] [--seconds 10] [--database ADDRESS]
-                         [--processes N]
+                         [--processes N] [--key-uses N]
 
 It takes what `calmizsed serve` takes; PYTHON names another Python. A publisher signs at most one query for each second, and signs 500
 of them ahead, in the window for which messages are valid; so the queries are there before the clock runs. With --processes several servers
 run over one database, and a publisher has one of them. What signing alone allows is measured by the calls that a server makes for a reply,
-in as many processes and on as many threads. The aims count on a machine that does nothing else; SQLite's file is in TMPDIR, and each
-commit waits for its disk."""
+in as many processes and on as many threads; with `--key-uses 1` that is mostly to draw keys. The aims count on a machine that does nothing
+else. SQLite's file is in TMPDIR, and each commit waits for its disk."""
 from __future__ import annotations
 
 import argparse
@@ -69,8 +69,9 @@ def free_ports(count: int) -> list[int]:
 class Bench:
     """A server in a folder, with publishers that have keys."""
 
-    def __init__(self, folder: pathlib.Path, database: Optional[str], most: int, processes: int) -> None:
+    def __init__(self, folder: pathlib.Path, database: Optional[str], most: int, processes: int, uses: int) -> None:
         self.folder = folder
+        self.uses = uses
         self.ports = free_ports(processes)
         words = [
             "--url", "http://127.0.0.1", "--rsync-base", "rsync://localhost/repo/", "--rrdp-uri", "https://localhost/rrdp/"]
@@ -93,7 +94,7 @@ class Bench:
         for port in self.ports:
             self._processes.append(subprocess.Popen(
                 [str(TOP / "calmizsed"), "serve", "run", "--data", str(self.folder), "--listen", f"127.0.0.1:{port}", "--most",
-                 str(1 << 28), "--no-worker"],
+                 str(1 << 28), "--key-uses", str(self.uses), "--no-worker"],
                 stdin=subprocess.DEVNULL, stdout=subprocess.DEVNULL, stderr=subprocess.DEVNULL, start_new_session=True))
         for port in self.ports:
             while True:
@@ -176,9 +177,9 @@ class Bench:
         return found
 
 
-def signing_alone(seconds: float) -> float:
+def signing_alone(seconds: float, uses: int) -> float:
     """Replies a second that are signed, as the server signs them, where there is nothing else to do."""
-    signer, one_off = Remembering(keys.PrivateKey.generate()), OneOffKeys()
+    signer, one_off = Remembering(keys.PrivateKey.generate()), OneOffKeys(uses=uses)
     one_off.take()  # the first one is drawn before the clock runs
     end, made = time.perf_counter() + seconds, [0] * Options.threads
 
@@ -196,10 +197,10 @@ def signing_alone(seconds: float) -> float:
     return sum(made) / (time.perf_counter() - begin)
 
 
-def signing_in(processes: int, seconds: float) -> float:
-    """The same in several processes at once, one of which draws its key while others begin."""
+def signing_in(processes: int, seconds: float, uses: int) -> float:
+    """The same in several processes at once."""
     with multiprocessing.get_context("spawn").Pool(processes) as pool:
-        return sum(pool.map(signing_alone, [seconds] * processes, chunksize=1))
+        return sum(pool.starmap(signing_alone, [(seconds, uses)] * processes, chunksize=1))
 
 
 def numbers(word: str) -> list[int]:
@@ -216,11 +217,12 @@ def main() -> None:
     parser.add_argument("--seconds", type=float, default=10.0)
     parser.add_argument("--database")
     parser.add_argument("--processes", type=int, default=1)
+    parser.add_argument("--key-uses", type=int, default=Options.key_uses)
     asked = parser.parse_args()
-    print(f"signing alone: {signing_in(asked.processes, asked.seconds):.0f} replies a second", flush=True)
+    print(f"signing alone: {signing_in(asked.processes, asked.seconds, asked.key_uses):.0f} replies a second", flush=True)
     print("held, publishers, objects a delta: queries a second, milliseconds of the middle one and of the slowest of twenty")
     with tempfile.TemporaryDirectory(prefix="bench-") as folder:
-        bench = Bench(pathlib.Path(folder), asked.database, max(asked.publishers), asked.processes)
+        bench = Bench(pathlib.Path(folder), asked.database, max(asked.publishers), asked.processes, asked.key_uses)
         for held in sorted(asked.held):
             for count in asked.publishers:
                 for objects in asked.objects:

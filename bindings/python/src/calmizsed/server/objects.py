@@ -13,6 +13,11 @@ from calmizsed.publication import ChangeQuery, Publish
 from calmizsed.server.tables import CHANGES, OBJECTS
 
 AT_ONCE = 500
+# What each query asks the database is built once.
+KNOWN = select(OBJECTS.c.uri, OBJECTS.c.digest).where(
+    and_(OBJECTS.c.publisher == bindparam("number"), OBJECTS.c.uri.in_(bindparam("uris", expanding=True))))
+REPLACE = update(OBJECTS).where(and_(OBJECTS.c.publisher == bindparam("number"), OBJECTS.c.uri == bindparam("of_uri")))
+ADD, LOG = insert(OBJECTS), insert(CHANGES)
 Known = dict[str, Optional[bytes]]
 
 
@@ -33,8 +38,7 @@ def known(connection: Connection, publisher: int, uris: Iterable[str]) -> Known:
     found: Known = {}
     for part in _parts(uris):
         found.update(dict.fromkeys(part))
-        query = select(OBJECTS.c.uri, OBJECTS.c.digest).where(and_(OBJECTS.c.publisher == publisher, OBJECTS.c.uri.in_(part)))
-        found.update((uri, bytes(digest)) for uri, digest in connection.execute(query))
+        found.update((uri, bytes(digest)) for uri, digest in connection.execute(KNOWN, {"number": publisher, "uris": part}))
     return found
 
 
@@ -59,7 +63,8 @@ def make(connection: Connection, publisher: int, query: ChangeQuery, before: Kno
         log.append({"publisher": publisher, "uri": change.uri, "old": digests[change.uri], "new": new})
         digests[change.uri], octets[change.uri] = new, content
     _write(connection, publisher, before, {
-        uri: None if content is None else {"of_uri": uri, "digest": digests[uri], "octets": content} for uri, content in octets.items()})
+        uri: None if content is None else {"number": publisher, "of_uri": uri, "digest": digests[uri], "octets": content}
+        for uri, content in octets.items()})
     _log(connection, log)
 
 
@@ -70,19 +75,18 @@ def _write(connection: Connection, publisher: int, before: Known, rows: dict[str
         connection.execute(delete(OBJECTS).where(and_(OBJECTS.c.publisher == publisher, OBJECTS.c.uri.in_(part))))
     other = [row for uri, row in rows.items() if row is not None and before[uri] is not None]
     if other:
-        here = and_(OBJECTS.c.publisher == publisher, OBJECTS.c.uri == bindparam("of_uri"))
-        connection.execute(update(OBJECTS).where(here), other)
+        connection.execute(REPLACE, other)
     new = [
         {"publisher": publisher, "uri": uri, "digest": row["digest"], "octets": row["octets"]}
         for uri, row in rows.items() if row is not None and before[uri] is None]
     if new:
-        connection.execute(insert(OBJECTS), new)
+        connection.execute(ADD, new)
 
 
 def _log(connection: Connection, rows: list[dict[str, Any]]) -> None:
     """Notes changes, in their order: the numbers of those of a URI ascend."""
     for part in _parts(rows):
-        connection.execute(insert(CHANGES), part)
+        connection.execute(LOG, part)
 
 
 def withdraw_all(connection: Connection, publisher: int) -> int:

@@ -7,7 +7,7 @@ import re
 from dataclasses import dataclass
 from typing import Any, Optional
 
-from sqlalchemy import and_, delete, func, insert, select, update
+from sqlalchemy import and_, bindparam, delete, func, insert, select, update
 from sqlalchemy.engine import Connection
 
 from calmizsed import keys
@@ -18,6 +18,13 @@ from calmizsed.server.tables import OBJECTS, PUBLISHER_KEYS, PUBLISHERS, REPLIES
 MOST_KEYS = 2  # while a publisher's key changes
 PLAIN = re.compile(r"[A-Za-z0-9][A-Za-z0-9_-]{0,63}")
 CHARACTERS_OF_HANDLE, CHARACTERS_OF_DIGEST = 40, 24
+# What each query asks the database is built once: to build it takes as long as to run it.
+KEYS_OF = select(PUBLISHER_KEYS.c.place, PUBLISHER_KEYS.c.key).where(
+    PUBLISHER_KEYS.c.publisher == bindparam("number")).order_by(PUBLISHER_KEYS.c.place)
+BY_WORD = select(PUBLISHERS).where(and_(PUBLISHERS.c.word == bindparam("of_word"), PUBLISHERS.c.removed.is_(None)))
+LOCKED = select(PUBLISHERS).where(and_(PUBLISHERS.c.id == bindparam("number"), PUBLISHERS.c.removed.is_(None))).with_for_update()
+TOOK = update(PUBLISHERS).where(PUBLISHERS.c.id == bindparam("number"))
+REPLIED, FIRST_REPLIED = update(REPLIES).where(REPLIES.c.publisher == bindparam("number")), insert(REPLIES)
 
 
 class PublisherError(CalmizsedError):
@@ -54,8 +61,7 @@ def word_of(handle: str) -> str:
 
 def _with_keys(connection: Connection, row: Any) -> Publisher:
     """The publisher of a row."""
-    found = connection.execute(select(PUBLISHER_KEYS.c.place, PUBLISHER_KEYS.c.key).where(
-        PUBLISHER_KEYS.c.publisher == row.id).order_by(PUBLISHER_KEYS.c.place)).all()
+    found = connection.execute(KEYS_OF, {"number": row.id}).all()
     return Publisher(
         row.id, row.handle, row.base, row.word, row.last_time, row.added, row.removed,
         tuple(bytes(one.key) for one in found), tuple(one.place for one in found))
@@ -64,18 +70,23 @@ def _with_keys(connection: Connection, row: Any) -> Publisher:
 def _found(connection: Connection, condition: Any, lock: bool = False) -> Optional[Publisher]:
     """The publisher that there is, removed or not, if there is one. With `lock` no other transaction changes it until this one ends."""
     query = select(PUBLISHERS).where(condition)
-    row = connection.execute(query.with_for_update() if lock else query).first()
+    return _only(connection, query.with_for_update() if lock else query)
+
+
+def _only(connection: Connection, query: Any, **values: Any) -> Optional[Publisher]:
+    """The publisher that a query finds, if it finds one. The keys are read behind the row, so that they are no older than its lock."""
+    row = connection.execute(query, values).first()
     return None if row is None else _with_keys(connection, row)
 
 
 def by_word(connection: Connection, word: str) -> Optional[Publisher]:
     """The publisher at a path, if there is one."""
-    return _found(connection, and_(PUBLISHERS.c.word == word, PUBLISHERS.c.removed.is_(None)))
+    return _only(connection, BY_WORD, of_word=word)
 
 
 def locked(connection: Connection, number: int) -> Optional[Publisher]:
     """The publisher, whom no other transaction changes until this one ends, if it is still there."""
-    return _found(connection, and_(PUBLISHERS.c.id == number, PUBLISHERS.c.removed.is_(None)), lock=True)
+    return _only(connection, LOCKED, number=number)
 
 
 def of_handle(connection: Connection, handle: str) -> Publisher:
@@ -155,13 +166,13 @@ def remove(connection: Connection, handle: str, moment: int) -> int:
 
 def took(connection: Connection, number: int, signing_time: int) -> None:
     """Notes when the last message of a publisher was signed."""
-    connection.execute(update(PUBLISHERS).where(PUBLISHERS.c.id == number).values(last_time=signing_time))
+    connection.execute(TOOK, {"number": number, "last_time": signing_time})
 
 
 def replied(connection: Connection, number: int, signing_time: int, query: bytes, reply: bytes, whole: bool) -> None:
     """Keeps the last reply to a publisher, or its digest alone."""
-    values = {
+    values: dict[str, Any] = {
         "signing_time": signing_time, "query": hashlib.sha256(query).digest(), "digest": hashlib.sha256(reply).digest(),
         "octets": reply if whole else None}
-    if not connection.execute(update(REPLIES).where(REPLIES.c.publisher == number).values(**values)).rowcount:
-        connection.execute(insert(REPLIES).values(publisher=number, **values))
+    if not connection.execute(REPLIED, {"number": number, **values}).rowcount:
+        connection.execute(FIRST_REPLIED, {"publisher": number, **values})
