@@ -7,6 +7,7 @@ for. On SQLite those who write wait for each other; on PostgreSQL only those of 
 from __future__ import annotations
 
 import contextlib
+import threading
 from typing import Any, Iterator
 
 from sqlalchemy import create_engine, event
@@ -47,6 +48,7 @@ class Database:
         # A state as of one moment, whatever is committed meanwhile. SQLite's transactions have that in any case.
         self._reader = self.engine if self.is_sqlite else self.engine.execution_options(isolation_level="REPEATABLE READ")
         self._writer = self.engine.execution_options(**{WRITING: True})
+        self._turn = threading.Lock()
 
     def _engine(self) -> Engine:
         """The engine. What a query holds is in no error, and so in no log."""
@@ -66,8 +68,18 @@ class Database:
     @contextlib.contextmanager
     def writing(self) -> Iterator[Connection]:
         """A transaction that writes: all of it is done, or nothing. On SQLite it is the only one that does."""
-        with self._writer.connect() as connection, connection.begin():
+        with self._in_turn(), self._writer.connect() as connection, connection.begin():
             yield connection
+
+    @contextlib.contextmanager
+    def _in_turn(self) -> Iterator[None]:
+        """Has threads come one behind the other on SQLite, which has those who wait for each other ask again and again."""
+        held = self.is_sqlite and self._turn.acquire(timeout=SECONDS_TO_WAIT)
+        try:
+            yield
+        finally:
+            if held:
+                self._turn.release()
 
     @contextlib.contextmanager
     def reading(self) -> Iterator[Connection]:

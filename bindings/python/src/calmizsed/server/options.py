@@ -19,7 +19,7 @@ class Options:
     """How many connections there may be."""
     most: int = 32 << 20
     """How many octets a query may have."""
-    key_uses: int = 100
+    key_uses: int = 1000
     """How many replies a key for one use may sign, where no other is ready."""
     key_seconds: float = 60.0
     """And for how long."""
