@@ -5,19 +5,16 @@
                          [--processes N] [--key-uses N]
 
 It takes what `calmizsed serve` takes; PYTHON names another Python. A publisher signs at most one query for each second, and signs 500
-of them ahead, in the window for which messages are valid; so the queries are there before the clock runs. With --processes several servers
-run over one database, and a publisher has one of them. What signing alone allows is measured by the calls that a server makes for a reply,
-in as many processes and on as many threads; with `--key-uses 1` that is mostly to draw keys. The aims count on a machine that does nothing
-else. SQLite's file is in TMPDIR, and each commit waits for its disk."""
+of them ahead, in the window for which messages are valid; so the queries are there before the clock runs. What signing alone allows is
+measured by the calls that the server makes for a reply, in as many processes and on as many threads as it has; with `--key-uses 1` that is
+mostly to draw keys. The aims count on a machine that does nothing else. SQLite's file is in TMPDIR, and each commit waits for its disk."""
 from __future__ import annotations
 
 import argparse
 import hashlib
 import http.client
 import multiprocessing
-import os
 import pathlib
-import signal
 import socket
 import statistics
 import subprocess
@@ -55,24 +52,15 @@ class Measured(NamedTuple):
     times: list[float]
 
 
-def free_ports(count: int) -> list[int]:
-    """Ports that nobody listens at."""
-    held = [socket.socket() for _ in range(count)]
-    for one in held:
-        one.bind(("127.0.0.1", 0))
-    found = [int(one.getsockname()[1]) for one in held]
-    for one in held:
-        one.close()
-    return found
-
-
 class Bench:
     """A server in a folder, with publishers that have keys."""
 
     def __init__(self, folder: pathlib.Path, database: Optional[str], most: int, processes: int, uses: int) -> None:
         self.folder = folder
-        self.uses = uses
-        self.ports = free_ports(processes)
+        self.words = "--processes", str(processes), "--key-uses", str(uses)
+        with socket.socket() as one:
+            one.bind(("127.0.0.1", 0))
+            self.port = int(one.getsockname()[1])
         words = [
             "--url", "http://127.0.0.1", "--rsync-base", "rsync://localhost/repo/", "--rrdp-uri", "https://localhost/rrdp/"]
         self.command("init", *words, *([] if database is None else ["--database", database]))
@@ -83,34 +71,31 @@ class Bench:
             self.publishers = [
                 publishers.add(connection, "rsync://localhost/repo/", f"bench{number}", key.public_key, 0)
                 for number, key in enumerate(self.keys)]
-        self._processes: list[subprocess.Popen[bytes]] = []
+        self._process: Optional[subprocess.Popen[bytes]] = None
 
     def command(self, verb: str, *words: str) -> None:
         """Runs one of the server's commands."""
         subprocess.run([str(TOP / "calmizsed"), "serve", verb, "-q", "--data", str(self.folder), *words], check=True)
 
     def start(self) -> None:
-        """Starts the servers."""
-        for port in self.ports:
-            self._processes.append(subprocess.Popen(
-                [str(TOP / "calmizsed"), "serve", "run", "--data", str(self.folder), "--listen", f"127.0.0.1:{port}", "--most",
-                 str(1 << 28), "--key-uses", str(self.uses), "--no-worker"],
-                stdin=subprocess.DEVNULL, stdout=subprocess.DEVNULL, stderr=subprocess.DEVNULL, start_new_session=True))
-        for port in self.ports:
-            while True:
-                try:
-                    socket.create_connection(("127.0.0.1", port)).close()
-                    break
-                except ConnectionRefusedError:
-                    time.sleep(0.1)
+        """Starts the server."""
+        self._process = subprocess.Popen(
+            [str(TOP / "calmizsed"), "serve", "run", "--data", str(self.folder), "--listen", f"127.0.0.1:{self.port}", "--most",
+             str(1 << 28), "--no-worker", *self.words],
+            stdin=subprocess.DEVNULL, stdout=subprocess.DEVNULL, stderr=subprocess.DEVNULL, start_new_session=True)
+        while True:
+            try:
+                socket.create_connection(("127.0.0.1", self.port)).close()
+                return
+            except ConnectionRefusedError:
+                time.sleep(0.1)
 
     def stop(self) -> None:
-        """Ends the servers."""
-        for process in self._processes:
-            os.killpg(process.pid, signal.SIGTERM)
-        for process in self._processes:
-            process.wait()
-        self._processes = []
+        """Ends the server."""
+        if self._process is not None:
+            self._process.terminate()
+            self._process.wait()
+            self._process = None
 
     def hold(self, wanted: int) -> None:
         """Has the first publisher hold so many objects, and none know of a signing time."""
@@ -149,7 +134,7 @@ class Bench:
         end = time.perf_counter() + seconds
 
         def work(place: int) -> None:
-            connection = http.client.HTTPConnection("127.0.0.1", self.ports[place % len(self.ports)], timeout=SECONDS)
+            connection = http.client.HTTPConnection("127.0.0.1", self.port, timeout=SECONDS)
             path = f"/rfc8181/{self.publishers[place].word}"
             for query in all_queries[place]:
                 begin = time.perf_counter()

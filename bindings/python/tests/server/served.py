@@ -153,6 +153,25 @@ class Served:
         self._process = None
         return status
 
+    def below(self) -> dict[int, str]:
+        """The processes that it started, and what each was started as."""
+        assert self._process is not None
+        found = {}
+        for folder in pathlib.Path("/proc").iterdir():
+            try:
+                parent = int((folder / "stat").read_text("ascii", "replace").rpartition(")")[2].split()[1]) if folder.name.isdigit() else 0
+                if parent == self._process.pid:
+                    found[int(folder.name)] = (folder / "cmdline").read_text("utf-8", "replace")
+            except OSError:
+                continue  # it has ended meanwhile
+        return found
+
+    def kill_alone(self) -> None:
+        """Ends it at once, and none that it started."""
+        assert self._process is not None
+        self._process.kill()
+        self._process.wait()
+
     def memory(self) -> int:
         """How many octets of memory its process has in use."""
         assert self._process is not None

@@ -139,6 +139,8 @@ def _add_run(own: Any) -> None:
     usual = Options()
     add_option("--listen", type=address, default=(usual.host, usual.port), metavar="HOST:PORT", help="where it listens")
     add_option("--threads", type=count, default=usual.threads, metavar="N", help="how many queries are answered at once")
+    add_option("--processes", type=count, default=usual.processes, metavar="N",
+               help="how many processes answer queries, in place of the server's own")
     add_option("--connections", type=count, default=usual.connections, metavar="N", help="how many connections there may be")
     add_option("--most", type=octets, default=usual.most, metavar="OCTETS", help="how long a query may be")
     add_option("--key-uses", type=count, default=usual.key_uses, metavar="N",

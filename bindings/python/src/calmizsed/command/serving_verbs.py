@@ -174,8 +174,8 @@ def run(asked: argparse.Namespace) -> int:
     logs.begin(asked.log)
     host, port = asked.listen
     options = Options(
-        host=host, port=port, threads=asked.threads, connections=asked.connections, most=asked.most, key_uses=asked.key_uses,
-        key_seconds=asked.key_seconds, log=asked.log, worker=not asked.no_worker)
+        host=host, port=port, threads=asked.threads, processes=asked.processes, connections=asked.connections, most=asked.most,
+        key_uses=asked.key_uses, key_seconds=asked.key_seconds, log=asked.log, worker=not asked.no_worker)
     running.Running(running.opened(pathlib.Path(asked.data)), options).run()
     return 0
 

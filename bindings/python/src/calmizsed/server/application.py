@@ -7,12 +7,12 @@ import json
 import re
 import threading
 import time
-from typing import Any, Callable, Iterable, Iterator, Optional
+from typing import Any, Callable, Iterable, Iterator, Optional, Protocol
 
 from sqlalchemy.exc import DBAPIError, SQLAlchemyError
 
 from calmizsed.errors import CalmizsedError, TooLong
-from calmizsed.server.answering import Answer, Answering
+from calmizsed.server.answering import Answer
 from calmizsed.server.logs import LOG
 from calmizsed.server.metrics import CONTENT_TYPE as METRICS_TYPE
 from calmizsed.server.metrics import Metrics
@@ -29,6 +29,13 @@ REASONS = {
 
 Environment = dict[str, Any]
 StartResponse = Callable[[str, list[tuple[str, str]]], Any]
+
+
+class Answers(Protocol):
+    """What answers queries: `Answering`, or processes that do."""
+
+    def answer(self, word: str, octets: bytes) -> Optional[Answer]:
+        """The answer to a message that came at a path, or None where no publisher has the path."""
 
 
 class HttpError(Exception):
@@ -50,7 +57,7 @@ class Application:
     """The application. `status` says how the server is, as a value of JSON."""
 
     def __init__(
-            self, answering: Answering, metrics: Metrics, status: Callable[[], object], *, most: int = Options.most,
+            self, answering: Answers, metrics: Metrics, status: Callable[[], object], *, most: int = Options.most,
             threads: int = Options.threads) -> None:
         self.answering = answering
         self.metrics = metrics

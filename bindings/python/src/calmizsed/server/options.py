@@ -15,6 +15,8 @@ class Options:
     port: int = 8181
     threads: int = 8
     """How many queries are answered at once."""
+    processes: int = 1
+    """How many processes answer queries; one is the server's own."""
     connections: int = 12000
     """How many connections there may be."""
     most: int = 32 << 20

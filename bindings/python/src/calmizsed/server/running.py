@@ -20,6 +20,7 @@ from calmizsed.server.logs import LOG
 from calmizsed.server.metrics import Metrics
 from calmizsed.server.one_off import OneOffKeys
 from calmizsed.server.options import LINES, Options
+from calmizsed.server.processes import AnsweringApart
 from calmizsed.server.settings import Settings, SettingsError
 from calmizsed.server.worker import Pauses, Places
 
@@ -81,15 +82,21 @@ class Running:
         self.one_off = OneOffKeys(uses=options.key_uses, seconds=options.key_seconds)
         self.database = server.database
         self.worker = worker_of(server, options.log) if options.worker else None
+        self.apart = None if options.processes == 1 else AnsweringApart(
+            server.machine, server.folder.resolve(), options.processes, options.key_uses, options.key_seconds)
         self.application = Application(
-            Answering(server.database, signer, self.one_off), self.metrics, self.status, most=options.most,
+            self.apart or Answering(server.database, signer, self.one_off), self.metrics, self.status, most=options.most,
             threads=options.threads)
         self._watch()
 
     def _watch(self) -> None:
         """What the metrics ask for."""
         watch = self.metrics.watch
-        watch("one_off_keys_ready", "Keys for one use that are ready", lambda: self.one_off.ready)
+        if self.apart is None:
+            watch("one_off_keys_ready", "Keys for one use that are ready", lambda: self.one_off.ready)
+        else:
+            apart = self.apart
+            watch("answering_starts", "How often the processes that answer were started", lambda: apart.starts)
         if self.worker is not None:
             self._watch_worker(self.worker)
 
@@ -106,7 +113,8 @@ class Running:
         """How the server is."""
         found = status_of(self.database)
         found["process"] = {
-            "one_off_keys_ready": self.one_off.ready, "worker": None if self.worker is None else asdict(self.worker.progress)}
+            "processes": self.options.processes, "one_off_keys_ready": self.one_off.ready if self.apart is None else None,
+            "worker": None if self.worker is None else asdict(self.worker.progress)}
         return found
 
     def run(self) -> None:
@@ -119,7 +127,8 @@ class Running:
                 self.application, options.host, options.port, options.threads, options.connections, options.most)
         except OSError as error:
             raise SettingsError("NoAddress", 1, f"{options.host}:{options.port}: {error.strerror}") from None
-        self.one_off.start()
+        if self.apart is None:
+            self.one_off.start()
         if self.worker is not None:
             self.worker.start()
         LOG.info("listening at http://%s:%s", options.host, server.effective_port)
@@ -132,6 +141,8 @@ class Running:
         """Ends the threads."""
         self.stop.set()
         self.one_off.stop()
+        if self.apart is not None:
+            self.apart.stop()
         if self.worker is not None:
             self.worker.stop()
         try:
