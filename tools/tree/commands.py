@@ -12,11 +12,12 @@ A block of code that is marked `sh` is one of two kinds:
 
 A command goes on in the next line where its line ends in a backslash, `&&` or `|`.
 
-The commands of a document run one after the other, in a folder of their own that has `examples/`, `tools/` and the programs, so what one
-writes the next may read, and nothing is left in the tree. Programs are tried without proofs (`RPKI_UNPROVED=1`; tools/run/trial.py), or
-are those of DIR, as DIR/rpkica or DIR/rpkica/out/rpkica; `./calmizsed` needs what `make` makes in out/c, or the shared object that
-CALMIZSED_LIBRARY names, and Python's package `cryptography`. A command that needs what is not there is skipped, and so are those that prove
-something, and those that read what a skipped one would have written. `--list` shows all commands, and runs none.
+The commands of a document run one after the other, in a folder of their own that has `examples/`, `tools/`, `bindings/`, `include/`,
+`out/c/` and the programs, so what one writes the next may read, and nothing is left in the tree. Programs are tried without proofs
+(`RPKI_UNPROVED=1`; tools/run/trial.py), or are those of DIR, as DIR/rpkica or DIR/rpkica/out/rpkica. `out/c/` is what `make` makes, or
+where the shared object lies that CALMIZSED_LIBRARY names; `./calmizsed` needs it, and Python's package `cryptography`. A command that needs
+what is not there is skipped, and so are those that prove something, and those that read what a skipped one would have written. `--list`
+shows all commands, and runs none.
 
 A line is written for each command, and the last line counts them. The exit status is 1 where one differs, 2 where the words are wrong, or
 else 0."""
@@ -40,6 +41,7 @@ TOP = pathlib.Path(__file__).resolve().parents[2]
 PROGRAMS = ("rpkica", "rpkiguard", "rpkiarch", "rpkipub", "rpkiup", "rpkikeys")
 LIBRARY = pathlib.Path(os.environ.get("CALMIZSED_LIBRARY") or TOP / "out" / "c" / "libcalmizsed.so.0")
 SECONDS = 1200
+NO_LIBRARY = "make has made no library in out/c"
 LEFT_OUT = "..."
 BLOCK = re.compile(r"^( *)```sh\n(.*?)^\1```$", re.MULTILINE | re.DOTALL)
 STATUS = re.compile(r"\[(\d+)\]")
@@ -48,7 +50,7 @@ BEGINS = r"(?:do|then|while|if)\b"
 NAME = re.compile(rf"(?:^|[|;&(']|\b{BEGINS})\s*((?:[A-Z_]+=\S+\s+)*)(?!{BEGINS})([\w./][\w./-]*)", re.MULTILINE)
 # Words of the shell that no file stands for.
 SHELL = {"read", "done", "cd", "export", "fi"}
-WRITTEN = re.compile(r"(?:>|-out)\s*([\w.-]+)")
+WRITTEN = re.compile(r"(?:>|\s-o(?:ut)?\s)\s*([\w.-]+)")
 OF_TRIAL = re.compile(r"\w+: a trial: ")
 # What is not run, and why.
 PROVES = {"rt": "it proves", "make": "it proves", "tools/proofs/answers.py": "it writes proofs", "tools/run/build_crates.py": "it proves"}
@@ -147,8 +149,10 @@ class Runner:
         self.folder = folder
         self.programs = programs
         self.missing: set[str] = set()  # files that a skipped command would have written
-        for name in ("examples", "tools", "calmizsed"):
+        for name in ("examples", "tools", "calmizsed", "bindings", "include"):
             (folder / name).symlink_to(TOP / name)
+        (folder / "out").mkdir()
+        (folder / "out" / "c").symlink_to(LIBRARY.parent)
         for name in PROGRAMS:
             there = self.program(name)
             if there is not None:
@@ -173,7 +177,7 @@ class Runner:
             return PROVES[name]
         if name == "./calmizsed":
             if not LIBRARY.exists():
-                return "make has made no library in out/c"
+                return NO_LIBRARY
             return None if importlib.util.find_spec("cryptography") else "there is no python3-cryptography"
         program = name.removeprefix("./")
         if program in PROGRAMS:
@@ -186,13 +190,16 @@ class Runner:
 
     def reason(self, command: Command) -> Optional[str]:
         """Why a command is skipped, if it is."""
+        made = set(WRITTEN.findall(command.text))
         for name in names_in(command.text):
-            why = self.lacks(name)
+            why = None if name.removeprefix("./") in made else self.lacks(name)
             if why is not None:
                 return why
+        if "out/c/" in command.text and not LIBRARY.exists():
+            return NO_LIBRARY
         if self.programs is not None and "RPKI_UNPROVED" in command.text:
             return "it is a trial"
-        read = set(re.findall(r"[\w.-]+", WRITTEN.sub("", command.text))) - set(WRITTEN.findall(command.text))
+        read = set(re.findall(r"[\w.-]+", WRITTEN.sub("", command.text))) - made
         lost = sorted(self.missing & read)
         return f"{lost[0]} comes of a command that was skipped" if lost else None
 

@@ -148,6 +148,13 @@ class Running(unittest.TestCase):
             self.assertIn("there is no python3-cryptography", self.last(block("$ ./calmizsed --version\n...")))
         self.assertIn("it proves", self.last(block("make && cc -o a a.c\n./a")))
 
+    def test_program_that_the_command_makes(self) -> None:
+        made = "printf '#!/bin/sh\\necho made' > one && chmod +x one && ./one"
+        self.assertEqual(0, self.run_of(block(f"$ {made}\nmade"))[0])
+        with mock.patch("commands.LIBRARY", self.programs / "none"):
+            compiled = "$ cc -o one one.c out/c/libcalmizsed.a && ./one\n...\n$ ./one\n..."
+            self.assertIn("2 skipped (1: make has made no library in out/c; 1: there is no ./one)", self.last(block(compiled)))
+
     def test_trial_needs_rt(self) -> None:
         self.assertIn("it is a trial", self.last(block("$ RPKI_UNPROVED=1 ./rpkica content\n...")))
         out = io.StringIO()
