@@ -15,9 +15,9 @@ A command goes on in the next line where its line ends in a backslash, `&&` or `
 The commands of a document run one after the other, in a folder of their own that has `examples/`, `tools/`, `bindings/`, `include/`,
 `out/c/` and the programs, so what one writes the next may read, and nothing is left in the tree. Programs are tried without proofs
 (`RPKI_UNPROVED=1`; tools/run/trial.py), or are those of DIR, as DIR/rpkica or DIR/rpkica/out/rpkica. `out/c/` is what `make` makes, or
-where the shared object lies that CALMIZSED_LIBRARY names; `./calmizsed` needs it, and Python's package `cryptography`. A command that needs
-what is not there is skipped, and so are those that prove something, and those that read what a skipped one would have written. `--list`
-shows all commands, and runs none.
+where the shared object lies that CALMIZSED_LIBRARY names; `./calmizsed` needs it, and packages of the Python that runs this script. A
+command that needs what is not there is skipped, and so are those that prove something, and those that read what a skipped one would have
+written. `--list` shows all commands, and runs none.
 
 A line is written for each command, and the last line counts them. The exit status is 1 where one differs, 2 where the words are wrong, or
 else 0."""
@@ -142,6 +142,14 @@ def names_in(text: str) -> list[str]:
     return found + [name for name in re.findall(r"\s(\./[\w-]+)", whole) if name not in found]
 
 
+def without(*packages: str) -> Optional[str]:
+    """Says which of these packages of Python is not there, if one isn't, by the name that Debian has for it."""
+    for name in packages:
+        if not importlib.util.find_spec(name):
+            return f"there is no python3-{name.replace('_', '-')}"
+    return None
+
+
 class Runner:
     """Runs the commands of one document."""
 
@@ -157,7 +165,7 @@ class Runner:
             there = self.program(name)
             if there is not None:
                 (folder / name).symlink_to(there)
-        self.environment = dict(os.environ, LC_ALL="C.UTF-8")
+        self.environment = dict(os.environ, LC_ALL="C.UTF-8", PYTHON=sys.executable)
         self.environment.pop("RPKI_UNPROVED", None)
         if programs is None:
             self.environment["RPKI_UNPROVED"] = "1"
@@ -178,7 +186,7 @@ class Runner:
         if name == "./calmizsed":
             if not LIBRARY.exists():
                 return NO_LIBRARY
-            return None if importlib.util.find_spec("cryptography") else "there is no python3-cryptography"
+            return without("cryptography")
         program = name.removeprefix("./")
         if program in PROGRAMS:
             if self.programs is None:
@@ -197,6 +205,8 @@ class Runner:
                 return why
         if "out/c/" in command.text and not LIBRARY.exists():
             return NO_LIBRARY
+        if "./calmizsed serve" in command.text and (why := without("sqlalchemy", "waitress", "prometheus_client")):
+            return why
         if self.programs is not None and "RPKI_UNPROVED" in command.text:
             return "it is a trial"
         read = set(re.findall(r"[\w.-]+", WRITTEN.sub("", command.text))) - made
