@@ -37,6 +37,7 @@ KILLS = int(os.environ.get("CALMIZSED_KILLS", "5"))
 CONNECTIONS = int(os.environ.get("CALMIZSED_CONNECTIONS", "1500"))
 BROKEN = int(os.environ.get("CALMIZSED_BROKEN", "200"))
 PAIRS = 3
+AHEAD = 200.0  # seconds that a publisher's signing times may be ahead of the clock; a message of 300 seconds ahead isn't valid yet
 
 
 def digest(octets: bytes) -> bytes:
@@ -94,10 +95,13 @@ class Model:
         self.acknowledged, self.doubtful = listed, None
 
     def work(self, stop: threading.Event, faults: list[BaseException]) -> None:
-        """Sends queries until the server goes away, or until it is told to stop."""
+        """Sends queries until the server goes away, or until it is told to stop. Each is signed a second later than the one before."""
         try:
             while not stop.is_set():
-                self.step()
+                if self.sender.last > time.time() + AHEAD:
+                    stop.wait(0.05)
+                else:
+                    self.step()
         except (OSError, http.client.HTTPException):
             pass
         except BaseException as error:
@@ -114,14 +118,16 @@ def test_killed_under_load(tmp_path: pathlib.Path) -> None:
     """Each acknowledged change is there, none is half there, and RRDP's serial numbers never go back."""
     served = Served(tmp_path, "--pause", "0.05", "--tree-pause", "0.05")
     chance = random.Random(20260)
-    models = [Model(served.add(handle), random.Random(handle)) for handle in ("carol", "dave")]
+    handles = [f"publisher{number}" for number in range(2 * (1 + KILLS // 10))]
+    models = [Model(served.add(handle), random.Random(handle)) for handle in handles]
     party = Party(served.data / "rrdp")
     faults: list[BaseException] = []
     try:
-        for _ in range(KILLS):
+        for turn in range(KILLS):
             served.start("--threads", 4)
             stop = threading.Event()
-            threads = [threading.Thread(target=model.work, args=(stop, faults)) for model in models]
+            first = 2 * turn % len(models)  # two at once, in turn: none runs far ahead of the clock
+            threads = [threading.Thread(target=model.work, args=(stop, faults)) for model in models[first:first + 2]]
             for thread in threads:
                 thread.start()
             before, end = sum(model.taken for model in models), time.monotonic() + SECONDS
