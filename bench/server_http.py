@@ -5,9 +5,10 @@
                          [--processes N] [--key-uses N]
 
 It takes what `calmizsed serve` takes; PYTHON names another Python. A publisher signs at most one query for each second, and signs 500
-of them ahead, in the window for which messages are valid; so the queries are there before the clock runs. What signing alone allows is
-measured by the calls that the server makes for a reply, in as many processes and on as many threads as it has; with `--key-uses 1` that is
-mostly to draw keys. The aims count on a machine that does nothing else. SQLite's file is in TMPDIR, and each commit waits for its disk."""
+of them ahead, in the window for which messages are valid; so the queries are there before the clock runs, no reply is held back for the
+next one (`--hold 0`), and no files are written for relying parties (`--no-worker`). What signing alone allows is measured by the calls that
+the server makes for a reply, in as many processes and on as many threads as it has; with `--key-uses 1` that is mostly to draw keys. The
+aims count on a machine that does nothing else. SQLite's file is in TMPDIR, and each commit waits for its disk."""
 from __future__ import annotations
 
 import argparse
@@ -33,7 +34,7 @@ import calmizsed  # noqa: E402
 from calmizsed import Kind, keys, publication  # noqa: E402
 from calmizsed._values import moment_of  # noqa: E402
 from calmizsed.server import publishers, running, tables  # noqa: E402
-from calmizsed.server.answering import Remembering, success_text  # noqa: E402
+from calmizsed.server.answering import Remembering  # noqa: E402
 from calmizsed.server.one_off import OneOffKeys  # noqa: E402
 from calmizsed.server.options import Options  # noqa: E402
 
@@ -81,7 +82,7 @@ class Bench:
         """Starts the server."""
         self._process = subprocess.Popen(
             [str(TOP / "calmizsed"), "serve", "run", "--data", str(self.folder), "--listen", f"127.0.0.1:{self.port}", "--most",
-             str(1 << 28), "--no-worker", *self.words],
+             str(1 << 28), "--hold", "0", "--no-worker", *self.words],
             stdin=subprocess.DEVNULL, stdout=subprocess.DEVNULL, stderr=subprocess.DEVNULL, start_new_session=True)
         while True:
             try:
@@ -166,11 +167,11 @@ def signing_alone(seconds: float, uses: int) -> float:
     """Replies a second that are signed, as the server signs them, where there is nothing else to do."""
     signer, one_off = Remembering(keys.PrivateKey.generate()), OneOffKeys(uses=uses)
     one_off.take()  # the first one is drawn before the clock runs
-    end, made = time.perf_counter() + seconds, [0] * Options.threads
+    end, made, text = time.perf_counter() + seconds, [0] * Options.threads, publication.SuccessReply().to_xml()
 
     def work(place: int) -> None:
         while time.perf_counter() < end:
-            calmizsed.create(Kind.PUBLICATION, success_text(), signer, calmizsed.now(), one_off_key=one_off.take())
+            calmizsed.create(Kind.PUBLICATION, text, signer, calmizsed.now(), one_off_key=one_off.take())
             made[place] += 1
 
     threads = [threading.Thread(target=work, args=(place,)) for place in range(len(made))]

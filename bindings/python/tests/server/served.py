@@ -117,11 +117,12 @@ class Served:
         response = setup.RepositoryResponse.from_xml(done("serve", "add", "--data", self.data, request))
         return Sender(response, calmizsed.files.load_private_key(key.read_bytes()), address)
 
-    def start(self, *words: object) -> None:
-        """Starts it, and waits until it answers."""
+    def start(self, *words: object, hold: float = 0.0) -> None:
+        """Starts it, and waits until it answers. Publishers of tests sign each message a second later than the last one by themselves."""
         log = open(self.folder / "log", "ab")
         self._process = subprocess.Popen(
-            [str(LAUNCHER), "serve", "run", "--data", str(self.data), "--listen", f"127.0.0.1:{self.port}", *map(str, words)],
+            [str(LAUNCHER), "serve", "run", "--data", str(self.data), "--listen", f"127.0.0.1:{self.port}", "--hold", str(hold),
+             *map(str, words)],
             stderr=log, stdin=subprocess.DEVNULL, start_new_session=True, env={**os.environ, "PYTHON": sys.executable})
         log.close()
         end = time.monotonic() + SECONDS

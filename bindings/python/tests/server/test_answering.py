@@ -4,19 +4,21 @@ from __future__ import annotations
 
 import hashlib
 import pathlib
+import threading
 import time
-from typing import Iterator, Optional, Union
+from typing import Callable, Iterator, Optional, Union
 
 import pytest
 from served import RSYNC_BASE, codes
 from sqlalchemy import select
+from sqlalchemy.engine import Connection
 
 import calmizsed
 from calmizsed import Kind, keys, publication
 from calmizsed._values import moment_of
 from calmizsed.errors import SigningError
 from calmizsed.publication import ChangeQuery, ListQuery, ListReply, Message, Publish, SuccessReply, Withdraw
-from calmizsed.server import objects, publishers, tables
+from calmizsed.server import answering, objects, publishers, tables
 from calmizsed.server.answering import Answer, Answering
 from calmizsed.server.database import Database
 from calmizsed.server.one_off import OneOffKeys
@@ -217,20 +219,75 @@ def test_a_failure_before_the_commit(talk: Talk, monkeypatch: pytest.MonkeyPatch
     assert talk.send(query)[0] == SuccessReply()
 
 
+def between(talk: Talk, monkeypatch: pytest.MonkeyPatch, act: Callable[[], object]) -> None:
+    """Has something happen once, when the next reply is made and there is no lock yet."""
+    reply = talk.answering._reply
+
+    def made(publisher: publishers.Publisher, octets: bytes, *under_lock: Connection) -> object:
+        found = reply(publisher, octets, *under_lock)
+        monkeypatch.setattr(talk.answering, "_reply", reply)
+        act()
+        return found
+
+    monkeypatch.setattr(talk.answering, "_reply", made)
+
+
 def test_two_at_once(talk: Talk, monkeypatch: pytest.MonkeyPatch) -> None:
     """Of one message that is read twice before either is answered, one is taken: under the lock the library judges once more."""
     query = talk.signed(ChangeQuery((Publish(URI, b"one"),)))
-    read = talk.answering._read
-
-    def between(publisher: publishers.Publisher, octets: bytes) -> object:
-        found = read(publisher, octets)
-        monkeypatch.setattr(talk.answering, "_read", read)
-        assert talk.send(query)[0] == SuccessReply()
-        return found
-
-    monkeypatch.setattr(talk.answering, "_read", between)
+    between(talk, monkeypatch, lambda: talk.send(query))
     assert codes(talk.send(query)[0]) == ["other_error"]
     assert len(talk.log()) == 1
+
+
+def test_another_query_between(talk: Talk, monkeypatch: pytest.MonkeyPatch) -> None:
+    """A reply that was made before another query of the publisher was answered isn't the answer: it is made by what is there then."""
+    before = talk.signed(ChangeQuery((Publish(URI, b"one"),)))
+    talk.moment += 1
+    between(talk, monkeypatch, lambda: talk.send(before))
+    assert codes(talk.send(talk.signed(ChangeQuery((Publish(URI, b"two"),))))[0]) == ["object_already_present"]
+    talk.moment += 1
+    before = talk.signed(ChangeQuery((Withdraw(URI, digest(b"one")),)))
+    talk.moment += 1
+    between(talk, monkeypatch, lambda: talk.send(before))
+    assert talk.send(talk.signed(ListQuery()))[0] == ListReply(())
+    assert len(talk.log()) == 2
+
+
+def test_removed_and_added_between(talk: Talk, monkeypatch: pytest.MonkeyPatch) -> None:
+    """A publisher that was removed and added again, within a second too, has no objects: no reply is of those before."""
+    assert talk.ask(ChangeQuery((Publish(URI, b"one"),))) == SuccessReply()
+
+    def act() -> None:
+        with talk.database.writing() as connection:
+            publishers.remove(connection, "carol", NOW)
+            publishers.add(connection, RSYNC_BASE, "carol", CAROL.public_key, NOW)
+
+    talk.moment += 1
+    between(talk, monkeypatch, act)
+    reply = talk.send(talk.signed(ChangeQuery((Publish(URI, b"two", digest(b"one")),))))[0]
+    assert codes(reply) == ["no_object_present"]
+    assert len(talk.log()) == 2
+
+
+def test_long_lists(talk: Talk, monkeypatch: pytest.MonkeyPatch) -> None:
+    """A long list is whole, and is written while no other long one is."""
+    monkeypatch.setattr(answering, "LONG_LIST", 2)
+    changes = [Publish(f"{RSYNC_BASE}carol/{number}", b"octets") for number in range(3)]
+    objects_of = [publication.ListedObject(change.uri, digest(change.content)) for change in changes]
+    assert talk.change(*changes[:2]) == SuccessReply()
+    with talk.answering._long_list:
+        assert talk.ask(ListQuery()) == ListReply(tuple(objects_of[:2]))
+    assert talk.change(*changes[2:]) == SuccessReply()
+    assert talk.ask(ListQuery()) == ListReply(tuple(objects_of))
+    talk.answering._long_list.acquire()
+    thread = threading.Thread(target=talk.ask, args=(ListQuery(),))
+    thread.start()
+    thread.join(0.3)
+    assert thread.is_alive()
+    talk.answering._long_list.release()
+    thread.join(60.0)
+    assert not thread.is_alive()
 
 
 def test_words_of_handles() -> None:

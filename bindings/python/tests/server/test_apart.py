@@ -2,13 +2,14 @@
 
 from __future__ import annotations
 
+import errno
 import os
 import pathlib
 import signal
 import subprocess
 import sys
 import time
-from typing import Callable
+from typing import Any, Callable
 
 import pytest
 from sqlalchemy import select
@@ -81,6 +82,27 @@ def test_starts_again(repository: Repository, monkeypatch: pytest.MonkeyPatch) -
         repository.change(1, {A: b"1"})
         wait_for(lambda: worker.progress.serial == 2)
         assert worker.starts == 2
+    finally:
+        worker.stop()
+
+
+def test_no_room_for_a_process(repository: Repository, monkeypatch: pytest.MonkeyPatch) -> None:
+    """Where no process can be started, one is later."""
+    monkeypatch.setattr("calmizsed.server.apart.SECONDS_BETWEEN", 0.1)
+    popen, refused = subprocess.Popen, list[int]()
+
+    def begin(*words: Any, **more: Any) -> Any:
+        if len(refused) < 2:
+            refused.append(1)
+            raise OSError(errno.EAGAIN, "no room")
+        return popen(*words, **more)
+
+    monkeypatch.setattr("calmizsed.server.apart.subprocess.Popen", begin)
+    worker = WorkerApart(repository.address, repository.places, PAUSES)
+    worker.start()
+    try:
+        wait_for(lambda: worker.progress.serial == 1)
+        assert worker.starts == 3
     finally:
         worker.stop()
 

@@ -33,7 +33,7 @@ def talk(tmp_path: pathlib.Path) -> Iterator[Talk]:
 @pytest.fixture
 def application(talk: Talk) -> Application:
     """Its application, which takes queries of up to 3,000,000 octets."""
-    return Application(talk.answering, Metrics(), lambda: {"state": "fine"}, most=3_000_000)
+    return Application(talk.answering, Metrics(), lambda: {"state": "fine"}, most=3_000_000, hold=0.0)
 
 
 def test_a_query(talk: Talk, application: Application) -> None:
@@ -80,6 +80,22 @@ def test_lengths(talk: Talk, application: Application) -> None:
     assert request(application, CAROL, query).code == 200
 
 
+def test_replies_wait(talk: Talk, application: Application) -> None:
+    """A reply waits until a second after its query came, if the message was taken; others need not."""
+    waits: list[float] = []
+    patient = Application(talk.answering, Metrics(), dict, hold=1.0)
+    query = talk.signed(ListQuery())
+    for octets in (query, query, b"\x30\x03abc"):
+        assert request(patient, CAROL, octets, hold=waits.append).code == 200
+    talk.moment += 1
+    others = Publish("rsync://localhost/repo/dave/a", b"")
+    assert request(patient, CAROL, talk.signed(ChangeQuery((others,))), hold=waits.append).code == 200
+    assert len(waits) == 2 and all(0.0 < seconds <= 1.0 for seconds in waits)
+    talk.moment += 1
+    assert request(application, CAROL, talk.signed(ListQuery()), hold=waits.append).code == 200
+    assert len(waits) == 2
+
+
 def test_large_queries(talk: Talk, application: Application) -> None:
     """A large query is taken too, and what comes behind it."""
     for number in range(3):
@@ -96,7 +112,7 @@ def test_large_queries_at_once(talk: Talk, application: Application, monkeypatch
         begun.wait(60.0)
         go_on.wait(60.0)
 
-    body, slow = bytes(1_500_000), Application(talk.answering, Metrics(), dict, threads=4)
+    body, slow = bytes(1_500_000), Application(talk.answering, Metrics(), dict, threads=4, hold=0.0)
     with monkeypatch.context() as patched:
         patched.setattr(talk.answering, "answer", waits)
         threads = [threading.Thread(target=request, args=(slow, CAROL, body)) for _ in range(2)]

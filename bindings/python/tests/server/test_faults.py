@@ -37,6 +37,7 @@ KILLS = int(os.environ.get("CALMIZSED_KILLS", "5"))
 CONNECTIONS = int(os.environ.get("CALMIZSED_CONNECTIONS", "1500"))
 BROKEN = int(os.environ.get("CALMIZSED_BROKEN", "200"))
 PAIRS = 3
+PART = 20_000  # octets of a query that never comes whole
 AHEAD = 200.0  # seconds that a publisher's signing times may be ahead of the clock; a message of 300 seconds ahead isn't valid yet
 
 
@@ -222,7 +223,7 @@ def test_many_connections(served: Served, carol: Sender) -> None:
         for place in range(number):
             one = stack.enter_context(socket.create_connection(("127.0.0.1", served.port), SECONDS))
             if place % 2:
-                one.sendall(head(carol, "Content-Length: 1000") + b"\x30")
+                one.sendall(head(carol, "Content-Length: 1000000") + bytes(PART))
         begin = time.monotonic()
         assert carol.listed() == {}
         assert time.monotonic() - begin < SECONDS

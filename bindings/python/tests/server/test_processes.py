@@ -114,6 +114,45 @@ def test_a_process_that_ends(served: Served) -> None:
     assert not set(before) & set(answering(served))
 
 
+def test_one_that_ends(served: Served) -> None:
+    """Where one of them is killed while it has nothing to do, the others end too, and queries are answered by new ones."""
+    carol = served.add("carol")
+    for _ in range(4):
+        carol.listed()
+    wait_for(lambda: len(answering(served)) == 2)
+    before = answering(served)
+    os.kill(before[0], signal.SIGKILL)
+    wait_for(lambda: is_gone(before[0]))
+    codes = {carol.post(carol.signed(ListQuery()))[0] for _ in range(5)}
+    assert 200 in codes and codes <= {200, 503}
+    wait_for(lambda: all(map(is_gone, before)))
+    assert carol.listed() == {}
+    assert served.stop() == 0
+
+
+def test_ends_after_one_has_ended(served: Served) -> None:
+    """Where one of them was killed and no query came since, the server ends when it is told to."""
+    carol = served.add("carol")
+    carol.listed()
+    before = answering(served)
+    os.kill(before[0], signal.SIGKILL)
+    wait_for(lambda: is_gone(before[0]))
+    assert served.stop() == 0
+    wait_for(lambda: all(map(is_gone, before)))
+
+
+def test_told_to_end(served: Served) -> None:
+    """A service manager tells all processes at once: what comes before they have ended is answered still."""
+    carol = served.add("carol")
+    carol.listed()
+    before = answering(served)
+    for pid in before:
+        os.kill(pid, signal.SIGTERM)
+    assert carol.listed() == {}
+    assert served.stop() == 0
+    wait_for(lambda: all(map(is_gone, before)))
+
+
 def test_ends(served: Served) -> None:
     """They end with the server, where it is ended and where it is killed."""
     carol = served.add("carol")

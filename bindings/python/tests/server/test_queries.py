@@ -8,6 +8,7 @@ import socket
 import stat
 import subprocess
 import threading
+import time
 from typing import Iterator
 
 import pytest
@@ -15,7 +16,7 @@ from launcher import run
 from served import SECONDS, TYPE, Sender, Served, codes, done
 from support import openssl
 
-from calmizsed.publication import ListQuery, ListReply, Publish, SuccessReply, Withdraw
+from calmizsed.publication import ChangeQuery, ListQuery, ListReply, Publish, SuccessReply, Withdraw
 
 
 @pytest.fixture(scope="module")
@@ -127,6 +128,31 @@ def test_set_up_again(served: Served) -> None:
     assert wrong.status == 2
     key = run(*words, "--url", served.url, "--rsync-base", "rsync://localhost/repo/", "--key", str(served.folder / "carol.pem"))
     assert key.status == 2 and "OtherServer" in key.said
+
+
+def test_addresses(tmp_path: pathlib.Path) -> None:
+    """Publishers are told of a notification by https alone (RFC 8182, 3.2); a server may be reached by http."""
+    words = ["serve", "init", "--data", str(tmp_path / "data"), "--rsync-base", "rsync://localhost/repo/"]
+    for url, rrdp_uri in (
+            ("http://localhost", "http://localhost/rrdp/"), ("ftp://localhost", "https://localhost/rrdp/"),
+            ("http://localhost/?a", "https://localhost/rrdp/"), ("http://localhost", "https://localhost/rrdp")):
+        ended = run(*words, "--url", url, "--rrdp-uri", rrdp_uri)
+        assert ended.status == 2 and "WrongUrl" in ended.said
+    assert not (tmp_path / "data" / "server.json").exists()
+
+
+def test_a_client_that_goes_on_at_once(tmp_path: pathlib.Path) -> None:
+    """One that asks for the list and then sends its changes at once, each signed when it is sent, has both taken."""
+    served = Served(tmp_path)
+    carol = served.add("carol")
+    served.start("--no-worker", hold=1.0)
+    try:
+        for number in range(3):
+            assert isinstance(carol.send(carol.signed(ListQuery(), int(time.time()))), ListReply)
+            query = ChangeQuery((Publish(f"{carol.base}{number}", b"octets"),))
+            assert carol.send(carol.signed(query, int(time.time()))) == SuccessReply()
+    finally:
+        served.kill()
 
 
 def test_no_server(tmp_path: pathlib.Path) -> None:

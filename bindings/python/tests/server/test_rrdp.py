@@ -7,6 +7,8 @@ import hashlib
 import pathlib
 import shutil
 import subprocess
+import threading
+import time
 from xml.etree import ElementTree
 
 import pytest
@@ -81,7 +83,7 @@ def test_notification(files: Files) -> None:
         (SPACE + "snapshot", {"uri": BASE + state.snapshot.name, "hash": state.snapshot.digest.hex()}),
         *((SPACE + "delta", {"serial": str(one.serial), "uri": BASE + one.name, "hash": one.digest.hex()}) for one in reversed(deltas))]
     assert is_valid(path) and path.stat().st_mode & 0o777 == 0o644
-    assert sorted(one.name for one in files.folder.iterdir()) == [SESSION, "notification.xml"]
+    assert sorted(one.name for one in files.folder.iterdir()) == [".lock", SESSION, "notification.xml"]
 
 
 @needs_xmllint
@@ -126,6 +128,31 @@ def test_offered() -> None:
     assert offered(deltas, written(9, 9)) == ()
     assert offered(deltas, written(10, 1000)) == ()  # the snapshot's own delta is missing
     assert offered([], written(1, 1)) == ()
+    many = [written(serial, 1) for serial in range(1, 1000)]
+    assert [one.serial for one in offered(many, written(999, 1000))] == list(range(1000 - rrdp.MOST_DELTAS, 1000))
+
+
+def test_what_was_never_whole(files: Files) -> None:
+    """What a worker left that was killed while it wrote a notification goes; one at a time is here."""
+    left = files.folder / ".notification.xml-0123456789abcdef"
+    left.write_bytes(b"<notif")
+    files.prepare()
+    assert not left.exists()
+    begun, times = threading.Event(), list[float]()
+
+    def hold() -> None:
+        with Files(files.folder).locked():
+            begun.set()
+            time.sleep(0.3)
+            times.append(time.monotonic())
+
+    thread = threading.Thread(target=hold)
+    thread.start()
+    assert begun.wait(60.0)
+    with files.locked():
+        times.append(time.monotonic())
+    thread.join()
+    assert len(times) == 2 and times == sorted(times)
 
 
 def test_dropped(files: Files) -> None:

@@ -81,7 +81,7 @@ def test_run(run: Run, tmp_path: pathlib.Path) -> None:
     answering = Answering(
         database, ToySigner(other_key(run.key, 2)), OneOffKeys(uses=100, draw=lambda: ToySigner(other_key(run.key, 4))),
         verifier=toy_verifier, clock=lambda: moment_of(run.moment))
-    application = Application(answering, Metrics(), dict)
+    application = Application(answering, Metrics(), dict, hold=0.0)
     answered = 0
     with over_http(application) as post:
         for query, wanted in zip(run.queries, run.replies):

@@ -44,7 +44,7 @@ class Built:
     def __init__(self, folder: pathlib.Path) -> None:
         self.left_out: list[str] = []
         self.tree = Tree(folder, BASE, self.leave_out)
-        self.tree.prepare()
+        self.tree.prepare(self.tree.store.paths())
 
     def leave_out(self, error: NoPlace) -> None:
         """Is told of an object that has no place."""

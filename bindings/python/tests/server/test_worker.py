@@ -10,14 +10,17 @@ import secrets
 import shutil
 import threading
 import time
+from typing import Any, Iterable
 
 import pytest
 from sqlalchemy import func, select, update
+from sqlalchemy.engine import Connection
 from test_rrdp import is_valid, needs_xmllint
 from test_tree import files_in
 from working import RSYNC_BASE, Party, Repository
 
-from calmizsed.server import session, tables
+from calmizsed.server import session, tables, tree
+from calmizsed.server.rrdp import Files, State
 from calmizsed.server.session import LeaseLost, Seen
 from calmizsed.server.worker import Pauses
 
@@ -267,3 +270,94 @@ def test_late_commit(repository: Repository) -> None:
     worker.turn()
     party.fetch()
     assert party.objects == repository.objects() and (party.serial, waiting(repository)) == (3, 0)
+
+
+def test_no_query_waits_for_a_notification(repository: Repository, monkeypatch: pytest.MonkeyPatch) -> None:
+    """While the notification is written, which waits for the disk, changes are made."""
+    worker, write = repository.worker(), Files.write_notification
+
+    def slow(files: Files, base: str, state: State) -> None:
+        thread = threading.Thread(target=repository.change, args=(1, {A: bytes([state.snapshot.serial])}))
+        thread.start()
+        thread.join(20.0)
+        assert not thread.is_alive()
+        write(files, base, state)
+
+    monkeypatch.setattr(Files, "write_notification", slow)
+    for _ in range(3):
+        worker.turn()
+    party = Party(repository.folder / "rrdp")
+    party.fetch()
+    assert party.serial == 3 and repository.objects() == {A: b"\3"}
+
+
+def test_all_is_forgotten(repository: Repository) -> None:
+    """However many changes no delta has that is offered: they go at once, some in each transaction."""
+    worker = repository.worker()
+    repository.change(1, {f"{RSYNC_BASE}carol/{number}": b"1" for number in range(2500)})
+    worker.turn()
+    repository.change(1, {A: b"1"})
+    worker.turn()
+    with repository.database.reading() as connection:
+        assert connection.execute(select(func.count()).select_from(tables.CHANGES)).scalar() == 1
+
+
+def test_the_store_is_looked_through_once(repository: Repository, monkeypatch: pytest.MonkeyPatch) -> None:
+    """The lease is kept meanwhile, another worker can take it, and a fault doesn't begin it anew."""
+    repository.change(1, {f"{RSYNC_BASE}carol/{number}": bytes([number]) for number in range(5)})
+    first = repository.worker()
+    assert first.turn()
+    first.end()
+    monkeypatch.setattr(session, "LEASE_SECONDS", 0.0)
+    looked: list[pathlib.Path] = []
+    digest_of, take = tree._digest_of, session.take_lease
+
+    def noted(path: pathlib.Path) -> bytes:
+        looked.append(path)
+        return digest_of(path)
+
+    monkeypatch.setattr(tree, "_digest_of", noted)
+    taken: list[str] = []
+
+    def counted(connection: Connection, owner: str) -> None:
+        taken.append(owner)
+        take(connection, owner)
+
+    monkeypatch.setattr(session, "take_lease", counted)
+    worker = repository.worker()
+    assert worker.turn()
+    assert len(looked) == 5 and len(taken) > 5 and set(taken) == {worker.owner}
+    worker._begun = False
+    assert worker.turn() and len(looked) == 5
+    other = repository.worker()
+    look = other._tree.store.look_through
+
+    def lose(paths: Iterable[pathlib.Path]) -> None:
+        monkeypatch.setattr(session, "LEASE_SECONDS", 1000.0)
+        with repository.database.writing() as connection:
+            take(connection, "another")
+        look(paths)
+
+    monkeypatch.setattr(other._tree.store, "look_through", lose)
+    with pytest.raises(LeaseLost):
+        other.turn()
+
+
+def test_a_version_without_the_lease(repository: Repository, monkeypatch: pytest.MonkeyPatch) -> None:
+    """A worker that lost the session while it built a version of the tree doesn't switch to it."""
+    worker = repository.worker()
+    worker.turn()
+    current = (repository.folder / "tree" / "current").resolve()
+    repository.change(1, {A: b"1"})
+    build = worker._tree.build
+
+    def slow(*given: Any) -> pathlib.Path:
+        version = build(*given)
+        with repository.database.writing() as connection:
+            connection.execute(update(tables.SESSION).values(owner="another", until=time.time() + 1000.0))
+        return version
+
+    monkeypatch.setattr(worker._tree, "build", slow)
+    with pytest.raises(LeaseLost):
+        worker.turn()
+    assert (repository.folder / "tree" / "current").resolve() == current

@@ -6,10 +6,11 @@ import contextlib
 import http.client
 import io
 import threading
+import time
 from typing import Any, Callable, Iterator, NamedTuple, Optional
 
 from calmizsed.server import listening
-from calmizsed.server.application import Application
+from calmizsed.server.application import HOLD, Application
 
 TYPE = "application/rpki-publication"
 
@@ -24,12 +25,12 @@ class Answered(NamedTuple):
 
 def request(
         application: Application, path: str, body: bytes = b"", method: str = "POST", kind: str = TYPE,
-        length: Optional[str] = None) -> Answered:
-    """The answer to a request."""
+        length: Optional[str] = None, hold: Callable[[float], None] = time.sleep) -> Answered:
+    """The answer to a request. `hold` has it wait."""
     told: list[Any] = []
     environment = {
         "REQUEST_METHOD": method, "PATH_INFO": path, "CONTENT_TYPE": kind, "CONTENT_LENGTH": str(len(body)) if length is None else length,
-        "wsgi.input": io.BytesIO(body)}
+        "wsgi.input": io.BytesIO(body), HOLD: hold}
     octets = b"".join(application(environment, lambda status, headers: told.extend((status, headers))))
     return Answered(int(told[0].split(" ")[0]), dict(told[1]), octets)
 

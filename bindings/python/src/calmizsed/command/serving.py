@@ -143,6 +143,8 @@ def _add_run(own: Any) -> None:
                help="how many processes answer queries, in place of the server's own")
     add_option("--connections", type=count, default=usual.connections, metavar="N", help="how many connections there may be")
     add_option("--most", type=octets, default=usual.most, metavar="OCTETS", help="how long a query may be")
+    add_option("--hold", type=seconds, default=usual.hold, metavar="SECONDS",
+               help="how long after its query a reply is sent at the earliest: a publisher's next message is then signed later")
     add_option("--key-uses", type=count, default=usual.key_uses, metavar="N",
                help="how many replies a key for one use may sign where no other is ready; 1: it is never used twice")
     add_option("--key-seconds", type=seconds, default=usual.key_seconds, metavar="SECONDS", help="and for how long")

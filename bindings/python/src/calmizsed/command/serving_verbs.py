@@ -57,7 +57,7 @@ def init(asked: argparse.Namespace) -> int:
     """Sets a server up, or one more machine of it."""
     rsync_base = asked.rsync_base if asked.rsync_base.endswith("/") else asked.rsync_base + "/"
     answering.check_base(rsync_base)
-    url = settings.https_uri(asked.url, "--url").rstrip("/")
+    url = settings.http_uri(asked.url, "--url", "http", "https").rstrip("/")
     rrdp_uri = settings.rrdp_uri_of(asked.rrdp_uri)
     folder = pathlib.Path(asked.data)
     try:
@@ -175,7 +175,7 @@ def run(asked: argparse.Namespace) -> int:
     host, port = asked.listen
     options = Options(
         host=host, port=port, threads=asked.threads, processes=asked.processes, connections=asked.connections, most=asked.most,
-        key_uses=asked.key_uses, key_seconds=asked.key_seconds, log=asked.log, worker=not asked.no_worker)
+        hold=asked.hold, key_uses=asked.key_uses, key_seconds=asked.key_seconds, log=asked.log, worker=not asked.no_worker)
     running.Running(running.opened(pathlib.Path(asked.data)), options).run()
     return 0
 

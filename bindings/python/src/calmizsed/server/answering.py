@@ -1,34 +1,36 @@
 """The answer to the octets of a query: a signed reply, which is committed together with the changes before it is sent.
 
-What needs no lock is done before there is one: the query's signatures are looked at, its text is read, and the reply that most queries get
-is signed. The library judges the message by the last signing time and the keys that were read before; under the lock these are compared
-with what is there then, and the library judges once more where they are others. What it allows is made in the same transaction.
+All of it is made before there is a lock: the query's signatures are looked at, what it names is read, the library decides, and the reply
+is signed. Whatever changes a publisher's objects changes its row too, by the signing time of its last message at least. So the reply is
+the answer if the row is as it was when there is a lock, and is made once more, under the lock, if it isn't: that is so where two messages
+of one publisher come at once, or its keys change. What the library allows is made in the same transaction.
 """
 
 from __future__ import annotations
 
 import collections
+import contextlib
 import datetime
-import functools
 import hashlib
 import threading
-from dataclasses import dataclass, field
-from typing import Callable, Iterable, Optional
+from dataclasses import dataclass
+from typing import Callable, Iterable, Optional, Union
 
 from sqlalchemy.engine import Connection
 
 from calmizsed import keys, publication
 from calmizsed._asking import Verifier
-from calmizsed._messages import Receipt, content, create, receive
+from calmizsed._messages import content, create, receive
 from calmizsed._values import Kind, moment_of, now
 from calmizsed.errors import CheckFailed, NotAMessage, Refusal, Replayed, WrongForm
-from calmizsed.publication import ChangeQuery, ErrorReply, ListQuery, Message, ReportError, SuccessReply
+from calmizsed.publication import ChangeQuery, ErrorReply, ListQuery, ReportError
 from calmizsed.server import objects, publishers
 from calmizsed.server.database import Database
 from calmizsed.server.one_off import OneOffKeys
 from calmizsed.server.publishers import Publisher
 
 SIGNATURES = 64
+LONG_LIST = 10_000  # objects: while such a list is written it takes many times its length, so they are written one behind the other
 ACCEPTED, REFUSED, REPLAYED, REJECTED = "success", "error", "replay", "rejected"
 # What a message is refused with that gets a reply of the protocol.
 OF_MESSAGES = CheckFailed, NotAMessage, WrongForm
@@ -46,6 +48,8 @@ class Answer:
     """success, error (the library allows no change), replay, or rejected (a check of the message fails)."""
     changes: int = 0
     cause: str = ""
+    took: bool = False
+    """Whether the message was taken: the publisher's next one has to be signed in a later second."""
 
 
 class Remembering:
@@ -71,29 +75,34 @@ class Remembering:
         return made
 
 
-@functools.lru_cache(maxsize=1)
-def success_text() -> str:
-    """The reply that the library writes where all changes are made."""
-    return SuccessReply().to_xml()
-
-
 def check_base(base: str) -> None:
     """Raises `WrongUse` where the library takes a URI as no base of a publisher."""
     publication.decide(base, ListQuery().to_xml(), ())
 
 
-@dataclass
-class _Read:
-    """What is known of a message before there is a lock."""
+@dataclass(frozen=True)
+class _Reply:
+    """A reply to a message, by what the publisher's row and objects were."""
 
-    receipt: Receipt
-    content: bytes
-    """The message as its sender wrote it: the reply repeats a change as it stands there."""
-    query: Optional[Message] = None
+    publisher: Publisher
+    signing_time: int
+    query: Union[ListQuery, ChangeQuery, None]
     """The query, or None where the message is none."""
-    ready: Optional[bytes] = None
-    """The reply that all changes are made, signed ahead. It is thrown away where the library decides something else."""
-    kind: str = field(default="none")
+    made: bool
+    """Whether the query's changes are to be made."""
+    before: objects.Known
+    """What there was at the URIs that they name."""
+    octets: bytes
+
+    @property
+    def kind(self) -> str:
+        """What was asked for, in a word for logs."""
+        return {ListQuery: "list", ChangeQuery: "change"}.get(type(self.query), "none")
+
+    @property
+    def outcome(self) -> str:
+        """What came out, in a word for logs."""
+        return REJECTED if self.query is None else ACCEPTED if self.made or isinstance(self.query, ListQuery) else REFUSED
 
 
 class Answering:
@@ -107,6 +116,7 @@ class Answering:
         self.clock = clock
         self._signer = Remembering(signer)
         self._one_off = one_off
+        self._long_list = threading.Lock()
 
     def answer(self, word: str, octets: bytes) -> Optional[Answer]:
         """The answer to a message that came at a path, or None where no publisher has the path."""
@@ -115,68 +125,57 @@ class Answering:
         if publisher is None:
             return None
         try:
-            read = self._read(publisher, octets)
+            reply = self._reply(publisher, octets)
             with self.database.writing() as connection:
-                return self._answered(connection, publisher, octets, read)
+                return self._kept(connection, reply, octets)
         except Replayed as error:
             return self._replay(publisher, error)
         except OF_MESSAGES as error:
             return Answer(self._signed(publication.refusal_reply(error.status)), publisher.handle, "none", REJECTED, cause=error.name)
 
-    # ---- before the lock
-
-    def _received(self, publisher: Publisher, octets: bytes) -> Receipt:
-        """The receipt of a message, if the library takes it by what is known of the publisher. Each has to say when it was signed."""
-        last = 0 if publisher.last_time is None else publisher.last_time
-        return receive(Kind.PUBLICATION, octets, publisher.keys, self.clock(), after=moment_of(last), verifier=self.verifier)
-
-    def _read(self, publisher: Publisher, octets: bytes) -> _Read:
-        """What can be known and made before there is a lock."""
-        read = _Read(self._received(publisher, octets), content(octets))
-        message = publication.written(read.receipt.text)
-        if isinstance(message, ListQuery):
-            read.query, read.kind = message, "list"
-        elif isinstance(message, ChangeQuery):
-            read.query, read.kind = message, "change"
-            read.ready = self._signed(success_text())
-        return read
+    def _reply(self, publisher: Publisher, octets: bytes, under_lock: Optional[Connection] = None) -> _Reply:
+        """The reply to a message, if the library takes it by what is known of the publisher. Each has to say when it was signed."""
+        last = moment_of(0 if publisher.last_time is None else publisher.last_time)
+        receipt = receive(Kind.PUBLICATION, octets, publisher.keys, self.clock(), after=last, verifier=self.verifier)
+        assert receipt.signing_seconds is not None  # the library takes none without, where `after` is given
+        message = publication.written(receipt.text)
+        query = message if isinstance(message, (ListQuery, ChangeQuery)) else None
+        before: objects.Known = {}
+        known: Iterable[tuple[str, Optional[bytes]]] = ()
+        with contextlib.ExitStack() as alone:
+            with self.database.reading() if under_lock is None else contextlib.nullcontext(under_lock) as connection:
+                if isinstance(query, ChangeQuery):
+                    before = objects.known(connection, publisher.number, objects.uris_of(query))
+                    known = before.items()
+                elif query is not None:
+                    if objects.are_more(connection, publisher.number, LONG_LIST):
+                        alone.enter_context(self._long_list)
+                    known = objects.all_of(connection, publisher.number)
+                # The message is handed on as its sender wrote it: the reply repeats a change as it stands there.
+                decision = publication.decide(publisher.base, content(octets), known)
+            reply = self._signed(decision.reply)
+        return _Reply(publisher, receipt.signing_seconds, query, decision.made, before, reply)
 
     def _signed(self, text: str) -> bytes:
         """A signed reply."""
         return create(
             Kind.PUBLICATION, text, self._signer, self.clock(), one_off_key=self._one_off.take(), verifier=self.verifier)
 
-    # ---- under the lock
-
-    def _answered(self, connection: Connection, seen: Publisher, octets: bytes, read: _Read) -> Optional[Answer]:
+    def _kept(self, connection: Connection, reply: _Reply, octets: bytes) -> Optional[Answer]:
         """The answer, whose octets and changes are committed where this ends without an error."""
-        publisher = publishers.locked(connection, seen.number)
+        publisher = publishers.locked(connection, reply.publisher.number)
         if publisher is None:
             return None
-        if (publisher.last_time, publisher.keys) != (seen.last_time, seen.keys):
-            self._received(publisher, octets)
-        signing_time = read.receipt.signing_seconds
-        assert signing_time is not None  # the library takes none without, where `after` is given
-        publishers.took(connection, publisher.number, signing_time)
-        reply, outcome, changes = self._decided(connection, publisher, read)
-        publishers.replied(connection, publisher.number, signing_time, octets, reply, whole=read.kind != "list")
-        return Answer(reply, publisher.handle, read.kind, outcome, changes)
-
-    def _decided(self, connection: Connection, publisher: Publisher, read: _Read) -> tuple[bytes, str, int]:
-        """The reply, what came out, and how many changes were made."""
-        before: objects.Known = {}
-        known: Iterable[tuple[str, Optional[bytes]]] = ()
-        if isinstance(read.query, ChangeQuery):
-            before = objects.known(connection, publisher.number, objects.uris_of(read.query))
-            known = before.items()
-        elif read.query is not None:
-            known = objects.all_of(connection, publisher.number)
-        decision = publication.decide(publisher.base, read.content, known)
-        if not decision.made or not isinstance(read.query, ChangeQuery):
-            return self._signed(decision.reply), {"list": ACCEPTED, "change": REFUSED}.get(read.kind, REJECTED), 0
-        objects.make(connection, publisher.number, read.query, before)
-        ready = read.ready if decision.reply == success_text() else None
-        return self._signed(decision.reply) if ready is None else ready, ACCEPTED, len(read.query.changes)
+        if publisher != reply.publisher:
+            reply = self._reply(publisher, octets, connection)
+        publishers.took(connection, publisher.number, reply.signing_time)
+        changes = 0
+        if reply.made and isinstance(reply.query, ChangeQuery):
+            objects.make(connection, publisher.number, reply.query, reply.before)
+            changes = len(reply.query.changes)
+        is_list = isinstance(reply.query, ListQuery)
+        publishers.replied(connection, publisher.number, reply.signing_time, octets, reply.octets, whole=not is_list)
+        return Answer(reply.octets, publisher.handle, reply.kind, reply.outcome, changes, took=True)
 
     def _replay(self, publisher: Publisher, error: Refusal) -> Answer:
         """The answer to a message that is no later than the last one: RFC 8181 has no code of its own for that."""

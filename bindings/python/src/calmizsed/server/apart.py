@@ -8,6 +8,7 @@ from __future__ import annotations
 
 import dataclasses
 import json
+import logging
 import pathlib
 import signal
 import subprocess
@@ -24,6 +25,7 @@ from calmizsed.server.worker import Pauses, Places, Progress, Worker
 # No module comes from the folder in which the server was started.
 BEGIN = "import sys; sys.path[0] = sys.argv[1]; from calmizsed.server.apart import main; sys.exit(main())"
 SECONDS_TO_END = 30.0
+LOG = logging.getLogger("calmizsed.server.worker")
 SECONDS_BETWEEN = 5.0
 
 
@@ -62,7 +64,10 @@ class WorkerApart:
         """Starts a process, and another where it ends."""
         while not self._stop.is_set():
             self.starts += 1
-            self._run()
+            try:
+                self._run()
+            except OSError as error:  # there is no room for a process now
+                LOG.error("the worker can't be started: %s", error.strerror)
             self._stop.wait(SECONDS_BETWEEN)
 
     def _run(self) -> None:

@@ -20,12 +20,15 @@ from calmizsed.server.options import Options
 from calmizsed.server.settings import PATH
 
 CONTENT_TYPE = "application/rpki-publication"
+HOLD = "calmizsed.hold"
+"""Of an environment: has the answer wait for so many seconds before it is sent, without a thread. Elsewhere the thread waits."""
 LARGE, LARGE_AT_ONCE = 1 << 20, 2  # what is large takes many times its length while it is read
 SECONDS_FOR_LARGE = 30.0
 RETRY_SECONDS = 5
+WORD = re.compile(r"[A-Za-z0-9._-]{1,128}")
 REASONS = {
-    200: "OK", 400: "Bad Request", 404: "Not Found", 405: "Method Not Allowed", 408: "Request Timeout", 411: "Length Required",
-    413: "Content Too Large", 415: "Unsupported Media Type", 500: "Internal Server Error", 503: "Service Unavailable"}
+    200: "OK", 400: "Bad Request", 404: "Not Found", 405: "Method Not Allowed", 411: "Length Required", 413: "Content Too Large",
+    415: "Unsupported Media Type", 500: "Internal Server Error", 503: "Service Unavailable"}
 
 Environment = dict[str, Any]
 StartResponse = Callable[[str, list[tuple[str, str]]], Any]
@@ -53,15 +56,35 @@ def _busy(said: str) -> HttpError:
     return HttpError(503, said, ("Retry-After", str(RETRY_SECONDS)))
 
 
+def _check_query(method: str, path: str, kind: str) -> None:
+    """Raises what HTTP answers to a request that is no query of a publisher, by its head."""
+    if not path.startswith(PATH) or not WORD.fullmatch(path[len(PATH):]):
+        raise HttpError(404, "no publisher is here")
+    if method != "POST":
+        raise HttpError(405, "POST alone", ("Allow", "POST"))
+    if kind.partition(";")[0].strip().lower() != CONTENT_TYPE:
+        raise HttpError(415, f"{CONTENT_TYPE} alone", ("Accept", CONTENT_TYPE))
+
+
+def is_query(method: str, path: str, kind: str) -> bool:
+    """Whether a request can be a query of a publisher, by its head: the body of any other isn't looked at."""
+    try:
+        _check_query(method, path, kind)
+    except HttpError:
+        return False
+    return True
+
+
 class Application:
     """The application. `status` says how the server is, as a value of JSON."""
 
     def __init__(
             self, answering: Answers, metrics: Metrics, status: Callable[[], object], *, most: int = Options.most,
-            threads: int = Options.threads) -> None:
+            threads: int = Options.threads, hold: float = Options.hold) -> None:
         self.answering = answering
         self.metrics = metrics
         self.most = most
+        self.hold = hold
         self._status = status
         # Large queries take half of the threads at most, also while they wait: small ones are answered meanwhile.
         self._waiting = threading.BoundedSemaphore(max(1, threads // 2))
@@ -85,7 +108,7 @@ class Application:
         """The type and the octets of what is there."""
         path = environment.get("PATH_INFO", "")
         if path.startswith(PATH):
-            return CONTENT_TYPE, self._reply(environment, path[len(PATH):])
+            return CONTENT_TYPE, self._reply(environment, path)
         if path not in ("/metrics", "/status"):
             raise HttpError(404, "nothing is here")
         if environment.get("REQUEST_METHOD") not in ("GET", "HEAD"):
@@ -97,20 +120,20 @@ class Application:
         except SQLAlchemyError as error:
             raise _busy(f"the database has no answer: {type(error).__name__}") from None
 
-    def _reply(self, environment: Environment, word: str) -> bytes:
+    def _reply(self, environment: Environment, path: str) -> bytes:
         """The reply to a query."""
-        if not re.fullmatch(r"[A-Za-z0-9._-]{1,128}", word):
-            raise HttpError(404, "no publisher is here")
-        if environment.get("REQUEST_METHOD") != "POST":
-            raise HttpError(405, "POST alone", ("Allow", "POST"))
-        kind = environment.get("CONTENT_TYPE", "").partition(";")[0].strip().lower()
-        if kind != CONTENT_TYPE:
-            raise HttpError(415, f"{CONTENT_TYPE} alone", ("Accept", CONTENT_TYPE))
-        length = self._length(environment)
+        _check_query(environment.get("REQUEST_METHOD", ""), path, environment.get("CONTENT_TYPE", ""))
+        word, length = path[len(PATH):], self._length(environment)
+        begin = time.perf_counter()
         if length <= LARGE:
-            return self._answer(word, self._body(environment, length))
-        with self._held(self._waiting, 0.0), self._held(self._large, SECONDS_FOR_LARGE):
-            return self._answer(word, self._body(environment, length))
+            octets, took = self._answer(word, self._body(environment, length))
+        else:
+            with self._held(self._waiting, 0.0), self._held(self._large, SECONDS_FOR_LARGE):
+                octets, took = self._answer(word, self._body(environment, length))
+        wait = self.hold - (time.perf_counter() - begin)
+        if took and wait > 0.0:
+            environment.get(HOLD, time.sleep)(wait)
+        return octets
 
     @staticmethod
     @contextlib.contextmanager
@@ -141,8 +164,8 @@ class Application:
             raise HttpError(400, "the query ended before its end")
         return octets
 
-    def _answer(self, word: str, octets: bytes) -> bytes:
-        """The octets of the reply, which are committed."""
+    def _answer(self, word: str, octets: bytes) -> tuple[bytes, bool]:
+        """The octets of the reply, which are committed, and whether the publisher's next message has to be signed in a later second."""
         begin = time.perf_counter()
         answer: Optional[Answer] = None
         try:
@@ -160,7 +183,7 @@ class Application:
         LOG.info("query", extra={
             "publisher": answer.publisher, "kind": answer.kind, "outcome": answer.outcome, "changes": answer.changes or None,
             "cause": answer.cause, "milliseconds": round(1000 * seconds, 1)})
-        return answer.octets
+        return answer.octets, answer.took
 
     @staticmethod
     def _said(error: SQLAlchemyError) -> str:

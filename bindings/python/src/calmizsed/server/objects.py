@@ -49,6 +49,12 @@ def all_of(connection: Connection, publisher: int) -> Iterator[tuple[str, bytes]
     yield from sorted((uri, bytes(digest)) for uri, digest in rows)
 
 
+def are_more(connection: Connection, publisher: int, number: int) -> bool:
+    """Whether a publisher has more objects than this."""
+    query = select(OBJECTS.c.uri).where(OBJECTS.c.publisher == publisher).offset(number).limit(1)
+    return connection.execute(query).first() is not None
+
+
 def count(connection: Connection) -> int:
     """How many objects there are."""
     return int(connection.execute(select(func.count()).select_from(OBJECTS)).scalar_one())

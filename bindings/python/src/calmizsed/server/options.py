@@ -21,6 +21,8 @@ class Options:
     """How many connections there may be."""
     most: int = 32 << 20
     """How many octets a query may have."""
+    hold: float = 1.0
+    """How many seconds after its query a reply is sent at the earliest: a publisher's next message is then signed in a later second."""
     key_uses: int = 1000
     """How many replies a key for one use may sign, where no other is ready."""
     key_seconds: float = 60.0

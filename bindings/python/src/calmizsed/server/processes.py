@@ -1,7 +1,8 @@
 """Queries are answered in processes of their own: one process takes little more than one processor, however many threads it has.
 
 HTTP, logs and metrics stay in the server's process, and so does the worker that writes files. The processes are those of
-`concurrent.futures`. They end when the server does, also where it is killed.
+`concurrent.futures`. They end when the server does, also where it is killed; and where one of them ends by itself, so do the others, for it
+may have ended with a lock that they wait for.
 """
 
 from __future__ import annotations
@@ -23,6 +24,7 @@ from calmizsed.server.one_off import OneOffKeys
 from calmizsed.server.settings import Machine
 
 SECONDS_BETWEEN = 1.0
+SECONDS_TO_END = 10  # of a process that is told to end: what it answers is answered first
 
 
 class Interrupted(CalmizsedError):
@@ -60,6 +62,7 @@ class AnsweringApart:
         """Starts processes in place of those that have ended."""
         with self._lock:
             if self._pool is broken:
+                _kill_all()
                 self._pool = self._begun()
                 self.starts += 1
 
@@ -69,6 +72,12 @@ class AnsweringApart:
 
 
 _answering: Optional[Answering] = None  # of such a process
+
+
+def _kill_all() -> None:
+    """Ends all such processes."""
+    for process in multiprocessing.active_children():
+        process.kill()
 
 
 def _end_with(parent: int) -> None:
@@ -81,8 +90,9 @@ def _end_with(parent: int) -> None:
 def _begin(machine: Machine, folder: pathlib.Path, key_uses: int, key_seconds: float, parent: int) -> None:
     """What such a process begins with."""
     global _answering
-    for number in (signal.SIGINT, signal.SIGTERM):  # a terminal or a service manager sends them to the server too, which ends this one
-        signal.signal(number, signal.SIG_IGN)
+    # A terminal or a service manager sends these to the server too, which then ends this process, once it has answered.
+    signal.signal(signal.SIGINT, signal.SIG_IGN)
+    signal.signal(signal.SIGTERM, lambda *_: signal.alarm(SECONDS_TO_END))
     threading.Thread(target=_end_with, args=(parent,), daemon=True).start()
     one_off = OneOffKeys(uses=key_uses, seconds=key_seconds)
     one_off.start()

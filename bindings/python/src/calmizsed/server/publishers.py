@@ -97,6 +97,11 @@ def of_handle(connection: Connection, handle: str) -> Publisher:
     return found
 
 
+def count(connection: Connection) -> int:
+    """How many publishers there are."""
+    return int(connection.execute(select(func.count()).select_from(PUBLISHERS).where(PUBLISHERS.c.removed.is_(None))).scalar_one())
+
+
 def listed(connection: Connection) -> list[tuple[Publisher, int]]:
     """All publishers, and how many objects each has."""
     counts = dict(connection.execute(select(OBJECTS.c.publisher, func.count()).group_by(OBJECTS.c.publisher)).all())
@@ -119,7 +124,9 @@ def add(connection: Connection, rsync_base: str, handle: str, key: bytes, moment
         word = word_of(handle)
         connection.execute(insert(PUBLISHERS).values(handle=handle, base=f"{rsync_base}{word}/", word=word, added=moment))
     else:
-        connection.execute(update(PUBLISHERS).where(PUBLISHERS.c.id == there.number).values(added=moment, removed=None))
+        # It is another row than before it was removed, also within a second: by that a query knows that it has other objects.
+        added = max(moment, there.added + 1)
+        connection.execute(update(PUBLISHERS).where(PUBLISHERS.c.id == there.number).values(added=added, removed=None))
     _add_key(connection, of_handle(connection, handle), key, moment)
     return of_handle(connection, handle)
 

@@ -3,6 +3,8 @@
 from __future__ import annotations
 
 import binascii
+import contextlib
+import fcntl
 import hashlib
 import itertools
 import os
@@ -10,6 +12,7 @@ import pathlib
 import re
 import secrets
 import shutil
+import time
 from dataclasses import dataclass
 from typing import BinaryIO, Iterable, Iterator, NamedTuple, Optional, Sequence
 from xml.sax.saxutils import quoteattr
@@ -19,6 +22,8 @@ NOTIFICATION = "notification.xml"
 RANDOM_OCTETS = 16
 PUBLIC_FILE, PUBLIC_FOLDER = 0o644, 0o755
 BUFFER = 1 << 20
+MOST_DELTAS = 500  # that are offered: a relying party takes a snapshot rather than many deltas, and a notification has a line for each
+LOCK, SECONDS_TO_WAIT = ".lock", 30.0
 PLAIN = re.compile(r"[A-Za-z0-9:/._~%-]*")
 
 
@@ -70,11 +75,11 @@ def folded(changes: Iterable[Change]) -> Iterator[Change]:
 
 
 def offered(deltas: Sequence[Written], snapshot: Written) -> tuple[Written, ...]:
-    """The deltas that a notification has: the newest, of which the sizes together are no more than the snapshot's (3.3.2)."""
+    """The deltas that a notification has: the newest, of which the sizes together are no more than the snapshot's (3.3.2), and not many."""
     kept: list[Written] = []
     room, serial = snapshot.size, snapshot.serial
     for delta in sorted(deltas, key=lambda one: one.serial, reverse=True):
-        if delta.serial != serial or delta.size > room:
+        if delta.serial != serial or delta.size > room or len(kept) == MOST_DELTAS:
             break
         kept.append(delta)
         room -= delta.size
@@ -144,8 +149,26 @@ class Files:
         self.folder = folder
 
     def prepare(self) -> None:
-        """Makes the folder, if it isn't there."""
+        """Makes the folder, if it isn't there, and removes what was left of a notification that was never whole."""
         public_folder(self.folder)
+        with self.locked():
+            for path in self.folder.glob(f".{NOTIFICATION}-*"):
+                path.unlink()
+
+    @contextlib.contextmanager
+    def locked(self) -> Iterator[None]:
+        """Has no other process of this machine, and no other thread, be here. One that ends gives the lock back."""
+        with open(self.folder / LOCK, "ab") as file:
+            end = time.monotonic() + SECONDS_TO_WAIT
+            while True:
+                try:
+                    fcntl.flock(file, fcntl.LOCK_EX | fcntl.LOCK_NB)
+                    break
+                except BlockingIOError:
+                    if time.monotonic() > end:
+                        raise
+                    time.sleep(0.02)
+            yield
 
     def _write(self, kind: str, session: str, serial: int, elements: Iterable[tuple[str, bytes, str]]) -> Written:
         """Writes a new file, which outlasts a loss of power once this has ended."""

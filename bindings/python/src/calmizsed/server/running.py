@@ -50,12 +50,11 @@ def opened(folder: pathlib.Path) -> Opened:
 def status_of(database: Database) -> dict[str, Any]:
     """How a server is, by its database."""
     with database.reading() as connection:
-        found = publishers.listed(connection)
         state, row = session.state_of(connection), connection.execute(tables.SESSION.select()).first()
         waiting = connection.execute(
             tables.CHANGES.select().where(tables.CHANGES.c.serial.is_(None)).limit(1)).first() is not None
         return {
-            "schema": tables.version_of(connection), "publishers": len(found), "objects": objects.count(connection),
+            "schema": tables.version_of(connection), "publishers": publishers.count(connection), "objects": objects.count(connection),
             "rrdp": {
                 "session": None if row is None else row.session, "serial": 0 if row is None else row.serial,
                 "deltas": 0 if state is None else len(state.deltas), "changes_waiting": waiting,
@@ -86,7 +85,7 @@ class Running:
             server.machine, server.folder.resolve(), options.processes, options.key_uses, options.key_seconds)
         self.application = Application(
             self.apart or Answering(server.database, signer, self.one_off), self.metrics, self.status, most=options.most,
-            threads=options.threads)
+            threads=options.threads, hold=options.hold)
         self._watch()
 
     def _watch(self) -> None:
@@ -131,7 +130,7 @@ class Running:
             self.one_off.start()
         if self.worker is not None:
             self.worker.start()
-        LOG.info("listening at http://%s:%s", options.host, server.effective_port)
+        LOG.info("listening at http://%s:%s", server.effective_host, server.effective_port)
         try:
             listening.serve(server, self.stop)
         finally:

@@ -59,11 +59,11 @@ class Settings:
         return self.url + PATH + word
 
 
-def https_uri(uri: str, what: str) -> str:
-    """An address of HTTP, or an error that says what it was to be."""
+def http_uri(uri: str, what: str, *schemes: str) -> str:
+    """An address of one of these schemes, or an error that says what it was to be."""
     try:
         parts = urlsplit(uri)
-        good = parts.scheme in ("http", "https") and bool(parts.hostname) and not (parts.query or parts.fragment or parts.username)
+        good = parts.scheme in schemes and bool(parts.hostname) and not (parts.query or parts.fragment or parts.username)
     except ValueError:
         good = False
     if not good:
@@ -74,7 +74,7 @@ def https_uri(uri: str, what: str) -> str:
 def rrdp_uri_of(uri: str) -> str:
     """The notification's URI, which may be given by its folder."""
     whole = uri + NOTIFICATION if uri.endswith("/") else uri
-    if not https_uri(whole, "--rrdp-uri").endswith("/" + NOTIFICATION):
+    if not http_uri(whole, "--rrdp-uri", "https").endswith("/" + NOTIFICATION):
         raise SettingsError("WrongUrl", 2, f"--rrdp-uri has to end in /, or in /{NOTIFICATION}: {uri}")
     return whole
 

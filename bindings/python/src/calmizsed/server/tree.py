@@ -56,11 +56,14 @@ class Store:
         self.folder = folder
 
     def prepare(self) -> None:
-        """Makes the folders, and removes what isn't what its name says: as after a loss of power, for these files aren't synced."""
+        """Makes the folders."""
         public_folder(self.folder)
         for number in range(256):
             public_folder(self.folder / f"{number:02x}")
-        for path in self._files():
+
+    def look_through(self, paths: Iterable[pathlib.Path]) -> None:
+        """Removes what isn't what its name says: as after a loss of power, for these files aren't synced."""
+        for path in paths:
             if _digest_of(path).hex() != path.name:
                 path.unlink()
 
@@ -83,11 +86,11 @@ class Store:
 
     def sweep(self) -> None:
         """Removes the objects that no version has."""
-        for path in self._files():
+        for path in self.paths():
             if path.stat().st_nlink == 1:
                 path.unlink()
 
-    def _files(self) -> Iterator[pathlib.Path]:
+    def paths(self) -> Iterator[pathlib.Path]:
         """All files."""
         for folder in self.folder.iterdir():
             yield from folder.iterdir()
@@ -102,12 +105,13 @@ class Tree:
         self.store = Store(folder / STORE)
         self._left_out = left_out
 
-    def prepare(self) -> None:
-        """Makes the folders, if they aren't there, and looks through the store."""
+    def prepare(self, stored: Iterable[pathlib.Path]) -> None:
+        """Makes the folders, if they aren't there, and looks through these files of the store."""
         public_folder(self.folder)
         for link in self.folder.glob(f".{CURRENT}-*"):
             link.unlink()
         self.store.prepare()
+        self.store.look_through(stored)
 
     def build(self, objects: Iterable[Held], contents: Contents) -> pathlib.Path:
         """Builds a new version of objects that come in ascending order of their URIs, and gives its folder."""
@@ -161,10 +165,11 @@ class Tree:
 
     def remove(self, versions: Iterable[pathlib.Path]) -> None:
         """Removes versions, and the objects that these alone had."""
-        removed = list(versions)
-        for version in removed:
+        any_removed = False
+        for version in versions:
             shutil.rmtree(version, ignore_errors=True)
-        if removed:
+            any_removed = True
+        if any_removed:
             self.store.sweep()
 
 

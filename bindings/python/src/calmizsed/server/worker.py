@@ -1,12 +1,13 @@
-"""The worker: it writes the files of RRDP and the tree for rsync from the database, now and then, and never in a query's time.
+"""The worker: it writes the files of RRDP and the tree for rsync from the database, now and then, and no query waits while it does.
 
 A state is read in one transaction, which keeps nobody from writing. The files are written, and synced, under names that nobody knows yet;
-then one short transaction makes them those of the session; then the notification takes the place of the one before, while the session's
-row is locked. So a serial number never has two contents, and never goes back, wherever the worker is stopped.
+then one short transaction makes them those of the session; then the notification takes the place of the one before, while no other worker
+writes one. So a serial number never has two contents, and never goes back, wherever the worker is stopped.
 """
 
 from __future__ import annotations
 
+import contextlib
 import itertools
 import logging
 import pathlib
@@ -16,6 +17,7 @@ import uuid
 from dataclasses import dataclass
 from typing import Callable, Iterable, Iterator, Optional, TypeVar
 
+from sqlalchemy.engine import Connection
 from sqlalchemy.exc import SQLAlchemyError
 
 from calmizsed.errors import CalmizsedError
@@ -87,6 +89,7 @@ class Worker:
         self._kept_files, self._kept_versions = Kept(pauses.keep), Kept(pauses.keep)
         self._stop = threading.Event()
         self._begun = False
+        self._looked_through = False
         self._told: set[str] = set()
         self._renew_at = 0.0
         self._tree_at = self._clean_at = 0.0
@@ -148,7 +151,8 @@ class Worker:
     def _begin(self) -> None:
         """Has the folders and the notification be as the database has it."""
         self._files.prepare()
-        self._tree.prepare()
+        self._tree.prepare(() if self._looked_through else self._renewing(self._tree.store.paths()))
+        self._looked_through = True
         self.progress.tree_serial = None
         with self.database.reading() as connection:
             state = session.state_of(connection)
@@ -161,13 +165,26 @@ class Worker:
     # ---- RRDP
 
     def _notify(self) -> Optional[State]:
-        """Writes the notification of what is committed. No worker can commit meanwhile, so that none that is older takes its place."""
-        with self.database.writing() as connection:
+        """Writes the notification of what is committed. None that is older takes its place: it was read while no other was written."""
+        with self._alone() as connection:
             state = session.state_of(connection, lock=True)
             if state is not None:
                 self._files.write_notification(self.places.rrdp_base, state)
                 self.progress.serial = state.snapshot.serial
         return state
+
+    @contextlib.contextmanager
+    def _alone(self) -> Iterator[Connection]:
+        """A transaction in which no other worker writes a notification.
+
+        On SQLite, whose writers are all on this machine, a file is locked for that, and not the database: no query waits for the disk.
+        """
+        if self.database.is_sqlite:
+            with self._files.locked(), self.database.reading() as connection:
+                yield connection
+        else:
+            with self.database.writing() as connection:
+                yield connection
 
     def _new_serial(self) -> Optional[State]:
         """Writes a delta and a snapshot, if there are changes that no delta has."""
@@ -223,13 +240,17 @@ class Worker:
         for one in written:
             self._files.remove((self._files.folder / one.name).parent)
 
+    def _go_on(self) -> None:
+        """Keeps the session for longer, where it is time for that. Raises where another worker has it, and where this one is to stop."""
+        if self._stop.is_set():
+            raise Stopped
+        if time.monotonic() >= self._renew_at:
+            self._take()
+
     def _renewing(self, items: Iterable[T]) -> Iterator[T]:
         """The items, while the session stays this worker's, and until it is told to stop."""
         for item in items:
-            if self._stop.is_set():
-                raise Stopped
-            if time.monotonic() >= self._renew_at:
-                self._take()
+            self._go_on()
             yield item
 
     # ---- the tree
@@ -247,6 +268,7 @@ class Worker:
         except BaseException:
             self.progress.left_out = left_out
             raise
+        self._take()
         self._tree.switch(version)
         self.progress.tree_serial = serial
         end = time.monotonic()
@@ -266,15 +288,22 @@ class Worker:
         if time.monotonic() < self._clean_at:
             return
         self._clean_at = time.monotonic() + min(CLEAN_SECONDS, self.pauses.keep)
-        with self.database.writing() as connection:
-            state = session.state_of(connection)
-            if state is None:
-                return
-            session.forget(connection, state)
+        state = self._forget()
+        if state is None:
+            return
         room = max(LEAST_ROOM, SNAPSHOTS_IN_ROOM * state.snapshot.size)
-        for folder in self._kept_files.due(self._files.dropped(state), room):
+        for folder in self._renewing(self._kept_files.due(self._files.dropped(state), room)):
             self._files.remove(folder)
-        self._tree.remove(self._kept_versions.due(self._tree.dropped(), MOST_VERSIONS))
+        self._tree.remove(self._renewing(self._kept_versions.due(self._tree.dropped(), MOST_VERSIONS)))
+
+    def _forget(self) -> Optional[State]:
+        """Removes all changes that no delta has that is offered, some in a transaction, so that no query waits long; what is offered."""
+        while True:
+            with self.database.writing() as connection:
+                state = session.state_of(connection)
+                if state is None or session.forget(connection, state) < session.AT_ONCE:
+                    return state
+            self._go_on()
 
 
 def _said(error: Exception) -> str:
