@@ -72,13 +72,14 @@ IsReceivable scheme kind octets message when signer =
     → Accepted scheme kind octets keys moment (normal_form message)
 
 -- The octets are the DER of a signed message that was created with the message's text as its
--- content, and the message is received of them.
+-- content, without a fault of the signer, and the message is received of them.
 pub record AreCreated {Id : Type 0} (scheme : Relation) (kind : Kind) (message : Received)
     (when : ℤ) (signer : SignerSeen Id) (octets : List ℕ) : Type 0 where
   pub signed : MessageFields
   pub created : IsMessageCreated scheme (accepted_text message) when signer.id signer.before
       signer.after signed
   pub are : octets ≡ rewritten signed
+  pub no_fault : signer.after.faults ≡ signer.before.faults
   pub receivable : IsReceivable scheme kind octets message when signer
 
 -- the text is such octets in hexadecimal of lower case
