@@ -2,6 +2,7 @@
 //! [`rpki_ca::receive`]. docs/READING.md quotes the code from the scheme on.
 #![tactic(auto)]
 
+mod created;
 mod written;
 
 ghost use Rattle.std.specs.Prelude.{MatchResult, ◌∷◌, []};
@@ -12,6 +13,7 @@ use rpki_base::{PublicKey, Scheme, SigningAlgorithm, Time, Verifier};
 use rpki_ca::{Kind, ReceiveError, Received, receive};
 use rpki_signer::ToyVerifier;
 use std::alloc::Global;
+pub use created::query_that_is_received;
 pub use written::text_that_is_read;
 
 /// The signatures that count: those of the toy scheme, under keys of 128 bits or more.
