@@ -9,11 +9,11 @@ ghost use Rattle.std.specs.Prelude.{MatchResult, ◌∷◌, []};
 ghost use Rattle.rpki_ca.specs.Acceptance.{Accepted, RefusesReceipt};
 ghost use Rattle.example_receive.specs.LongKeys.{LongChecks};
 
+pub use created::query_that_is_received;
 use rpki_base::{PublicKey, Scheme, SigningAlgorithm, Time, Verifier};
 use rpki_ca::{Kind, ReceiveError, Received, receive};
 use rpki_signer::ToyVerifier;
 use std::alloc::Global;
-pub use created::query_that_is_received;
 pub use written::text_that_is_read;
 
 /// The signatures that count: those of the toy scheme, under keys of 128 bits or more.

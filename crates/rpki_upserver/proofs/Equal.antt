@@ -26,7 +26,6 @@ pub record IsDerived {E : Type 0} (eq : AnswerError E → AnswerError E → Bool
 
 module _ {E : Type 0} (eq : AnswerError E → AnswerError E → Bool) (of_refused : Error → Error → Bool) (of_unsent : CreateError E → CreateError E → Bool)
     (d : IsDerived eq of_refused of_unsent) (h : AreSame of_refused) (k : AreSame of_unsent) where
-
   answer_to : (a b : AnswerError E) → eq a b ≡ true → a ≡ b
   answer_to (answer.Refused x) (answer.Refused y) e = ap answer.Refused ((h x y).0 (sym (d.refused x y) ∙ e))
   answer_to (answer.Refused x) (answer.Unsent y) e = absurd (never _ (d.refused_unsent x y) e)
