@@ -1,2 +1,3 @@
--- Said in contracts, and to be believed: LongKeys.
+-- Said in contracts, and to be believed: LongKeys, Publishing.
 pub mod LongKeys
+pub mod Publishing

@@ -1,6 +1,6 @@
 //! What holds of every server.
 
-ghost use Rattle.std.specs.Prelude.{◌≡◌, ◌∷◌, ◌≤◌, [], ℕ, ℤ, List, Ok, Some, length, map};
+ghost use Rattle.std.specs.Prelude.{◌≡◌, ◌↔◌, ◌∷◌, ◌≤◌, [], ℕ, ℤ, List, Ok, Some, length, map, true};
 ghost use Rattle.rpki_common.specs.Limits.{most_input};
 ghost use Rattle.rpki_publication.specs.ListReply.{withdrawal_of};
 ghost use Rattle.rpki_publication.specs.declared.publish_delta_element.PublishDeltaElement.TheVariants as change;
@@ -14,9 +14,16 @@ ghost use Rattle.rpki_pubserver.specs.Replies.{Reply};
 ghost use Rattle.rpki_pubserver.specs.Running.{EndsServerRun};
 ghost use Rattle.rpki_pubserver.specs.Server.{IsReply, ServerFields};
 ghost use Rattle.rpki_pubserver.specs.Store.{IsStore, LieUnder, Store, listed_store};
+ghost use Rattle.rpki_pubserver.specs.declared.deciding.DecideError.{DecideError};
 
+use crate::deciding::DecideError;
 use rpki_base::Scheme;
 use rpki_signer::Signer;
+
+/// `==` holds exactly between errors that are the same.
+pub fn equal_errors_are_the_same()
+    ensures { (a b : DecideError) → (⟦<DecideError as PartialEq>⟧.eq a b ≡ true) ↔ (a ≡ b) }
+{}
 
 /// A server has one reply to octets at a moment, and one store behind it.
 pub fn one_reply<P: Scheme>()

@@ -17,3 +17,4 @@ pub mod Toys
 pub mod Issuing
 pub mod Saying
 pub mod Words
+pub mod Equal
