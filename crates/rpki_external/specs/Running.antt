@@ -61,7 +61,7 @@ use Rattle.rpki_external.specs.Answers.{AnswersFields, AreRight, AreTo}
 use Rattle.rpki_external.specs.Inspection.{IsInspectedAs}
 use Rattle.rpki_external.specs.KeysRefusal.{keys_name_of, keys_status_of}
 use Rattle.rpki_external.specs.Making.{AreShort, IsAcceptedSo, CanPrepare, CanPrepareAnchor, CanPrepareRequest, FinishAnchorFails, FinishFails, FinishRequestFails, PrepareAnchorFails, PrepareFails, PrepareRequestFails, anchor_fields, attributes_to_sign, certificate_to_sign, crl_to_sign, finished, finished_anchor, finished_request, request_to_sign}
-use Rattle.rpki_external.specs.Question.{QuestionsFields, listed, request_questions}
+use Rattle.rpki_external.specs.Question.{QuestionsFields, questions_in_order, request_questions}
 use Rattle.rpki_external.specs.Receiving.{AreAskedOf, IsLater, IsReceipt, IsReceiptBy, RefusesByAnswers, RefusesChecks, RefusesUnder}
 use Rattle.rpki_external.specs.Records.{digest_of}
 use Rattle.rpki_external.specs.Spelling.{question_lines}
@@ -482,7 +482,7 @@ AreQuestionsIn verified.Issue input q = AreIssueQuestions input q
 -- the answers are right under the scheme, of these questions, if there are such
 abbrev pub AreRightIn : Relation → Verified → List ℕ → AnswersFields → Type 0
 AreRightIn scheme what input answers = (q : QuestionsFields) → AreQuestionsIn what input q
-    → AreRight scheme (listed q) answers.values
+    → AreRight scheme (questions_in_order q) answers.values
 
 -- `receive` under a scheme: the line of the receipt and the text of its message, each on a line
 abbrev pub IsReceiveAnswerUnder : Relation → Kind → List ℕ → List KeyFields → ℤ → Option ℤ

@@ -2,7 +2,7 @@
 
 ghost use Rattle.std.specs.Prelude.{◌≡◌, ◌≢◌, IfErr, IfOk, OnOk, length};
 ghost use Rattle.rpki_external.specs.Answers.{CountFor, RefusesAnswers};
-ghost use Rattle.rpki_external.specs.Question.{listed};
+ghost use Rattle.rpki_external.specs.Question.{questions_in_order};
 ghost use Rattle.rpki_external.specs.Records.{AreWritable, digest_of};
 ghost use Rattle.rpki_external.specs.declared.answers.AnswersError.TheVariants as variant;
 
@@ -100,7 +100,7 @@ impl Answers {
         alloc: Global,
         questions: &Questions,
     ) -> Result<Vec<Question>, AnswersError>
-        ensures list { IfOk result (λ list. list.items ≡ listed questions.now) }
+        ensures list { IfOk result (λ list. list.items ≡ questions_in_order questions.now) }
         ensures count { IfOk result (λ _. CountFor self.now questions.now) }
         ensures err { IfErr result (RefusesAnswers self.now questions.now) }
     {

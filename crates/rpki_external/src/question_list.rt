@@ -121,7 +121,7 @@ impl Questions {
     /// The questions one by one, in their order: that under its own key first, and then each part under one key after the other.
     /// Answers are in this order.
     pub fn list(&self, alloc: Global) -> Result<Vec<Question>, OutOfMemory>
-        ensures { IfOk result (λ list. list.items ≡ spec.listed self.now) }
+        ensures { IfOk result (λ list. list.items ≡ spec.questions_in_order self.now) }
     {
         let mut list = self.own_list(alloc)?;
         push_each(alloc, self.parts(), self.keys(), &mut list)?;
