@@ -23,7 +23,7 @@ use Rattle.rpki_replay.specs.declared.guard.GuardError.TheVariants as guard
 use Rattle.rpki_external.specs.Answers.{AnswersFields, AreRight}
 use Rattle.rpki_external.specs.Question.{QuestionsFields, anchor_questions, questions_in_order, request_questions}
 use Rattle.rpki_external.specs.Receiving.{AreAskedOf, ByAnswers, RefusesByAnswers, RefusesUnder}
-use Rattle.rpki_external.specs.Running.{AreRightIn, IsExplainAnswer, IsExplainAnswerUnder, IsIssueAnswer, IsIssueAnswerUnder, IsReceiveAnswer, IsReceiveAnswerUnder, IsRequestAnswer, IsRequestAnswerUnder, IsSetupWritten, IsSetupWrittenUnder, IsVerifiedAnswer, IsVerifiedAnswerUnder, IsVerifiedSo, IsVerifiedUnder, OfSpelled, Written}
+use Rattle.rpki_external.specs.Running.{AreRightIn, IsExplainAnswer, IsExplainAnswerUnder, IsIssueWritten, IsIssueWrittenUnder, IsReceiptWritten, IsReceiptWrittenUnder, IsRequestAnswer, IsRequestAnswerUnder, IsSetupWritten, IsSetupWrittenUnder, IsVerifiedAnswer, IsVerifiedAnswerUnder, IsVerifiedSo, IsVerifiedUnder, OfSpelled, Written}
 use Rattle.rpki_external.specs.Verifying.{AreSetupQuestions, HoldsAnchor, IsAnchorVerified, IsAnchorVerifiedUnder, IsRequestVerified, IsRequestVerifiedUnder, IsSetupAnswered, IsSetupAnsweredUnder, IsSetupVerified, IsSetupVerifiedUnder}
 use Rattle.rpki_external.specs.declared.receiving.AnsweredError.{AnsweredError}
 use Rattle.rpki_external.specs.declared.receiving.AnsweredError.TheVariants as errors
@@ -150,7 +150,7 @@ module _ (scheme : Relation) (fits : (kind : SigningAlgorithm) (key : KeyFields)
     refused_under errors.NoTime w = refusal_too scheme fits kind octets list when last w.q answers guard.NoTime w.asked (right w.q w.asked) w.answered.so
     refused_under (errors.Replayed before seen) w = refusal_too scheme fits kind octets list when last w.q answers (guard.Replayed before seen) w.asked (right w.q w.asked) w.answered.so
 
-    receipt_written : (answer : Written) → IsReceiveAnswer kind octets list when last answers answer → IsReceiveAnswerUnder scheme kind octets list when last answers answer
+    receipt_written : (answer : Written) → IsReceiptWritten kind octets list when last answers answer → IsReceiptWrittenUnder scheme kind octets list when last answers answer
     receipt_written (Ok output) is = (is.0, receipt_too scheme fits kind octets list when last is.1.q answers is.0 is.1.asked (right is.1.q is.1.asked) is.1.answered.so, is.2)
     receipt_written (Err refusal) is = (is.0, refused_under is.0 is.1, is.2)
 
@@ -169,7 +169,7 @@ module _ (scheme : Relation) (fits : (kind : SigningAlgorithm) (key : KeyFields)
 
   pub told_under : (what : Verified) (input : List ℕ) → AreRightIn scheme what input answers → (answer : Written) → IsVerifiedSo what answers input answer → IsVerifiedUnder scheme what answers input answer
   told_under (verified.Message kind when last list) input right =
-      spelled_too (λ octets. IsReceiveAnswer kind octets list when last answers) (λ octets. IsReceiveAnswerUnder scheme kind octets list when last answers) (hexadecimal input)
+      spelled_too (λ octets. IsReceiptWritten kind octets list when last answers) (λ octets. IsReceiptWrittenUnder scheme kind octets list when last answers) (hexadecimal input)
       (λ octets spells. receipt_written octets list (λ q asked. right q (record { octets = octets; spells = spells; are = asked })) kind when last)
   told_under (verified.Checks when key) input right =
       spelled_too (λ octets. IsExplainAnswer octets key when answers) (λ octets. IsExplainAnswerUnder scheme octets key when answers) (hexadecimal input)
@@ -184,6 +184,6 @@ module _ (scheme : Relation) (fits : (kind : SigningAlgorithm) (key : KeyFields)
           inr (r, begins, request_written r (right (request_questions r) (record { octets = octets; spells = spells; are = record { request = r; begins = begins; are = refl } })) answer is)
   told_under verified.Issue input right = by_input
     where
-      by_input : (answer : Written) → IsIssueAnswer input answers answer → IsIssueAnswerUnder scheme input answers answer
+      by_input : (answer : Written) → IsIssueWritten input answers answer → IsIssueWrittenUnder scheme input answers answer
       by_input answer (inl none) = inl none
       by_input answer (inr (r, asks, is)) = inr (r, asks, request_written r (right (request_questions r) (record { request = r; asks = asks; are = refl })) answer is)

@@ -8,7 +8,7 @@ use Rattle.rpki_ca.specs.Keys.{same_key}
 use Rattle.rpki_external.specs.declared.answers.AnswersError.{AnswersError}
 use Rattle.rpki_external.specs.declared.answers.AnswersError.TheVariants as errors
 use Rattle.rpki_external.specs.Question.{QuestionFields, QuestionsFields, SignatureHolds, questions_in_order}
-use Rattle.rpki_external.specs.Records.{AreWritable, digest_of}
+use Rattle.rpki_external.specs.Records.{AreWritableQuestions, digest_of}
 
 -- the digest of the questions, and a truth value for each of them, in their order
 pub record AnswersFields : Type 0 where
@@ -25,7 +25,7 @@ pub record AreTo (a : AnswersFields) (q : QuestionsFields) : Type 0 where
 -- they count for the questions: they are to them, whose octets are those of no other value
 pub record CountFor (a : AnswersFields) (q : QuestionsFields) : Type 0 where
   pub to : AreTo a q
-  pub writable : AreWritable q
+  pub writable : AreWritableQuestions q
 
 -- why they aren't: the digest is another; or it is the same, and there are more or fewer
 abbrev pub RefusesAnswers : AnswersFields → QuestionsFields → AnswersError → Type 0

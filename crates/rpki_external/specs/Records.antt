@@ -108,7 +108,7 @@ pub record IsWritableKey (key : KeyFields) : Type 0 where
   pub fits : Fits (tagged key_tag (spelled_key key))
 
 -- all questions of a program are so
-pub record AreWritable (q : QuestionsFields) : Type 0 where
+pub record AreWritableQuestions (q : QuestionsFields) : Type 0 where
   pub own : AllByRecursion IsWritableQuestion (own_question q.own)
   pub parts : AllByRecursion IsWritablePart q.parts
   pub keys : AllByRecursion IsWritableKey q.keys

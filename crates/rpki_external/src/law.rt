@@ -9,7 +9,7 @@ ghost use Rattle.rpki_ca.specs.Acceptance.{IsReceivedUnder, ReadsAs, accepted_te
 ghost use Rattle.rpki_ca.specs.Answer.{BringsAccepted};
 ghost use Rattle.rpki_ca.specs.Seen.{Seen};
 ghost use Rattle.rpki_sigmsg.specs.Spelling.{CanSpellMessage, rewritten};
-ghost use Rattle.rpki_external.specs.Running.{AreRightIn, AreToIn, DeliversReceipt, EndsAsVerified, EndsKeysTask, EndsWell, Finishes, IsLaterIn};
+ghost use Rattle.rpki_external.specs.Running.{AreRightIn, AreToIn, DeliversReceipt, EndsAsVerified, EndsKeysTask, EndsWell, Finishes, IsSignedLaterIn};
 ghost use Rattle.rpki_external.specs.declared.task.Finished.TheVariants as finishing;
 ghost use Rattle.rpki_external.specs.declared.task.Prepared.TheVariants as preparing;
 ghost use Rattle.rpki_external.specs.declared.task.Task.TheVariants as tasks;
@@ -35,7 +35,7 @@ ghost use Rattle.rpki_external.specs.Answers.{AnswersFields, AreRight, CountFor,
 ghost use Rattle.rpki_external.specs.Making.{AreShort, AreSignatures, CanPrepare, CanPrepareAnchor, CanPrepareRequest, FinishAnchorFails, FinishFails, FinishRequestFails, IsAcceptedSo, IsInWindow, PrepareAnchorFails, PrepareFails, PrepareRequestFails, anchor_fields, finished, finished_anchor, finished_request, request_to_sign, unsigned_request};
 ghost use Rattle.rpki_external.specs.Question.{QuestionsFields, anchor_questions, message_questions, questions_in_order, request_questions};
 ghost use Rattle.rpki_external.specs.Receiving.{AreAskedOf, IsGuardRefusal, IsReceipt, IsReceiptBy};
-ghost use Rattle.rpki_external.specs.Records.{AreWritable, SameUnlessCollide, digest_of};
+ghost use Rattle.rpki_external.specs.Records.{AreWritableQuestions, SameUnlessCollide, digest_of};
 ghost use Rattle.rpki_external.specs.Verifying.{AreChecksBy, AreChecksOf, AreSetupQuestions, IsAnchorVerified, IsRequestSigned, IsRequestVerified, IsSetupAnswered, IsSetupAnsweredUnder, IsTaValidation};
 ghost use Rattle.rpki_external.specs.declared.answers.AnswersError.{AnswersError};
 ghost use Rattle.rpki_external.specs.declared.preparing.Plan.{Plan};
@@ -84,7 +84,7 @@ pub fn answers_are_to_one_value()
 
     // So it is where they count for one, and were given to the other, whose digest is theirs.
     ensures given { (answers : AnswersFields) (a b : QuestionsFields) → CountFor answers a
-        → AreWritable b → answers.digest ≡ digest_of b → SameUnlessCollide a b }
+        → AreWritableQuestions b → answers.digest ≡ digest_of b → SameUnlessCollide a b }
 {}
 
 /// By the same answers two messages are received, or their checks told, two certificates are verified, and two requests, only where what
@@ -163,7 +163,7 @@ pub fn right_answers_deliver<P: Scheme>()
         → EndsKeysTask (tasks.Verify (verified.Message kind when last keys) answers) input status
         sink → AreRightIn P.checks (verified.Message kind when last keys) input answers
         → AreToIn (verified.Message kind when last keys) input answers
-        → BringsAccepted P.checks kind keys when input → IsLaterIn last input
+        → BringsAccepted P.checks kind keys when input → IsSignedLaterIn last input
         → EndsWell status sink }
 {}
 
