@@ -27,14 +27,14 @@ abbrev pub usage : KeysRefusal
 usage = keys.General refusals.Usage
 
 -- nothing is read so
-abbrev pub IsUnread : {X : Type 0} → (X → Type 0) → Type 0
-IsUnread {X} reads = (x : X) → reads x → ⊥
+abbrev pub ReadsNothing : {X : Type 0} → (X → Type 0) → Type 0
+ReadsNothing {X} reads = (x : X) → reads x → ⊥
 
 -- an argument is read as x, of which this is the answer; or it is read as nothing, which is Usage
 abbrev pub OfRead : {X Y : Type 0} → (X → Type 0) → (X → Result Y KeysRefusal → Type 0)
     → Result Y KeysRefusal → Type 0
 OfRead {X} reads is answer =
-    ((x : X) × reads x × is x answer) ⊎ ((answer ≡ Err usage) × IsUnread reads)
+    ((x : X) × reads x × is x answer) ⊎ ((answer ≡ Err usage) × ReadsNothing reads)
 
 -- ---- numbers
 

@@ -89,7 +89,7 @@ refused_call calls.UnknownObject = bare 17 (codes "UnknownObject")
 -- ---- handing over
 
 -- the text stands at the front of the buffer, whose rest is as it was, and this is told
-pub record IsGiven (text : List ℕ) (told : Outcome) (old new : List ℕ) (outcome : Outcome) : Type 0
+pub record IsCopied (text : List ℕ) (told : Outcome) (old new : List ℕ) (outcome : Outcome) : Type 0
   where
     pub fits : length text ≤ length old
     pub octets : new ≡ over text old
@@ -107,7 +107,7 @@ pub record IsRefused (refusal : KeysRefusal) (old new : List ℕ) (outcome : Out
   pub tells : outcome ≡ refused refusal
 
 -- the same of the refusal of a call
-pub record IsCallRefused (refusal : CallRefusal) (old new : List ℕ) (outcome : Outcome) : Type 0
+pub record IsDecisionRefused (refusal : CallRefusal) (old new : List ℕ) (outcome : Outcome) : Type 0
   where
     pub octets : new ≡ old
     pub tells : outcome ≡ refused_call refusal
@@ -115,21 +115,21 @@ pub record IsCallRefused (refusal : CallRefusal) (old new : List ℕ) (outcome :
 -- an answer is handed over
 abbrev pub IsHandedOver : Written → List ℕ → List ℕ → Outcome → Type 0
 IsHandedOver (Ok text) old new outcome =
-    IsGiven text (done (length text)) old new outcome ⊎ LacksRoom text old new outcome
+    IsCopied text (done (length text)) old new outcome ⊎ LacksRoom text old new outcome
 IsHandedOver (Err refusal) old new outcome = IsRefused refusal old new outcome
 
 -- a receipt is handed over: the text of its message; or why there is none
 abbrev pub IsReceiptHandedOver : Result Receipt KeysRefusal → List ℕ → List ℕ → Outcome → Type 0
 IsReceiptHandedOver (Ok r) old new outcome =
     let text = accepted_text r.message in
-    IsGiven text (received (length text) r) old new outcome ⊎ LacksRoom text old new outcome
+    IsCopied text (received (length text) r) old new outcome ⊎ LacksRoom text old new outcome
 IsReceiptHandedOver (Err refusal) old new outcome = IsRefused refusal old new outcome
 
 -- an answer is handed over, or why there is none
 abbrev pub IsDecisionHandedOver : Decided → List ℕ → List ℕ → Outcome → Type 0
 IsDecisionHandedOver (Ok text) old new outcome =
-    IsGiven text (done (length text)) old new outcome ⊎ LacksRoom text old new outcome
-IsDecisionHandedOver (Err refusal) old new outcome = IsCallRefused refusal old new outcome
+    IsCopied text (done (length text)) old new outcome ⊎ LacksRoom text old new outcome
+IsDecisionHandedOver (Err refusal) old new outcome = IsDecisionRefused refusal old new outcome
 
 -- an answer of which this is so is handed over; of want of memory nothing is said
 pub record HandsOver (is : Written → Type 0) (old new : List ℕ) (outcome : Outcome) : Type 0 where
