@@ -108,7 +108,8 @@ abbrev pub OfReadToDecide : {X : Type 0} → (X → Type 0) → (X → Decided �
 OfReadToDecide {X} reads is answer =
     ((x : X) × reads x × is x answer) ⊎ ((answer ≡ Err (calls.General usage)) × ReadsNothing reads)
 
--- the same by what the octets say of objects
+-- what is decided of the message that the text is, by what the octets say of objects, or why
+-- nothing is; Usage where they say nothing
 abbrev pub DecidesBy : List ℕ → List ℕ → List ℕ → Decided → Type 0
 DecidesBy text octets base = OfReadToDecide (AreKnownIn octets) (Decides text base)
 
