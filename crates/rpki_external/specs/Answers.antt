@@ -22,12 +22,13 @@ pub record AreTo (a : AnswersFields) (q : QuestionsFields) : Type 0 where
   pub digest : a.digest ≡ digest_of q
   pub number : length a.values ≡ length (questions_in_order q)
 
--- they count for the questions: they are to them, whose octets are those of no other value
+-- answers count for questions: they are to these, whose octets are those of no other value
 pub record CountFor (a : AnswersFields) (q : QuestionsFields) : Type 0 where
   pub to : AreTo a q
   pub writable : AreWritableQuestions q
 
--- why they aren't: the digest is another; or it is the same, and there are more or fewer
+-- why answers aren't to questions: their digest is another; or it is that of the questions, and
+-- there are more or fewer answers
 abbrev pub RefusesAnswers : AnswersFields → QuestionsFields → AnswersError → Type 0
 RefusesAnswers a q errors.OtherQuestions = a.digest ≢ digest_of q
 RefusesAnswers a q errors.Number =

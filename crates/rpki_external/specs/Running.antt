@@ -556,7 +556,7 @@ pub record EndsVerifiedUnder (scheme : Relation) (what : Verified) (answers : An
   pub is : IsVerifiedUnder scheme what answers input answer
   pub ends : EndsOn answer status sink
 
--- the same, or the call ends for want of memory
+-- the call ends with what is answered to the input under a scheme, or for want of memory
 abbrev pub EndsAsVerified : Relation → Verified → AnswersFields → List ℕ → ℕ → Seen → Type 0
 EndsAsVerified scheme what answers input status sink =
     EndsVerifiedUnder scheme what answers input status sink
