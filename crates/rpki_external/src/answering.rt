@@ -180,8 +180,8 @@ fn request_of(alloc: Global, message: &Received) -> Result<RpkiCaCsr, KeysRefusa
     }
 }
 
-/// The certificate request in the issue request of the provisioning protocol that the input is, in XML (RFC 6492, 3.4.1). `XmlError` where it
-/// is none, and what [`message_of`] refuses.
+/// The certificate request in the issue request of the provisioning protocol that the input is, in XML (RFC 6492, 3.4.1). `XmlError` where
+/// it is none, and what [`message_of`] refuses.
 pub fn request_in(alloc: Global, input: &[u8]) -> Result<RpkiCaCsr, KeysRefusal>
     ensures ok { IfOk result (spec.AsksToIssue input.now) }
     ensures err { IfErr result (λ e. e ≢ variant.General refusals.OutOfMemory

@@ -271,8 +271,8 @@ pub fn made_is_finished<P: Scheme>()
         × (m ≡ finished content plan signatures) }
 {}
 
-/// A key's own certificate is believed as a trust anchor's at each second of its validity, whatever its signature: it doesn't name
-/// itself as its issuer, so its signature isn't asked.
+/// A key's own certificate is accepted as a trust anchor's certificate at each second of its validity, whatever its signature: it doesn't
+/// name itself as its issuer, so its signature isn't asked.
 pub fn finished_anchor_is_believed<P: Scheme>()
     ensures { (key : KeyFields) (validity : ValidityFields) (signature : List ℕ) (when : ℤ)
         → validity.not_before ≤ℤ when → when ≤ℤ validity.not_after
