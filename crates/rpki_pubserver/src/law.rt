@@ -69,7 +69,8 @@ pub fn zero_replies_to_all<P: Scheme, S: Signer<P>>()
 {}
 
 /// A run with three words of the form ends with 0 or 12, if neither stream failed, the input is within the
-/// limit and the signer can sign; or with 3 or 8, where a line isn't hexadecimal or the moment has no window.
+/// limit, the signer can sign and no reply is too long; or with 3 or 8, where a line isn't hexadecimal or the
+/// moment has no window.
 pub fn runs_end_for_cause<P: Scheme, S: Signer<P>>()
     ensures { (when : ℤ) (signer : SignerSeen S.KeyId) (server : ServerFields) (status : ℕ)
         (source sink : Seen) (input : List ℕ) →

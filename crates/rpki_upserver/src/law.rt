@@ -66,7 +66,7 @@ pub fn a_class_holds_one_certificate_a_key<P: Scheme>()
         AreAllOnce (table_behind parent.table calls) }
 {}
 
-/// The error 2001 comes only where the parties are others, or where the issuer's count of faults rose.
+/// The error 2001 comes only where the parties are others, or where the issuer's count of faults rose or stands at its last value.
 pub fn internal_errors_have_causes<P: Scheme>()
     ensures { (parent : ParentState) (m : MessageFields) (o : Outcome) →
         IsResponse P.checks parent m o → o.payload ≡ refusal 2001 →

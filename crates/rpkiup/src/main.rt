@@ -73,7 +73,7 @@ Example: rpkiup --help; echo $?
 const VERSION: &[u8] = b"rpkiup 0.1.0\n";
 
 // What it does with its words, where they ask for no text on itself.
-fn run<I: Source, O: Sink>(
+fn run_parent<I: Source, O: Sink>(
     alloc: Global,
     words: &Words,
     input: &mut I,
@@ -116,7 +116,7 @@ fn main(rt: HostRuntime) -> ExitCode {
         Err(refusal) => refuse(&mut output, refusal),
         Ok(words) => match own_text(&words, own) {
             Some(text) => write_text(&mut output, text),
-            None => match run(rt.alloc(), &words, &mut input, &mut output) {
+            None => match run_parent(rt.alloc(), &words, &mut input, &mut output) {
                 Ok(status) => status,
                 Err(refusal) => refuse(&mut output, refusal),
             },
