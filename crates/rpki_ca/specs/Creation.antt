@@ -22,6 +22,8 @@ use Rattle.rpki_sigmsg.specs.Making.{window, HasWindow, IsMessageCreated, IsReus
 use Rattle.rpki_sigmsg.specs.Message.{MessageFields}
 use Rattle.rpki_sigmsg.specs.Spelling.{rewritten}
 use Rattle.rpki_ca.specs.declared.receiving.Kind.{Kind}
+use Rattle.rpki_ca.specs.declared.receiving.ReceiveError.{ReceiveError}
+use Rattle.rpki_ca.specs.declared.receiving.ReceiveError.TheVariants as errors
 use Rattle.rpki_ca.specs.declared.receiving.Received.{Received}
 use Rattle.rpki_ca.specs.declared.refusals.Refusal.{Refusal}
 use Rattle.rpki_ca.specs.declared.refusals.Refusal.TheVariants as refusals
@@ -37,6 +39,15 @@ RefusesInput kind input refusals.XmlError = HasNoForm kind input
 RefusesInput kind input refusals.CertSyntax = HoldsNoCertificate kind input
 RefusesInput kind input refusals.InvalidCsrSyntax = HoldsNoRequest kind input
 RefusesInput kind input other = ⊥
+
+-- why octets read as no message of the kind, as `message_in` answers it; of want of memory nothing
+-- is said, and no other error comes
+abbrev pub RefusesText : Kind → List ℕ → ReceiveError → Type 0
+RefusesText kind octets errors.XmlError = HasNoForm kind octets
+RefusesText kind octets errors.CertSyntax = HoldsNoCertificate kind octets
+RefusesText kind octets errors.InvalidCsrSyntax = HoldsNoRequest kind octets
+RefusesText kind octets errors.OutOfMemory = ⊤
+RefusesText kind octets other = ⊥
 
 -- the input reads as a message, and the moment has no window
 pub record HasNoWindow (kind : Kind) (input : List ℕ) (when : ℤ) : Type 0 where
