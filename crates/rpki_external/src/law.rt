@@ -38,6 +38,7 @@ ghost use Rattle.rpki_external.specs.Receiving.{AreAskedOf, IsGuardRefusal, IsRe
 ghost use Rattle.rpki_external.specs.Records.{AreWritableQuestions, SameUnlessCollide, digest_of};
 ghost use Rattle.rpki_external.specs.Verifying.{AreChecksBy, AreChecksOf, AreSetupQuestions, IsAnchorVerified, IsRequestSigned, IsRequestVerified, IsSetupAnswered, IsSetupAnsweredUnder, IsTaValidation};
 ghost use Rattle.rpki_external.specs.declared.answers.AnswersError.{AnswersError};
+ghost use Rattle.rpki_external.specs.declared.keys_refusal.KeysRefusal.{KeysRefusal};
 ghost use Rattle.rpki_external.specs.declared.preparing.Plan.{Plan};
 ghost use Rattle.rpki_external.specs.declared.preparing.PrepareError.{PrepareError};
 ghost use Rattle.rpki_external.specs.declared.preparing.Signatures.{Signatures};
@@ -52,6 +53,7 @@ ghost use Rattle.rpki_external.specs.declared.setting_up.SetupError.{SetupError}
 ghost use Rattle.rpki_external.specs.declared.verifying.VerifyError.{VerifyError};
 
 use crate::answers::AnswersError;
+use crate::keys_refusal::KeysRefusal;
 use crate::preparing::PrepareError;
 use crate::question::Part;
 use crate::receiving::AnsweredError;
@@ -61,7 +63,7 @@ use rpki_base::Scheme;
 use rpki_setup::at_most_one;
 use rpki_signer::Signer;
 
-/// `==` holds exactly between the same parts, and between the same errors.
+/// `==` holds exactly between the same parts, between the same errors, and between the same refusals.
 pub fn equal_values_are_the_same()
     ensures part { (a b : Part) → (⟦<Part as PartialEq>⟧.eq a b ≡ true) ↔ (a ≡ b) }
     ensures answers { (a b : AnswersError)
@@ -74,6 +76,8 @@ pub fn equal_values_are_the_same()
         → (⟦<SetupError as PartialEq>⟧.eq a b ≡ true) ↔ (a ≡ b) }
     ensures prepare { (a b : PrepareError)
         → (⟦<PrepareError as PartialEq>⟧.eq a b ≡ true) ↔ (a ≡ b) }
+    ensures refusal { (a b : KeysRefusal)
+        → (⟦<KeysRefusal as PartialEq>⟧.eq a b ≡ true) ↔ (a ≡ b) }
 {}
 
 /// Answers count for one value of questions: where they do for two, these are the same, or their octets, which differ, have one SHA-256.

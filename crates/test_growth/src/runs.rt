@@ -1,7 +1,7 @@
 //! Commands in memory.
 
 use crate::ended::Ended;
-use crate::signing::{KEY, signer_of};
+use command_line::program_signer;
 use rpki_ca::{Status, Words, run};
 use rpki_signer::{ToySigner, ToyVerifier};
 use rpki_text::{MemorySink, MemorySource};
@@ -45,6 +45,7 @@ fn status_of(
     source: &mut MemorySource,
     sink: &mut MemorySink,
     signer: &mut ToySigner,
+    key: u64,
 ) -> Option<u8> {
     let Status(status) = run(
         alloc,
@@ -53,7 +54,7 @@ fn status_of(
         sink,
         &ToyVerifier::new(),
         signer,
-        &KEY,
+        &key,
     );
     let is_uncounted = source.faults() == 0
         && sink.faults() == 0
@@ -68,8 +69,10 @@ fn answered(
     source: &mut MemorySource,
     sink: &mut MemorySink,
 ) -> Result<Option<u8>, Ended> {
-    let mut signer = signer_of(alloc)?;
-    Ok(status_of(alloc, words, source, sink, &mut signer))
+    let Ok((mut signer, key)) = program_signer(alloc) else {
+        return Err(Ended::OutOfMemory);
+    };
+    Ok(status_of(alloc, words, source, sink, &mut signer, key))
 }
 
 // How a run ends that wrote this, and has to write that line.

@@ -1,6 +1,6 @@
 //! Commands, as lines have them.
 
-use crate::signers::signer_of;
+use command_line::program_signer;
 use rpki_ca::{Status, Words};
 use rpki_common::OutOfMemory;
 use rpki_signer::ToyVerifier;
@@ -54,14 +54,16 @@ pub fn number_of(line: &str, place: usize) -> io::Result<u64> {
     }
 }
 
-/// The status of a command with the signer's key 0, and no status where a call of the signer failed.
+/// The status of a command with the programs' own signer, and no status where a call of it failed.
 pub fn status_of(
     alloc: Global,
     words: &Words,
     source: &mut MemorySource,
     sink: &mut MemorySink,
 ) -> io::Result<u64> {
-    let mut signer = signer_of(alloc, &[])?;
+    let Ok((mut signer, key)) = program_signer(alloc) else {
+        return Err(out_of_memory(OutOfMemory));
+    };
     let Status(status) = rpki_ca::run(
         alloc,
         words,
@@ -69,7 +71,7 @@ pub fn status_of(
         sink,
         &ToyVerifier::new(),
         &mut signer,
-        &0,
+        &key,
     );
     if signer.faults() != 0 || signer.reused() != 0 {
         return Err(invalid());
