@@ -11,16 +11,13 @@ ghost use Rattle.rpki_c.specs.HandingOver.{out_of_memory};
 
 use bytes::Bytes;
 use rpki_base::{PublicKey, Serial, Time, Validity};
-use rpki_ca::{Kind, Refusal, SetupKind};
+use rpki_ca::{Kind, MOST_KEYS, Refusal, SetupKind};
 use rpki_common::OutOfMemory;
 use rpki_der::{Cursor, DecodeError, Mode};
 use rpki_external::{Answers, KeysRefusal, Plan, RequestPlan, Signatures};
 use rpki_text::uri::{self, Https, Rsync};
 use rpki_text::{Hash, printed_hash_is_read};
 use std::alloc::Global;
-
-// The most keys of a call.
-const MOST_KEYS: usize = 8;
 
 // Arguments that are read as nothing.
 pub(crate) const USAGE: KeysRefusal = KeysRefusal::General(Refusal::Usage);

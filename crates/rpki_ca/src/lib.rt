@@ -41,7 +41,7 @@ mod setup_line;
 mod setup_message;
 mod words;
 
-pub use command::Command;
+pub use command::{Command, MOST_KEYS};
 pub use create_line::message_in;
 pub use hexadecimal::{hexadecimal_line, input_octets};
 pub use law::{

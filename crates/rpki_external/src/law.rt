@@ -189,6 +189,7 @@ pub fn right_answers_verify<P: Scheme>()
         → IsSetupAnswered kind octets when answers answer
         → IsSetupAnsweredUnder P.checks kind octets when answers answer }
 {
+    // For the proof: octets are at most one setup message of a kind.
     at_most_one();
 }
 
