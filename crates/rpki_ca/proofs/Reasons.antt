@@ -1,5 +1,5 @@
 -- Why octets are no message of a kind: there is one reason, and none where they are one.
-use Rattle.std.proofs.Common.{◌≡◌, ◌≢◌, ◌⊎◌, inl, inr, ℕ, List, refl, sym, tt, ◌∙◌}
+use Rattle.std.proofs.Common.{◌≡◌, ◌≢◌, ◌⊎◌, inl, inr, ℕ, List, refl, sym, ◌∙◌}
 use Rattle.rpki_provisioning.proofs.Excludes as excludes
 use Rattle.rpki_publication.specs.declared.error.Error.{Error as PublicationError}
 use Rattle.rpki_publication.specs.declared.error.Error.TheVariants as publication
