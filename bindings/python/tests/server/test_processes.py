@@ -117,9 +117,16 @@ def test_a_process_that_ends(served: Served) -> None:
 def test_one_that_ends(served: Served) -> None:
     """Where one of them is killed while it has nothing to do, the others end too, and queries are answered by new ones."""
     carol = served.add("carol")
-    for _ in range(4):
-        carol.listed()
-    wait_for(lambda: len(answering(served)) == 2)
+
+    def both() -> bool:
+        threads = [threading.Thread(target=carol.post, args=(carol.signed(ListQuery()),)) for _ in range(4)]
+        for thread in threads:
+            thread.start()
+        for thread in threads:
+            thread.join()
+        return len(answering(served)) == 2
+
+    wait_for(both)  # a second one begins when a query comes while the first has one
     before = answering(served)
     os.kill(before[0], signal.SIGKILL)
     wait_for(lambda: is_gone(before[0]))

@@ -7,8 +7,10 @@ writes a line to standard output that says what it has done. Its log goes to sta
 from __future__ import annotations
 
 import dataclasses
+import functools
 import json
 import logging
+import os
 import pathlib
 import signal
 import subprocess
@@ -95,9 +97,12 @@ def _at_end_of_input(act: Callable[[], Any]) -> None:
     act()
 
 
-def _report(progress: Progress) -> None:
-    """Says what was done."""
-    print(json.dumps(dataclasses.asdict(progress)), flush=True)
+def _report(stop: threading.Event, progress: Progress) -> None:
+    """Says what was done. Where nobody listens any more the server has ended, and so does this process."""
+    try:
+        os.write(sys.stdout.fileno(), json.dumps(dataclasses.asdict(progress)).encode("ascii") + b"\n")
+    except OSError:
+        stop.set()
 
 
 def main() -> int:
@@ -109,5 +114,5 @@ def main() -> int:
     logs.begin(told["log"])
     named = told["places"]
     places = Places(pathlib.Path(named["rrdp"]), named["rrdp_base"], pathlib.Path(named["tree"]), named["rsync_base"])
-    Worker(Database(told["address"]), places, Pauses(**told["pauses"])).run(stop, _report)
+    Worker(Database(told["address"]), places, Pauses(**told["pauses"])).run(stop, functools.partial(_report, stop))
     return 0
