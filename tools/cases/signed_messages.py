@@ -124,10 +124,7 @@ def sign(seed, number, octets, spoilt=False):
 OTHER = bytes(range(20))
 QUERY = b'<msg xmlns="http://www.hactrn.net/uris/rpki/publication-spec/" version="4" type="query"><list/></msg>'
 
-# What a message is made of. A None leaves a part out or has it follow from the others; a function turns what it is given. So
-#     message(serial=7, entries=(7,), authority_key=None, attributes=lambda xs: xs[::-1])
-# is a message whose certificate has the serial number 7, is revoked, and names no issuer's key, and whose attributes stand the other way
-# round; all else of it is good, and so are its signatures.
+# What a message is made of. A None leaves a part out or has it follow from the others; a function turns what it is given.
 GOOD = dict(
     seed=1, ee=1, serial=1, content=QUERY,
     # the signer

@@ -64,7 +64,7 @@ LIMITS = {
     "powers of a key": ("rpki_common/specs/Limits.antt", r"most_key = 2 \^ (\d+)"),
     "octets of a message": ("rpki_xmltext/src/transfer.rt", r"const MOST_OCTETS: u64 = (0x[\d_a-f]+);"),
     "seconds of a window": ("rpki_common/specs/Limits.antt", r"window_seconds = (\d+)"),
-    "moments with a window": ("rpki_sigmsg/src/window.rt", r"(?s)const SECONDS: i64 = ([\d_]+);.*?const LAST: i64 = ([\d_]+);"),
+    "moments with a window": ("rpki_sigmsg/src/window.rt", r"seconds < ([\d_]+) \|\| seconds > ([\d_]+)"),
     "last moment": ("rpki_base/src/time.rt", r"seconds > ([\d_]+) "),
     "elements that are made": ("rpki_common/specs/Limits.antt", r"most_elements = (\d+)"),
     "keys": ("rpki_common/specs/Limits.antt", r"most_keys = (\d+)"),

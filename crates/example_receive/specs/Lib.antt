@@ -1,3 +1,2 @@
--- Said in contracts, and to be believed: LongKeys, Publishing.
+-- Said in contracts, and to be believed: LongKeys.
 pub mod LongKeys
-pub mod Publishing

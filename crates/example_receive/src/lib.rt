@@ -2,14 +2,12 @@
 //! [`rpki_ca::receive`]. docs/READING.md quotes the code from the scheme on.
 #![tactic(auto)]
 
-mod created;
 mod written;
 
 ghost use Rattle.std.specs.Prelude.{MatchResult, ◌∷◌, []};
 ghost use Rattle.rpki_ca.specs.Acceptance.{Accepted, RefusesReceipt};
 ghost use Rattle.example_receive.specs.LongKeys.{LongChecks};
 
-pub use created::query_that_is_received;
 use rpki_base::{PublicKey, Scheme, SigningAlgorithm, Time, Verifier};
 use rpki_ca::{Kind, ReceiveError, Received, receive};
 use rpki_signer::ToyVerifier;

@@ -172,8 +172,8 @@ pub fn check<P: Scheme, I: Source, O: Sink, V: Verifier<P>>(
     // At most one octet more than the limit is taken of the source.
     ensures most { TakesAtMost (I.rest input.old) (I.rest input.new) (most_input + 1) }
 
-    // Where the source isn't read whole, the status is 9, 10 or 12 by the cause, or 11 where the line
-    // with it wasn't written; where it is, each line is answered, and no line's form ends the run.
+    // Where the source isn't read whole, that is what is answered; where it is, each line is answered,
+    // and no line's form ends the run.
     ensures ends { (task : TaskOf) → IsArchiveTask words.now task
         → EndsRun (λ octets. EndsArchiveTask P.checks task (lines_of octets) result.0
         (seen O.written O.faults output.old output.new))

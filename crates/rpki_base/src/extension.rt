@@ -107,8 +107,8 @@ fn take_extension<F: FindsExtensions, L: Ledger>(
     found.found_with(alloc, &extension, steps)
 }
 
-/// What was found before, and what the extensions say that stand next in a SEQUENCE. It ticks for each header and each end mark that
-/// the cursor passes, and as [`FindsExtensions::found_with`] does.
+/// What was found before, and what the extensions say that stand next in a SEQUENCE. It ticks each time it looks at a header, and
+/// for each end mark.
 pub fn take_extensions_counted<F: FindsExtensions, L: Ledger>(
     alloc: Global,
     cursor: &mut Cursor<'_>,

@@ -9,7 +9,7 @@ use Rattle.rpki_der.proofs.Uniqueness.{same_cut}
 use Rattle.rpki_external.specs.Records.{AllFit, Fits, Tagged, record_of, records_of, tagged}
 use Rattle.rpki_external.proofs.OneValue.{same_record}
 use Rattle.rpki_pubserver.specs.Deciding.{Knowledge}
-use Rattle.rpki_c.specs.Arguments.{IsRsyncIn, ReadsNothing}
+use Rattle.rpki_c.specs.Arguments.{IsRsyncIn, IsUnread}
 use Rattle.rpki_c.specs.Deciding.{AreKnownIn, BeginsRecord, CanBeKnown, IsKnownIn, known_record}
 
 -- ---- one record
@@ -43,7 +43,7 @@ there_known octets digest uri hash u front back size is r =
     }
 
 -- what is behind the digest is no URI
-pub there_unread : (octets digest uri : List ℕ) → digest ≡ take 32 octets → uri ≡ drop 32 octets → length digest ≡ 32 → ReadsNothing (IsRsyncIn uri) → ReadsNothing (IsKnownIn (tagged 22 octets))
+pub there_unread : (octets digest uri : List ℕ) → digest ≡ take 32 octets → uri ≡ drop 32 octets → length digest ≡ 32 → IsUnread (IsRsyncIn uri) → IsUnread (IsKnownIn (tagged 22 octets))
 there_unread octets digest uri front back size none (u, None) k = let tag : 22 ≡ 23 = ap (λ (t : Tagged). t.tag) k.is in absurd (omega (arith, tag))
 there_unread octets digest uri front back size none (u, Some d) k =
     let whole : octets ≡ d ++ u = ap (λ (t : Tagged). t.octets) k.is in
@@ -52,7 +52,7 @@ there_unread octets digest uri front back size none (u, Some d) k =
     none u (sym is, subst (λ (l : List ℕ). fault_of rsync l ≡ None) (sym is) k.can.uri)
 
 -- the octets are no URI
-pub absent_unread : (tag : ℕ) (octets : List ℕ) → tag ≡ 23 → ReadsNothing (IsRsyncIn octets) → ReadsNothing (IsKnownIn (tagged tag octets))
+pub absent_unread : (tag : ℕ) (octets : List ℕ) → tag ≡ 23 → IsUnread (IsRsyncIn octets) → IsUnread (IsKnownIn (tagged tag octets))
 absent_unread tag octets is none (u, None) k =
     let same : octets ≡ u = ap (λ (t : Tagged). t.octets) k.is in
     none u (sym same, subst (λ (l : List ℕ). fault_of rsync l ≡ None) (sym same) k.can.uri)
@@ -144,7 +144,7 @@ goes_on octets (k ∷ known) rest (o ∷ others) r a =
 
 -- where no record stands, or one that says nothing, the octets say nothing
 pub unread : (octets : List ℕ) (known : Knowledge) (rest : List ℕ) → AreRead octets known rest → (rest ≡ [] → ⊥)
-    → ((one : List ℕ × Option (List ℕ)) (more : List ℕ) → BeginsRecord rest (known_record one) more → CanBeKnown one → ⊥) → ReadsNothing (AreKnownIn octets)
+    → ((one : List ℕ × Option (List ℕ)) (more : List ℕ) → BeginsRecord rest (known_record one) more → CanBeKnown one → ⊥) → IsUnread (AreKnownIn octets)
 unread octets known rest r some none other a =
     let go = goes_on octets known rest other r a in
     ended go.more go.are
@@ -154,7 +154,7 @@ unread octets known rest r some none other a =
     ended (one ∷ more) are = none one (records_of (map known_record more)) (record { is = are.are; fits = are.fit.0 }) are.lawful.0
 
 -- where a record says nothing, none that stands there says something
-pub says_nothing : (rest : List ℕ) (t : Tagged) (behind : List ℕ) → BeginsRecord rest t behind → ReadsNothing (IsKnownIn t)
+pub says_nothing : (rest : List ℕ) (t : Tagged) (behind : List ℕ) → BeginsRecord rest t behind → IsUnread (IsKnownIn t)
     → (one : List ℕ × Option (List ℕ)) (more : List ℕ) → BeginsRecord rest (known_record one) more → CanBeKnown one → ⊥
 says_nothing rest t behind begins none one more other can =
     let same = same_record t (known_record one) behind more begins.fits other.fits (sym begins.is ∙ other.is) in

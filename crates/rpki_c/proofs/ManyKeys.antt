@@ -9,7 +9,7 @@ use Rattle.rpki_der.specs.declared.mode.Mode.TheVariants.{Der}
 use Rattle.rpki_der.proofs.Counting.{begins_left}
 use Rattle.rpki_der.proofs.Parts.{at_most_one}
 use Rattle.rpki_base.specs.PublicKey.{KeyFields, public_key}
-use Rattle.rpki_c.specs.Arguments.{AreFewKeysIn, AreKeysIn, ReadsNothing}
+use Rattle.rpki_c.specs.Arguments.{AreFewKeysIn, AreKeysIn, IsUnread}
 
 -- with these keys the octets begin, one behind the other, and this is behind them
 abbrev pub ThenKeys : List ℕ → List KeyFields → List ℕ → Type 0
@@ -66,7 +66,7 @@ pub none_read : (octets : List ℕ) (at : Position) → at ≡ record { mode = D
 none_read octets at is = record { mode = ap (λ (p : Position). p.mode) is; levels = ap (λ (p : Position). p.levels) is; read = sym (ap (λ (p : Position). p.here) is); on = inl refl }
 
 -- where nothing stands that is a key, the octets are none
-pub no_more : (octets : List ℕ) (list : List KeyFields) (at : Position) → AreRead octets list at → NoneStands public_key at → ReadsNothing (AreFewKeysIn octets)
+pub no_more : (octets : List ℕ) (list : List KeyFields) (at : Position) → AreRead octets list at → NoneStands public_key at → IsUnread (AreFewKeysIn octets)
 no_more octets list at r none other few =
     let go = goes_on octets list at.here other r.read few.are in
     ended go.more go.is go.are
@@ -115,7 +115,7 @@ all_read octets list old new key r t end few =
     }
 
 -- behind eight that aren't all, the octets are too many
-pub too_many : (octets : List ℕ) (list : List KeyFields) (at : Position) → AreRead octets list at → length list ≡ 8 → ReadsNothing (AreFewKeysIn octets)
+pub too_many : (octets : List ℕ) (list : List KeyFields) (at : Position) → AreRead octets list at → length list ≡ 8 → IsUnread (AreFewKeysIn octets)
 too_many octets list at r eight other few =
     let go = goes_on octets list at.here other r.read few.are in
     ended go.more go.is go.are r.on

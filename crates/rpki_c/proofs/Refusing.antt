@@ -11,7 +11,7 @@ use Rattle.rpki_publication.specs.declared.report_error_code.ReportErrorCode.The
 use Rattle.rpki_pubserver.specs.Messages.{error_alone}
 use Rattle.rpki_pubserver.specs.Replies.{reply_to}
 use Rattle.rpki_pubserver.specs.Store.{Store}
-use Rattle.rpki_c.specs.Arguments.{ReadsNothing}
+use Rattle.rpki_c.specs.Arguments.{IsUnread}
 use Rattle.rpki_c.specs.Deciding.{HasStatus, IsErrorTo, RefusesBy, RefusesIn}
 
 -- an error of receipt, to which this error alone is replied
@@ -27,7 +27,7 @@ replied status codes.BadCmsSignature (inr six) =
 replied status codes.XmlError five = record { error = errors.XmlError; has = five; replied = λ base store. refl }
 replied status other none = absurd none
 
-unreplied : (status : ℤ) → ReadsNothing (IsErrorTo status) → ReadsNothing (HasStatus status)
+unreplied : (status : ℤ) → IsUnread (IsErrorTo status) → IsUnread (HasStatus status)
 unreplied status none errors.CmsDecode is = none codes.BadCmsSignature (inl is)
 unreplied status none errors.XmlError is = none codes.XmlError is
 unreplied status none errors.CertSyntax is = none codes.XmlError is

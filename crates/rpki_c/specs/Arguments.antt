@@ -27,14 +27,14 @@ abbrev pub usage : KeysRefusal
 usage = keys.General refusals.Usage
 
 -- nothing is read so
-abbrev pub ReadsNothing : {X : Type 0} → (X → Type 0) → Type 0
-ReadsNothing {X} reads = (x : X) → reads x → ⊥
+abbrev pub IsUnread : {X : Type 0} → (X → Type 0) → Type 0
+IsUnread {X} reads = (x : X) → reads x → ⊥
 
 -- an argument is read as x, of which this is the answer; or it is read as nothing, which is Usage
 abbrev pub OfRead : {X Y : Type 0} → (X → Type 0) → (X → Result Y KeysRefusal → Type 0)
     → Result Y KeysRefusal → Type 0
 OfRead {X} reads is answer =
-    ((x : X) × reads x × is x answer) ⊎ ((answer ≡ Err usage) × ReadsNothing reads)
+    ((x : X) × reads x × is x answer) ⊎ ((answer ≡ Err usage) × IsUnread reads)
 
 -- ---- numbers
 
@@ -76,7 +76,7 @@ AreKeysIn octets [] = octets ≡ []
 AreKeysIn octets (key ∷ more) = (v : Value) × (rest : List ℕ) × Begins Der octets v rest
     × (public_key v ≡ Some key) × AreKeysIn rest more
 
--- the octets are one to eight keys in DER, one behind the other
+-- they are one to eight
 pub record AreFewKeysIn (octets : List ℕ) (list : List KeyFields) : Type 0 where
   pub some : 1 ≤ length list
   pub few : length list ≤ most_keys
@@ -105,7 +105,7 @@ IsRsyncIn octets uri = (uri ≡ octets) × (fault_of rsync octets ≡ None)
 abbrev pub IsHttpsIn : List ℕ → List ℕ → Type 0
 IsHttpsIn octets uri = (uri ≡ octets) × (fault_of https octets ≡ None)
 
--- a lawful https URI, or none where there are no octets
+-- the same, or none where there are no octets
 abbrev pub IsNotifyIn : List ℕ → Option (List ℕ) → Type 0
 IsNotifyIn octets None = octets ≡ []
 IsNotifyIn octets (Some uri) = IsHttpsIn octets uri

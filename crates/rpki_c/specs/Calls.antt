@@ -22,7 +22,7 @@ use Rattle.rpki_external.specs.Making.{CanPrepare, CanPrepareAnchor, CanPrepareR
 use Rattle.rpki_external.specs.Question.{QuestionsFields, request_questions}
 use Rattle.rpki_external.specs.Records.{Tagged, records_of, tag_of, tagged}
 use Rattle.rpki_external.specs.Receiving.{AreAskedOf, IsReceiptBy, RefusesByAnswers, RefusesChecks}
-use Rattle.rpki_external.specs.Running.{AsksToIssue, FailsAs, HoldsNoRequestAtAll, IsFinishAnchorAnswer, IsFinishAnswer, IsFinishRequestAnswer, IsInspectAnswer, IsIssueWritten, IsPrepareRefusal, IsRefusedAs, IsRequestAnswer, IsSetupWritten, OfMessage, RefusesIssue, RefusesText, Written, on_line, refusal_of_answered, refusal_of_setup_error}
+use Rattle.rpki_external.specs.Running.{AsksToIssue, FailsAs, HoldsNoRequestAtAll, IsFinishAnchorAnswer, IsFinishAnswer, IsFinishRequestAnswer, IsInspectAnswer, IsIssueAnswer, IsPrepareRefusal, IsRefusedAs, IsRequestAnswer, IsSetupWritten, OfMessage, RefusesIssue, RefusesText, Written, on_line, refusal_of_answered, refusal_of_setup_error}
 use Rattle.rpki_external.specs.Verifying.{AreChecksBy, BeginsRequest, HoldsAnchor, IsSetupAsked}
 use Rattle.rpki_external.specs.declared.keys_refusal.KeysRefusal.{KeysRefusal}
 use Rattle.rpki_external.specs.declared.keys_refusal.KeysRefusal.TheVariants as keys
@@ -282,7 +282,7 @@ VerifiesRequestIn octets digest answers =
 -- `issue_verify`
 abbrev pub VerifiesIssueIn : List ℕ → List ℕ → List ℕ → Written → Type 0
 VerifiesIssueIn text digest answers =
-    OfRead (AreAnswersIn digest answers) (λ a. SpelledSo (IsIssueWritten text a))
+    OfRead (AreAnswersIn digest answers) (λ a. SpelledSo (IsIssueAnswer text a))
 
 -- the message of the protocol that the text is, anew
 abbrev pub RewritesText : Kind → List ℕ → Written → Type 0

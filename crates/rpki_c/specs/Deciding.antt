@@ -20,7 +20,7 @@ use Rattle.rpki_pubserver.specs.Store.{IsStore, Store}
 use Rattle.rpki_pubserver.specs.declared.deciding.Decision.{Decision}
 use Rattle.rpki_external.specs.Records.{AllFit, Fits, Tagged, record_of, records_of, tagged}
 use Rattle.rpki_external.specs.Running.{RefusesText, Written}
-use Rattle.rpki_c.specs.Arguments.{IsRsyncIn, OfRead, ReadsNothing, usage}
+use Rattle.rpki_c.specs.Arguments.{IsRsyncIn, IsUnread, OfRead, usage}
 use Rattle.rpki_c.specs.HandingOver.{Decided}
 use Rattle.rpki_c.specs.declared.outcome.CallRefusal.TheVariants as calls
 
@@ -79,15 +79,15 @@ decision_record d = tagged (decided_tag d.made) (text_of d.reply)
 -- It is what every server replies, and makes of its store, that has this base and of whose store
 -- what is known is so; the changes are made exactly where the reply is the success; and something is
 -- known of each object that the changes name.
-pub record IsDecidedFromKnown (base : List ℕ) (m : Message) (known : Knowledge) (d : Decision)
-    : Type 0 where
-  pub decided : (store : Store) → IsStore store → Agrees store known m → IsDecided base store m d
-  pub made : IsTrue d.made ↔ (d.reply ≡ messages.Reply replies.Success)
-  pub known_are : AreKnown known (changes_of m)
+pub record IsDecidedBy (base : List ℕ) (m : Message) (known : Knowledge) (d : Decision) : Type 0
+  where
+    pub decided : (store : Store) → IsStore store → Agrees store known m → IsDecided base store m d
+    pub made : IsTrue d.made ↔ (d.reply ≡ messages.Reply replies.Success)
+    pub known_are : AreKnown known (changes_of m)
 
 -- the decision of a message, as a record
 abbrev pub DecidesSo : List ℕ → Knowledge → Message → List ℕ → Type 0
-DecidesSo base known m output = (d : Decision) × IsDecidedFromKnown base m known d
+DecidesSo base known m output = (d : Decision) × IsDecidedBy base m known d
     × (output ≡ records_of (decision_record d ∷ []))
 
 -- the text reads as this message, of which this is so
@@ -106,10 +106,9 @@ Decides text base known (Err (calls.General refusal)) = RefusesText kinds.Public
 -- an argument is read as x, of which this is the answer; or it is read as nothing, which is Usage
 abbrev pub OfReadToDecide : {X : Type 0} → (X → Type 0) → (X → Decided → Type 0) → Decided → Type 0
 OfReadToDecide {X} reads is answer =
-    ((x : X) × reads x × is x answer) ⊎ ((answer ≡ Err (calls.General usage)) × ReadsNothing reads)
+    ((x : X) × reads x × is x answer) ⊎ ((answer ≡ Err (calls.General usage)) × IsUnread reads)
 
--- what is decided of the message that the text is, by what the octets say of objects, or why
--- nothing is; Usage where they say nothing
+-- the same by what the octets say of objects
 abbrev pub DecidesBy : List ℕ → List ℕ → List ℕ → Decided → Type 0
 DecidesBy text octets base = OfReadToDecide (AreKnownIn octets) (Decides text base)
 

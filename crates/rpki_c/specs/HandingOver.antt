@@ -89,7 +89,7 @@ refused_call calls.UnknownObject = bare 17 (codes "UnknownObject")
 -- ---- handing over
 
 -- the text stands at the front of the buffer, whose rest is as it was, and this is told
-pub record IsCopied (text : List ℕ) (told : Outcome) (old new : List ℕ) (outcome : Outcome) : Type 0
+pub record IsGiven (text : List ℕ) (told : Outcome) (old new : List ℕ) (outcome : Outcome) : Type 0
   where
     pub fits : length text ≤ length old
     pub octets : new ≡ over text old
@@ -106,9 +106,8 @@ pub record IsRefused (refusal : KeysRefusal) (old new : List ℕ) (outcome : Out
   pub octets : new ≡ old
   pub tells : outcome ≡ refused refusal
 
--- the buffer is as it was, and the refusal of a call is told, which may be that nothing is known of
--- an object
-pub record IsDecisionRefused (refusal : CallRefusal) (old new : List ℕ) (outcome : Outcome) : Type 0
+-- the same of the refusal of a call
+pub record IsCallRefused (refusal : CallRefusal) (old new : List ℕ) (outcome : Outcome) : Type 0
   where
     pub octets : new ≡ old
     pub tells : outcome ≡ refused_call refusal
@@ -116,21 +115,21 @@ pub record IsDecisionRefused (refusal : CallRefusal) (old new : List ℕ) (outco
 -- an answer is handed over
 abbrev pub IsHandedOver : Written → List ℕ → List ℕ → Outcome → Type 0
 IsHandedOver (Ok text) old new outcome =
-    IsCopied text (done (length text)) old new outcome ⊎ LacksRoom text old new outcome
+    IsGiven text (done (length text)) old new outcome ⊎ LacksRoom text old new outcome
 IsHandedOver (Err refusal) old new outcome = IsRefused refusal old new outcome
 
 -- a receipt is handed over: the text of its message; or why there is none
 abbrev pub IsReceiptHandedOver : Result Receipt KeysRefusal → List ℕ → List ℕ → Outcome → Type 0
 IsReceiptHandedOver (Ok r) old new outcome =
     let text = accepted_text r.message in
-    IsCopied text (received (length text) r) old new outcome ⊎ LacksRoom text old new outcome
+    IsGiven text (received (length text) r) old new outcome ⊎ LacksRoom text old new outcome
 IsReceiptHandedOver (Err refusal) old new outcome = IsRefused refusal old new outcome
 
--- the octets of a result are handed over, or why there are none
+-- an answer is handed over, or why there is none
 abbrev pub IsDecisionHandedOver : Decided → List ℕ → List ℕ → Outcome → Type 0
 IsDecisionHandedOver (Ok text) old new outcome =
-    IsCopied text (done (length text)) old new outcome ⊎ LacksRoom text old new outcome
-IsDecisionHandedOver (Err refusal) old new outcome = IsDecisionRefused refusal old new outcome
+    IsGiven text (done (length text)) old new outcome ⊎ LacksRoom text old new outcome
+IsDecisionHandedOver (Err refusal) old new outcome = IsCallRefused refusal old new outcome
 
 -- an answer of which this is so is handed over; of want of memory nothing is said
 pub record HandsOver (is : Written → Type 0) (old new : List ℕ) (outcome : Outcome) : Type 0 where
@@ -138,16 +137,14 @@ pub record HandsOver (is : Written → Type 0) (old new : List ℕ) (outcome : O
   pub is_so : answer ≢ Err out_of_memory → is answer
   pub handed : IsHandedOver answer old new outcome
 
--- an answer of which this is so, a receipt or a refusal, is handed over; of want of memory nothing
--- is said
+-- the same of a receipt
 pub record HandsReceiptOver (is : Result Receipt KeysRefusal → Type 0) (old new : List ℕ)
     (outcome : Outcome) : Type 0 where
   pub answer : Result Receipt KeysRefusal
   pub is_so : answer ≢ Err out_of_memory → is answer
   pub handed : IsReceiptHandedOver answer old new outcome
 
--- an answer of which this is so, octets or the refusal of a call, is handed over; of want of memory
--- nothing is said
+-- the same where the refusal can be that nothing is known of an object
 pub record HandsDecisionOver (is : Decided → Type 0) (old new : List ℕ) (outcome : Outcome) : Type 0
   where
     pub answer : Decided

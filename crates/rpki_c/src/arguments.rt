@@ -11,13 +11,16 @@ ghost use Rattle.rpki_c.specs.HandingOver.{out_of_memory};
 
 use bytes::Bytes;
 use rpki_base::{PublicKey, Serial, Time, Validity};
-use rpki_ca::{Kind, MOST_KEYS, Refusal, SetupKind};
+use rpki_ca::{Kind, Refusal, SetupKind};
 use rpki_common::OutOfMemory;
 use rpki_der::{Cursor, DecodeError, Mode};
 use rpki_external::{Answers, KeysRefusal, Plan, RequestPlan, Signatures};
 use rpki_text::uri::{self, Https, Rsync};
 use rpki_text::{Hash, printed_hash_is_read};
 use std::alloc::Global;
+
+// The most keys of a call.
+const MOST_KEYS: usize = 8;
 
 // Arguments that are read as nothing.
 pub(crate) const USAGE: KeysRefusal = KeysRefusal::General(Refusal::Usage);
@@ -27,7 +30,7 @@ pub(crate) const USAGE: KeysRefusal = KeysRefusal::General(Refusal::Usage);
 // The protocol of this number.
 pub(crate) fn kind_in(number: i32) -> Result<Kind, KeysRefusal>
     ensures ok { IfOk result (spec.IsKindIn number) }
-    ensures err { IfErr result (λ e. (e ≡ spec.usage) × spec.ReadsNothing (spec.IsKindIn number)) }
+    ensures err { IfErr result (λ e. (e ≡ spec.usage) × spec.IsUnread (spec.IsKindIn number)) }
 {
     match number {
         1 => Ok(Kind::Publication),
@@ -40,7 +43,7 @@ pub(crate) fn kind_in(number: i32) -> Result<Kind, KeysRefusal>
 pub(crate) fn setup_kind_in(number: i32) -> Result<SetupKind, KeysRefusal>
     ensures ok { IfOk result (spec.IsSetupKindIn number) }
     ensures err { IfErr result (λ e. (e ≡ spec.usage)
-        × spec.ReadsNothing (spec.IsSetupKindIn number)) }
+        × spec.IsUnread (spec.IsSetupKindIn number)) }
 {
     match number {
         1 => Ok(SetupKind::ChildRequest),
@@ -54,8 +57,7 @@ pub(crate) fn setup_kind_in(number: i32) -> Result<SetupKind, KeysRefusal>
 // The moment of these seconds since 1970.
 pub(crate) fn moment_in(seconds: i64) -> Result<Time, KeysRefusal>
     ensures ok { IfOk result (spec.IsMomentIn seconds) }
-    ensures err { IfErr result (λ e. (e ≡ spec.usage)
-        × spec.ReadsNothing (spec.IsMomentIn seconds)) }
+    ensures err { IfErr result (λ e. (e ≡ spec.usage) × spec.IsUnread (spec.IsMomentIn seconds)) }
 {
     match Time::new(seconds) {
         Some(time) => Ok(time),
@@ -67,7 +69,7 @@ pub(crate) fn moment_in(seconds: i64) -> Result<Time, KeysRefusal>
 pub(crate) fn last_in(has_last: i32, last: i64) -> Result<Option<Time>, KeysRefusal>
     ensures ok { IfOk result (spec.IsLastIn has_last last) }
     ensures err { IfErr result (λ e. (e ≡ spec.usage)
-        × spec.ReadsNothing (spec.IsLastIn has_last last)) }
+        × spec.IsUnread (spec.IsLastIn has_last last)) }
 {
     match has_last {
         0 => Ok(None),
@@ -80,7 +82,7 @@ pub(crate) fn last_in(has_last: i32, last: i64) -> Result<Option<Time>, KeysRefu
 pub(crate) fn validity_in(not_before: i64, not_after: i64) -> Result<Validity, KeysRefusal>
     ensures ok { IfOk result (spec.IsValidityIn not_before not_after) }
     ensures err { IfErr result (λ e. (e ≡ spec.usage)
-        × spec.ReadsNothing (spec.IsValidityIn not_before not_after)) }
+        × spec.IsUnread (spec.IsValidityIn not_before not_after)) }
 {
     let not_before = moment_in(not_before)?;
     let not_after = moment_in(not_after)?;
@@ -93,7 +95,7 @@ pub(crate) fn validity_in(not_before: i64, not_after: i64) -> Result<Validity, K
 pub(crate) fn key_in(alloc: Global, octets: &[u8]) -> Result<PublicKey, KeysRefusal>
     ensures ok { IfOk result (spec.IsKeyIn octets.now) }
     ensures err { IfErr result (λ e. e ≢ out_of_memory
-        → (e ≡ spec.usage) × spec.ReadsNothing (spec.IsKeyIn octets.now)) }
+        → (e ≡ spec.usage) × spec.IsUnread (spec.IsKeyIn octets.now)) }
 {
     match PublicKey::take(alloc, Mode::Der, octets) {
         Ok(key) => Ok(key),
@@ -117,7 +119,7 @@ fn next_key(alloc: Global, cursor: &mut Cursor<'_>) -> Result<Option<PublicKey>,
 // The keys that the octets are, one behind the other, where they are one to eight.
 fn few_keys_in(alloc: Global, octets: &[u8]) -> Result<Option<Vec<PublicKey>>, OutOfMemory>
     ensures some { IfOk result (λ o. IfSome o (λ list. spec.AreFewKeysIn octets.now list.items)) }
-    ensures none { IfOk result (λ o. IsNone o → spec.ReadsNothing (spec.AreFewKeysIn octets.now)) }
+    ensures none { IfOk result (λ o. IsNone o → spec.IsUnread (spec.AreFewKeysIn octets.now)) }
 {
     let mut list = Vec::new(alloc);
     let mut cursor = Cursor::new(alloc, Mode::Der, octets);
@@ -137,7 +139,7 @@ fn few_keys_in(alloc: Global, octets: &[u8]) -> Result<Option<Vec<PublicKey>>, O
 pub(crate) fn keys_in(alloc: Global, octets: &[u8]) -> Result<Vec<PublicKey>, KeysRefusal>
     ensures ok { IfOk result (λ list. spec.AreFewKeysIn octets.now list.items) }
     ensures err { IfErr result (λ e. e ≢ out_of_memory
-        → (e ≡ spec.usage) × spec.ReadsNothing (spec.AreFewKeysIn octets.now)) }
+        → (e ≡ spec.usage) × spec.IsUnread (spec.AreFewKeysIn octets.now)) }
 {
     match few_keys_in(alloc, octets)? {
         Some(list) => Ok(list),
@@ -210,7 +212,7 @@ pub(crate) fn answers_in(
 ) -> Result<Answers, KeysRefusal>
     ensures ok { IfOk result (spec.AreAnswersIn digest.now octets.now) }
     ensures err { IfErr result (λ e. e ≢ out_of_memory → (e ≡ spec.usage)
-        × spec.ReadsNothing (spec.AreAnswersIn digest.now octets.now)) }
+        × spec.IsUnread (spec.AreAnswersIn digest.now octets.now)) }
 {
     let Some(digest) = digest_in(alloc, digest)? else {
         return Err(USAGE);
@@ -227,7 +229,7 @@ pub(crate) fn answers_in(
 fn serial_in(octets: &[u8]) -> Result<Serial, KeysRefusal>
     ensures ok { IfOk result (spec.IsSerialIn octets.now) }
     ensures err { IfErr result (λ e. (e ≡ spec.usage)
-        × spec.ReadsNothing (spec.IsSerialIn octets.now)) }
+        × spec.IsUnread (spec.IsSerialIn octets.now)) }
 {
     if octets.len() != 20 || octets[0] >= 0x80 {
         return Err(USAGE);
@@ -248,7 +250,7 @@ pub(crate) fn plan_in(
     ensures ok { IfOk result
         (spec.IsPlanIn when serial.now issuing_key.now one_off_key.now) }
     ensures err { IfErr result (λ e. e ≢ out_of_memory → (e ≡ spec.usage)
-        × spec.ReadsNothing (spec.IsPlanIn when serial.now issuing_key.now one_off_key.now)) }
+        × spec.IsUnread (spec.IsPlanIn when serial.now issuing_key.now one_off_key.now)) }
 {
     let when = moment_in(when)?;
     let serial = serial_in(serial)?;
@@ -299,7 +301,7 @@ fn no_uri(error: uri::Error) -> KeysRefusal
 // The rsync URI that the octets are, if they are one.
 pub(crate) fn rsync_uri(alloc: Global, octets: &[u8]) -> Result<Option<Rsync>, OutOfMemory>
     ensures some { IfOk result (λ o. IfSome o (spec.IsRsyncIn octets.now)) }
-    ensures none { IfOk result (λ o. IsNone o → spec.ReadsNothing (spec.IsRsyncIn octets.now)) }
+    ensures none { IfOk result (λ o. IsNone o → spec.IsUnread (spec.IsRsyncIn octets.now)) }
 {
     let Ok(text) = str::from_utf8(octets) else {
         return Ok(None);
@@ -315,7 +317,7 @@ pub(crate) fn rsync_uri(alloc: Global, octets: &[u8]) -> Result<Option<Rsync>, O
 pub(crate) fn rsync_in(alloc: Global, octets: &[u8]) -> Result<Rsync, KeysRefusal>
     ensures ok { IfOk result (spec.IsRsyncIn octets.now) }
     ensures err { IfErr result (λ e. e ≢ out_of_memory
-        → (e ≡ spec.usage) × spec.ReadsNothing (spec.IsRsyncIn octets.now)) }
+        → (e ≡ spec.usage) × spec.IsUnread (spec.IsRsyncIn octets.now)) }
 {
     match rsync_uri(alloc, octets)? {
         Some(uri) => Ok(uri),
@@ -327,7 +329,7 @@ pub(crate) fn rsync_in(alloc: Global, octets: &[u8]) -> Result<Rsync, KeysRefusa
 fn https_in(alloc: Global, octets: &[u8]) -> Result<Https, KeysRefusal>
     ensures ok { IfOk result (spec.IsHttpsIn octets.now) }
     ensures err { IfErr result (λ e. e ≢ out_of_memory
-        → (e ≡ spec.usage) × spec.ReadsNothing (spec.IsHttpsIn octets.now)) }
+        → (e ≡ spec.usage) × spec.IsUnread (spec.IsHttpsIn octets.now)) }
 {
     let Ok(text) = str::from_utf8(octets) else {
         return Err(USAGE);
@@ -342,7 +344,7 @@ fn https_in(alloc: Global, octets: &[u8]) -> Result<Https, KeysRefusal>
 fn notify_in(alloc: Global, octets: &[u8]) -> Result<Option<Https>, KeysRefusal>
     ensures ok { IfOk result (spec.IsNotifyIn octets.now) }
     ensures err { IfErr result (λ e. e ≢ out_of_memory
-        → (e ≡ spec.usage) × spec.ReadsNothing (spec.IsNotifyIn octets.now)) }
+        → (e ≡ spec.usage) × spec.IsUnread (spec.IsNotifyIn octets.now)) }
 {
     if octets.is_empty() {
         return Ok(None);
@@ -361,7 +363,7 @@ pub(crate) fn request_plan_in(
     ensures ok { IfOk result
         (spec.IsRequestPlanIn key.now repository.now manifest.now notify.now) }
     ensures err { IfErr result (λ e. e ≢ out_of_memory → (e ≡ spec.usage)
-        × spec.ReadsNothing (spec.IsRequestPlanIn key.now repository.now manifest.now notify.now)) }
+        × spec.IsUnread (spec.IsRequestPlanIn key.now repository.now manifest.now notify.now)) }
 {
     let key = key_in(alloc, key)?;
     let ca_repository = rsync_in(alloc, repository)?;

@@ -7,7 +7,7 @@ ghost use Rattle.rpki_external.specs.Running.{RefusesText};
 ghost use Rattle.rpki_publication.specs.Message.{Reads, text_of};
 ghost use Rattle.rpki_pubserver.specs.Deciding.{AreKnown, changes_of};
 ghost use Rattle.rpki_pubserver.specs.Messages.{error_alone};
-ghost use Rattle.rpki_c.specs.Arguments.{ReadsNothing, usage};
+ghost use Rattle.rpki_c.specs.Arguments.{IsUnread, usage};
 ghost use Rattle.rpki_c.specs.Deciding as spec;
 ghost use Rattle.rpki_c.specs.HandingOver.{HandsDecisionOver, HandsOver, out_of_memory};
 ghost use Rattle.rpki_c.specs.declared.outcome.CallRefusal.TheVariants as calls;
@@ -154,7 +154,7 @@ pub extern "C" fn calmizsed_publication_decide(
 // The error that is replied to a message that was refused with this status.
 fn error_in(status: i32) -> Result<ReportErrorCode, KeysRefusal>
     ensures ok { IfOk result (spec.IsErrorTo status) }
-    ensures err { IfErr result (λ e. (e ≡ usage) × ReadsNothing (spec.IsErrorTo status)) }
+    ensures err { IfErr result (λ e. (e ≡ usage) × IsUnread (spec.IsErrorTo status)) }
 {
     match status {
         4 | 6 => Ok(ReportErrorCode::BadCmsSignature),

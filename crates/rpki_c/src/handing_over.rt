@@ -10,7 +10,7 @@ use std::alloc::Global;
 
 /// Hands over a text, and what is told of it; or, where the buffer is too small, its length alone. It takes no memory.
 pub(crate) fn give(text: &[u8], told: Outcome, out: &mut [u8], outcome: &mut Outcome)
-    ensures { spec.IsCopied text.now told out.old out.new outcome.new
+    ensures { spec.IsGiven text.now told out.old out.new outcome.new
         ⊎ spec.LacksRoom text.now out.old out.new outcome.new }
 {
     if out.len() < text.len() {
@@ -28,7 +28,7 @@ pub(crate) fn hand_over(
     outcome: &mut Outcome,
 ) -> i32
     ensures given { IfOk answer (λ text.
-        spec.IsCopied text.items (spec.done (length text.items)) out.old out.new outcome.new
+        spec.IsGiven text.items (spec.done (length text.items)) out.old out.new outcome.new
         ⊎ spec.LacksRoom text.items out.old out.new outcome.new) }
     ensures refused { IfErr answer (λ e. spec.IsRefused e out.old out.new outcome.new) }
     ensures status { result ≡ outcome.new.status }
@@ -48,7 +48,7 @@ pub(crate) fn hand_receipt_over(
     outcome: &mut Outcome,
 ) -> i32
     ensures given { IfOk answer (λ r. let text = accepted_text r.message in
-        spec.IsCopied text (spec.received (length text) r) out.old out.new outcome.new
+        spec.IsGiven text (spec.received (length text) r) out.old out.new outcome.new
         ⊎ spec.LacksRoom text out.old out.new outcome.new
         ⊎ spec.IsRefused spec.out_of_memory out.old out.new outcome.new) }
     ensures refused { IfErr answer (λ e. spec.IsRefused e out.old out.new outcome.new) }
@@ -71,9 +71,9 @@ pub(crate) fn hand_decision_over(
     outcome: &mut Outcome,
 ) -> i32
     ensures given { IfOk answer (λ text.
-        spec.IsCopied text.items (spec.done (length text.items)) out.old out.new outcome.new
+        spec.IsGiven text.items (spec.done (length text.items)) out.old out.new outcome.new
         ⊎ spec.LacksRoom text.items out.old out.new outcome.new) }
-    ensures refused { IfErr answer (λ e. spec.IsDecisionRefused e out.old out.new outcome.new) }
+    ensures refused { IfErr answer (λ e. spec.IsCallRefused e out.old out.new outcome.new) }
     ensures status { result ≡ outcome.new.status }
 {
     match answer {

@@ -3,7 +3,7 @@
 ghost use Rattle.std.specs.Prelude.{◌≡◌, ◌≢◌, ℕ, List, IfErr, IfOk, IfSome, IsNone};
 ghost use Rattle.std.specs.Int.{to_be_bytes, w64};
 ghost use Rattle.rpki_external.specs.Records.{Tagged, tagged};
-ghost use Rattle.rpki_c.specs.Arguments.{ReadsNothing, usage};
+ghost use Rattle.rpki_c.specs.Arguments.{IsUnread, usage};
 ghost use Rattle.rpki_c.specs.Deciding as spec;
 ghost use Rattle.rpki_c.specs.HandingOver.{out_of_memory};
 
@@ -60,7 +60,7 @@ fn record_at(octets: &[u8]) -> Option<Record<'_>>
 fn there_in(alloc: Global, octets: &[u8]) -> Result<Option<Known>, OutOfMemory>
     ensures some { IfOk result (λ o. IfSome o (spec.IsKnownIn (tagged THERE octets.now))) }
     ensures none { IfOk result (λ o. IsNone o
-        → ReadsNothing (spec.IsKnownIn (tagged THERE octets.now))) }
+        → IsUnread (spec.IsKnownIn (tagged THERE octets.now))) }
 {
     let Some((digest, uri)) = octets.split_at_checked(DIGEST) else {
         return Ok(None);
@@ -78,7 +78,7 @@ fn there_in(alloc: Global, octets: &[u8]) -> Result<Option<Known>, OutOfMemory>
 fn one_in(alloc: Global, tag: u8, octets: &[u8]) -> Result<Option<Known>, OutOfMemory>
     ensures some { IfOk result (λ o. IfSome o (spec.IsKnownIn (tagged tag octets.now))) }
     ensures none { IfOk result (λ o. IsNone o
-        → ReadsNothing (spec.IsKnownIn (tagged tag octets.now))) }
+        → IsUnread (spec.IsKnownIn (tagged tag octets.now))) }
 {
     match tag {
         THERE => there_in(alloc, octets),
@@ -93,7 +93,7 @@ fn one_in(alloc: Global, tag: u8, octets: &[u8]) -> Result<Option<Known>, OutOfM
 // What the octets say of objects, where they are such records.
 fn all_in(alloc: Global, octets: &[u8]) -> Result<Option<Vec<Known>>, OutOfMemory>
     ensures some { IfOk result (λ o. IfSome o (λ list. spec.AreKnownIn octets.now list.items)) }
-    ensures none { IfOk result (λ o. IsNone o → ReadsNothing (spec.AreKnownIn octets.now)) }
+    ensures none { IfOk result (λ o. IsNone o → IsUnread (spec.AreKnownIn octets.now)) }
 {
     let mut list = Vec::new(alloc);
     let mut rest = octets;
@@ -114,7 +114,7 @@ fn all_in(alloc: Global, octets: &[u8]) -> Result<Option<Vec<Known>>, OutOfMemor
 pub(crate) fn known_in(alloc: Global, octets: &[u8]) -> Result<Vec<Known>, KeysRefusal>
     ensures ok { IfOk result (λ list. spec.AreKnownIn octets.now list.items) }
     ensures err { IfErr result (λ e. e ≢ out_of_memory
-        → (e ≡ usage) × ReadsNothing (spec.AreKnownIn octets.now)) }
+        → (e ≡ usage) × IsUnread (spec.AreKnownIn octets.now)) }
 {
     match all_in(alloc, octets)? {
         Some(list) => Ok(list),

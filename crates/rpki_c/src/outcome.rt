@@ -67,7 +67,7 @@ impl Outcome {
         }
     }
 
-    // This outcome with a moment, if there is one.
+    // The same with a moment, if there is one.
     fn signed_at(self, time: Option<Time>) -> Outcome
         ensures { result ≡ spec.signed_at time self }
     {
@@ -112,7 +112,7 @@ impl Outcome {
         }
     }
 
-    // This outcome with the number of a check.
+    // The same with the number of a check.
     fn with_check(self, check: u8) -> Outcome
         ensures { result ≡ spec.with_check check self }
     {
@@ -122,7 +122,7 @@ impl Outcome {
         }
     }
 
-    // This outcome with the last time that was handed in, and the message's.
+    // The same with the last time that was handed in, and the message's.
     fn with_times(self, last: Time, seen: Time) -> Outcome
         ensures { result ≡ spec.with_times last seen self }
     {
@@ -133,7 +133,7 @@ impl Outcome {
         after.signed_at(Some(seen))
     }
 
-    /// There is no result, for this cause.
+    /// There is none, for this cause.
     pub(crate) fn refused(refusal: KeysRefusal) -> Outcome
         ensures { result ≡ spec.refused refusal }
     {
@@ -146,7 +146,7 @@ impl Outcome {
         }
     }
 
-    /// There is no result, for this cause: one that the programs have too, or that nothing is known of an object.
+    /// There is none, for this cause, which other calls don't have.
     pub(crate) fn refused_call(refusal: CallRefusal) -> Outcome
         ensures { result ≡ spec.refused_call refusal }
     {

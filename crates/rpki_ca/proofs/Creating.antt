@@ -63,30 +63,19 @@ pub read_again : (message : Received) → IsWritable message → ReadsAs (protoc
 read_again (received.Publication m) writable = text_again m writable
 read_again (received.Provisioning m) writable = plain.text_again m writable
 
--- what was created of it is received
-pub created_receivable : {I : Type 0} (scheme : Relation) (m : Received) (when : ℤ) (signer : SignerSeen I) (signed : MessageFields) (octets : List ℕ)
-    → IsMessageCreated scheme (accepted_text m) when signer.id signer.before signer.after signed → octets ≡ rewritten signed → CanSpellMessage signed
-    → ((mode : Mode) (rest : List ℕ) → CanSpellMessage signed → BeginsAs (signed_message mode) mode (rewritten signed ++ rest) signed)
-    → ((key : KeyFields) → HoldsKey signer.before.keyring signer.id key → (moment : ℤ) → (window when).not_before ≤ℤ moment → moment ≤ℤ (window when).not_after → IsBelieved scheme signed key moment)
-    → IsWritable m → IsReceivable scheme (protocol_of m) octets m when signer
-created_receivable scheme m when signer signed octets created are spelled again believed writable =
-    let content : signed.content ≡ accepted_text m = ap (λ (s : MessageFields). s.content) created.made.is in
-    receivable scheme m when signer signed octets are spelled again believed (subst (λ o. ReadsAs (protocol_of m) o (normal_form m)) (sym content) (read_again m writable))
-
 -- what was created of it
 pub message_created : {I : Type 0} (scheme : Relation) (m : Received) (when : ℤ) (signer : SignerSeen I) (signed : MessageFields) (text octets : List ℕ) → text ≡ accepted_text m
     → IsMessageCreated scheme text when signer.id signer.before signer.after signed → octets ≡ rewritten signed → CanSpellMessage signed
     → ((mode : Mode) (rest : List ℕ) → CanSpellMessage signed → BeginsAs (signed_message mode) mode (rewritten signed ++ rest) signed)
     → ((key : KeyFields) → HoldsKey signer.before.keyring signer.id key → (moment : ℤ) → (window when).not_before ≤ℤ moment → moment ≤ℤ (window when).not_after → IsBelieved scheme signed key moment)
-    → IsWritable m → signer.after.faults ≡ signer.before.faults → AreCreated scheme (protocol_of m) m when signer octets
-message_created scheme m when signer signed text octets is created are spelled again believed writable no_fault =
-    let here = subst (λ (t : List ℕ). IsMessageCreated scheme t when signer.id signer.before signer.after signed) is created in
+    → IsWritable m → AreCreated scheme (protocol_of m) m when signer octets
+message_created scheme m when signer signed text octets is created are spelled again believed writable =
+    let content : signed.content ≡ accepted_text m = ap (λ (s : MessageFields). s.content) created.made.is ∙ is in
     record {
       signed = signed;
-      created = here;
+      created = subst (λ (t : List ℕ). IsMessageCreated scheme t when signer.id signer.before signer.after signed) is created;
       are = are;
-      no_fault = no_fault;
-      receivable = created_receivable scheme m when signer signed octets here are spelled again believed writable;
+      receivable = receivable scheme m when signer signed octets are spelled again believed (subst (λ o. ReadsAs (protocol_of m) o (normal_form m)) (sym content) (read_again m writable));
     }
 
 -- ---- each refusal by its cause

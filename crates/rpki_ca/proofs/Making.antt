@@ -226,7 +226,6 @@ summed scheme fit seed count id before middle after octets issuing m line create
         holds = made.holds;
         format = fit RsaSha256 made.issuing _ _ made.made.issued.signed;
         other = subst (λ d. d ≢ Some made.issuing) (sym key.stays.drawn) (drawn_other middle.drawn made.key made.issuing made.drawn made.other);
-        no_fault = key.no_fault ∙ created.no_fault;
         octets = octets;
         receivable = created.receivable;
         written = refl;

@@ -15,9 +15,7 @@ use Rattle.rpki_ca.specs.declared.receiving.Received.TheVariants as received
 use Rattle.rpki_ca.specs.declared.refusals.Refusal.{Refusal}
 use Rattle.rpki_ca.specs.declared.refusals.Refusal.TheVariants as refusals
 use Rattle.rpki_ca.specs.Acceptance.{ReadsAs, HasNoForm, HoldsNoCertificate, HoldsNoRequest, of_publication, of_provisioning, refusal_of}
-use Rattle.rpki_ca.specs.declared.receiving.ReceiveError.{ReceiveError}
-use Rattle.rpki_ca.specs.declared.receiving.ReceiveError.TheVariants as errors
-use Rattle.rpki_ca.specs.Creation.{RefusesInput, RefusesText}
+use Rattle.rpki_ca.specs.Creation.{RefusesInput}
 
 -- the three reasons, each with its refusal
 abbrev pub Reason : Kind → List ℕ → Refusal → Type 0
@@ -82,39 +80,30 @@ one_reason kind octets d e (inr (inr p)) (inr (inr q)) = p.0 ∙ sym q.0
 
 -- ---- the errors of the two protocols
 
--- what `message_in` answers, as the programs tell it
-pub refused_input : (kind : Kind) (octets : List ℕ) (e : ReceiveError) → RefusesText kind octets e → refusal_of e ≢ refusals.OutOfMemory → RefusesInput kind octets (refusal_of e)
-refused_input kind octets errors.XmlError r other = r
-refused_input kind octets errors.CertSyntax r other = r
-refused_input kind octets errors.InvalidCsrSyntax r other = r
-refused_input kind octets errors.OutOfMemory r other = absurd (other refl)
-refused_input kind octets errors.CmsDecode r other = absurd r
-refused_input kind octets (errors.Validation e) r other = absurd r
+pub publication_refused : (octets : List ℕ) (e : PublicationError) → publication_answers.RefusesMessage octets e → refusal_of (of_publication e) ≢ refusals.OutOfMemory → RefusesInput kinds.Publication octets (refusal_of (of_publication e))
+publication_refused octets (publication.XmlError xml.Malformed) r other = r
+publication_refused octets (publication.XmlError xml.OutOfMemory) r other = absurd r
+publication_refused octets publication.OutOfMemory r other = absurd (other refl)
+publication_refused octets publication.InvalidVersion r other = absurd r
+publication_refused octets (publication.InvalidErrorCode t) r other = absurd r
+publication_refused octets publication.CmsDecode r other = absurd r
+publication_refused octets (publication.Validation e) r other = absurd r
+publication_refused octets publication.NotQuery r other = absurd r
+publication_refused octets publication.NotReply r other = absurd r
+publication_refused octets publication.Read r other = absurd r
+publication_refused octets publication.Write r other = absurd r
+publication_refused octets publication.TooLong r other = absurd r
 
-pub publication_refused : (octets : List ℕ) (e : PublicationError) → publication_answers.RefusesMessage octets e → RefusesText kinds.Publication octets (of_publication e)
-publication_refused octets (publication.XmlError xml.Malformed) r = r
-publication_refused octets (publication.XmlError xml.OutOfMemory) r = absurd r
-publication_refused octets publication.OutOfMemory r = tt
-publication_refused octets publication.InvalidVersion r = absurd r
-publication_refused octets (publication.InvalidErrorCode t) r = absurd r
-publication_refused octets publication.CmsDecode r = absurd r
-publication_refused octets (publication.Validation e) r = absurd r
-publication_refused octets publication.NotQuery r = absurd r
-publication_refused octets publication.NotReply r = absurd r
-publication_refused octets publication.Read r = absurd r
-publication_refused octets publication.Write r = absurd r
-publication_refused octets publication.TooLong r = absurd r
-
-pub provisioning_refused : (octets : List ℕ) (e : ProvisioningError) → provisioning_answers.RefusesMessage octets e → RefusesText kinds.Provisioning octets (of_provisioning e)
-provisioning_refused octets (provisioning.XmlError e) r = r.1
-provisioning_refused octets provisioning.CertSyntax r = r
-provisioning_refused octets provisioning.InvalidCsrSyntax r = r
-provisioning_refused octets provisioning.OutOfMemory r = tt
-provisioning_refused octets provisioning.InvalidVersion r = absurd r
-provisioning_refused octets (provisioning.InvalidPayloadType e) r = absurd r
-provisioning_refused octets provisioning.CmsDecode r = absurd r
-provisioning_refused octets (provisioning.Validation e) r = absurd r
-provisioning_refused octets (provisioning.Limit set limit) r = absurd r
-provisioning_refused octets provisioning.Read r = absurd r
-provisioning_refused octets provisioning.Write r = absurd r
-provisioning_refused octets provisioning.TooLong r = absurd r
+pub provisioning_refused : (octets : List ℕ) (e : ProvisioningError) → provisioning_answers.RefusesMessage octets e → refusal_of (of_provisioning e) ≢ refusals.OutOfMemory → RefusesInput kinds.Provisioning octets (refusal_of (of_provisioning e))
+provisioning_refused octets (provisioning.XmlError e) r other = r.1
+provisioning_refused octets provisioning.CertSyntax r other = r
+provisioning_refused octets provisioning.InvalidCsrSyntax r other = r
+provisioning_refused octets provisioning.OutOfMemory r other = absurd (other refl)
+provisioning_refused octets provisioning.InvalidVersion r other = absurd r
+provisioning_refused octets (provisioning.InvalidPayloadType e) r other = absurd r
+provisioning_refused octets provisioning.CmsDecode r other = absurd r
+provisioning_refused octets (provisioning.Validation e) r other = absurd r
+provisioning_refused octets (provisioning.Limit set limit) r other = absurd r
+provisioning_refused octets provisioning.Read r other = absurd r
+provisioning_refused octets provisioning.Write r other = absurd r
+provisioning_refused octets provisioning.TooLong r other = absurd r

@@ -23,7 +23,7 @@ use Rattle.rpki_ca.specs.Acceptance.{ReadsAs, IsWritable, protocol_of, accepted_
 use Rattle.rpki_ca.specs.Creation.{CanSign, refusal_of_create}
 use Rattle.rpki_ca.specs.Seen.{SignerSeen, seen_signer}
 use Rattle.rpki_ca.specs.Sending.{IsSentAs, FailsToSign, IsSigningCause}
-use Rattle.rpki_ca.proofs.Creating.{TellsText, created_receivable, fits_ok}
+use Rattle.rpki_ca.proofs.Creating.{TellsText, fits_ok, read_again, receivable}
 
 -- ---- one message
 
@@ -31,13 +31,14 @@ pub signed_as : {I T E : Type 0} (scheme : Relation) (message : Received) (when 
     → IsMessageCreated scheme (accepted_text message) when signer.id signer.before signer.after signed
     → ((key : KeyFields) → HoldsKey signer.before.keyring signer.id key → (moment : ℤ) → (window when).not_before ≤ℤ moment → moment ≤ℤ (window when).not_after → IsBelieved scheme signed key moment)
     → ((mode : Mode) (rest : List ℕ) → CanSpellMessage signed → BeginsAs (signed_message mode) mode (rewritten signed ++ rest) signed)
-    → TellsText message when r → signer.after.faults ≡ signer.before.faults → IsSentAs scheme when signer message signed
-signed_as scheme message when signer r x signed is writable created believed again tells no_fault = record {
-  fits = fits_ok message when r x is tells created.window_is;
-  created = created;
-  no_fault = no_fault;
-  receivable = λ spelled. created_receivable scheme message when signer signed (rewritten signed) created refl spelled again believed writable;
-}
+    → TellsText message when r → IsSentAs scheme when signer message signed
+signed_as scheme message when signer r x signed is writable created believed again tells =
+    let content : signed.content ≡ accepted_text message = ap (λ (s : MessageFields). s.content) created.made.is in
+    record {
+      fits = fits_ok message when r x is tells created.window_is;
+      created = created;
+      receivable = λ spelled. receivable scheme message when signer signed (rewritten signed) refl spelled again believed (subst (λ (o : List ℕ). ReadsAs (protocol_of message) o (normal_form message)) (sym content) (read_again message writable));
+    }
 
 module _ {T E : Type 0} where
   abbrev err_as : CreateError E → Result T (CreateError E)

@@ -1,6 +1,6 @@
 -- Answers to lines that are signed messages.
 use Rattle.std.proofs.Common.{◌≡◌, ◌≢◌, ◌<◌, ◌≤ℤ◌, ◌⊎◌, ◌∙◌, ◌++◌, ◌∷◌, [], ℕ, ℤ, Result, Ok, Err, IfOk, IfErr, List, Some, ap, arith, get_or, length, refl, subst, sym, take}
-use Rattle.std.specs.Prelude.{IsErrOf, MatchResult, OnOk, slice_get}
+use Rattle.std.specs.Prelude.{IsErrOf, MatchResult, slice_get}
 use Rattle.std.proofs.lemmas.Option.{slice_get-get_or}
 use Rattle.rpki_base.specs.PublicKey.{KeyFields}
 use Rattle.rpki_base.specs.Scheme.{Relation}
@@ -36,9 +36,9 @@ module _ {I E C : Type 0} (scheme : Relation) (when : ℤ) (signer : SignerSeen 
   pub signed_so : (r : Result C (CreateError E)) → IsWritable message → IsCreatedOrFails r
       → IfOk r (λ c. (key : KeyFields) → HoldsKey signer.before.keyring signer.id key → (moment : ℤ) → (window when).not_before ≤ℤ moment → moment ≤ℤ (window when).not_after → IsBelieved scheme (signed_of c) key moment)
       → IfOk r (λ c. (mode : Mode) (rest : List ℕ) → CanSpellMessage (signed_of c) → BeginsAs (signed_message mode) mode (rewritten (signed_of c) ++ rest) (signed_of c))
-      → TellsText message when r → OnOk r (signer.after.faults ≡ signer.before.faults) → IfOk r (λ c. IsSentAs scheme when signer message (signed_of c))
-  signed_so (Ok c) writable created believed again tells no_fault = signed_as scheme message when signer (Ok c) c (signed_of c) refl writable created believed again tells no_fault
-  signed_so (Err e) writable created believed again tells no_fault = tt
+      → TellsText message when r → IfOk r (λ c. IsSentAs scheme when signer message (signed_of c))
+  signed_so (Ok c) writable created believed again tells = signed_as scheme message when signer (Ok c) c (signed_of c) refl writable created believed again tells
+  signed_so (Err e) writable created believed again tells = tt
 
   pub fails_so : (r : Result C (CreateError E)) → IsCreatedOrFails r → ((HasWindow when → ⊥) → IsErrOf r create.Moment ⊎ IsErrOf r create.OutOfMemory) → TellsText message when r → IfErr r (IsFirstRefusal scheme (accepted_text message) when signer.id signer.before signer.after)
       → IfErr r (λ e. e ≢ create.OutOfMemory → FailsToSign scheme when signer message e)

@@ -22,8 +22,6 @@ use Rattle.rpki_sigmsg.specs.Making.{window, HasWindow, IsMessageCreated, IsReus
 use Rattle.rpki_sigmsg.specs.Message.{MessageFields}
 use Rattle.rpki_sigmsg.specs.Spelling.{rewritten}
 use Rattle.rpki_ca.specs.declared.receiving.Kind.{Kind}
-use Rattle.rpki_ca.specs.declared.receiving.ReceiveError.{ReceiveError}
-use Rattle.rpki_ca.specs.declared.receiving.ReceiveError.TheVariants as errors
 use Rattle.rpki_ca.specs.declared.receiving.Received.{Received}
 use Rattle.rpki_ca.specs.declared.refusals.Refusal.{Refusal}
 use Rattle.rpki_ca.specs.declared.refusals.Refusal.TheVariants as refusals
@@ -39,15 +37,6 @@ RefusesInput kind input refusals.XmlError = HasNoForm kind input
 RefusesInput kind input refusals.CertSyntax = HoldsNoCertificate kind input
 RefusesInput kind input refusals.InvalidCsrSyntax = HoldsNoRequest kind input
 RefusesInput kind input other = ⊥
-
--- why octets read as no message of the kind, as `message_in` answers it; of want of memory nothing
--- is said, and no other error comes
-abbrev pub RefusesText : Kind → List ℕ → ReceiveError → Type 0
-RefusesText kind octets errors.XmlError = HasNoForm kind octets
-RefusesText kind octets errors.CertSyntax = HoldsNoCertificate kind octets
-RefusesText kind octets errors.InvalidCsrSyntax = HoldsNoRequest kind octets
-RefusesText kind octets errors.OutOfMemory = ⊤
-RefusesText kind octets other = ⊥
 
 -- the input reads as a message, and the moment has no window
 pub record HasNoWindow (kind : Kind) (input : List ℕ) (when : ℤ) : Type 0 where
@@ -83,14 +72,13 @@ IsReceivable scheme kind octets message when signer =
     → Accepted scheme kind octets keys moment (normal_form message)
 
 -- The octets are the DER of a signed message that was created with the message's text as its
--- content, without a fault of the signer, and the message is received of them.
+-- content, and the message is received of them.
 pub record AreCreated {Id : Type 0} (scheme : Relation) (kind : Kind) (message : Received)
     (when : ℤ) (signer : SignerSeen Id) (octets : List ℕ) : Type 0 where
   pub signed : MessageFields
   pub created : IsMessageCreated scheme (accepted_text message) when signer.id signer.before
       signer.after signed
   pub are : octets ≡ rewritten signed
-  pub no_fault : signer.after.faults ≡ signer.before.faults
   pub receivable : IsReceivable scheme kind octets message when signer
 
 -- the text is such octets in hexadecimal of lower case

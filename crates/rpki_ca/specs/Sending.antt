@@ -22,14 +22,12 @@ use Rattle.rpki_ca.specs.Seen.{SignerSeen}
 
 -- Its text has at most 2^31 octets, and the signed message was created with it at the moment. What
 -- is written of it is accepted as the message's normal form, under every list of keys that holds
--- the issuing key, at each second from 300 before the moment to 300 after it. The signer had no
--- fault.
+-- the issuing key, at each second from 300 before the moment to 300 after it.
 pub record IsSentAs {Id : Type 0} (scheme : Relation) (when : ℤ) (signer : SignerSeen Id)
     (message : Received) (signed : MessageFields) : Type 0 where
   pub fits : length (accepted_text message) ≤ most_content
   pub created : IsMessageCreated scheme (accepted_text message) when signer.id signer.before
       signer.after signed
-  pub no_fault : signer.after.faults ≡ signer.before.faults
   pub receivable : CanSpellMessage signed
       → IsReceivable scheme (protocol_of message) (rewritten signed) message when signer
 

@@ -123,15 +123,13 @@ summary elements octets =
 
 -- The signer holds an issuing key that fits, which it did not give for one use, and the text is the
 -- summary of the message and of octets of which it is received, under every list of keys that holds
--- the issuing key, at each second from 300 before the moment to 300 after it. The signer had no
--- fault.
+-- the issuing key, at each second from 300 before the moment to 300 after it.
 pub record IsSummed {Id : Type 0} (scheme : Relation) (count seed : ℕ) (signer : SignerSeen Id)
     (text : List ℕ) : Type 0 where
   pub issuing : KeyFields
   pub holds : HoldsKey signer.before.keyring signer.id issuing
   pub format : issuing.format ≡ format_of RsaSha256
   pub other : signer.after.drawn ≢ Some issuing
-  pub no_fault : signer.after.faults ≡ signer.before.faults
   pub octets : List ℕ
   pub receivable : IsReceivable scheme kinds.Publication octets (made_message seed count) made_at
       signer

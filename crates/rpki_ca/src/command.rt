@@ -15,8 +15,8 @@ use rpki_base::{PublicKey, Time};
 use rpki_common::{OutOfMemory, Sequence};
 use std::alloc::Global;
 
-/// The most keys under which a message is received.
-pub const MOST_KEYS: usize = 8;
+// The most keys under which a message is received.
+const MOST_KEYS: usize = 8;
 
 // The most elements that `make` makes.
 const MOST_ELEMENTS: u32 = 10_000;

@@ -7,9 +7,9 @@ ghost use Rattle.rpki_signer.specs.Limits.{Keeps};
 ghost use Rattle.rpki_sigmsg.specs.FirstRefusals.{IsFirstRefusal};
 ghost use Rattle.rpki_sigmsg.specs.Making.{HasWindow, CreateFails};
 ghost use Rattle.rpki_sigmsg.specs.declared.create_error.CreateError.TheVariants as create;
-ghost use Rattle.rpki_ca.specs.Acceptance.{ReadsAs, IsWritable, protocol_of, accepted_text};
+ghost use Rattle.rpki_ca.specs.Acceptance.{ReadsAs, IsWritable, protocol_of, accepted_text, refusal_of};
 ghost use Rattle.rpki_ca.specs.Answer.{IsLineOf};
-ghost use Rattle.rpki_ca.specs.Creation.{AreCreated, IsCreateAnswer, IsCreateRefusal, RefusesText};
+ghost use Rattle.rpki_ca.specs.Creation.{AreCreated, IsCreateAnswer, IsCreateRefusal, RefusesInput};
 ghost use Rattle.rpki_ca.specs.Creation.{refusal_of_create};
 ghost use Rattle.rpki_ca.specs.Seen.{seen_signer};
 
@@ -48,7 +48,8 @@ impl<E: Drop> From<CreateError<E>> for Refusal {
 pub fn message_in(alloc: Global, kind: Kind, input: &[u8]) -> Result<Received, ReceiveError>
     ensures ok { IfOk result (λ m. ReadsAs kind input.now m) }
     ensures writable { IfOk result IsWritable }
-    ensures err { IfErr result (RefusesText kind input.now) }
+    ensures err { IfErr result (λ e. refusal_of e ≢ Refusal.OutOfMemory
+        → RefusesInput kind input.now (refusal_of e)) }
 {
     match kind {
         Kind::Publication => Ok(Received::Publication(publication::Message::decode_slice(
@@ -64,7 +65,8 @@ pub fn message_in(alloc: Global, kind: Kind, input: &[u8]) -> Result<Received, R
 fn message_of(alloc: Global, kind: Kind, input: Vec<u8>) -> Result<Received, ReceiveError>
     ensures ok { IfOk result (λ m. ReadsAs kind input.items m) }
     ensures writable { IfOk result IsWritable }
-    ensures err { IfErr result (RefusesText kind input.items) }
+    ensures err { IfErr result (λ e. refusal_of e ≢ Refusal.OutOfMemory
+        → RefusesInput kind input.items (refusal_of e)) }
 {
     message_in(alloc, kind, &input)
 }

@@ -1,6 +1,6 @@
 //! What holds of every answer.
 
-ghost use Rattle.std.specs.Prelude.{◌≡◌, ◌≢◌, ◌↔◌, ◌++◌, ℕ, ℤ, List, Option, Result, Some, Err, true};
+ghost use Rattle.std.specs.Prelude.{◌≡◌, ◌≢◌, ◌↔◌, ◌++◌, ℕ, ℤ, List, Option, Result, Some, Err};
 ghost use Rattle.rpki_base.specs.PublicKey.{KeyFields};
 ghost use Rattle.rpki_sigmsg.specs.Checks.{SameAnswersUnder, AreAmong, IsInSpan};
 ghost use Rattle.rpki_sigmsg.specs.Making.{IsMessageCreated};
@@ -8,7 +8,6 @@ ghost use Rattle.rpki_sigmsg.specs.Message.{MessageFields};
 ghost use Rattle.rpki_sigmsg.specs.Spelling.{rewritten, CanSpellMessage};
 ghost use Rattle.rpki_sigmsg.specs.Beginning.{BeginsSigned};
 ghost use Rattle.rpki_ca.specs.declared.command.Command.{Command};
-ghost use Rattle.rpki_ca.specs.declared.lines.Stop.{Stop};
 ghost use Rattle.rpki_ca.specs.declared.receiving.Kind.{Kind};
 ghost use Rattle.rpki_ca.specs.declared.receiving.Received.{Received};
 ghost use Rattle.rpki_ca.specs.declared.receiving.ReceiveError.{ReceiveError};
@@ -21,19 +20,8 @@ ghost use Rattle.rpki_ca.specs.Hexadecimal.{IsSpelling, hexadecimal};
 ghost use Rattle.rpki_ca.specs.Lines.{AreLines, lines_of};
 ghost use Rattle.rpki_ca.specs.Seen.{SignerSeen};
 
-use crate::lines::Stop;
-use crate::receiving::ReceiveError;
-use crate::refusals::Refusal;
 use rpki_base::Scheme;
 use rpki_signer::Signer;
-
-/// `==` holds exactly between errors that are the same.
-pub fn equal_errors_are_the_same()
-    ensures receive { (a b : ReceiveError)
-        → (⟦<ReceiveError as PartialEq>⟧.eq a b ≡ true) ↔ (a ≡ b) }
-    ensures refusal { (a b : Refusal) → (⟦<Refusal as PartialEq>⟧.eq a b ≡ true) ↔ (a ≡ b) }
-    ensures stop { (a b : Stop) → (⟦<Stop as PartialEq>⟧.eq a b ≡ true) ↔ (a ≡ b) }
-{}
 
 /// A command has one answer to octets, memory aside, as far as it asks no signer.
 pub fn one_answer<P: Scheme>()

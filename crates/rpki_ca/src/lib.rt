@@ -41,13 +41,13 @@ mod setup_line;
 mod setup_message;
 mod words;
 
-pub use command::{Command, MOST_KEYS};
+pub use command::Command;
 pub use create_line::message_in;
 pub use hexadecimal::{hexadecimal_line, input_octets};
 pub use law::{
     accepted_moments_are_one_span, an_input_is_its_lines, created_is_received,
-    equal_errors_are_the_same, hexadecimal_is_digits, more_keys_accept, one_answer,
-    one_answer_to_words, one_receipt, receipts_ask_three_questions, rewritten_is_received_alike,
+    hexadecimal_is_digits, more_keys_accept, one_answer, one_answer_to_words, one_receipt,
+    receipts_ask_three_questions, rewritten_is_received_alike,
 };
 pub use line::line_of;
 pub use lines::{Lines, Stop, finish_lines, spelled_key, spelled_octets, split_word};

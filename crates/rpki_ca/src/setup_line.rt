@@ -26,7 +26,7 @@ fn check_anchor<P: Scheme, V: Verifier<P>>(
     Ok(())
 }
 
-// The line with the message's text, if its certificate is accepted as a trust anchor's certificate.
+// The line with the message's text, if its certificate is believed.
 fn setup_line_of<P: Scheme, V: Verifier<P>>(
     alloc: Global,
     kind: SetupKind,
@@ -46,8 +46,8 @@ fn setup_line_of<P: Scheme, V: Verifier<P>>(
     Ok(line_of(text)?)
 }
 
-/// The text of the setup message of this kind that the input is, and a line feed, if its certificate
-/// is accepted as a trust anchor's certificate at the moment.
+/// The text of the setup message of this kind that the input is, if its certificate is believed as a
+/// trust anchor's at the moment, and a line feed.
 pub(crate) fn setup_line<P: Scheme, V: Verifier<P>>(
     alloc: Global,
     kind: SetupKind,

@@ -1,7 +1,6 @@
 //! What every crate of this tree answers, and what every contract says of answers.
 //!
-//! - [`OutOfMemory`]: the one answer that no clause explains. A call that takes memory may give it at any time. The law of its `==` is
-//!   [`equal_errors_are_the_same`].
+//! - [`OutOfMemory`]: the one answer that no clause explains. A call that takes memory may give it at any time.
 //! - [`Text`] and [`Sequence`]: fields of public values. In a clause such a field is its content, a list of octets or of
 //!   items, so that `≡` between two values says that they have the same content.
 //! - The words `Rose` and `HasCause` (specs/Causes.antt): when a call may answer that something outside failed.
@@ -15,6 +14,6 @@ mod memory;
 mod sequence;
 mod text;
 
-pub use memory::{OutOfMemory, equal_errors_are_the_same};
+pub use memory::OutOfMemory;
 pub use sequence::Sequence;
 pub use text::Text;

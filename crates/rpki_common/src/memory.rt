@@ -1,8 +1,5 @@
 //! Want of memory.
 
-ghost use Rattle.std.specs.Prelude.{◌≡◌, ◌↔◌, true};
-ghost use Rattle.rpki_common.specs.declared.memory.OutOfMemory.{OutOfMemory};
-
 use std::alloc::{AllocError, AllocFailed};
 use std::error::Error;
 use std::fmt;
@@ -10,11 +7,6 @@ use std::fmt;
 /// Memory ran out. No clause says when: each "exactly where" of a contract yields to this answer.
 #[derive(Clone, Copy, Debug, PartialEq, Eq)]
 pub struct OutOfMemory;
-
-/// `==` holds exactly between errors that are the same, which all are.
-pub fn equal_errors_are_the_same()
-    ensures { (a b : OutOfMemory) → (⟦<OutOfMemory as PartialEq>⟧.eq a b ≡ true) ↔ (a ≡ b) }
-{}
 
 impl From<AllocError> for OutOfMemory {
     fn from(_: AllocError) -> OutOfMemory {

@@ -25,8 +25,8 @@ use Rattle.rpki_replay.specs.declared.guard.GuardError.{GuardError}
 use Rattle.rpki_replay.specs.declared.guard.GuardError.TheVariants as guard
 use Rattle.rpki_external.specs.Answers.{AnswersFields, AreTo}
 use Rattle.rpki_external.specs.Question.{QuestionsFields}
-use Rattle.rpki_external.specs.Receiving.{AreAskedOf, IsGuardRefusal, IsSignedLater, RefusesUnder}
-use Rattle.rpki_external.specs.Running.{AreRightIn, AreToIn, DeliversReceipt, EndsAsVerified, EndsKeysTask, EndsOn, EndsWell, IsReceiptWrittenUnder, IsSignedLaterIn, OfSpelled, Written, refusal_of_answered}
+use Rattle.rpki_external.specs.Receiving.{AreAskedOf, IsGuardRefusal, IsLater, RefusesUnder}
+use Rattle.rpki_external.specs.Running.{AreRightIn, AreToIn, DeliversReceipt, EndsAsVerified, EndsKeysTask, EndsOn, EndsWell, IsLaterIn, IsReceiveAnswerUnder, OfSpelled, Written, refusal_of_answered}
 use Rattle.rpki_external.specs.declared.keys_refusal.KeysRefusal.{KeysRefusal}
 use Rattle.rpki_external.specs.declared.keys_refusal.KeysRefusal.TheVariants as keys_refusals
 use Rattle.rpki_external.specs.declared.receiving.AnsweredError.{AnsweredError}
@@ -49,7 +49,7 @@ module _ (scheme : Relation) (fits : (kind : SigningAlgorithm) (key : KeyFields)
   -- ---- with 0
 
   module _ (kind : Kind) (list : List KeyFields) (when : ℤ) (last : Option ℤ) where
-    given : (o : Option (List ℕ)) → hexadecimal input ≡ o → (answer : Written) → OfSpelled (λ octets. IsReceiptWrittenUnder scheme kind octets list when last answers) o answer
+    given : (o : Option (List ℕ)) → hexadecimal input ≡ o → (answer : Written) → OfSpelled (λ octets. IsReceiveAnswerUnder scheme kind octets list when last answers) o answer
         → EndsOn answer 0 sink → DeliversReceipt scheme kind list when last input sink
     given o spells (Err refusal) is ends = absurd (never refusal sink ends)
     given None spells (Ok output) is ends = absurd (unlike is)
@@ -99,13 +99,13 @@ module _ (scheme : Relation) (kind : Kind) (list : List KeyFields) (when : ℤ) 
   not_refused (receive.Validation v) r = absurd (unlike (refusals.Validation v.check) (record { error = v; fails = r; number = refl }))
   not_refused receive.OutOfMemory r = refl
 
-  module _ (last : Option ℤ) (later : IsSignedLater last accepted.signed) where
+  module _ (last : Option ℤ) (later : IsLater last accepted.signed) where
     -- the guard doesn't refuse it
     never_guarded : (error : GuardError) → IsGuardRefusal scheme kind octets list when last error → ⊥
     never_guarded error r = by_last (refused_judged scheme kind octets list when last error r)
-        (subst (λ (l : Option ℤ). IsSignedLater l r.signed) r.handed (subst (λ (m : MessageFields). IsSignedLater last m) (one_signed octets accepted.signed r.signed accepted.begins r.begins) later))
+        (subst (λ (l : Option ℤ). IsLater l r.signed) r.handed (subst (λ (m : MessageFields). IsLater last m) (one_signed octets accepted.signed r.signed accepted.begins r.begins) later))
       where
-        by_last : judged (Some r.admitted) r.signed.signing_time ≡ Err error → IsSignedLater (Some r.admitted) r.signed → ⊥
+        by_last : judged (Some r.admitted) r.signed.signing_time ≡ Err error → IsLater (Some r.admitted) r.signed → ⊥
         by_last is (seen, says, less) =
             never_both seen error (sym is ∙ ap (judged (Some r.admitted)) says ∙ later_judged r.admitted seen less)
 
@@ -119,8 +119,8 @@ module _ (scheme : Relation) (kind : Kind) (list : List KeyFields) (when : ℤ) 
 
 module _ (scheme : Relation) (fits : (kind : SigningAlgorithm) (key : KeyFields) (message signature : List ℕ) → scheme kind key message signature → key.format ≡ format_of kind)
     (kind : Kind) (list : List KeyFields) (when : ℤ) (last : Option ℤ) (answers : AnswersFields) (input : List ℕ) (sink : Seen) (status : ℕ) (h : BringsAccepted scheme kind list when input)
-    (later : IsSignedLaterIn last input) where
-  only : AreToIn (Message kind when last list) input answers → (answer : Written) → IsReceiptWrittenUnder scheme kind h.octets list when last answers answer
+    (later : IsLaterIn last input) where
+  only : AreToIn (Message kind when last list) input answers → (answer : Written) → IsReceiveAnswerUnder scheme kind h.octets list when last answers answer
       → (refusal : KeysRefusal) → answer ≡ Err refusal → refusal ≡ of_memory
   only to (Ok output) is refusal e = absurd (differ e)
     where
@@ -137,7 +137,7 @@ module _ (scheme : Relation) (fits : (kind : SigningAlgorithm) (key : KeyFields)
   by_end to (inr memory) = memory_ends status sink memory
   by_end to (inl ended) =
       well status sink ended.answer
-      (only to ended.answer (subst (λ (o : Option (List ℕ)). OfSpelled (λ octets. IsReceiptWrittenUnder scheme kind octets list when last answers) o ended.answer) h.spells ended.is)) ended.ends
+      (only to ended.answer (subst (λ (o : Option (List ℕ)). OfSpelled (λ octets. IsReceiveAnswerUnder scheme kind octets list when last answers) o ended.answer) h.spells ended.is)) ended.ends
 
   pub always : EndsKeysTask (Verify (Message kind when last list) answers) input status sink → AreRightIn scheme (Message kind when last list) input answers
       → AreToIn (Message kind when last list) input answers → EndsWell status sink

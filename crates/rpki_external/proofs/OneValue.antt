@@ -13,7 +13,7 @@ use Rattle.rpki_base.specs.PublicKey.{CanSpellKey, KeyFields, public_key, spelle
 use Rattle.rpki_base.proofs.Keys.{written_key}
 use Rattle.rpki_external.specs.Answers.{AnswersFields, CountFor}
 use Rattle.rpki_external.specs.Question.{QuestionFields, QuestionsFields, SignedPartFields, own_question}
-use Rattle.rpki_external.specs.Records.{AllFit, AreWritableQuestions, Fits, IsWritableKey, IsWritablePart, IsWritableQuestion, SameUnlessCollide, Tagged, digest_of, key_records, own_key_tag, own_records, part_records, question_records, questions_octets, record_of, records_of, signed_records, tag_of, tagged}
+use Rattle.rpki_external.specs.Records.{AllFit, AreWritable, Fits, IsWritableKey, IsWritablePart, IsWritableQuestion, SameUnlessCollide, Tagged, digest_of, key_records, own_key_tag, own_records, part_records, question_records, questions_octets, record_of, records_of, signed_records, tag_of, tagged}
 use Rattle.rpki_external.specs.declared.question.Part.{Part}
 use Rattle.rpki_external.specs.declared.question.Part.TheVariants.{Attributes, Certificate, Crl, Anchor, Request}
 
@@ -180,14 +180,14 @@ keys_fit : (keys : List KeyFields) → AllByRecursion IsWritableKey keys → All
 keys_fit [] all = tt
 keys_fit (k ∷ keys) all = (all.0.fits, keys_fit keys all.1)
 
-all_fit : (q : QuestionsFields) → AreWritableQuestions q → AllFit (question_records q)
+all_fit : (q : QuestionsFields) → AreWritable q → AllFit (question_records q)
 all_fit q is =
     both_fit (own_records q.own) (part_records q.parts ++ key_records q.keys) (own_fit q.own is.own)
     (both_fit (part_records q.parts) (key_records q.keys) (parts_fit q.parts is.parts) (keys_fit q.keys is.keys))
 
 -- ---- one value
 
-pub one_list : (a b : QuestionsFields) → AreWritableQuestions a → AreWritableQuestions b → questions_octets a ≡ questions_octets b → a ≡ b
+pub one_list : (a b : QuestionsFields) → AreWritable a → AreWritable b → questions_octets a ≡ questions_octets b → a ≡ b
 one_list a b is other e =
     let records = same_records (question_records a) (question_records b) (all_fit a is) (all_fit b other) e in
     let own = same_own a.own b.own a.parts b.parts a.keys b.keys is.own other.own records in
@@ -195,7 +195,7 @@ one_list a b is other e =
     let keys = same_keys a.keys b.keys is.keys other.keys parts.keys in
     λ i. record { own = own.own i; parts = parts.parts i; keys = keys i }
 
-one_digest : (a b : QuestionsFields) → AreWritableQuestions a → AreWritableQuestions b → digest_of a ≡ digest_of b → SameUnlessCollide a b
+one_digest : (a b : QuestionsFields) → AreWritable a → AreWritable b → digest_of a ≡ digest_of b → SameUnlessCollide a b
 one_digest a b is other e = by_case (bytes_eq (questions_octets a) (questions_octets b)) (bytes_eq-Decides (questions_octets a) (questions_octets b))
   where
     by_case : (t : Bool) → Decides t (questions_octets a ≡ questions_octets b) → SameUnlessCollide a b
@@ -203,7 +203,7 @@ one_digest a b is other e = by_case (bytes_eq (questions_octets a) (questions_oc
     by_case false d = inr (record { apart = λ s. let t : false ≡ true = d.1 s in cc; digest = e })
 
 -- answers count for one value
-pub one_given : (answers : AnswersFields) (a b : QuestionsFields) → CountFor answers a → AreWritableQuestions b → answers.digest ≡ digest_of b → SameUnlessCollide a b
+pub one_given : (answers : AnswersFields) (a b : QuestionsFields) → CountFor answers a → AreWritable b → answers.digest ≡ digest_of b → SameUnlessCollide a b
 one_given answers a b one writable digest = one_digest a b one.writable writable (sym one.to.digest ∙ digest)
 
 pub one_value : (answers : AnswersFields) (a b : QuestionsFields) → CountFor answers a → CountFor answers b → SameUnlessCollide a b

@@ -32,7 +32,7 @@ use Rattle.rpki_external.specs.Receiving.{AreAskedOf, IsGuardRefusal, IsReceipt}
 use Rattle.rpki_external.specs.Verifying.{AreChecksOf, IsRequestSigned, IsTaValidation}
 use Rattle.rpki_external.specs.declared.receiving.Receipt.{Receipt}
 use Rattle.rpki_external.proofs.Receipts.{found_at, guarded_too, passes_too}
-use Rattle.rpki_external.specs.Question.{QuestionFields, QuestionsFields, SignatureHolds, anchor_asked, anchor_question, anchor_questions, attributes_question, certificate_part, crl_part, message_questions, own_question, questions_in_order, request_question, request_questions, under, under_each}
+use Rattle.rpki_external.specs.Question.{QuestionFields, QuestionsFields, SignatureHolds, anchor_asked, anchor_question, anchor_questions, attributes_question, certificate_part, crl_part, listed, message_questions, own_question, request_question, request_questions, under, under_each}
 
 -- ---- the question that asks for something
 
@@ -134,10 +134,10 @@ keys_too s t m (key ∷ keys) own w =
     )
 
 pub same_answers : (scheme : Relation) → ((kind : SigningAlgorithm) (key : KeyFields) (message signature : List ℕ) → scheme kind key message signature → key.format ≡ format_of kind)
-    → (m : MessageFields) (keys : List KeyFields) (answers : List Bool) → AreRight scheme (questions_in_order (message_questions m keys)) answers
-    → SameAnswersUnder (by_answers (questions_in_order (message_questions m keys)) answers) scheme m keys
+    → (m : MessageFields) (keys : List KeyFields) (answers : List Bool) → AreRight scheme (listed (message_questions m keys)) answers
+    → SameAnswersUnder (by_answers (listed (message_questions m keys)) answers) scheme m keys
 same_answers scheme fits m keys answers right =
-    let list : List QuestionFields = questions_in_order (message_questions m keys) in
+    let list : List QuestionFields = listed (message_questions m keys) in
     let agree : Agree (by_answers list answers) scheme list = λ q i. told scheme fits list answers q right i in
     keys_too (by_answers list answers) scheme m keys (agree (attributes_question m) (inl refl)) (λ q i. agree q (inr i))
 
@@ -145,17 +145,17 @@ same_answers scheme fits m keys answers right =
 
 -- of each message with which the octets begin
 pub agree_begun : (scheme : Relation) → ((kind : SigningAlgorithm) (key : KeyFields) (message signature : List ℕ) → scheme kind key message signature → key.format ≡ format_of kind)
-    → (octets : List ℕ) (keys : List KeyFields) (q : QuestionsFields) (answers : AnswersFields) → AreAskedOf octets keys q → AreRight scheme (questions_in_order q) answers.values
+    → (octets : List ℕ) (keys : List KeyFields) (q : QuestionsFields) (answers : AnswersFields) → AreAskedOf octets keys q → AreRight scheme (listed q) answers.values
     → (m : MessageFields) → BeginsSigned octets m → SameAnswersUnder (answered_scheme q answers) scheme m keys
 agree_begun scheme fits octets keys q answers h right m begins =
     let e : q ≡ message_questions m keys = h.are ∙ ap (λ (n : MessageFields). message_questions n keys) (one_signed octets h.signed m h.begins begins) in
     let same : SameAnswersUnder (answered_scheme (message_questions m keys) answers) scheme m keys =
-    same_answers scheme fits m keys answers.values (subst (λ (l : QuestionsFields). AreRight scheme (questions_in_order l) answers.values) e right) in
+    same_answers scheme fits m keys answers.values (subst (λ (l : QuestionsFields). AreRight scheme (listed l) answers.values) e right) in
     subst (λ (l : QuestionsFields). SameAnswersUnder (answered_scheme l answers) scheme m keys) (sym e) same
 
 pub decided : (scheme : Relation) → ((kind : SigningAlgorithm) (key : KeyFields) (message signature : List ℕ) → scheme kind key message signature → key.format ≡ format_of kind)
     → (kind : Kind) (octets : List ℕ) (keys : List KeyFields) (when : ℤ) (q : QuestionsFields) (answers : AnswersFields) (answer : Result (Received × ℕ) ReceiveError)
-    → AreAskedOf octets keys q → AreRight scheme (questions_in_order q) answers.values
+    → AreAskedOf octets keys q → AreRight scheme (listed q) answers.values
     → IsReceivedUnder (answered_scheme q answers) kind octets keys when answer ↔ IsReceivedUnder scheme kind octets keys when answer
 decided scheme fits kind octets keys when q answers answer h right =
     let same = agree_begun scheme fits octets keys q answers h right in (
@@ -165,7 +165,7 @@ decided scheme fits kind octets keys when q answers answer h right =
 
 pub receipt_too : (scheme : Relation) → ((kind : SigningAlgorithm) (key : KeyFields) (message signature : List ℕ) → scheme kind key message signature → key.format ≡ format_of kind)
     → (kind : Kind) (octets : List ℕ) (keys : List KeyFields) (when : ℤ) (last : Option ℤ) (q : QuestionsFields) (answers : AnswersFields) (r : Receipt)
-    → AreAskedOf octets keys q → AreRight scheme (questions_in_order q) answers.values
+    → AreAskedOf octets keys q → AreRight scheme (listed q) answers.values
     → IsReceipt (answered_scheme q answers) kind octets keys when last r → IsReceipt scheme kind octets keys when last r
 receipt_too scheme fits kind octets keys when last q answers r h right p = record {
   signed = p.signed;
@@ -177,7 +177,7 @@ receipt_too scheme fits kind octets keys when last q answers r h right p = recor
 
 pub refusal_too : (scheme : Relation) → ((kind : SigningAlgorithm) (key : KeyFields) (message signature : List ℕ) → scheme kind key message signature → key.format ≡ format_of kind)
     → (kind : Kind) (octets : List ℕ) (keys : List KeyFields) (when : ℤ) (last : Option ℤ) (q : QuestionsFields) (answers : AnswersFields) (error : GuardError)
-    → AreAskedOf octets keys q → AreRight scheme (questions_in_order q) answers.values
+    → AreAskedOf octets keys q → AreRight scheme (listed q) answers.values
     → IsGuardRefusal (answered_scheme q answers) kind octets keys when last error → IsGuardRefusal scheme kind octets keys when last error
 refusal_too scheme fits kind octets keys when last q answers error h right p =
     let same = agree_begun scheme fits octets keys q answers h right p.signed p.begins in
@@ -211,7 +211,7 @@ checks_too s t m key when list same c = record {
 
 pub checks_decided : (scheme : Relation) → ((kind : SigningAlgorithm) (key : KeyFields) (message signature : List ℕ) → scheme kind key message signature → key.format ≡ format_of kind)
     → (octets : List ℕ) (key : KeyFields) (when : ℤ) (q : QuestionsFields) (answers : AnswersFields) (list : List Bool)
-    → AreAskedOf octets (key ∷ []) q → AreRight scheme (questions_in_order q) answers.values
+    → AreAskedOf octets (key ∷ []) q → AreRight scheme (listed q) answers.values
     → AreChecksOf (answered_scheme q answers) octets key when list ↔ AreChecksOf scheme octets key when list
 checks_decided scheme fits octets key when q answers list h right =
     let same : (m : MessageFields) → BeginsSigned octets m → SameAnswers (answered_scheme q answers) scheme m key =
@@ -283,11 +283,11 @@ ta_by_case scheme fits c when answers answer false is right = (
 )
 
 pub anchor_decided : (scheme : Relation) → ((kind : SigningAlgorithm) (key : KeyFields) (message signature : List ℕ) → scheme kind key message signature → key.format ≡ format_of kind)
-    → (c : CertificateFields) (when : ℤ) (answers : AnswersFields) (answer : Result (Unit {0}) ValidationError) → AreRight scheme (questions_in_order (anchor_questions c)) answers.values
+    → (c : CertificateFields) (when : ℤ) (answers : AnswersFields) (answer : Result (Unit {0}) ValidationError) → AreRight scheme (listed (anchor_questions c)) answers.values
     → IsTaValidation (answered_scheme (anchor_questions c) answers) c when answer ↔ IsTaValidation scheme c when answer
 anchor_decided scheme fits c when answers answer right = ta_by_case scheme fits c when answers.values answer (names_itself c.tbs) refl right
 
 pub request_decided : (scheme : Relation) → ((kind : SigningAlgorithm) (key : KeyFields) (message signature : List ℕ) → scheme kind key message signature → key.format ≡ format_of kind)
-    → (r : CaRequest) (answers : AnswersFields) → AreRight scheme (questions_in_order (request_questions r)) answers.values
+    → (r : CaRequest) (answers : AnswersFields) → AreRight scheme (listed (request_questions r)) answers.values
     → IsRequestSigned (answered_scheme (request_questions r) answers) r ↔ IsRequestSigned scheme r
 request_decided scheme fits r answers right = own_told scheme fits (request_question r) answers.values right

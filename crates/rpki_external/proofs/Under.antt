@@ -21,9 +21,9 @@ use Rattle.rpki_ca.specs.declared.setup_message.SetupMessage.TheVariants as mess
 use Rattle.rpki_ca.specs.Hexadecimal.{hexadecimal}
 use Rattle.rpki_replay.specs.declared.guard.GuardError.TheVariants as guard
 use Rattle.rpki_external.specs.Answers.{AnswersFields, AreRight}
-use Rattle.rpki_external.specs.Question.{QuestionsFields, anchor_questions, questions_in_order, request_questions}
+use Rattle.rpki_external.specs.Question.{QuestionsFields, anchor_questions, listed, request_questions}
 use Rattle.rpki_external.specs.Receiving.{AreAskedOf, ByAnswers, RefusesByAnswers, RefusesUnder}
-use Rattle.rpki_external.specs.Running.{AreRightIn, IsExplainAnswer, IsExplainAnswerUnder, IsIssueWritten, IsIssueWrittenUnder, IsReceiptWritten, IsReceiptWrittenUnder, IsRequestAnswer, IsRequestAnswerUnder, IsSetupWritten, IsSetupWrittenUnder, IsVerifiedAnswer, IsVerifiedAnswerUnder, IsVerifiedSo, IsVerifiedUnder, OfSpelled, Written}
+use Rattle.rpki_external.specs.Running.{AreRightIn, IsExplainAnswer, IsExplainAnswerUnder, IsIssueAnswer, IsIssueAnswerUnder, IsReceiveAnswer, IsReceiveAnswerUnder, IsRequestAnswer, IsRequestAnswerUnder, IsSetupWritten, IsSetupWrittenUnder, IsVerifiedAnswer, IsVerifiedAnswerUnder, IsVerifiedSo, IsVerifiedUnder, OfSpelled, Written}
 use Rattle.rpki_external.specs.Verifying.{AreSetupQuestions, HoldsAnchor, IsAnchorVerified, IsAnchorVerifiedUnder, IsRequestVerified, IsRequestVerifiedUnder, IsSetupAnswered, IsSetupAnsweredUnder, IsSetupVerified, IsSetupVerifiedUnder}
 use Rattle.rpki_external.specs.declared.receiving.AnsweredError.{AnsweredError}
 use Rattle.rpki_external.specs.declared.receiving.AnsweredError.TheVariants as errors
@@ -70,7 +70,7 @@ one_anchor one kind octets m n c d p q =
 module _ (scheme : Relation) (fits : (kind : SigningAlgorithm) (key : KeyFields) (message signature : List ℕ) → scheme kind key message signature → key.format ≡ format_of kind) (answers : AnswersFields) where
   -- ---- a trust anchor's certificate
 
-  anchor_under : (c : CertificateFields) (when : ℤ) → AreRight scheme (questions_in_order (anchor_questions c)) answers.values
+  anchor_under : (c : CertificateFields) (when : ℤ) → AreRight scheme (listed (anchor_questions c)) answers.values
       → (answer : Result (Unit {0}) VerifyError) → IsAnchorVerified c when answers answer → IsAnchorVerifiedUnder scheme c when answers answer
   anchor_under c when right (Ok done) v = (anchor_decided scheme fits c when answers (Ok tt) right).0 v.so
   anchor_under c when right (Err verify_errors.OtherQuestions) v = v
@@ -81,7 +81,7 @@ module _ (scheme : Relation) (fits : (kind : SigningAlgorithm) (key : KeyFields)
 
   -- ---- a setup message
 
-  module _ (kind : SetupKind) (octets : List ℕ) (when : ℤ) (right : (m : SetupMessage) (c : CertificateFields) → HoldsAnchor kind octets m c → AreRight scheme (questions_in_order (anchor_questions c)) answers.values) where
+  module _ (kind : SetupKind) (octets : List ℕ) (when : ℤ) (right : (m : SetupMessage) (c : CertificateFields) → HoldsAnchor kind octets m c → AreRight scheme (listed (anchor_questions c)) answers.values) where
     setup_verified : (m : SetupMessage) (answer : Result (Unit {0}) VerifyError) → IsSetupVerified kind octets when answers m answer → IsSetupVerifiedUnder scheme kind octets when answers m answer
     setup_verified m answer v =
         record { certificate = v.certificate; holds = v.holds; verified = anchor_under v.certificate when (right m v.certificate v.holds) answer v.verified }
@@ -97,11 +97,11 @@ module _ (scheme : Relation) (fits : (kind : SigningAlgorithm) (key : KeyFields)
     setup_told (Err (setup_errors.Verify verify_errors.OutOfMemory)) v = v
     setup_told (Err setup_errors.OutOfMemory) v = v
 
-  pub setup_under : AtMostOne → (kind : SetupKind) (octets : List ℕ) (when : ℤ) (q : QuestionsFields) (answer : Result SetupMessage SetupError) → AreSetupQuestions kind octets q → AreRight scheme (questions_in_order q) answers.values
+  pub setup_under : AtMostOne → (kind : SetupKind) (octets : List ℕ) (when : ℤ) (q : QuestionsFields) (answer : Result SetupMessage SetupError) → AreSetupQuestions kind octets q → AreRight scheme (listed q) answers.values
       → IsSetupAnswered kind octets when answers answer → IsSetupAnsweredUnder scheme kind octets when answers answer
   setup_under one kind octets when q answer asked right =
       setup_told kind octets when
-      (λ m c holds. subst (λ (x : QuestionsFields). AreRight scheme (questions_in_order x) answers.values)
+      (λ m c holds. subst (λ (x : QuestionsFields). AreRight scheme (listed x) answers.values)
       (asked.are ∙ ap anchor_questions (one_anchor one kind octets asked.message m asked.certificate c asked.holds holds)) right)
       answer
 
@@ -118,7 +118,7 @@ module _ (scheme : Relation) (fits : (kind : SigningAlgorithm) (key : KeyFields)
 
   -- ---- a request
 
-  request_under : (r : CaRequest) → AreRight scheme (questions_in_order (request_questions r)) answers.values
+  request_under : (r : CaRequest) → AreRight scheme (listed (request_questions r)) answers.values
       → (answer : Result (Unit {0}) VerifyError) → IsRequestVerified r answers answer → IsRequestVerifiedUnder scheme r answers answer
   request_under r right (Ok done) v = (request_decided scheme fits r answers right).0 v.so
   request_under r right (Err verify_errors.OtherQuestions) v = v
@@ -127,13 +127,13 @@ module _ (scheme : Relation) (fits : (kind : SigningAlgorithm) (key : KeyFields)
   request_under r right (Err verify_errors.Signature) v = λ signed. v.so ((request_decided scheme fits r answers right).1 signed)
   request_under r right (Err verify_errors.OutOfMemory) v = v
 
-  request_written : (r : CaRequest) → AreRight scheme (questions_in_order (request_questions r)) answers.values → (answer : Written) → IsVerifiedAnswer r answers answer → IsVerifiedAnswerUnder scheme r answers answer
+  request_written : (r : CaRequest) → AreRight scheme (listed (request_questions r)) answers.values → (answer : Written) → IsVerifiedAnswer r answers answer → IsVerifiedAnswerUnder scheme r answers answer
   request_written r right (Ok output) is = (request_under r right (Ok tt) is.0, is.1)
   request_written r right (Err refusal) is = (is.0, request_under r right (Err is.0) is.1, is.2)
 
   -- ---- a message
 
-  module _ (octets : List ℕ) (list : List KeyFields) (right : (q : QuestionsFields) → AreAskedOf octets list q → AreRight scheme (questions_in_order q) answers.values)
+  module _ (octets : List ℕ) (list : List KeyFields) (right : (q : QuestionsFields) → AreAskedOf octets list q → AreRight scheme (listed q) answers.values)
       (kind : Kind) (when : ℤ) (last : Option ℤ) where
     received_under : (e : ReceiveError) → ByAnswers octets list answers (λ s. IsReceivedUnder s kind octets list when (Err e)) → IsReceivedUnder scheme kind octets list when (Err e)
     received_under e w = (decided scheme fits kind octets list when w.q answers (Err e) w.asked (right w.q w.asked)).0 w.answered.so
@@ -150,11 +150,11 @@ module _ (scheme : Relation) (fits : (kind : SigningAlgorithm) (key : KeyFields)
     refused_under errors.NoTime w = refusal_too scheme fits kind octets list when last w.q answers guard.NoTime w.asked (right w.q w.asked) w.answered.so
     refused_under (errors.Replayed before seen) w = refusal_too scheme fits kind octets list when last w.q answers (guard.Replayed before seen) w.asked (right w.q w.asked) w.answered.so
 
-    receipt_written : (answer : Written) → IsReceiptWritten kind octets list when last answers answer → IsReceiptWrittenUnder scheme kind octets list when last answers answer
+    receipt_written : (answer : Written) → IsReceiveAnswer kind octets list when last answers answer → IsReceiveAnswerUnder scheme kind octets list when last answers answer
     receipt_written (Ok output) is = (is.0, receipt_too scheme fits kind octets list when last is.1.q answers is.0 is.1.asked (right is.1.q is.1.asked) is.1.answered.so, is.2)
     receipt_written (Err refusal) is = (is.0, refused_under is.0 is.1, is.2)
 
-  checks_written : (octets : List ℕ) (key : KeyFields) (when : ℤ) → ((q : QuestionsFields) → AreAskedOf octets (key ∷ []) q → AreRight scheme (questions_in_order q) answers.values)
+  checks_written : (octets : List ℕ) (key : KeyFields) (when : ℤ) → ((q : QuestionsFields) → AreAskedOf octets (key ∷ []) q → AreRight scheme (listed q) answers.values)
       → (answer : Written) → IsExplainAnswer octets key when answers answer → IsExplainAnswerUnder scheme octets key when answers answer
   checks_written octets key when right (Ok output) is =
       (is.0, (checks_decided scheme fits octets key when is.1.q answers is.0 is.1.asked (right is.1.q is.1.asked)).0 is.1.answered.so, is.2)
@@ -169,7 +169,7 @@ module _ (scheme : Relation) (fits : (kind : SigningAlgorithm) (key : KeyFields)
 
   pub told_under : (what : Verified) (input : List ℕ) → AreRightIn scheme what input answers → (answer : Written) → IsVerifiedSo what answers input answer → IsVerifiedUnder scheme what answers input answer
   told_under (verified.Message kind when last list) input right =
-      spelled_too (λ octets. IsReceiptWritten kind octets list when last answers) (λ octets. IsReceiptWrittenUnder scheme kind octets list when last answers) (hexadecimal input)
+      spelled_too (λ octets. IsReceiveAnswer kind octets list when last answers) (λ octets. IsReceiveAnswerUnder scheme kind octets list when last answers) (hexadecimal input)
       (λ octets spells. receipt_written octets list (λ q asked. right q (record { octets = octets; spells = spells; are = asked })) kind when last)
   told_under (verified.Checks when key) input right =
       spelled_too (λ octets. IsExplainAnswer octets key when answers) (λ octets. IsExplainAnswerUnder scheme octets key when answers) (hexadecimal input)
@@ -184,6 +184,6 @@ module _ (scheme : Relation) (fits : (kind : SigningAlgorithm) (key : KeyFields)
           inr (r, begins, request_written r (right (request_questions r) (record { octets = octets; spells = spells; are = record { request = r; begins = begins; are = refl } })) answer is)
   told_under verified.Issue input right = by_input
     where
-      by_input : (answer : Written) → IsIssueWritten input answers answer → IsIssueWrittenUnder scheme input answers answer
+      by_input : (answer : Written) → IsIssueAnswer input answers answer → IsIssueAnswerUnder scheme input answers answer
       by_input answer (inl none) = inl none
       by_input answer (inr (r, asks, is)) = inr (r, asks, request_written r (right (request_questions r) (record { request = r; asks = asks; are = refl })) answer is)

@@ -7,8 +7,8 @@ use Rattle.rpki_base.specs.declared.algorithm.SigningAlgorithm.TheVariants.{RsaS
 use Rattle.rpki_ca.specs.Keys.{same_key}
 use Rattle.rpki_external.specs.declared.answers.AnswersError.{AnswersError}
 use Rattle.rpki_external.specs.declared.answers.AnswersError.TheVariants as errors
-use Rattle.rpki_external.specs.Question.{QuestionFields, QuestionsFields, SignatureHolds, questions_in_order}
-use Rattle.rpki_external.specs.Records.{AreWritableQuestions, digest_of}
+use Rattle.rpki_external.specs.Question.{QuestionFields, QuestionsFields, SignatureHolds, listed}
+use Rattle.rpki_external.specs.Records.{AreWritable, digest_of}
 
 -- the digest of the questions, and a truth value for each of them, in their order
 pub record AnswersFields : Type 0 where
@@ -20,19 +20,18 @@ pub record AnswersFields : Type 0 where
 -- the digest is that of these questions, and there are as many as questions
 pub record AreTo (a : AnswersFields) (q : QuestionsFields) : Type 0 where
   pub digest : a.digest ≡ digest_of q
-  pub number : length a.values ≡ length (questions_in_order q)
+  pub number : length a.values ≡ length (listed q)
 
--- answers count for questions: they are to these, whose octets are those of no other value
+-- they count for the questions: they are to them, whose octets are those of no other value
 pub record CountFor (a : AnswersFields) (q : QuestionsFields) : Type 0 where
   pub to : AreTo a q
-  pub writable : AreWritableQuestions q
+  pub writable : AreWritable q
 
--- why answers aren't to questions: their digest is another; or it is that of the questions, and
--- there are more or fewer answers
+-- why they aren't: the digest is another; or it is the same, and there are more or fewer
 abbrev pub RefusesAnswers : AnswersFields → QuestionsFields → AnswersError → Type 0
 RefusesAnswers a q errors.OtherQuestions = a.digest ≢ digest_of q
 RefusesAnswers a q errors.Number =
-    (a.digest ≡ digest_of q) × (length a.values ≢ length (questions_in_order q))
+    (a.digest ≡ digest_of q) × (length a.values ≢ length (listed q))
 RefusesAnswers a q errors.OutOfMemory = ⊤
 
 -- ---- what answers are right
@@ -69,7 +68,7 @@ by_answers questions answers kind key message signature =
 
 -- the scheme that answers to questions are
 abbrev pub answered_scheme : QuestionsFields → AnswersFields → Relation
-answered_scheme q a = by_answers (questions_in_order q) a.values
+answered_scheme q a = by_answers (listed q) a.values
 
 -- the answers count for the questions, and under the scheme that they are this is so
 pub record IsAnsweredSo (a : AnswersFields) (q : QuestionsFields) (is : Relation → Type 0) : Type 0

@@ -53,8 +53,8 @@ under_each parts (key ∷ keys) = map (under key) parts ++ under_each parts keys
 
 -- the questions one by one, in their order: that of its own, and the parts under one key after the
 -- other
-abbrev pub questions_in_order : QuestionsFields → List QuestionFields
-questions_in_order q = own_question q.own ++ under_each q.parts q.keys
+abbrev pub listed : QuestionsFields → List QuestionFields
+listed q = own_question q.own ++ under_each q.parts q.keys
 
 -- ---- a signed message (RFC 5652, 5.4 and 5.6; RFC 5280, 4.1.1.3 and 5.1.1.3)
 

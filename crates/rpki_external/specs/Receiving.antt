@@ -48,9 +48,9 @@ PassesGuard scheme keys (Some last) m when place =
     → (seen : ℤ) × (m.signing_time ≡ Some seen) × IsGuarded scheme key last m when (Ok seen)
 
 -- where a last time is handed in, the message says a later signing time
-abbrev pub IsSignedLater : Option ℤ → MessageFields → Type 0
-IsSignedLater None m = ⊤
-IsSignedLater (Some last) m = (seen : ℤ) × (m.signing_time ≡ Some seen) × (last <ℤ seen)
+abbrev pub IsLater : Option ℤ → MessageFields → Type 0
+IsLater None m = ⊤
+IsLater (Some last) m = (seen : ℤ) × (m.signing_time ≡ Some seen) × (last <ℤ seen)
 
 -- The octets begin with a signed message, of which this is received under the key at the place; it
 -- says this signing time, and passes the guard.

@@ -31,7 +31,7 @@ records_of (t ∷ more) = record_of t ++ records_of more
 abbrev pub Fits : Tagged → Type 0
 Fits t = length t.octets < 2 ^ 64
 
--- eight octets tell of each record how many octets it has
+-- they tell it of each record
 abbrev pub AllFit : List Tagged → Type 0
 AllFit list = AllByRecursion Fits list
 
@@ -107,8 +107,8 @@ pub record IsWritableKey (key : KeyFields) : Type 0 where
   pub spelled : CanSpellKey key
   pub fits : Fits (tagged key_tag (spelled_key key))
 
--- each key of the questions has a spelling, and eight octets tell how long each record of them is
-pub record AreWritableQuestions (q : QuestionsFields) : Type 0 where
+-- all questions of a program are so
+pub record AreWritable (q : QuestionsFields) : Type 0 where
   pub own : AllByRecursion IsWritableQuestion (own_question q.own)
   pub parts : AllByRecursion IsWritablePart q.parts
   pub keys : AllByRecursion IsWritableKey q.keys

@@ -61,8 +61,8 @@ use Rattle.rpki_external.specs.Answers.{AnswersFields, AreRight, AreTo}
 use Rattle.rpki_external.specs.Inspection.{IsInspectedAs}
 use Rattle.rpki_external.specs.KeysRefusal.{keys_name_of, keys_status_of}
 use Rattle.rpki_external.specs.Making.{AreShort, IsAcceptedSo, CanPrepare, CanPrepareAnchor, CanPrepareRequest, FinishAnchorFails, FinishFails, FinishRequestFails, PrepareAnchorFails, PrepareFails, PrepareRequestFails, anchor_fields, attributes_to_sign, certificate_to_sign, crl_to_sign, finished, finished_anchor, finished_request, request_to_sign}
-use Rattle.rpki_external.specs.Question.{QuestionsFields, questions_in_order, request_questions}
-use Rattle.rpki_external.specs.Receiving.{AreAskedOf, IsReceipt, IsReceiptBy, IsSignedLater, RefusesByAnswers, RefusesChecks, RefusesUnder}
+use Rattle.rpki_external.specs.Question.{QuestionsFields, listed, request_questions}
+use Rattle.rpki_external.specs.Receiving.{AreAskedOf, IsLater, IsReceipt, IsReceiptBy, RefusesByAnswers, RefusesChecks, RefusesUnder}
 use Rattle.rpki_external.specs.Records.{digest_of}
 use Rattle.rpki_external.specs.Spelling.{question_lines}
 use Rattle.rpki_external.specs.Verifying.{AreChecksBy, AreChecksOf, AreSetupQuestions, BeginsRequest, IsRequestVerified, IsRequestVerifiedUnder, IsSetupAnswered, IsSetupAnsweredUnder, IsSetupAsked}
@@ -206,12 +206,12 @@ abbrev pub receipt_line : Receipt → List ℕ
 receipt_line r = placed_line r.place r.signing_time
 
 -- `receive`: the line of the receipt and the text of its message, each on a line
-abbrev pub IsReceiptWritten : Kind → List ℕ → List KeyFields → ℤ → Option ℤ → AnswersFields
-    → Written → Type 0
-IsReceiptWritten kind octets list when last answers (Ok output) =
+abbrev pub IsReceiveAnswer : Kind → List ℕ → List KeyFields → ℤ → Option ℤ → AnswersFields → Written
+    → Type 0
+IsReceiveAnswer kind octets list when last answers (Ok output) =
     (r : Receipt) × IsReceiptBy kind octets list when answers last r
     × (output ≡ answer_lines (receipt_line r ∷ accepted_text r.message ∷ []))
-IsReceiptWritten kind octets list when last answers (Err refusal) =
+IsReceiveAnswer kind octets list when last answers (Err refusal) =
     (e : AnsweredError) × RefusesByAnswers kind octets list when answers last e
     × (refusal ≡ refusal_of_answered e)
 
@@ -258,8 +258,8 @@ IsRefusedAs why (Ok output) = ⊥
 IsRefusedAs why (Err refusal) = why refusal
 
 -- `issue`: of the request in the issue request that the input is
-abbrev pub IsIssueWritten : List ℕ → AnswersFields → Written → Type 0
-IsIssueWritten input answers answer =
+abbrev pub IsIssueAnswer : List ℕ → AnswersFields → Written → Type 0
+IsIssueAnswer input answers answer =
     IsRefusedAs (RefusesIssue input) answer
     ⊎ ((r : CaRequest) × AsksToIssue input r × IsVerifiedAnswer r answers answer)
 
@@ -381,7 +381,7 @@ IsAskedAnswer asked.Issue input answer = IsIssueQuestionsAnswer input answer
 -- the answer to input of what is verified by answers
 abbrev pub IsVerifiedSo : Verified → AnswersFields → List ℕ → Written → Type 0
 IsVerifiedSo (verified.Message kind when last list) answers input answer =
-    OfSpelled (λ octets. IsReceiptWritten kind octets list when last answers) (hexadecimal input)
+    OfSpelled (λ octets. IsReceiveAnswer kind octets list when last answers) (hexadecimal input)
     answer
 IsVerifiedSo (verified.Checks when key) answers input answer =
     OfSpelled (λ octets. IsExplainAnswer octets key when answers) (hexadecimal input) answer
@@ -389,7 +389,7 @@ IsVerifiedSo (verified.Setup kind when) answers input answer =
     IsSetupWritten kind input when answers answer
 IsVerifiedSo verified.Request answers input answer =
     OfSpelled (λ octets. IsRequestAnswer octets answers) (hexadecimal input) answer
-IsVerifiedSo verified.Issue answers input answer = IsIssueWritten input answers answer
+IsVerifiedSo verified.Issue answers input answer = IsIssueAnswer input answers answer
 
 -- the answer of `prepare` to input, of which two look at none
 abbrev pub IsPreparedAnswer : Prepared → List ℕ → Written → Type 0
@@ -482,15 +482,15 @@ AreQuestionsIn verified.Issue input q = AreIssueQuestions input q
 -- the answers are right under the scheme, of these questions, if there are such
 abbrev pub AreRightIn : Relation → Verified → List ℕ → AnswersFields → Type 0
 AreRightIn scheme what input answers = (q : QuestionsFields) → AreQuestionsIn what input q
-    → AreRight scheme (questions_in_order q) answers.values
+    → AreRight scheme (listed q) answers.values
 
 -- `receive` under a scheme: the line of the receipt and the text of its message, each on a line
-abbrev pub IsReceiptWrittenUnder : Relation → Kind → List ℕ → List KeyFields → ℤ → Option ℤ
+abbrev pub IsReceiveAnswerUnder : Relation → Kind → List ℕ → List KeyFields → ℤ → Option ℤ
     → AnswersFields → Written → Type 0
-IsReceiptWrittenUnder scheme kind octets list when last answers (Ok output) =
+IsReceiveAnswerUnder scheme kind octets list when last answers (Ok output) =
     (r : Receipt) × IsReceipt scheme kind octets list when last r
     × (output ≡ answer_lines (receipt_line r ∷ accepted_text r.message ∷ []))
-IsReceiptWrittenUnder scheme kind octets list when last answers (Err refusal) =
+IsReceiveAnswerUnder scheme kind octets list when last answers (Err refusal) =
     (e : AnsweredError) × RefusesUnder scheme kind octets list when answers last e
     × (refusal ≡ refusal_of_answered e)
 
@@ -529,15 +529,15 @@ IsRequestAnswerUnder scheme octets answers answer =
     ⊎ ((r : CaRequest) × BeginsRequest octets r × IsVerifiedAnswerUnder scheme r answers answer)
 
 -- `issue` under a scheme
-abbrev pub IsIssueWrittenUnder : Relation → List ℕ → AnswersFields → Written → Type 0
-IsIssueWrittenUnder scheme input answers answer =
+abbrev pub IsIssueAnswerUnder : Relation → List ℕ → AnswersFields → Written → Type 0
+IsIssueAnswerUnder scheme input answers answer =
     IsRefusedAs (RefusesIssue input) answer
     ⊎ ((r : CaRequest) × AsksToIssue input r × IsVerifiedAnswerUnder scheme r answers answer)
 
 -- the answer to input of what is verified under a scheme for which the answers are right
 abbrev pub IsVerifiedUnder : Relation → Verified → AnswersFields → List ℕ → Written → Type 0
 IsVerifiedUnder scheme (verified.Message kind when last list) answers input answer =
-    OfSpelled (λ octets. IsReceiptWrittenUnder scheme kind octets list when last answers)
+    OfSpelled (λ octets. IsReceiveAnswerUnder scheme kind octets list when last answers)
     (hexadecimal input) answer
 IsVerifiedUnder scheme (verified.Checks when key) answers input answer =
     OfSpelled (λ octets. IsExplainAnswerUnder scheme octets key when answers) (hexadecimal input)
@@ -547,7 +547,7 @@ IsVerifiedUnder scheme (verified.Setup kind when) answers input answer =
 IsVerifiedUnder scheme verified.Request answers input answer =
     OfSpelled (λ octets. IsRequestAnswerUnder scheme octets answers) (hexadecimal input) answer
 IsVerifiedUnder scheme verified.Issue answers input answer =
-    IsIssueWrittenUnder scheme input answers answer
+    IsIssueAnswerUnder scheme input answers answer
 
 -- the call ends with what is answered to the input under a scheme
 pub record EndsVerifiedUnder (scheme : Relation) (what : Verified) (answers : AnswersFields)
@@ -556,7 +556,7 @@ pub record EndsVerifiedUnder (scheme : Relation) (what : Verified) (answers : An
   pub is : IsVerifiedUnder scheme what answers input answer
   pub ends : EndsOn answer status sink
 
--- the call ends with what is answered to the input under a scheme, or for want of memory
+-- the same, or the call ends for want of memory
 abbrev pub EndsAsVerified : Relation → Verified → AnswersFields → List ℕ → ℕ → Seen → Type 0
 EndsAsVerified scheme what answers input status sink =
     EndsVerifiedUnder scheme what answers input status sink
@@ -579,9 +579,9 @@ AreToIn what input answers =
     (q : QuestionsFields) → AreQuestionsIn what input q → AreTo answers q
 
 -- where a last time is handed in, the message that the input spells says a later one
-abbrev pub IsSignedLaterIn : Option ℤ → List ℕ → Type 0
-IsSignedLaterIn last input = (octets : List ℕ) → hexadecimal input ≡ Some octets
-    → (m : MessageFields) → BeginsSigned octets m → IsSignedLater last m
+abbrev pub IsLaterIn : Option ℤ → List ℕ → Type 0
+IsLaterIn last input = (octets : List ℕ) → hexadecimal input ≡ Some octets
+    → (m : MessageFields) → BeginsSigned octets m → IsLater last m
 
 -- the status is 0; or memory ran out, or a write failed
 abbrev pub EndsWell : ℕ → Seen → Type 0

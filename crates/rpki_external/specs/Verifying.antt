@@ -44,8 +44,7 @@ pub record IsTaValidation (scheme : Relation) (c : CertificateFields) (when : �
   pub unasked : names_itself c.tbs ≡ false
       → answer ≡ failing ta_kind (first_failure 1 (ta_checks c when true))
 
--- a trust anchor's certificate is verified by answers, or why it isn't: they are to other
--- questions, there are more or fewer of them, or a check fails
+-- it is verified by answers, or why it isn't: the answers are to other questions, or a check fails
 abbrev pub IsAnchorVerified : CertificateFields → ℤ → AnswersFields
     → Result (Unit {0}) VerifyError → Type 0
 IsAnchorVerified c when answers (Ok done) =
@@ -59,8 +58,7 @@ IsAnchorVerified c when answers (Err (errors.Validation e)) =
 IsAnchorVerified c when answers (Err errors.Signature) = ⊥
 IsAnchorVerified c when answers (Err errors.OutOfMemory) = ⊤
 
--- a trust anchor's certificate is verified under a scheme for which the answers are right, or why
--- it isn't
+-- the same under a scheme for which the answers are right
 abbrev pub IsAnchorVerifiedUnder : Relation → CertificateFields → ℤ → AnswersFields
     → Result (Unit {0}) VerifyError → Type 0
 IsAnchorVerifiedUnder scheme c when answers (Ok done) = IsTaValidation scheme c when (Ok tt)
@@ -102,7 +100,7 @@ RefusesCertificateOctets octets setup_errors.InvalidTaCertEncoding =
 RefusesCertificateOctets octets setup_errors.OutOfMemory = ⊤
 RefusesCertificateOctets octets other = ⊥
 
--- the octets read as a setup message of the kind, and these are the questions of its certificate
+-- these are what is asked of the certificate
 pub record AreSetupQuestions (kind : SetupKind) (octets : List ℕ) (q : QuestionsFields) : Type 0
   where
     pub message : SetupMessage
@@ -110,8 +108,7 @@ pub record AreSetupQuestions (kind : SetupKind) (octets : List ℕ) (q : Questio
     pub holds : HoldsAnchor kind octets message certificate
     pub are : q ≡ anchor_questions certificate
 
--- what is asked of the certificate in a setup message of the kind, which the octets are, or why
--- nothing is
+-- what is asked of the certificate, or why nothing is
 abbrev pub IsSetupAsked : SetupKind → List ℕ → Result QuestionsFields SetupError → Type 0
 IsSetupAsked kind octets (Ok q) = AreSetupQuestions kind octets q
 IsSetupAsked kind octets (Err setup_errors.XmlError) = IsNoSetup kind octets
@@ -148,8 +145,7 @@ pub record IsSetupVerifiedUnder (scheme : Relation) (kind : SetupKind) (octets :
   pub holds : HoldsAnchor kind octets m certificate
   pub verified : IsAnchorVerifiedUnder scheme certificate when answers answer
 
--- the message, whose certificate is verified under a scheme for which the answers are right, or why
--- there is none; of want of memory nothing is said
+-- the same as by answers, under a scheme for which they are right
 abbrev pub IsSetupAnsweredUnder : Relation → SetupKind → List ℕ → ℤ → AnswersFields
     → Result SetupMessage SetupError → Type 0
 IsSetupAnsweredUnder scheme kind octets when answers (Ok m) =
@@ -175,8 +171,8 @@ BeginsRequest octets r =
 abbrev pub IsRequestSigned : Relation → CaRequest → Type 0
 IsRequestSigned scheme r = IsSigned scheme r r.tbs.key
 
--- a certificate request is verified by answers, or why it isn't: they are to other questions, there
--- are more or fewer of them, or the signature doesn't hold
+-- it is verified by answers, or why it isn't: the answers are to other questions, or the signature
+-- doesn't hold
 abbrev pub IsRequestVerified : CaRequest → AnswersFields → Result (Unit {0}) VerifyError → Type 0
 IsRequestVerified r answers (Ok done) =
     IsAnsweredSo answers (request_questions r) (λ scheme. IsRequestSigned scheme r)
@@ -189,7 +185,7 @@ IsRequestVerified r answers (Err errors.Signature) =
     IsAnsweredSo answers (request_questions r) (λ scheme. IsRequestSigned scheme r → ⊥)
 IsRequestVerified r answers (Err errors.OutOfMemory) = ⊤
 
--- a certificate request is verified under a scheme for which the answers are right, or why it isn't
+-- the same under a scheme for which the answers are right
 abbrev pub IsRequestVerifiedUnder : Relation → CaRequest → AnswersFields
     → Result (Unit {0}) VerifyError → Type 0
 IsRequestVerifiedUnder scheme r answers (Ok done) = IsRequestSigned scheme r
@@ -210,8 +206,7 @@ pub record AreChecksOf (scheme : Relation) (octets : List ℕ) (key : KeyFields)
   pub begins : BeginsSigned octets signed
   pub are : AreChecks scheme signed key when list
 
--- the octets begin with a signed message, and these are its fourteen checks, by answers to its
--- questions under this key alone
+-- these are told by answers to the message's questions under this key alone
 abbrev pub AreChecksBy : List ℕ → KeyFields → ℤ → AnswersFields → List Bool → Type 0
 AreChecksBy octets key when answers list =
     ByAnswers octets (key ∷ []) answers (λ scheme. AreChecksOf scheme octets key when list)

@@ -180,8 +180,8 @@ fn request_of(alloc: Global, message: &Received) -> Result<RpkiCaCsr, KeysRefusa
     }
 }
 
-/// The certificate request in the issue request of the provisioning protocol that the input is, in XML (RFC 6492, 3.4.1). `XmlError` where
-/// it is none, and what [`message_of`] refuses.
+/// The certificate request in the issue request of the provisioning protocol that the input is, in XML (RFC 6492, 3.4.1). `XmlError` where it
+/// is none, and what [`message_of`] refuses.
 pub fn request_in(alloc: Global, input: &[u8]) -> Result<RpkiCaCsr, KeysRefusal>
     ensures ok { IfOk result (spec.AsksToIssue input.now) }
     ensures err { IfErr result (λ e. e ≢ variant.General refusals.OutOfMemory
@@ -215,9 +215,9 @@ pub(crate) fn receive(
     requires some { 1 ≤ length keys.now }
     requires few { length keys.now ≤ most_keys }
     ensures ok { IfOk result (λ output.
-        spec.IsReceiptWritten kind octets.now keys.now when last answers.now (Ok output.items)) }
+        spec.IsReceiveAnswer kind octets.now keys.now when last answers.now (Ok output.items)) }
     ensures err { IfErr result (λ e. e ≢ variant.General refusals.OutOfMemory
-        → spec.IsReceiptWritten kind octets.now keys.now when last answers.now (Err e)) }
+        → spec.IsReceiveAnswer kind octets.now keys.now when last answers.now (Err e)) }
 {
     let receipt = receive_answered(alloc, kind, octets, keys, when, answers, last)?;
     Ok(receipt_lines(alloc, &receipt)?)
@@ -304,9 +304,9 @@ pub(crate) fn verify_issue(
     answers: &Answers,
 ) -> Result<Vec<u8>, KeysRefusal>
     ensures ok { IfOk result (λ output.
-        spec.IsIssueWritten input.now answers.now (Ok output.items)) }
+        spec.IsIssueAnswer input.now answers.now (Ok output.items)) }
     ensures err { IfErr result (λ e. e ≢ variant.General refusals.OutOfMemory
-        → spec.IsIssueWritten input.now answers.now (Err e)) }
+        → spec.IsIssueAnswer input.now answers.now (Err e)) }
 {
     let request = request_in(alloc, input)?;
     verify(alloc, &request, answers)

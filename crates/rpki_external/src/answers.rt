@@ -2,8 +2,8 @@
 
 ghost use Rattle.std.specs.Prelude.{◌≡◌, ◌≢◌, IfErr, IfOk, OnOk, length};
 ghost use Rattle.rpki_external.specs.Answers.{CountFor, RefusesAnswers};
-ghost use Rattle.rpki_external.specs.Question.{questions_in_order};
-ghost use Rattle.rpki_external.specs.Records.{AreWritableQuestions, digest_of};
+ghost use Rattle.rpki_external.specs.Question.{listed};
+ghost use Rattle.rpki_external.specs.Records.{AreWritable, digest_of};
 ghost use Rattle.rpki_external.specs.declared.answers.AnswersError.TheVariants as variant;
 
 use crate::question::Question;
@@ -75,7 +75,7 @@ impl Answers {
           digest = digest_of questions.now;
           values = values.items;
         }) }
-        ensures writable { OnOk result (AreWritableQuestions questions.now) }
+        ensures writable { OnOk result (AreWritable questions.now) }
     {
         Ok(Answers::new(questions.digest(alloc)?, values))
     }
@@ -100,7 +100,7 @@ impl Answers {
         alloc: Global,
         questions: &Questions,
     ) -> Result<Vec<Question>, AnswersError>
-        ensures list { IfOk result (λ list. list.items ≡ questions_in_order questions.now) }
+        ensures list { IfOk result (λ list. list.items ≡ listed questions.now) }
         ensures count { IfOk result (λ _. CountFor self.now questions.now) }
         ensures err { IfErr result (RefusesAnswers self.now questions.now) }
     {

@@ -83,7 +83,7 @@ fn parts_of(alloc: Global, message: &SignedMessage) -> Result<Vec<SignedPart>, O
     Ok(parts)
 }
 
-// A copy of these keys.
+// The same keys.
 fn cloned(alloc: Global, keys: &[PublicKey]) -> Result<Vec<PublicKey>, OutOfMemory>
     ensures { IfOk result (λ list. list.items ≡ keys.now) }
 {

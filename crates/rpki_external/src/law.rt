@@ -9,7 +9,7 @@ ghost use Rattle.rpki_ca.specs.Acceptance.{IsReceivedUnder, ReadsAs, accepted_te
 ghost use Rattle.rpki_ca.specs.Answer.{BringsAccepted};
 ghost use Rattle.rpki_ca.specs.Seen.{Seen};
 ghost use Rattle.rpki_sigmsg.specs.Spelling.{CanSpellMessage, rewritten};
-ghost use Rattle.rpki_external.specs.Running.{AreRightIn, AreToIn, DeliversReceipt, EndsAsVerified, EndsKeysTask, EndsWell, Finishes, IsSignedLaterIn};
+ghost use Rattle.rpki_external.specs.Running.{AreRightIn, AreToIn, DeliversReceipt, EndsAsVerified, EndsKeysTask, EndsWell, Finishes, IsLaterIn};
 ghost use Rattle.rpki_external.specs.declared.task.Finished.TheVariants as finishing;
 ghost use Rattle.rpki_external.specs.declared.task.Prepared.TheVariants as preparing;
 ghost use Rattle.rpki_external.specs.declared.task.Task.TheVariants as tasks;
@@ -33,12 +33,11 @@ ghost use Rattle.rpki_sigmsg.specs.Making.{IsMessageMade};
 ghost use Rattle.rpki_sigmsg.specs.Message.{MessageFields};
 ghost use Rattle.rpki_external.specs.Answers.{AnswersFields, AreRight, CountFor, answered_scheme};
 ghost use Rattle.rpki_external.specs.Making.{AreShort, AreSignatures, CanPrepare, CanPrepareAnchor, CanPrepareRequest, FinishAnchorFails, FinishFails, FinishRequestFails, IsAcceptedSo, IsInWindow, PrepareAnchorFails, PrepareFails, PrepareRequestFails, anchor_fields, finished, finished_anchor, finished_request, request_to_sign, unsigned_request};
-ghost use Rattle.rpki_external.specs.Question.{QuestionsFields, anchor_questions, message_questions, questions_in_order, request_questions};
+ghost use Rattle.rpki_external.specs.Question.{QuestionsFields, anchor_questions, listed, message_questions, request_questions};
 ghost use Rattle.rpki_external.specs.Receiving.{AreAskedOf, IsGuardRefusal, IsReceipt, IsReceiptBy};
-ghost use Rattle.rpki_external.specs.Records.{AreWritableQuestions, SameUnlessCollide, digest_of};
+ghost use Rattle.rpki_external.specs.Records.{AreWritable, SameUnlessCollide, digest_of};
 ghost use Rattle.rpki_external.specs.Verifying.{AreChecksBy, AreChecksOf, AreSetupQuestions, IsAnchorVerified, IsRequestSigned, IsRequestVerified, IsSetupAnswered, IsSetupAnsweredUnder, IsTaValidation};
 ghost use Rattle.rpki_external.specs.declared.answers.AnswersError.{AnswersError};
-ghost use Rattle.rpki_external.specs.declared.keys_refusal.KeysRefusal.{KeysRefusal};
 ghost use Rattle.rpki_external.specs.declared.preparing.Plan.{Plan};
 ghost use Rattle.rpki_external.specs.declared.preparing.PrepareError.{PrepareError};
 ghost use Rattle.rpki_external.specs.declared.preparing.Signatures.{Signatures};
@@ -53,7 +52,6 @@ ghost use Rattle.rpki_external.specs.declared.setting_up.SetupError.{SetupError}
 ghost use Rattle.rpki_external.specs.declared.verifying.VerifyError.{VerifyError};
 
 use crate::answers::AnswersError;
-use crate::keys_refusal::KeysRefusal;
 use crate::preparing::PrepareError;
 use crate::question::Part;
 use crate::receiving::AnsweredError;
@@ -63,7 +61,7 @@ use rpki_base::Scheme;
 use rpki_setup::at_most_one;
 use rpki_signer::Signer;
 
-/// `==` holds exactly between the same parts, between the same errors, and between the same refusals.
+/// `==` holds exactly between the same parts, and between the same errors.
 pub fn equal_values_are_the_same()
     ensures part { (a b : Part) → (⟦<Part as PartialEq>⟧.eq a b ≡ true) ↔ (a ≡ b) }
     ensures answers { (a b : AnswersError)
@@ -76,8 +74,6 @@ pub fn equal_values_are_the_same()
         → (⟦<SetupError as PartialEq>⟧.eq a b ≡ true) ↔ (a ≡ b) }
     ensures prepare { (a b : PrepareError)
         → (⟦<PrepareError as PartialEq>⟧.eq a b ≡ true) ↔ (a ≡ b) }
-    ensures refusal { (a b : KeysRefusal)
-        → (⟦<KeysRefusal as PartialEq>⟧.eq a b ≡ true) ↔ (a ≡ b) }
 {}
 
 /// Answers count for one value of questions: where they do for two, these are the same, or their octets, which differ, have one SHA-256.
@@ -88,7 +84,7 @@ pub fn answers_are_to_one_value()
 
     // So it is where they count for one, and were given to the other, whose digest is theirs.
     ensures given { (answers : AnswersFields) (a b : QuestionsFields) → CountFor answers a
-        → AreWritableQuestions b → answers.digest ≡ digest_of b → SameUnlessCollide a b }
+        → AreWritable b → answers.digest ≡ digest_of b → SameUnlessCollide a b }
 {}
 
 /// By the same answers two messages are received, or their checks told, two certificates are verified, and two requests, only where what
@@ -118,7 +114,7 @@ pub fn same_answers_have_the_same_questions()
 /// guard or the archive, does what it does under that scheme.
 pub fn right_answers_are_the_schemes<P: Scheme>()
     ensures { (m : MessageFields) (keys : List KeyFields) (answers : AnswersFields)
-        → AreRight P.checks (questions_in_order (message_questions m keys)) answers.values
+        → AreRight P.checks (listed (message_questions m keys)) answers.values
         → SameAnswersUnder (answered_scheme (message_questions m keys) answers) P.checks m keys }
 {}
 
@@ -128,22 +124,22 @@ pub fn right_answers_decide<P: Scheme>()
     ensures received { (kind : Kind) (octets : List ℕ) (keys : List KeyFields) (when : ℤ)
         (q : QuestionsFields) (answers : AnswersFields)
         (answer : Result (Received × ℕ) ReceiveError)
-        → AreAskedOf octets keys q → AreRight P.checks (questions_in_order q) answers.values
+        → AreAskedOf octets keys q → AreRight P.checks (listed q) answers.values
         → (IsReceivedUnder (answered_scheme q answers) kind octets keys when answer
         ↔ IsReceivedUnder P.checks kind octets keys when answer) }
     ensures receipt { (kind : Kind) (octets : List ℕ) (keys : List KeyFields) (when : ℤ)
         (last : Option ℤ) (q : QuestionsFields) (answers : AnswersFields) (r : Receipt)
-        → AreAskedOf octets keys q → AreRight P.checks (questions_in_order q) answers.values
+        → AreAskedOf octets keys q → AreRight P.checks (listed q) answers.values
         → IsReceipt (answered_scheme q answers) kind octets keys when last r
         → IsReceipt P.checks kind octets keys when last r }
     ensures guard { (kind : Kind) (octets : List ℕ) (keys : List KeyFields) (when : ℤ)
         (last : Option ℤ) (q : QuestionsFields) (answers : AnswersFields) (error : GuardError)
-        → AreAskedOf octets keys q → AreRight P.checks (questions_in_order q) answers.values
+        → AreAskedOf octets keys q → AreRight P.checks (listed q) answers.values
         → IsGuardRefusal (answered_scheme q answers) kind octets keys when last error
         → IsGuardRefusal P.checks kind octets keys when last error }
     ensures checks { (octets : List ℕ) (key : KeyFields) (when : ℤ) (q : QuestionsFields)
         (answers : AnswersFields) (list : List Bool)
-        → AreAskedOf octets (key ∷ []) q → AreRight P.checks (questions_in_order q) answers.values
+        → AreAskedOf octets (key ∷ []) q → AreRight P.checks (listed q) answers.values
         → (AreChecksOf (answered_scheme q answers) octets key when list
         ↔ AreChecksOf P.checks octets key when list) }
 {}
@@ -167,7 +163,7 @@ pub fn right_answers_deliver<P: Scheme>()
         → EndsKeysTask (tasks.Verify (verified.Message kind when last keys) answers) input status
         sink → AreRightIn P.checks (verified.Message kind when last keys) input answers
         → AreToIn (verified.Message kind when last keys) input answers
-        → BringsAccepted P.checks kind keys when input → IsSignedLaterIn last input
+        → BringsAccepted P.checks kind keys when input → IsLaterIn last input
         → EndsWell status sink }
 {}
 
@@ -176,20 +172,19 @@ pub fn right_answers_deliver<P: Scheme>()
 pub fn right_answers_verify<P: Scheme>()
     ensures anchor { (c : CertificateFields) (when : ℤ) (answers : AnswersFields)
         (answer : Result (Unit {0}) ValidationError)
-        → AreRight P.checks (questions_in_order (anchor_questions c)) answers.values
+        → AreRight P.checks (listed (anchor_questions c)) answers.values
         → (IsTaValidation (answered_scheme (anchor_questions c) answers) c when answer
         ↔ IsTaValidation P.checks c when answer) }
     ensures request { (r : CaRequest) (answers : AnswersFields)
-        → AreRight P.checks (questions_in_order (request_questions r)) answers.values
+        → AreRight P.checks (listed (request_questions r)) answers.values
         → (IsRequestSigned (answered_scheme (request_questions r) answers) r
         ↔ IsRequestSigned P.checks r) }
     ensures setup { (kind : SetupKind) (octets : List ℕ) (when : ℤ) (q : QuestionsFields)
         (answers : AnswersFields) (answer : Result SetupMessage SetupError)
-        → AreSetupQuestions kind octets q → AreRight P.checks (questions_in_order q) answers.values
+        → AreSetupQuestions kind octets q → AreRight P.checks (listed q) answers.values
         → IsSetupAnswered kind octets when answers answer
         → IsSetupAnsweredUnder P.checks kind octets when answers answer }
 {
-    // For the proof: octets are at most one setup message of a kind.
     at_most_one();
 }
 
@@ -276,8 +271,8 @@ pub fn made_is_finished<P: Scheme>()
         × (m ≡ finished content plan signatures) }
 {}
 
-/// A key's own certificate is accepted as a trust anchor's certificate at each second of its validity, whatever its signature: it doesn't
-/// name itself as its issuer, so its signature isn't asked.
+/// A key's own certificate is believed as a trust anchor's at each second of its validity, whatever its signature: it doesn't name
+/// itself as its issuer, so its signature isn't asked.
 pub fn finished_anchor_is_believed<P: Scheme>()
     ensures { (key : KeyFields) (validity : ValidityFields) (signature : List ℕ) (when : ℤ)
         → validity.not_before ≤ℤ when → when ≤ℤ validity.not_after

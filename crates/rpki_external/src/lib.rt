@@ -1,9 +1,8 @@
-//! Keys that are held elsewhere, by OpenSSL or a hardware module: signed messages are received and made under them, trust anchors and
-//! certificate requests verified and made, and setup messages verified.
+//! Signed messages under keys that are held elsewhere, by OpenSSL or a hardware module.
 //!
-//! What is asked of a scheme are a few yes-or-no questions; what is made of a message needs three signatures, an anchor or a request one.
-//! This crate hands out the questions and takes answers; it hands out the octets to be signed and takes signatures. Answers are bound, by a
-//! digest, to the one value of questions for which they were given.
+//! What is asked of a scheme are a few yes-or-no questions, and what is made of a message needs three signatures. This crate hands out the
+//! questions and takes answers; it hands out the octets to be signed and takes signatures. Answers are bound, by a digest, to the one value
+//! of questions for which they were given.
 //!
 //! - [`questions`] are those of a signed message under one to eight keys, [`anchor_questions`], [`request_questions`] and
 //!   [`setup_questions`] those of a trust anchor's certificate, of a certificate request and of a setup message.
@@ -15,8 +14,8 @@
 //! - [`run_keys`] is what the program `rpkikeys` does.
 //!
 //! What is asked stands in specs/Question.antt, its text in Spelling.antt and its octets and digest in Records.antt, which answers are
-//! right in Answers.antt, what is received and verified in Receiving.antt and Verifying.antt, what is to be signed in Making.antt, what is
-//! told in Inspection.antt, and what is answered to words and input in Words.antt, KeysRefusal.antt and Running.antt.
+//! right in Answers.antt, what is received and verified in Receiving.antt and Verifying.antt, what is to be signed in Making.antt, what is told in Inspection.antt, and what is
+//! answered to words and input in Words.antt, KeysRefusal.antt and Running.antt.
 #![tactic(auto)]
 
 mod answering;

@@ -47,7 +47,7 @@ fn are_moments(validity: Validity)
 
 /// The key's own certificate with this signature of what [`prepare_anchor`] gives for the same key and validity. It isn't looked at,
 /// but for its length: TooLong comes as there, and where it has more than 2^16 octets; the other errors are those of `prepare_anchor`.
-/// Whatever the signature is, the certificate is accepted as a trust anchor's certificate at each second of its validity
+/// Where it holds the certificate is believed as a trust anchor's at each second of its validity
 /// ([`crate::finished_anchor_is_believed`]).
 pub fn finish_anchor(
     alloc: Global,

@@ -3,7 +3,7 @@
 ghost use Rattle.std.specs.Prelude.{◌≡◌, ◌++◌, IfOk, OnOk, map};
 ghost use Rattle.std.specs.Option.{option_copied};
 ghost use Rattle.rpki_external.specs.Question as spec;
-ghost use Rattle.rpki_external.specs.Records.{AreWritableQuestions, digest_of, questions_octets};
+ghost use Rattle.rpki_external.specs.Records.{AreWritable, digest_of, questions_octets};
 ghost use Rattle.rpki_external.specs.Spelling.{questions_text};
 
 use crate::question::{Question, SignedPart};
@@ -121,7 +121,7 @@ impl Questions {
     /// The questions one by one, in their order: that under its own key first, and then each part under one key after the other.
     /// Answers are in this order.
     pub fn list(&self, alloc: Global) -> Result<Vec<Question>, OutOfMemory>
-        ensures { IfOk result (λ list. list.items ≡ spec.questions_in_order self.now) }
+        ensures { IfOk result (λ list. list.items ≡ spec.listed self.now) }
     {
         let mut list = self.own_list(alloc)?;
         push_each(alloc, self.parts(), self.keys(), &mut list)?;
@@ -146,7 +146,7 @@ impl Questions {
     /// signature. Then each part: its tag, the octets; and 16, the signature. Then each key: 18, the key in DER.
     pub fn to_octets(&self, alloc: Global) -> Result<Vec<u8>, OutOfMemory>
         ensures octets { IfOk result (λ octets. octets.items ≡ questions_octets self.now) }
-        ensures writable { OnOk result (AreWritableQuestions self.now) }
+        ensures writable { OnOk result (AreWritable self.now) }
     {
         question_records(alloc, self)
     }
@@ -154,7 +154,7 @@ impl Questions {
     /// The SHA-256 of the octets, to which answers are bound.
     pub fn digest(&self, alloc: Global) -> Result<Hash, OutOfMemory>
         ensures digest { IfOk result (λ digest. digest ≡ digest_of self.now) }
-        ensures writable { OnOk result (AreWritableQuestions self.now) }
+        ensures writable { OnOk result (AreWritable self.now) }
     {
         let octets = self.to_octets(alloc)?;
         Ok(Hash::from_data(&octets))

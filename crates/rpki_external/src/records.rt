@@ -131,7 +131,7 @@ fn push_keys(alloc: Global, keys: &[PublicKey], text: &mut Vec<u8>) -> Result<()
 /// The records of questions.
 pub(crate) fn question_records(alloc: Global, questions: &Questions) -> Result<Vec<u8>, OutOfMemory>
     ensures octets { IfOk result (λ text. text.items ≡ spec.questions_octets questions.now) }
-    ensures writable { OnOk result (spec.AreWritableQuestions questions.now) }
+    ensures writable { OnOk result (spec.AreWritable questions.now) }
 {
     let mut text = own_records(alloc, questions.own())?;
     push_parts(questions.parts(), &mut text)?;

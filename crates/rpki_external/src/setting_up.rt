@@ -57,7 +57,7 @@ impl From<VerifyError> for SetupError {
 }
 
 // The setup message of this kind that the octets are.
-fn setup_in(alloc: Global, kind: SetupKind, octets: &[u8]) -> Result<SetupMessage, SetupError>
+fn message_of(alloc: Global, kind: SetupKind, octets: &[u8]) -> Result<SetupMessage, SetupError>
     ensures ok { IfOk result (ReadsSetup kind octets.now) }
     ensures err { IfErr result (spec.RefusesSetup kind octets.now) }
 {
@@ -93,7 +93,7 @@ pub fn setup_questions(
 ) -> Result<Questions, SetupError>
     ensures { spec.IsSetupAsked kind octets.now result }
 {
-    let message = setup_in(alloc, kind, octets)?;
+    let message = message_of(alloc, kind, octets)?;
     let certificate = certificate_of(alloc, &message)?;
     Ok(anchor_questions(alloc, &certificate)?)
 }
@@ -111,7 +111,7 @@ pub fn setup_answered(
 ) -> Result<SetupMessage, SetupError>
     ensures { spec.IsSetupAnswered kind octets.now when answers.now result }
 {
-    let message = setup_in(alloc, kind, octets)?;
+    let message = message_of(alloc, kind, octets)?;
     let certificate = certificate_of(alloc, &message)?;
     anchor_answered(alloc, &certificate, when, answers)?;
     Ok(message)

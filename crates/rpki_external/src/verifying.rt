@@ -96,7 +96,7 @@ fn validate_by<A: AnsweredQuestions>(
     certificate.validate_ta_at::<AnswerScheme<A>, AnswerVerifier<A>>(&verifier, when)
 }
 
-// What the checks of a trust anchor's certificate answer under the scheme that these answers are, whichever they are.
+// The same, whatever questions and answers they are.
 fn validate_given(
     certificate: &IdCert,
     when: Time,
@@ -143,7 +143,7 @@ fn verify_by<A: AnsweredQuestions>(
     request.verify_signature::<AnswerScheme<A>, AnswerVerifier<A>>(&verifier)
 }
 
-// Whether a request is signed under its own key, under the scheme that these answers are, whichever they are.
+// The same, whatever questions and answers they are.
 fn verify_given(
     request: &RpkiCaCsr,
     questions: &[Question],
@@ -188,7 +188,7 @@ fn checks_by<A: AnsweredQuestions>(
     message.checks_at::<AnswerScheme<A>, AnswerVerifier<A>>(&verifier, key, when)
 }
 
-// The fourteen checks of a message under the scheme that these answers are, whichever they are.
+// The same, whatever questions and answers they are.
 fn checks_given(
     message: &SignedMessage,
     key: &PublicKey,

@@ -16,7 +16,7 @@ use crate::preparing::{Plan, Signatures};
 use crate::preparing_requests::RequestPlan;
 use bytes::Bytes;
 use rpki_base::{PublicKey, Serial, Time, Validity};
-use rpki_ca::{MOST_KEYS, Words, spelled_octets};
+use rpki_ca::{Words, spelled_octets};
 use rpki_common::{OutOfMemory, Sequence};
 use rpki_text::Hash;
 use rpki_text::uri::{self, Https, Rsync};
@@ -33,7 +33,7 @@ pub(crate) fn few_keys_from(
     ensures none { IfOk result (λ o. IsNone o → (keys : List KeyFields)
         → spec.AreFewKeys words.now index keys → ⊥) }
 {
-    if words.len() <= index || words.len() > index + MOST_KEYS {
+    if words.len() <= index || words.len() > index + 8 {
         return Ok(None);
     }
     match words.keys_from(alloc, index)? {

@@ -274,9 +274,9 @@ impl Message {
 
 /// # Reading and writing
 impl Message {
-    /// The message that all that a source has to give is, a document of XML. TooLong where there are more than 2^31 octets, and
-    /// otherwise XmlError exactly where they have not the form of one, CertSyntax and InvalidCsrSyntax exactly where they have, and a
-    /// certificate or the request in it is none; Read only where the source failed.
+    /// The message that all that a source has to give is: a document of XML of at most 2^31 octets. XmlError exactly where it has not the
+    /// form of one, CertSyntax and InvalidCsrSyntax exactly where it has, and a certificate or the request in it is none; TooLong where
+    /// it is longer, Read only where the source failed.
     pub fn decode<I: Source>(alloc: Global, source: &mut I) -> Result<Message, Error>
         ensures { Parses cause_of Reads RefusesMessage (I.rest source.old) (I.rest source.new)
             (I.faults source.old) (I.faults source.new) result }

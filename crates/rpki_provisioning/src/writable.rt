@@ -69,12 +69,10 @@ fn are_bytes(octets: &[u8])
 pub(crate) fn is_writable_class(class: &ResourceClassEntitlements) -> bool
     ensures { IsTrue result ↔ IsWritableClass class.now }
 {
-    // For the proof: the set is one, the moment is in the years 0 to 9999, and the certificates are lawful.
     is_set(class.resource_set());
     let _not_after = class.not_after().seconds();
     are_issued(class.issued_certs());
     is_signing(class.signing_cert());
-
     is_plain(class.class_name().as_str())
 }
 
@@ -95,12 +93,10 @@ pub(crate) fn are_writable_classes(classes: &[ResourceClassEntitlements]) -> boo
 pub(crate) fn is_writable_issuance(response: &IssuanceResponse) -> bool
     ensures { IsTrue result ↔ IsWritableIssuance response.now }
 {
-    // For the proof: the set is one, the moment is in the years 0 to 9999, and both certificates are lawful.
     is_set(response.resource_set());
     let _not_after = response.not_after().seconds();
     is_issued(response.issued_cert());
     is_signing(response.signing_cert());
-
     is_plain(response.class_name().as_str())
 }
 
@@ -109,10 +105,8 @@ pub(crate) fn is_writable_issuance(response: &IssuanceResponse) -> bool
 pub(crate) fn is_writable_request(request: &IssuanceRequest) -> bool
     ensures { IsTrue result ↔ IsWritableRequest request.now }
 {
-    // For the proof: the limit's sets are sets, and what is written of the request is read as it.
     is_limit(request.limit());
     requests_are_read_again(request.csr());
-
     is_plain(request.class_name().as_str())
 }
 
@@ -120,9 +114,7 @@ pub(crate) fn is_writable_request(request: &IssuanceRequest) -> bool
 pub(crate) fn is_writable_key(key: &KeyElement) -> bool
     ensures { IsTrue result ↔ IsWritableKey key.now }
 {
-    // For the proof: the identifier's octets are below 256.
     are_bytes(key.key().as_slice());
-
     is_plain(key.class_name().as_str())
 }
 
@@ -131,7 +123,6 @@ pub(crate) fn is_writable_key(key: &KeyElement) -> bool
 pub(crate) fn is_writable_status(response: &NotPerformedResponse) -> bool
     ensures { IsTrue result ↔ IsWritableNotPerformed response.now }
 {
-    // For the proof: the status is below 2^64.
     let _status = response.status();
     match response.description() {
         None => true,

@@ -1,16 +1,15 @@
 -- What elements are spelled as, in the parts that they are written in.
 use Rattle.std.proofs.Common.{◌≡◌, ℕ, true, false, List, [], ◌∷◌, ◌++◌, Option, Some, sym, ap, ◌∙◌, append_assoc}
 use Rattle.std.proofs.lemmas.List.{append-nil}
-use Rattle.std.specs.Prelude.{codes, ◌&&◌}
+use Rattle.std.specs.Prelude.{codes}
 use Rattle.base64.specs.Engines.{standard}
 use Rattle.base64.specs.GeneralPurpose.{encode_of}
 use Rattle.hex.specs.Hex.{encode_lower}
 use Rattle.rpki_xmltext.specs.Inside.{text_inside}
 use Rattle.rpki_xmltext.proofs.Elements.{leaf_spelled, two, three}
-use Rattle.rpki_xmltext.proofs.Inside.{without_child}
 use Rattle.rpki_xml.specs.Draft.{optional_attribute}
-use Rattle.rpki_xml.specs.Element.{Elements, is_nil, is_none, none}
-use Rattle.rpki_xml.specs.Spelling.{spelled, spelled_all, spelled_attribute, spelled_attributes, spelled_namespace, spelled_text, spelled_end, spelled_inside}
+use Rattle.rpki_xml.specs.Element.{Elements, is_none}
+use Rattle.rpki_xml.specs.Spelling.{spelled, spelled_all, spelled_attribute, spelled_attributes, spelled_namespace, spelled_text, spelled_end}
 use Rattle.rpki_publication.specs.declared.query_pdu.QueryPdu.{QueryPdu}
 use Rattle.rpki_publication.specs.Change.{publish_element, update_element, withdraw_element, query_pdu_element}
 use Rattle.rpki_publication.specs.ListElement.{ListElementFields}
@@ -69,9 +68,7 @@ abbrev own_tag : ReportErrorFields → List ℕ
 own_tag r = spelled_attributes (optional_attribute (codes "tag") r.tag)
 
 abbrev text_part : ReportErrorFields → List ℕ
-text_part r =
-    let text = shown_text r.error_code r.error_text in
-    spelled_inside (is_nil text && is_none none) (codes "error_text") (spelled_text text ++ spelled_all none)
+text_part r = text_inside (codes "error_text") (shown_text r.error_code r.error_text)
 
 abbrev pdu_part : ReportErrorFields → List ℕ
 pdu_part r = spelled_all (failed_pdu_elements r.failed_pdu)
@@ -90,10 +87,7 @@ pub error_text : (r : ReportErrorFields) (code shown : List ℕ) (tag : Option (
     ++ (codes "><error_text" ++ (text_inside (codes "error_text") shown ++ (spelled_all (failed_pdu_elements pdu) ++ spelled_end (codes "report_error"))))))
     ≡ spelled (report_error_element r)
 unfolding report_error_element spelled_text
-error_text r code shown tag pdu e f g h = rw (e, f, g, h) (
-    ap (λ (l : List ℕ). codes "<report_error" ++ (code_part r ++ (own_tag r ++ (codes "><error_text" ++ (l ++ (pdu_part r ++ spelled_end (codes "report_error")))))))
-    (sym (without_child (codes "error_text") (shown_text r.error_code r.error_text)))
-    ∙ error_parts (code_part r) (own_tag r) (text_part r) (pdu_part r) (spelled_end (codes "report_error")))
+error_text r code shown tag pdu e f g h = rw (e, f, g, h) (error_parts (code_part r) (own_tag r) (text_part r) (pdu_part r) (spelled_end (codes "report_error")))
 
 -- ---- roots
 

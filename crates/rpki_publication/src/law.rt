@@ -97,7 +97,6 @@ pub fn equal_reports_are_the_same()
     ensures { (a b : ReportErrorFields)
         → (⟦<ReportError as PartialEq>⟧.eq a b ≡ true) ↔ (a ≡ b) }
 {
-    // For the proof: what `==` of codes and of the elements of a query says.
     equal_values_are_the_same();
 }
 
@@ -105,7 +104,6 @@ pub fn equal_reports_are_the_same()
 pub fn equal_reply_elements_are_the_same()
     ensures { (a b : Answer) → (⟦<ReplyPdu as PartialEq>⟧.eq a b ≡ true) ↔ (a ≡ b) }
 {
-    // For the proof: what `==` of objects and of reported errors says.
     equal_values_are_the_same();
     equal_reports_are_the_same();
 }
@@ -118,7 +116,6 @@ pub fn equal_lists_are_the_same()
     ensures errors { (a b : List ReportErrorFields)
         → (⟦<ErrorReply as PartialEq>⟧.eq a b ≡ true) ↔ (a ≡ b) }
 {
-    // For the proof: what `==` of changes, of objects and of reported errors says.
     equal_values_are_the_same();
     equal_reports_are_the_same();
 }
@@ -129,7 +126,6 @@ pub fn equal_messages_are_the_same()
     ensures reply { (a b : ReplyValue) → (⟦<Reply as PartialEq>⟧.eq a b ≡ true) ↔ (a ≡ b) }
     ensures message { (a b : Value) → (⟦<Message as PartialEq>⟧.eq a b ≡ true) ↔ (a ≡ b) }
 {
-    // For the proof: what `==` of the three lists says.
     equal_lists_are_the_same();
 }
 

@@ -36,7 +36,6 @@ replied_so scheme when signer server octets c next signed answered are spelled k
       signed = c.signed;
       created = answered.signed.signed.created;
       are = are;
-      no_fault = answered.signed.signed.no_fault;
       receivable = subst (λ (o : List ℕ). IsReceivable scheme kinds.Publication o (received.Publication answered.reply.message) when signer) (sym are) (answered.signed.signed.receivable spelled);
     };
     written = refl;

@@ -26,13 +26,13 @@ asked_by (Ok (received.Publication (messages.Query (queries.Delta elements)))) =
 asked_by (Ok (received.Publication (messages.Reply reply))) = asked.Nothing code.XmlError
 asked_by (Ok (received.Provisioning m)) = asked.Nothing code.XmlError
 
--- the reply to what is asked
+-- the reply to it
 abbrev pub reply_to_asked : List ℕ → Store → Asked → Reply
 reply_to_asked base store asked.List = unchanged (list_message store) store
 reply_to_asked base store (asked.Changes elements) = reply_to_delta base store elements
 reply_to_asked base store (asked.Nothing code) = unchanged (error_alone code) store
 
--- each change that is asked for can be written so that it is read again
+-- the changes were read
 abbrev pub IsWritableAsked : Asked → Type 0
 IsWritableAsked asked.List = ⊤
 IsWritableAsked (asked.Changes elements) = AllByRecursion IsWritableChange elements

@@ -36,7 +36,7 @@ changes_of other = []
 abbrev pub AgreesAt : Store → Knowledge → List ℕ → Type 0
 AgreesAt store known uri = lookup (bytes_eq uri) known ≡ Some (digest_at store uri)
 
--- the first that is known of the URI of each change is what is so of the store
+-- so it is at the URI of each change
 abbrev pub AgreesOn : Store → Knowledge → List PublishDeltaElement → Type 0
 AgreesOn store known elements = AllByRecursion (λ e. AgreesAt store known (uri_of e)) elements
 
@@ -69,7 +69,7 @@ pub record IsDecision (reply : Reply) (store : Store) (elements : List PublishDe
   pub reply_is : decision.reply ≡ reply.message
   pub behind : reply.next ≡ store_behind store elements decision.made
 
--- the decision is that of the server with this base and store
+-- it is that of the server with this base and store
 abbrev pub IsDecided : List ℕ → Store → Message → Decision → Type 0
 IsDecided base store message decision =
     IsDecision (reply_to base store (Ok (received.Publication message))) store (changes_of message)

@@ -72,3 +72,10 @@ has_change changes uri = list_any (λ e. bytes_eq uri (uri_of e)) changes
 abbrev pub IsSameElsewhere : List PublishDeltaElement → Places → Places → Type 0
 IsSameElsewhere changes before after =
     (uri : List ℕ) → has_change changes uri ≡ false → IsSameAt uri before after
+
+-- the places where each change, the last one first, is undone: what was there before it is put back
+abbrev pub undone : List PublishDeltaElement → List (Option (List ℕ)) → Places → Places
+undone [] before places = places
+undone (e ∷ more) [] places = places
+undone (e ∷ more) (there ∷ before) places =
+    with_object (undone more before places) (uri_of e) there

@@ -55,7 +55,7 @@ impl From<OutOfMemory> for DecideError {
     }
 }
 
-// Why an object with this digest isn't replaced or taken out: there is none, or the one that is there has another.
+// Why an object isn't replaced or taken out that has to have this digest.
 fn code_by_hash(hash: &Hash, there: Option<&Hash>) -> Option<ReportErrorCode>
     ensures { result ≡ definitions.code_by_hash hash.now (option_map (λ h. h.now) there.entry) }
 {
@@ -85,7 +85,7 @@ fn code_at(change: &PublishDeltaElement, there: Option<&Hash>) -> Option<ReportE
     }
 }
 
-// Why a change isn't made under this base, where the object with this digest is there, or none.
+// Why a change isn't made where this is there.
 fn code_under(
     base: &uri::Rsync,
     change: &PublishDeltaElement,

@@ -1,6 +1,6 @@
 //! What holds of every server.
 
-ghost use Rattle.std.specs.Prelude.{◌≡◌, ◌↔◌, ◌∷◌, ◌≤◌, [], ℕ, ℤ, List, Ok, Some, length, map, true};
+ghost use Rattle.std.specs.Prelude.{◌≡◌, ◌∷◌, ◌≤◌, [], ℕ, ℤ, List, Ok, Some, length, map};
 ghost use Rattle.rpki_common.specs.Limits.{most_input};
 ghost use Rattle.rpki_publication.specs.ListReply.{withdrawal_of};
 ghost use Rattle.rpki_publication.specs.declared.publish_delta_element.PublishDeltaElement.TheVariants as change;
@@ -14,16 +14,9 @@ ghost use Rattle.rpki_pubserver.specs.Replies.{Reply};
 ghost use Rattle.rpki_pubserver.specs.Running.{EndsServerRun};
 ghost use Rattle.rpki_pubserver.specs.Server.{IsReply, ServerFields};
 ghost use Rattle.rpki_pubserver.specs.Store.{IsStore, LieUnder, Store, listed_store};
-ghost use Rattle.rpki_pubserver.specs.declared.deciding.DecideError.{DecideError};
 
-use crate::deciding::DecideError;
 use rpki_base::Scheme;
 use rpki_signer::Signer;
-
-/// `==` holds exactly between errors that are the same.
-pub fn equal_errors_are_the_same()
-    ensures { (a b : DecideError) → (⟦<DecideError as PartialEq>⟧.eq a b ≡ true) ↔ (a ≡ b) }
-{}
 
 /// A server has one reply to octets at a moment, and one store behind it.
 pub fn one_reply<P: Scheme>()
@@ -69,8 +62,7 @@ pub fn zero_replies_to_all<P: Scheme, S: Signer<P>>()
 {}
 
 /// A run with three words of the form ends with 0 or 12, if neither stream failed, the input is within the
-/// limit, the signer can sign and no reply is too long; or with 3 or 8, where a line isn't hexadecimal or the
-/// moment has no window.
+/// limit and the signer can sign; or with 3 or 8, where a line isn't hexadecimal or the moment has no window.
 pub fn runs_end_for_cause<P: Scheme, S: Signer<P>>()
     ensures { (when : ℤ) (signer : SignerSeen S.KeyId) (server : ServerFields) (status : ℕ)
         (source sink : Seen) (input : List ℕ) →

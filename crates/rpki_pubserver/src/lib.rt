@@ -28,8 +28,8 @@ mod told;
 pub use deciding::{DecideError, Decision, decide};
 pub use known::Known;
 pub use law::{
-    equal_errors_are_the_same, objects_lie_under_the_base, objects_stay_in_order, one_reply,
-    others_change_nothing, runs_end_for_cause, withdrawn_list_leaves_none, zero_replies_to_all,
+    objects_lie_under_the_base, objects_stay_in_order, one_reply, others_change_nothing,
+    runs_end_for_cause, withdrawn_list_leaves_none, zero_replies_to_all,
 };
 pub use replies::error_reply;
 pub use server::Server;

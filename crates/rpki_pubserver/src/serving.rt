@@ -139,8 +139,8 @@ pub fn serve<P: Scheme, I: Source, O: Sink, V: Verifier<P>, S: Signer<P>>(
     // At most one octet more than the limit is taken of the source.
     ensures most { TakesAtMost (I.rest input.old) (I.rest input.new) (most_input + 1) }
 
-    // Where the source isn't read whole, the status is 9, 10 or 12 by the cause, or 11 where the line
-    // with it wasn't written, and the signer did nothing; where it is, the queries are answered.
+    // Where the source isn't read whole, that is what is answered, and the signer did nothing; and
+    // where it is, the queries are answered.
     ensures ends { (when : ℤ) (base : List ℕ) (publisher : KeyFields)
         → AreServerWords words.now when base publisher
         → EndsServerRun P.checks when

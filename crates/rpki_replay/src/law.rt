@@ -1,6 +1,6 @@
 //! What holds of every guard.
 
-ghost use Rattle.std.specs.Prelude.{◌≡◌, ◌↔◌, ◌≤◌, ◌++◌, ◌∷◌, ℕ, ℤ, List, Ok, Some, length, true};
+ghost use Rattle.std.specs.Prelude.{◌≡◌, ◌≤◌, ◌++◌, ◌∷◌, ℕ, ℤ, List, Ok, Some, length};
 ghost use Rattle.rpki_common.specs.Limits.{most_input};
 ghost use Rattle.rpki_base.specs.PublicKey.{KeyFields};
 ghost use Rattle.rpki_ca.specs.Lines.{EndsRun};
@@ -11,19 +11,9 @@ ghost use Rattle.rpki_replay.specs.Messages.{OpensWithState};
 ghost use Rattle.rpki_replay.specs.Running.{EndsInput};
 ghost use Rattle.rpki_replay.specs.State.{last_of};
 ghost use Rattle.rpki_replay.specs.StateText.{IsStateText};
-ghost use Rattle.rpki_replay.specs.declared.guard.GuardError.{GuardError};
 ghost use Rattle.rpki_replay.specs.declared.peers.Peer.{Peer as HeldPeer};
-ghost use Rattle.rpki_replay.specs.declared.state_text.StateError.{StateError};
 
-use crate::guard::GuardError;
-use crate::state_text::StateError;
 use rpki_base::Scheme;
-
-/// `==` holds exactly between errors that are the same.
-pub fn equal_errors_are_the_same()
-    ensures guard { (a b : GuardError) → (⟦<GuardError as PartialEq>⟧.eq a b ≡ true) ↔ (a ≡ b) }
-    ensures state { (a b : StateError) → (⟦<StateError as PartialEq>⟧.eq a b ≡ true) ↔ (a ≡ b) }
-{}
 
 /// A text is that of one state. So the guard that is read of a guard's text is that guard.
 pub fn one_state()

@@ -23,8 +23,8 @@ mod state_text;
 
 pub use guard::{Guard, GuardError};
 pub use law::{
-    equal_errors_are_the_same, none_is_admitted_twice, one_opening, one_state, runs_end_for_cause,
-    times_rise, zero_answers_all,
+    none_is_admitted_twice, one_opening, one_state, runs_end_for_cause, times_rise,
+    zero_answers_all,
 };
 pub use peers::Peer;
 pub use running::run_guard;

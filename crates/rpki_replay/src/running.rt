@@ -143,8 +143,7 @@ pub fn run_guard<P: Scheme, I: Source, O: Sink, V: Verifier<P>>(
     // At most one octet more than the limit is taken of the source.
     ensures most { TakesAtMost (I.rest input.old) (I.rest input.new) (most_input + 1) }
 
-    // Where the source isn't read whole, the status is 9, 10 or 12 by the cause, or 11 where the line with it
-    // wasn't written; where it is, the messages are answered.
+    // Where the source isn't read whole, that is what is answered; and where it is, the messages are.
     ensures ends { (when : ℤ) → AreGuardWords words.now when
         → EndsRun (λ octets. EndsInput P.checks when octets result.0
         (seen O.written O.faults output.old output.new))

@@ -7,12 +7,6 @@ ghost use Rattle.rpki_sigmsg.specs.Making as spec;
 use rpki_base::{Serial, Time, Validity};
 use std::marker::Model;
 
-// The seconds from the beginning of a window to its moment, and from there to its end.
-const SECONDS: i64 = 300;
-
-// The last moment whose window ends in the year 9999.
-const LAST: i64 = 253_402_300_499;
-
 /// The time in which the certificate and the CRL of a made message are valid: from 300 seconds before a moment to 300 seconds after
 /// it.
 ///
@@ -43,10 +37,10 @@ impl Window {
         ensures value { IfSome result (λ w. w ≡ when) }
     {
         let seconds = when.seconds();
-        if seconds < SECONDS || seconds > LAST {
+        if seconds < 300 || seconds > 253_402_300_499 {
             return None;
         }
-        match (Time::new(seconds - SECONDS), Time::new(seconds + SECONDS)) {
+        match (Time::new(seconds - 300), Time::new(seconds + 300)) {
             (Some(first), Some(last)) => Some(Window {
                 moment: when,
                 validity: Validity::new(first, last),

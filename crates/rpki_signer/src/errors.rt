@@ -19,7 +19,7 @@ use std::fmt::Display;
 /// Why a call that asks for no key failed. What the signer says prints as its own text.
 #[derive(Debug, PartialEq, Eq, Drop)]
 pub enum CallError<E> {
-    /// The signer failed, and its count of faults rose or stands at its last value.
+    /// The signer failed, and its count of faults rose.
     Signer(E),
     /// Memory ran out.
     OutOfMemory,
@@ -30,7 +30,7 @@ pub enum CallError<E> {
 pub enum KeyError<E> {
     /// The signer holds no key with this identifier.
     KeyNotFound,
-    /// The signer failed, and its count of faults rose or stands at its last value.
+    /// The signer failed, and its count of faults rose.
     Signer(E),
     /// Memory ran out.
     OutOfMemory,
@@ -43,7 +43,7 @@ pub enum SigningError<E> {
     KeyNotFound,
     /// The key has another format than the algorithm needs.
     IncompatibleKey,
-    /// The signer failed, and its count of faults rose or stands at its last value.
+    /// The signer failed, and its count of faults rose.
     Signer(E),
     /// Memory ran out.
     OutOfMemory,
@@ -52,7 +52,7 @@ pub enum SigningError<E> {
 /// Why nothing was made that a signer signs.
 #[derive(Debug, PartialEq, Eq, Drop)]
 pub enum MakeError<E> {
-    /// The signer gave a key or a signature of more than 2^16 octets, and its count of these rose or stands at its last value.
+    /// The signer gave a key or a signature of more than 2^16 octets, and its count of these rose.
     TooLong,
     /// The signer refused. What is inside is never `OutOfMemory`.
     Signing(SigningError<E>),

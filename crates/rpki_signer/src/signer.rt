@@ -12,9 +12,8 @@ use std::alloc::Global;
 use std::fmt::Display;
 
 /// Holds keys under identifiers of its own, and signs under them, by one scheme. One value that no code holds gives it its
-/// meaning: `state`, the keys that it holds and what it has done. Where `get_key_info`, `sign` or `sign_one_off` is refused, no key and
-/// no signature is given, and none is counted as too long. The count of faults rises, or stands at its last value, where the answer is
-/// that the signer failed, and stays with every other.
+/// meaning: `state`, the keys that it holds and what it has done. A refused call gives no key and no signature, so it counts none that
+/// is too long; its count of faults rises where the answer is that it failed, and stays with every other.
 pub trait Signer<P: Scheme> {
     /// By what a key is asked for.
     type KeyId: Drop;
@@ -82,7 +81,7 @@ pub trait Signer<P: Scheme> {
         ensures distinct { AreDistinct (state self.new).keyring };
 
     /// Signs the message under a key that is made for this one use, and answers it too. Where it is a key that the signer holds, its
-    /// count of these rises, or stands at its last value.
+    /// count of these rises.
     fn sign_one_off<Alg: SignatureAlgorithm>(
         &mut self,
         alloc: Global,

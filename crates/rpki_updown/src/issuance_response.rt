@@ -11,7 +11,7 @@ use rpki_sets::ResourceSet;
 use std::alloc::Global;
 use std::marker::Model;
 
-/// The response to a request for a certificate (RFC 6492, 3.4.2): the class, the client's resources in it until when, the certificate, and
+/// The answer to a request for a certificate (RFC 6492, 3.4.2): the class, the client's resources in it until when, the certificate, and
 /// that of the issuing key. In a clause it is the record of its fields.
 #[derive(PartialEq, Eq)]
 pub struct IssuanceResponse {

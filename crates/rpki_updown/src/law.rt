@@ -63,7 +63,6 @@ pub fn equal_certificates_have_the_same_octets()
     ensures signing { (a b : SigningFields) → (⟦<SigningCert as PartialEq>⟧.eq a b ≡ true)
         ↔ (signing_with (λ c. c.slice) a ≡ signing_with (λ c. c.slice) b) }
 {
-    // For the proof: what `==` of certificates says.
     equal_certs_have_the_same_octets();
 }
 
@@ -75,7 +74,6 @@ pub fn equal_classes_have_the_same_octets()
         → (⟦<ResourceClassEntitlements as PartialEq>⟧.eq a b ≡ true)
         ↔ (class_with (λ c. c.slice) a ≡ class_with (λ c. c.slice) b) }
 {
-    // For the proof: what `==` of certificates says.
     equal_certs_have_the_same_octets();
 }
 
@@ -85,6 +83,5 @@ pub fn equal_class_lists_have_the_same_octets()
         → (⟦<ResourceClassListResponse as PartialEq>⟧.eq a b ≡ true)
         ↔ (map (class_with (λ c. c.slice)) a ≡ map (class_with (λ c. c.slice)) b) }
 {
-    // For the proof: what `==` of classes says.
     equal_classes_have_the_same_octets();
 }

@@ -120,8 +120,7 @@ impl ResourceClassEntitlements {
         &self.signing_cert
     }
 
-    /// The response to a request for a certificate for this key: with the first issued certificate that has it; None exactly where none
-    /// has.
+    /// The answer to a request for a certificate for this key: with the first issued certificate that has it; None exactly where none has.
     pub fn into_issuance_response(self, key: &PublicKey) -> Option<IssuanceResponse>
         ensures { MatchOption result (NoneHas key.now self.issued_certs)
             (IsIssuanceFor key.now self) }

@@ -1,4 +1,4 @@
-//! The response to a request for revocation.
+//! The answer to a request for revocation.
 
 ghost use Rattle.std.specs.Prelude.{◌≡◌, IfOk};
 

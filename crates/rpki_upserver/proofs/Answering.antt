@@ -40,13 +40,7 @@ replied_so scheme when signer before octets c after answered spelled keeps = inl
   fits = answered.signed.signed.fits;
   created = record {
     octets = rewritten c.signed;
-    created = record {
-      signed = c.signed;
-      created = answered.signed.signed.created;
-      are = refl;
-      no_fault = answered.signed.signed.no_fault;
-      receivable = answered.signed.signed.receivable spelled;
-    };
+    created = record { signed = c.signed; created = answered.signed.signed.created; are = refl; receivable = answered.signed.signed.receivable spelled };
     written = refl;
   };
   keeps = keeps;

@@ -17,4 +17,3 @@ pub mod Toys
 pub mod Issuing
 pub mod Saying
 pub mod Words
-pub mod Equal

@@ -24,7 +24,7 @@ use Rattle.rpki_updown.specs.Entitlements.{CaRequest}
 use Rattle.rpki_upserver.specs.declared.issuer.IssuerError.{IssuerError}
 use Rattle.rpki_upserver.specs.declared.issuer.IssuerError.TheVariants as errors
 use Rattle.rpki_upserver.specs.Issuer.{IssuerFails, IssuerState}
-use Rattle.rpki_upserver.specs.ToyIssuer.{CountedCall, CountedFault, DidNothing, DrewNone, DrewSerial, GaveKey, GivesNoKey, IsReady, IsSignedFor, IsToyCertificate, MakesNone, SignedFields, SignsNone, StopsAtGivingKey, StopsAtSignature, ToyIssuerState, WantsAtKey, WantsAtSignature, after_fault, issuer_state}
+use Rattle.rpki_upserver.specs.ToyIssuer.{CountedCall, CountedFault, DidNothing, DrewNone, DrewSerial, GaveKey, GivesNoKey, IsReady, IsSignedFor, IsToyCertificate, MakesNone, SignedFields, SignsNone, StopsAtKey, StopsAtSignature, ToyIssuerState, WantsAtKey, WantsAtSignature, after_fault, issuer_state}
 
 -- ---- what changes
 

@@ -180,7 +180,7 @@ pub record IsToyCertificate (csr : CaRequest) (not_after : ℤ) (before after : 
   pub rest : DidNothing before after
 
 -- the signer drew, and then didn't give the key
-pub record StopsAtGivingKey (before after : ToyIssuerState) : Type 0 where
+pub record StopsAtKey (before after : ToyIssuerState) : Type 0 where
   pub between : ToyIssuerState
   pub serial : List ℕ
   pub draws : DrewSerial before between serial
@@ -198,7 +198,7 @@ pub record StopsAtSignature (before after : ToyIssuerState) : Type 0 where
 -- call, the second or the third
 abbrev pub MadeNone : ToyIssuerState → ToyIssuerState → Type 0
 MadeNone before after =
-    DrewNone before after ⊎ (StopsAtGivingKey before after ⊎ StopsAtSignature before after)
+    DrewNone before after ⊎ (StopsAtKey before after ⊎ StopsAtSignature before after)
 
 -- memory ran out behind the second call: as the key was given or the fields were written
 pub record WantsAtKey (before after : ToyIssuerState) : Type 0 where

@@ -1,45 +1,27 @@
-//! The issuer with which the program begins, and the signer that it has.
+//! The issuer with which the program begins.
 
-ghost use Rattle.std.specs.Prelude.{◌≡◌, ◌≢◌, [], IfErr, IfOk};
+ghost use Rattle.std.specs.Prelude.{◌≡◌, ◌≢◌, IfErr, IfOk};
 ghost use Rattle.rpki_der.specs.declared.mode.Mode.TheVariants.{Der};
 ghost use Rattle.rpki_der.specs.Takes.{BeginsAs};
-ghost use Rattle.rpki_base.specs.PublicKey.{KeyFields};
 ghost use Rattle.rpki_base.specs.RpkiSignatureAlgorithm.{spelled_x509};
 ghost use Rattle.rpki_base.specs.SignedData.{spelled_data};
-ghost use Rattle.rpki_base.specs.declared.algorithm.PublicKeyFormat.TheVariants.{Rsa};
 ghost use Rattle.rpki_cert.specs.Cert.{certificate};
 ghost use Rattle.rpki_idcert.specs.Making.{IsAnchorMade, IsReadAgain};
-ghost use Rattle.rpki_signer.specs.Signer.{HoldsKey};
 ghost use Rattle.rpki_signer.specs.Toy.{ToyChecks};
-ghost use Rattle.rpki_signer.specs.ToySigner.{ToyState, after_creating, state_of, toy_signer};
+ghost use Rattle.rpki_signer.specs.ToySigner.{ToyState, state_of};
 ghost use Rattle.rpki_ca.specs.declared.refusals.Refusal.TheVariants as refusals;
 ghost use Rattle.rpki_upserver.specs.ProgramIssuer.{IsProgramIssuer, StopsAnchor, always, signing_url};
 
 use crate::lawful::rsync_uri;
 use crate::toy_issuer::{ToyIssuer, made_certificate};
-use rpki_base::{PublicKeyFormat, Time, Validity};
+use rpki_base::{Time, Validity};
 use rpki_ca::Refusal;
 use rpki_common::OutOfMemory;
 use rpki_idcert::IdCert;
 use rpki_sigmsg::CreateError;
-use rpki_signer::{CallError, Signer, ToyScheme, ToySigner};
+use rpki_signer::{ToyScheme, ToySigner};
 use rpki_updown::SigningCert;
 use std::alloc::Global;
-
-/// The signer of the program's issuer: the toy signer of seed 3, of which no call is to fail, with the RSA key that its first call makes,
-/// and that key's identifier. The only refusal is OutOfMemory.
-pub fn issuer_signer(alloc: Global) -> Result<(ToySigner, u64), Refusal>
-    ensures signer { IfOk result (λ r. r.0 ≡ after_creating Rsa (toy_signer 3 [])) }
-    ensures key { IfOk result (λ r. (key : KeyFields) × HoldsKey (state_of r.0).keyring r.1 key) }
-    ensures err { IfErr result (λ e. e ≡ refusals.OutOfMemory) }
-{
-    let mut signer = ToySigner::new(alloc, 3, &[])?;
-    match Signer::<ToyScheme>::create_key(&mut signer, alloc, PublicKeyFormat::Rsa) {
-        Ok(key) => Ok((signer, key)),
-        Err(CallError::Signer(_)) => Err(Refusal::Signer),
-        Err(CallError::OutOfMemory) => Err(Refusal::OutOfMemory),
-    }
-}
 
 // The certificate of the signer's key of this number, under this key itself, always valid.
 fn anchor(alloc: Global, signer: &mut ToySigner, key: u64) -> Result<IdCert, Refusal>

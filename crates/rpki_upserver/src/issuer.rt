@@ -14,7 +14,7 @@ use std::alloc::Global;
 /// Why an issuer did nothing.
 #[derive(Clone, Copy, Debug, PartialEq, Eq)]
 pub enum IssuerError {
-    /// The issuer failed, and its count of faults rose or stands at its last value.
+    /// The issuer failed, and its count of faults rose.
     Failed,
     /// Memory ran out.
     OutOfMemory,
@@ -34,8 +34,8 @@ pub trait Issuer {
     /// What it issued and revoked.
     ghost state: { Self → IssuerState };
 
-    /// A certificate for the key of the request in this class (RFC 6487, 4). The state notes it with these resources and until this
-    /// time; it is up to the issuer that the certificate itself says so. Failed only where its count rose or stands at its last value;
+    /// A certificate for the key of the request in this class (RFC 6487, 4). The state notes it with these
+    /// resources and until this time; it is up to the issuer that the certificate itself says so. Failed only where its count rose;
     /// whatever the error, nothing was issued. With any other answer the count is as it was.
     fn issue(
         &mut self,
@@ -50,8 +50,8 @@ pub trait Issuer {
             (state self.new))
             (IssuerFails (state self.old) (state self.new)) };
 
-    /// Revokes the certificates of the key with this identifier in this class. Failed only where its count rose or stands at its last
-    /// value; whatever the error, nothing was revoked. With any other answer the count is as it was.
+    /// Revokes the certificates of the key with this identifier in this class. Failed only where its count rose; whatever the error,
+    /// nothing was revoked. With any other answer the count is as it was.
     fn revoke(
         &mut self,
         class_name: &ResourceClassName,

@@ -1,10 +1,9 @@
 //! What holds of every parent.
 
-ghost use Rattle.std.specs.Prelude.{◌≡◌, ◌≢◌, ◌↔◌, ◌≤◌, ◌⊎◌, ◌++◌, ◌∷◌, ℕ, List, None, Some, length, true};
+ghost use Rattle.std.specs.Prelude.{◌≡◌, ◌≢◌, ◌≤◌, ◌⊎◌, ◌++◌, ◌∷◌, ℕ, List, None, Some, length};
 ghost use Rattle.rpki_common.specs.Causes.{Rose};
 ghost use Rattle.rpki_common.specs.Limits.{most_input};
 ghost use Rattle.rpki_updown.specs.KeyElement.{KeyElementFields};
-ghost use Rattle.rpki_updown.specs.declared.error.Error.{Error};
 ghost use Rattle.rpki_provisioning.specs.Shape.{MessageFields};
 ghost use Rattle.rpki_provisioning.specs.declared.payload.Payload.TheVariants as payloads;
 ghost use Rattle.rpki_ca.specs.Seen.{HasFailed, Seen};
@@ -14,27 +13,9 @@ ghost use Rattle.rpki_upserver.specs.Issuer.{IssuerState, Made};
 ghost use Rattle.rpki_upserver.specs.Response.{IsFromChild, IsResponse, Outcome, refusal};
 ghost use Rattle.rpki_upserver.specs.Running.{EndsParentRun, Run};
 ghost use Rattle.rpki_upserver.specs.Table.{ParentState};
-ghost use Rattle.rpki_upserver.specs.declared.issuer.IssuerError.{IssuerError};
-ghost use Rattle.rpki_upserver.specs.declared.parent.AnswerError.{AnswerError};
 
-use crate::issuer::IssuerError;
-use crate::parent::AnswerError;
 use rpki_base::Scheme;
-use rpki_sigmsg::equal_create_errors_are_the_same;
 use rpki_signer::Signer;
-use rpki_updown::Error;
-
-/// `==` holds exactly between errors that are the same: of an answer, where it does so between the causes of a refusal and between
-/// what the signer says.
-pub fn equal_errors_are_the_same<E: PartialEq>()
-    ensures issuer { (a b : IssuerError)
-        → (⟦<IssuerError as PartialEq>⟧.eq a b ≡ true) ↔ (a ≡ b) }
-    ensures answer { ((x y : Error) → (⟦<Error as PartialEq>⟧.eq x y ≡ true) ↔ (x ≡ y))
-        → ((x y : E) → (E.eq x y ≡ true) ↔ (x ≡ y)) → (a b : AnswerError E)
-        → (⟦<AnswerError<E> as PartialEq>⟧.eq a b ≡ true) ↔ (a ≡ b) }
-{
-    equal_create_errors_are_the_same::<E>();
-}
 
 /// No certificate is issued for more than the child has in the class, or for longer.
 pub fn no_certificate_is_beyond_its_class<P: Scheme>()
@@ -66,7 +47,7 @@ pub fn a_class_holds_one_certificate_a_key<P: Scheme>()
         AreAllOnce (table_behind parent.table calls) }
 {}
 
-/// The error 2001 comes only where the parties are others, or where the issuer's count of faults rose or stands at its last value.
+/// The error 2001 comes only where the parties are others, or where the issuer's count of faults rose.
 pub fn internal_errors_have_causes<P: Scheme>()
     ensures { (parent : ParentState) (m : MessageFields) (o : Outcome) →
         IsResponse P.checks parent m o → o.payload ≡ refusal 2001 →

@@ -6,8 +6,8 @@
 //! - [`Issuer`] is who issues and revokes. Its clauses say what each call adds to what it issued and revoked. [`ToyIssuer`] is one whose
 //!   certificates are signed in the toy scheme, without security.
 //! - [`no_certificate_is_beyond_its_class`], [`revoked_keys_are_not_certified_again`], [`what_is_told_was_issued_and_not_revoked`],
-//!   [`internal_errors_have_causes`]: what holds of every parent, whatever its child asks. [`equal_errors_are_the_same`].
-//! - [`serve`] is what the program `rpkiup` does, and [`program_issuer`] the issuer with which it begins, of [`issuer_signer`].
+//!   [`internal_errors_have_causes`]: what holds of every parent, whatever its child asks.
+//! - [`serve`] is what the program `rpkiup` does, and [`program_issuer`] the issuer with which it begins.
 //!
 //! What is answered stands row by row in specs/Response.antt, what is sent in specs/Answering.antt, and what the program writes in
 //! specs/Serving.antt.
@@ -30,11 +30,11 @@ mod table;
 mod toy_issuer;
 mod writable;
 
-pub use beginning::{issuer_signer, program_issuer};
+pub use beginning::program_issuer;
 pub use class::Class;
 pub use issuer::{Issuer, IssuerError};
 pub use law::{
-    a_class_holds_one_certificate_a_key, equal_errors_are_the_same, internal_errors_have_causes,
+    a_class_holds_one_certificate_a_key, internal_errors_have_causes,
     no_certificate_is_beyond_its_class, revoked_keys_are_not_certified_again, runs_end_for_cause,
     what_is_told_was_issued_and_not_revoked, zero_answers_all,
 };

@@ -203,8 +203,8 @@ pub fn serve<P: Scheme, I: Source, O: Sink, V: Verifier<P>, N: Issuer, S: Signer
     // At most one octet more than the limit is taken of the source.
     ensures most { TakesAtMost (I.rest input.old) (I.rest input.new) (most_input + 1) }
 
-    // Where the source isn't read whole, the status is 9, 10 or 12 by the cause, or 11 where the line
-    // with it wasn't written, and issuer and signer did nothing; where it is, the messages are answered.
+    // Where the source isn't read whole, that is what is answered, and issuer and signer did
+    // nothing; and where it is, the messages are answered.
     ensures ends { (when : ℤ) (child : KeyFields) → AreParentWords words.now when child
         → EndsParentRun P.checks
         (run_of when child signing.now (N.state issuer.old) (N.state issuer.new)

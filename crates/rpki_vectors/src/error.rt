@@ -1,7 +1,6 @@
 //! Why a message was not built.
 
-ghost use Rattle.std.specs.Prelude.{◌≡◌, ◌↔◌, true};
-ghost use Rattle.rpki_vectors.specs.declared.error.BuildError.{BuildError};
+ghost use Rattle.std.specs.Prelude.{◌≡◌};
 ghost use Rattle.rpki_vectors.specs.declared.error.BuildError.TheVariants as variant;
 
 use rpki_common::OutOfMemory;
@@ -17,11 +16,6 @@ pub enum BuildError {
     #[error("out of memory")]
     OutOfMemory,
 }
-
-/// `==` holds exactly between errors that are the same.
-pub fn equal_errors_are_the_same()
-    ensures { (a b : BuildError) → (⟦<BuildError as PartialEq>⟧.eq a b ≡ true) ↔ (a ≡ b) }
-{}
 
 impl From<OutOfMemory> for BuildError {
     ghost from_gives = { λ _ e. e ≡ variant.OutOfMemory };

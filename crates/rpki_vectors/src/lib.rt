@@ -14,5 +14,5 @@ mod signer;
 mod writing;
 
 pub use envelope::build;
-pub use error::{BuildError, equal_errors_are_the_same};
+pub use error::BuildError;
 pub use parts::Parts;

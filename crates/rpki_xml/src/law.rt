@@ -12,10 +12,9 @@ ghost use Rattle.rpki_xml.specs.PlainElement.{ArePlain};
 ghost use Rattle.rpki_xml.specs.Runs.{RunsTo};
 ghost use Rattle.rpki_xml.specs.Spelling.{spelled};
 ghost use Rattle.rpki_xml.specs.Trimmed.{AreTrimmed};
-ghost use Rattle.rpki_xml.specs.declared.error.Mismatch.{Mismatch};
 ghost use Rattle.rpki_xml.specs.declared.error.XmlError.{XmlError};
 
-use crate::error::{Mismatch, XmlError};
+use crate::error::XmlError;
 
 /// Octets are at most one element's document.
 pub fn at_most_one()
@@ -101,5 +100,4 @@ pub fn documents_are_read_as_spelled()
 pub fn equal_errors_are_the_same()
     ensures same { (a b : XmlError) → ⟦<XmlError as PartialEq>⟧.eq a b ≡ true → a ≡ b }
     ensures equal { (a b : XmlError) → a ≡ b → ⟦<XmlError as PartialEq>⟧.eq a b ≡ true }
-    ensures mismatch { (a b : Mismatch) → (⟦<Mismatch as PartialEq>⟧.eq a b ≡ true) ↔ (a ≡ b) }
 {}

@@ -7,14 +7,13 @@
 //!   `at_most_one` and `no_more`, or one after the other; and any other test by [`require`]. None takes memory: each answers what
 //!   is there, or [`Mismatch`], which `?` makes an [`XmlError`].
 //! - [`ElementWriter`]: writes an element call by call, in the one spelling.
-//! - [`at_most_one`], [`documents_are_lettered`], [`texts_are_trimmed`]: laws about documents; [`documents_are_read_as_spelled`],
-//!   [`pieces_are_read_as_spelled`], [`spelled_attributes_are_read`], [`runs_are_repetitions`]: about what is read;
-//!   [`spelled_is_read`], [`calls_spell`], [`calls_follow`], [`optional_attributes_follow`], [`done_is_spelled`]: about what is
-//!   written; [`equal_errors_are_the_same`].
+//! - [`at_most_one`], [`documents_are_lettered`], [`texts_are_trimmed`]: laws about documents; [`runs_are_repetitions`],
+//!   [`spelled_attributes_are_read`]: about what is read; [`spelled_is_read`], [`calls_spell`], [`calls_follow`],
+//!   [`optional_attributes_follow`], [`done_is_spelled`]: about what is written; [`equal_errors_are_the_same`].
 //!
-//! A document is defined by its spelling: specs/PieceSpelling.antt says which octets are a piece, specs/Content.antt which pieces
-//! are an element. specs/Lexing.antt has it in a reader's steps, and laws say that both agree. No call recurses on the depth of a
-//! document. Time grows as n log n in the length of the document, which the code shows and no clause says.
+//! A document is defined as a grammar: specs/Lexing.antt says which octets a piece is, specs/Content.antt which pieces are
+//! an element. No call recurses on the depth of a document. Time grows as n log n in the length of the document, which the
+//! code shows and no clause says.
 #![tactic(auto)]
 
 mod distinct;
@@ -33,10 +32,9 @@ pub use document::{Element, read_document};
 pub use element::{Attribute, Attributes, Children, ElementRef};
 pub use error::{Mismatch, XmlError};
 pub use law::{
-    at_most_one, calls_follow, calls_spell, documents_are_lettered, documents_are_read_as_spelled,
-    done_is_spelled, equal_errors_are_the_same, optional_attributes_follow,
-    pieces_are_read_as_spelled, runs_are_repetitions, spelled_attributes_are_read, spelled_is_read,
-    texts_are_trimmed,
+    at_most_one, calls_follow, calls_spell, documents_are_lettered, done_is_spelled,
+    equal_errors_are_the_same, optional_attributes_follow, runs_are_repetitions,
+    spelled_attributes_are_read, spelled_is_read, texts_are_trimmed,
 };
 pub use lexing::are_octets;
 pub use lookup::require;

@@ -79,9 +79,10 @@ inside_size name [] = omega arith
 inside_size name (c ∷ text) =
     let t = flat_map text_character (c ∷ text) in
     let a = flat_size text_character text_size (c ∷ text) in
-    let e = length-append t (spelled_end name) in
+    let e = length-append (t ++ []) (spelled_end name) in
+    let g = ap (λ (l : List ℕ). length l) (append-nil t) in
     let h = end_size name in
-    omega (arith, a, e, h)
+    omega (arith, a, e, g, h)
 
 pub optional_attribute_size : (name : List ℕ) (value : Option (List ℕ)) (n : ℕ) → AtMost n value → length (spelled_attributes (optional_attribute name value)) ≤ length name + 6 * n + 4
 optional_attribute_size name None n h = omega arith

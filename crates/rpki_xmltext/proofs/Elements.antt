@@ -3,11 +3,10 @@ use Rattle.std.proofs.Common.{◌≡◌, ℕ, Bool, true, false, List, [], ◌�
 use Rattle.std.specs.Prelude.{◌==◌, ◌&&◌}
 use Rattle.std.proofs.lemmas.Bool.{eqb-true}
 use Rattle.std.proofs.lemmas.List.{append-nil, nil_from_length}
-use Rattle.rpki_xml.specs.Element.{Attribute, Element, elements_of, is_nil, is_none, none}
+use Rattle.rpki_xml.specs.Element.{Attribute, Element, elements_of, is_nil, is_none}
 use Rattle.rpki_xml.specs.Spelling.{spelled, spelled_all, spelled_attributes, spelled_start, spelled_inside, spelled_text}
 use Rattle.rpki_xmltext.specs.Inside.{text_inside}
 use Rattle.rpki_xmltext.specs.Parts.{leaf}
-use Rattle.rpki_xmltext.proofs.Inside.{without_child}
 
 -- ---- one element
 
@@ -15,9 +14,7 @@ pub leaf_parts : (n attributes inside : List ℕ) → (60 ∷ (n ++ ([] ++ attri
 leaf_parts n attributes inside = append-nil (60 ∷ (n ++ attributes) ++ inside) ∙ ap (λ (l : List ℕ). 60 ∷ l) (append_assoc n attributes inside)
 
 pub leaf_spelled : (n : List ℕ) (attributes : List Attribute) (text : List ℕ) → spelled (leaf n attributes text) ≡ 60 ∷ (n ++ (spelled_attributes attributes ++ text_inside n text))
-leaf_spelled n attributes text =
-    leaf_parts n (spelled_attributes attributes) (spelled_inside (is_nil text && is_none none) n (spelled_text text ++ spelled_all none))
-    ∙ ap (λ (l : List ℕ). 60 ∷ (n ++ (spelled_attributes attributes ++ l))) (without_child n text)
+leaf_spelled n attributes text = leaf_parts n (spelled_attributes attributes) (text_inside n text)
 
 pub two : (a b inside : List ℕ) → a ++ (b ++ inside) ≡ (a ++ (b ++ [])) ++ inside
 two a b inside = sym (append_assoc a (b ++ []) inside ∙ ap (λ (l : List ℕ). a ++ l) (append_assoc b [] inside))

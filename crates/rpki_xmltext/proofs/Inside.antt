@@ -2,11 +2,11 @@
 use Rattle.std.proofs.Common.{◌≡◌, true, false, length, ℕ, List, [], ◌∷◌, ◌++◌, refl, sym, ap, ◌∙◌, append_assoc}
 use Rattle.std.proofs.lemmas.Bool.{eqb-true}
 use Rattle.std.proofs.lemmas.List.{append-nil, nil_from_length}
-use Rattle.std.specs.Prelude.{◌==◌, ◌&&◌}
+use Rattle.std.specs.Prelude.{◌==◌}
 use Rattle.base64.specs.Engines.{standard}
 use Rattle.base64.specs.GeneralPurpose.{encode_of}
-use Rattle.rpki_xml.specs.Element.{Attribute, is_nil, is_none, none}
-use Rattle.rpki_xml.specs.Spelling.{spelled_text, spelled_attribute, spelled_attributes, spelled_all, spelled_end, spelled_inside}
+use Rattle.rpki_xml.specs.Element.{Attribute, is_nil}
+use Rattle.rpki_xml.specs.Spelling.{spelled_text, spelled_attribute, spelled_attributes, spelled_end}
 use Rattle.rpki_xmltext.specs.Inside.{text_inside}
 use Rattle.rpki_xmltext.proofs.Base64s.{spelled_text-encode}
 
@@ -26,16 +26,12 @@ is_empty text e = nil_from_length text (eqb-true (length text) 0 e)
 
 -- ---- an element's text and its end
 
--- what stands inside an element that has no child
-pub without_child : (name text : List ℕ) → spelled_inside (is_nil text && is_none none) name (spelled_text text ++ spelled_all none) ≡ text_inside name text
-without_child name [] = refl
-without_child name (c ∷ text) = ap (λ (l : List ℕ). 62 ∷ (l ++ spelled_end name)) (append-nil (spelled_text (c ∷ text)))
-
 pub nothing_inside : (name text : List ℕ) → (length text == 0) ≡ true → 47 ∷ 62 ∷ [] ≡ text_inside name text
 nothing_inside name text e = ap (text_inside name) (sym (is_empty text e))
 
 pub something_inside : (name text : List ℕ) → (length text == 0) ≡ false → 62 ∷ [] ++ (spelled_text text ++ spelled_end name) ≡ text_inside name text
-something_inside name text e = rw (not_nil text e) refl
+something_inside name text e =
+    rw (not_nil text e) (ap (λ (l : List ℕ). 62 ∷ (l ++ spelled_end name)) (sym (append-nil (spelled_text text))))
 
 pub octets_inside : (name octets text : List ℕ) → text ≡ encode_of standard octets → (length text == 0) ≡ false → 62 ∷ [] ++ (text ++ spelled_end name) ≡ text_inside name (encode_of standard octets)
 octets_inside name octets text is e =

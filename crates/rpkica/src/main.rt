@@ -13,7 +13,7 @@ rpkica reads, checks and makes the messages of RPKI certification authorities.
 
     rpkica content < MESSAGE
         Writes the content of a signed message, if the content has the digest
-        that was signed; no signature is checked.
+        that was signed; who signed is not looked at.
         Example: rpkica content < examples/content.hex
 
     rpkica receive KIND MOMENT KEY.. < MESSAGE

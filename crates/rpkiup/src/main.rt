@@ -7,11 +7,11 @@ ghost use Rattle.rpki_ca.specs.Seen.{seen};
 ghost use Rattle.rpki_upserver.specs.ProgramIssuer.{IsProgramRun};
 ghost use Rattle.rpki_upserver.specs.Running.{AreParentWords};
 
-use command_line::{Own, own_text, program_signer, words_of, write_text};
+use command_line::{Own, own_text, program_signer, signer_of, words_of, write_text};
 use rpki_ca::{Refusal, Status, Words, refuse};
 use rpki_signer::ToyVerifier;
 use rpki_text::{Sink, Source, StdSink, StdSource};
-use rpki_upserver::{issuer_signer, program_issuer, serve};
+use rpki_upserver::{program_issuer, serve};
 use std::alloc::Global;
 use std::process::ExitCode;
 
@@ -73,7 +73,7 @@ Example: rpkiup --help; echo $?
 const VERSION: &[u8] = b"rpkiup 0.1.0\n";
 
 // What it does with its words, where they ask for no text on itself.
-fn run_parent<I: Source, O: Sink>(
+fn run<I: Source, O: Sink>(
     alloc: Global,
     words: &Words,
     input: &mut I,
@@ -89,7 +89,7 @@ fn run_parent<I: Source, O: Sink>(
     ensures idle { OnErr result ((input.new ≡ input.old) × (output.new ≡ output.old)) }
 {
     let (mut signer, key) = program_signer(alloc)?;
-    let (of_issuer, issuing_key) = issuer_signer(alloc)?;
+    let (of_issuer, issuing_key) = signer_of(alloc, 3)?;
     let (mut issuer, signing) = program_issuer(alloc, of_issuer, issuing_key)?;
     let verifier = ToyVerifier::new();
     Ok(serve(
@@ -116,7 +116,7 @@ fn main(rt: HostRuntime) -> ExitCode {
         Err(refusal) => refuse(&mut output, refusal),
         Ok(words) => match own_text(&words, own) {
             Some(text) => write_text(&mut output, text),
-            None => match run_parent(rt.alloc(), &words, &mut input, &mut output) {
+            None => match run(rt.alloc(), &words, &mut input, &mut output) {
                 Ok(status) => status,
                 Err(refusal) => refuse(&mut output, refusal),
             },

@@ -1,7 +1,7 @@
 //! Commands in memory.
 
 use crate::ended::Ended;
-use command_line::program_signer;
+use crate::signing::{KEY, signer_of};
 use rpki_ca::{Status, Words, run};
 use rpki_signer::{ToySigner, ToyVerifier};
 use rpki_text::{MemorySink, MemorySource};
@@ -45,7 +45,6 @@ fn status_of(
     source: &mut MemorySource,
     sink: &mut MemorySink,
     signer: &mut ToySigner,
-    key: u64,
 ) -> Option<u8> {
     let Status(status) = run(
         alloc,
@@ -54,7 +53,7 @@ fn status_of(
         sink,
         &ToyVerifier::new(),
         signer,
-        &key,
+        &KEY,
     );
     let is_uncounted = source.faults() == 0
         && sink.faults() == 0
@@ -69,10 +68,8 @@ fn answered(
     source: &mut MemorySource,
     sink: &mut MemorySink,
 ) -> Result<Option<u8>, Ended> {
-    let Ok((mut signer, key)) = program_signer(alloc) else {
-        return Err(Ended::OutOfMemory);
-    };
-    Ok(status_of(alloc, words, source, sink, &mut signer, key))
+    let mut signer = signer_of(alloc)?;
+    Ok(status_of(alloc, words, source, sink, &mut signer))
 }
 
 // How a run ends that wrote this, and has to write that line.

@@ -1,6 +1,6 @@
 //! Commands, as lines have them.
 
-use command_line::program_signer;
+use crate::signers::signer_of;
 use rpki_ca::{Status, Words};
 use rpki_common::OutOfMemory;
 use rpki_signer::ToyVerifier;
@@ -54,16 +54,14 @@ pub fn number_of(line: &str, place: usize) -> io::Result<u64> {
     }
 }
 
-/// The status of a command with the programs' own signer, and no status where a call of it failed.
+/// The status of a command with the signer's key 0, and no status where a call of the signer failed.
 pub fn status_of(
     alloc: Global,
     words: &Words,
     source: &mut MemorySource,
     sink: &mut MemorySink,
 ) -> io::Result<u64> {
-    let Ok((mut signer, key)) = program_signer(alloc) else {
-        return Err(out_of_memory(OutOfMemory));
-    };
+    let mut signer = signer_of(alloc, &[])?;
     let Status(status) = rpki_ca::run(
         alloc,
         words,
@@ -71,7 +69,7 @@ pub fn status_of(
         sink,
         &ToyVerifier::new(),
         &mut signer,
-        &key,
+        &0,
     );
     if signer.faults() != 0 || signer.reused() != 0 {
         return Err(invalid());

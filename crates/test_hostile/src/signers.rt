@@ -16,8 +16,8 @@ use std::io;
 use std::io::ErrorKind;
 use test_stored::invalid;
 
-// A signer of seed 1 with the RSA key 0, which its first call makes. `failing` are the calls that fail.
-fn signer_of(alloc: Global, failing: &[u64]) -> io::Result<ToySigner> {
+/// A signer of seed 1 with the RSA key 0, which its first call makes. `failing` are the calls that fail.
+pub fn signer_of(alloc: Global, failing: &[u64]) -> io::Result<ToySigner> {
     let mut signer = ToySigner::new(alloc, 1, failing).map_err(out_of_memory)?;
     match Signer::<ToyScheme>::create_key(&mut signer, alloc, PublicKeyFormat::Rsa) {
         Ok(_) => Ok(signer),

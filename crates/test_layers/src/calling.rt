@@ -1,14 +1,10 @@
 //! The example of a caller with a scheme of its own.
 
-use crate::making::own_signer;
-use example_receive::{message_from, query_that_is_received, text_that_is_read};
-use rpki_base::{PublicKey, Time};
+use example_receive::{message_from, text_that_is_read};
+use rpki_base::Time;
 use rpki_ca::Received;
-use rpki_publication::{ErrorReply, Message, Publish, PublishDelta};
-use rpki_signer::{ToyScheme, ToySigner};
-use rpki_text::{Base64, uri};
-use std::alloc::Global;
-use std::rc::RcStr;
+use rpki_publication::{ErrorReply, Message};
+use rpki_signer::ToyScheme;
 use std::test::Fail;
 
 // The message of examples/query-list.hex, which a model made that was written apart.
@@ -64,80 +60,6 @@ fn what_can_be_written_is(rt: HostRuntime) -> Result<(), Fail> {
         return Err(Fail::new("it can be written"));
     };
     assert_eq!(rt; text.as_slice(), LIST_QUERY);
-    Ok(())
-}
-
-// The new object of RFC 8181, 3.1, and its SHA-256, as sha256sum says it.
-const OBJECT_URI: &str = "rsync://wombat.example/Alice/01a97a70ac477f06.cer";
-
-const OBJECT: &[u8] = b"Hello, my name is Alice";
-
-const DIGEST: &str = "01a97a70ac477f06179606d6eaa737ca1c72267478eba1d1b90a8362c71b6e28";
-
-// The query of RFC 8181, 3.1, with the tag that an element without one gets, and in one line.
-const PUBLISH_QUERY: &[u8] =
-    b"<msg xmlns=\"http://www.hactrn.net/uris/rpki/publication-spec/\" version=\"4\" type=\"query\"><publish tag=\"\" uri=\"rsync://wombat.example/Alice/01a97a70ac477f06.cer\">SGVsbG8sIG15IG5hbWUgaXMgQWxpY2U=</publish></msg>";
-
-// A query of one publish element, which is built by hand.
-fn built(alloc: Global, tag: Option<&str>) -> Result<Message, Fail> {
-    let tag = match tag {
-        Some(tag) => Some(RcStr::from_str(alloc, tag)?),
-        None => None,
-    };
-    let uri = uri::Rsync::from_str(alloc, OBJECT_URI)?;
-    let content = Base64::from_content(alloc, OBJECT)?;
-    let mut delta = PublishDelta::empty(alloc);
-    if delta.add_publish(Publish::new(tag, uri, content)).is_err() {
-        return Err(Fail::new("out of memory"));
-    }
-    Ok(Message::delta(delta))
-}
-
-#[test]
-fn what_was_built_is_written(rt: HostRuntime) -> Result<(), Fail> {
-    let alloc = rt.alloc();
-    let Some(text) = text_that_is_read(alloc, &built(alloc, None)?)? else {
-        return Err(Fail::new("it can be written"));
-    };
-    assert_eq!(rt; text.as_slice(), PUBLISH_QUERY);
-    Ok(())
-}
-
-// The other side, which knows the key, gets this of the octets.
-fn received(alloc: Global, octets: &[u8], key: &PublicKey, when: Time) -> Result<Message, Fail> {
-    match message_from(alloc, octets, key, when) {
-        Ok(Received::Publication(message)) => Ok(message),
-        _ => Err(Fail::new("the message")),
-    }
-}
-
-// The octets that a caller with this signer sends.
-fn sent(alloc: Global, when: Time) -> Result<Vec<u8>, Fail> {
-    let (mut signer, key) = own_signer(alloc)?;
-    let uri = uri::Rsync::from_str(alloc, OBJECT_URI)?;
-    let content = Base64::from_content(alloc, OBJECT)?;
-    match query_that_is_received::<ToyScheme, ToySigner>(
-        alloc,
-        uri,
-        content,
-        when,
-        &key,
-        &mut signer,
-    ) {
-        Ok(octets) => Ok(octets.as_slice().to_vec(alloc)?),
-        Err(_) => Err(Fail::new("the query")),
-    }
-}
-
-#[test]
-fn what_was_built_and_created_is_received(rt: HostRuntime) -> Result<(), Fail> {
-    let alloc = rt.alloc();
-    let Some(when) = Time::new(1_700_000_000) else {
-        return Err(Fail::new("the moment"));
-    };
-    let octets = sent(alloc, when)?;
-    let message = received(alloc, &octets, &ToyScheme::key(alloc, 1, 0)?, when)?;
-    assert!(rt; message == built(alloc, Some(DIGEST))?);
     Ok(())
 }
 

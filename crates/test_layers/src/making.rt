@@ -1,8 +1,7 @@
-use command_line::program_signer;
-use rpki_base::{PublicKey, SigningAlgorithm, Time, Verifier};
+use rpki_base::{PublicKey, PublicKeyFormat, SigningAlgorithm, Time, Verifier};
 use rpki_ca::{Status, Words, run};
 use rpki_publication::{Message, PublicationCms, Publish, PublishDelta, Update, Withdraw};
-use rpki_signer::{ToyScheme, ToySigner, ToyVerifier};
+use rpki_signer::{Signer, ToyScheme, ToySigner, ToyVerifier};
 use rpki_text::{Base64, Hash, MemorySink, MemorySource, uri};
 use std::alloc::Global;
 use std::cell::Cell;
@@ -28,12 +27,11 @@ impl Verifier<ToyScheme> for Counting {
     }
 }
 
-/// The programs' own signer, and the identifier of its key.
-pub fn own_signer(alloc: Global) -> Result<(ToySigner, u64), Fail> {
-    match program_signer(alloc) {
-        Ok(made) => Ok(made),
-        Err(_) => Err(Fail::new("the signer")),
-    }
+// A signer of seed 1, and the identifier of its key.
+fn signer_of(alloc: Global) -> Result<(ToySigner, u64), Fail> {
+    let mut signer = ToySigner::new(alloc, 1, &[])?;
+    let key = Signer::<ToyScheme>::create_key(&mut signer, alloc, PublicKeyFormat::Rsa)?;
+    Ok((signer, key))
 }
 
 // What `make 10 7` writes.
@@ -42,7 +40,7 @@ fn made<V: Verifier<ToyScheme>>(alloc: Global, verifier: &V) -> Result<Vec<u8>, 
     for word in ["make", "10", "7"] {
         words.push(word)?;
     }
-    let (mut signer, key) = own_signer(alloc)?;
+    let (mut signer, key) = signer_of(alloc)?;
     let mut source = MemorySource::new(alloc, b"", 1, &[])?;
     let mut sink = MemorySink::new(alloc, 1000, 1000, &[])?;
     let status = run(
@@ -115,13 +113,13 @@ fn add_change(alloc: Global, delta: &mut PublishDelta, place: u8) -> Result<(), 
     }
 }
 
-// The query with ten changes, as the programs' own signer signs it.
+// The query with ten changes, as a signer of seed 1 signs it.
 fn signed(alloc: Global) -> Result<Hash, Fail> {
     let mut delta = PublishDelta::empty(alloc);
     for place in 0..10u8 {
         add_change(alloc, &mut delta, place)?;
     }
-    let (mut signer, key) = own_signer(alloc)?;
+    let (mut signer, key) = signer_of(alloc)?;
     let Some(now) = Time::new(1_700_000_000) else {
         return Err(Fail::new("no moment"));
     };

@@ -23,12 +23,13 @@ use crate::guarded::{admits_alike, holds_state};
 use crate::issuing::{holds_class, holds_issuer};
 use crate::parents::run_parent;
 use crate::server::answers_alike;
-use crate::up::{Failing, first_signer, out_of_memory, run_up};
+use crate::up::{Failing, out_of_memory, run_up};
 use rpki_archive::check;
+use rpki_base::PublicKeyFormat;
 use rpki_ca::{Status, Words};
 use rpki_pubserver::serve;
 use rpki_replay::run_guard;
-use rpki_signer::ToyVerifier;
+use rpki_signer::{Signer, ToyScheme, ToySigner, ToyVerifier};
 use rpki_text::{MemorySink, MemorySource};
 use std::alloc::Global;
 use std::{io, str};
@@ -110,15 +111,26 @@ fn case_of(alloc: Global, line: &str) -> io::Result<Case> {
     })
 }
 
-// What the publication server ends with, where this call of its signer fails.
+// The signer of the replies, of which the listed calls fail, and the identifier of its one key.
+fn signer_of(alloc: Global, failing: &[u64]) -> io::Result<(ToySigner, u64)> {
+    let Ok(mut signer) = ToySigner::new(alloc, 1, failing) else {
+        return Err(out_of_memory());
+    };
+    match Signer::<ToyScheme>::create_key(&mut signer, alloc, PublicKeyFormat::Rsa) {
+        Ok(key) => Ok((signer, key)),
+        Err(_) => Err(invalid()),
+    }
+}
+
+// What the publication server ends with, where the listed calls of its signer fail.
 fn served(
     alloc: Global,
-    failing: &Failing,
+    failing: &[u64],
     case: &Case,
     source: &mut MemorySource,
     sink: &mut MemorySink,
 ) -> io::Result<Status> {
-    let (mut signer, key) = first_signer(alloc, failing)?;
+    let (mut signer, key) = signer_of(alloc, failing)?;
     let verifier = ToyVerifier::new();
     Ok(serve(
         alloc,
@@ -154,8 +166,11 @@ fn served_by(
         return answered_by_parent(alloc, failing, case, source, sink);
     }
     match program.strip_prefix("pub") {
-        Some("") => served(alloc, &Failing::of("")?, case, source, sink),
-        Some(number) => served(alloc, &Failing::of_signer(number)?, case, source, sink),
+        Some("") => served(alloc, &[], case, source, sink),
+        Some(number) => match number.parse::<u64>() {
+            Ok(call) => served(alloc, &[call], case, source, sink),
+            Err(_) => Err(invalid()),
+        },
         None => Err(invalid()),
     }
 }

@@ -188,11 +188,10 @@ fn answered(
     when: Time,
     issuer: &mut ToyIssuer,
     signer: &mut ToySigner,
-    key: u64,
 ) -> io::Result<String> {
     let octets = octets_of(alloc, line)?;
     let verifier = ToyVerifier::new();
-    let written = match parent.answer(&octets, when, &verifier, issuer, signer, &key) {
+    let written = match parent.answer(&octets, when, &verifier, issuer, signer, &0) {
         Ok(cms) => digits_of(alloc, &cms),
         Err(error) => reason_of(alloc, &error),
     };
@@ -207,11 +206,10 @@ fn answers(
     when: Time,
     issuer: &mut ToyIssuer,
     signer: &mut ToySigner,
-    key: u64,
 ) -> io::Result<String> {
     let mut text = String::new(alloc);
     for line in input.lines() {
-        let answer = answered(alloc, parent, line, when, issuer, signer, key)?;
+        let answer = answered(alloc, parent, line, when, issuer, signer)?;
         text.push_str(answer.as_str()).map_err(|_| out_of_memory())?;
         text.push_str("\n").map_err(|_| out_of_memory())?;
     }
@@ -236,8 +234,8 @@ fn run_with(
     issuer: &mut ToyIssuer,
 ) -> io::Result<String> {
     let when = moment_of(words)?;
-    let (mut signer, key) = first_signer(alloc, failing)?;
-    let mut text = answers(alloc, parent, input, when, issuer, &mut signer, key)?;
+    let mut signer = first_signer(alloc, failing)?;
+    let mut text = answers(alloc, parent, input, when, issuer, &mut signer)?;
     add_did(alloc, &mut text, issuer).map_err(|_| out_of_memory())?;
     Ok(text)
 }

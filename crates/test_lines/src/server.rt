@@ -1,7 +1,7 @@
 //! The queries of a case, answered by the calls of a server one by one.
 
-use crate::Case;
-use crate::up::{Failing, first_signer, out_of_memory, push};
+use crate::up::{out_of_memory, push};
+use crate::{Case, signer_of};
 use rpki_base::{PublicKey, Time};
 use rpki_ca::{Lines, hexadecimal_line, messages_in, spelled_octets};
 use rpki_publication::{ListElement, PublicationCms};
@@ -146,7 +146,7 @@ fn adds_reply(
 
 // Whether this server gives the lines that the case expects, and holds behind each what it lists.
 fn answers_all(alloc: Global, server: &mut Server, case: &Case) -> io::Result<bool> {
-    let (mut signer, key) = first_signer(alloc, &Failing::of("")?)?;
+    let (mut signer, key) = signer_of(alloc, &[])?;
     let mut written = Vec::new(alloc);
     for line in Lines::new(&case.input) {
         if !adds_reply(alloc, server, case, line, &mut signer, &key, &mut written)? {

@@ -2,13 +2,12 @@
 
 ghost use Rattle.std.specs.Prelude.{IfOk};
 
-use command_line::program_signer;
 use rpki_base::PublicKeyFormat;
 use rpki_ca::{Refusal, Status, Words};
 use rpki_signer::{Signer, ToyScheme, ToySigner, ToyVerifier};
 use rpki_text::{MemorySink, MemorySource};
 use rpki_updown::SigningCert;
-use rpki_upserver::{ToyIssuer, issuer_signer, program_issuer, serve};
+use rpki_upserver::{ToyIssuer, program_issuer, serve};
 use std::alloc::Global;
 use std::io;
 use std::io::ErrorKind;
@@ -27,21 +26,15 @@ pub fn push<T: Drop>(items: &mut Vec<T>, item: T) -> io::Result<()> {
     }
 }
 
-// A signer whose call of this number fails, and the identifier of its one key; to make the key is call 0.
-fn failing_signer(alloc: Global, seed: u64, call: u64) -> io::Result<(ToySigner, u64)> {
-    let Ok(mut signer) = ToySigner::new(alloc, seed, &[call]) else {
-        return Err(out_of_memory());
-    };
-    match Signer::<ToyScheme>::create_key(&mut signer, alloc, PublicKeyFormat::Rsa) {
-        Ok(key) => Ok((signer, key)),
-        Err(_) => Err(out_of_memory()),
+// A signer that has one key, number 0, and whose call of this number fails, if there is one; to make the key is call 0.
+fn signer_of(alloc: Global, seed: u64, failing: Option<u64>) -> io::Result<ToySigner> {
+    let mut calls = Vec::new(alloc);
+    if let Some(call) = failing {
+        push(&mut calls, call)?;
     }
-}
-
-// The signer with which a program begins, and the identifier of its key.
-fn begun(made: Result<(ToySigner, u64), Refusal>) -> io::Result<(ToySigner, u64)> {
-    match made {
-        Ok(made) => Ok(made),
+    let mut signer = ToySigner::new(alloc, seed, &calls).map_err(|_| out_of_memory())?;
+    match Signer::<ToyScheme>::create_key(&mut signer, alloc, PublicKeyFormat::Rsa) {
+        Ok(_) => Ok(signer),
         Err(_) => Err(out_of_memory()),
     }
 }
@@ -63,8 +56,7 @@ fn call_of(digits: &str) -> io::Result<Option<u64>> {
 }
 
 impl Failing {
-    /// That call of the signer of replies.
-    pub fn of_signer(digits: &str) -> io::Result<Failing> {
+    fn of_signer(digits: &str) -> io::Result<Failing> {
         Ok(Failing {
             signer: call_of(digits)?,
             issuer: None,
@@ -96,26 +88,15 @@ impl Failing {
     }
 }
 
-/// The signer of the replies, and the identifier of its key: the program's own where none of its calls fails.
-pub fn first_signer(alloc: Global, failing: &Failing) -> io::Result<(ToySigner, u64)> {
-    match failing.signer {
-        None => begun(program_signer(alloc)),
-        Some(call) => failing_signer(alloc, 1, call),
-    }
-}
-
-// The issuer's signer, and the identifier of its key: the program's own where none of its calls fails.
-fn first_issuing(alloc: Global, failing: &Failing) -> io::Result<(ToySigner, u64)> {
-    match failing.issuer {
-        None => begun(issuer_signer(alloc)),
-        Some(call) => failing_signer(alloc, 3, call),
-    }
+/// The signer of the replies, which has one key, number 0.
+pub fn first_signer(alloc: Global, failing: &Failing) -> io::Result<ToySigner> {
+    signer_of(alloc, 1, failing.signer)
 }
 
 /// The issuer, and the certificate of its key.
 pub fn first_issuer(alloc: Global, failing: &Failing) -> io::Result<(ToyIssuer, SigningCert)> {
-    let (signer, key) = first_issuing(alloc, failing)?;
-    match program_issuer(alloc, signer, key) {
+    let signer = signer_of(alloc, 3, failing.issuer)?;
+    match program_issuer(alloc, signer, 0) {
         Ok(made) => Ok(made),
         Err(Refusal::OutOfMemory) => Err(out_of_memory()),
         Err(_) => Err(invalid()),
@@ -132,7 +113,7 @@ fn run_with(
     issuer: &mut ToyIssuer,
     signing: &SigningCert,
 ) -> io::Result<Status> {
-    let (mut signer, key) = first_signer(alloc, failing)?;
+    let mut signer = first_signer(alloc, failing)?;
     let verifier = ToyVerifier::new();
     Ok(serve(
         alloc,
@@ -142,7 +123,7 @@ fn run_with(
         &verifier,
         issuer,
         &mut signer,
-        &key,
+        &0,
         signing,
     ))
 }

@@ -51,7 +51,7 @@ pub fn is_written(alloc: Global, message: &SignedMessage, expected: &str) -> io:
 fn answer(
     alloc: Global,
     content: &str,
-    when: Time,
+    now: Time,
     key: u64,
     signer: &mut ToySigner,
 ) -> io::Result<Result<SignedMessage, CreateError<ToyFault>>> {
@@ -59,14 +59,14 @@ fn answer(
     let Ok(content) = Bytes::copy_from_slice(alloc, &octets) else {
         return Err(out_of_memory());
     };
-    Ok(SignedMessage::create::<ToyScheme, ToySigner>(alloc, content, when, &key, signer))
+    Ok(SignedMessage::create::<ToyScheme, ToySigner>(alloc, content, now, &key, signer))
 }
 
 /// Whether the words behind two of a line, `MOMENT KEY FAILING CONTENT`, have the answer in the last word.
 pub fn holds(alloc: Global, line: &str) -> io::Result<bool> {
     let mut words = line.split_whitespace().skip(2);
     let moment = words.next().and_then(|word| word.parse::<i64>().ok());
-    let Some(when) = moment.and_then(Time::new) else {
+    let Some(now) = moment.and_then(Time::new) else {
         return Err(invalid());
     };
     let Some(key) = words.next().and_then(|word| word.parse::<u64>().ok()) else {
@@ -75,7 +75,7 @@ pub fn holds(alloc: Global, line: &str) -> io::Result<bool> {
     let mut signer = signer_of(alloc, words.next().unwrap_or("-"))?;
     let content = words.next().unwrap_or("-");
     let expected = words.next().unwrap_or("");
-    match answer(alloc, content, when, key, &mut signer)? {
+    match answer(alloc, content, now, key, &mut signer)? {
         Ok(message) => is_written(alloc, &message, expected),
         Err(error) => Ok(refusal(&error) == Some(expected)),
     }

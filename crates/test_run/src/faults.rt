@@ -1,8 +1,9 @@
 //! Runs over streams of which some calls fail.
 
-use crate::signers::{own_signer, status_of};
+use crate::signers::{signer_of, status_of};
 use crate::words::words_of;
 use crate::{out_of_memory, text_of};
+use rpki_base::PublicKeyFormat;
 use rpki_ca::Words;
 use rpki_common::OutOfMemory;
 use rpki_text::{MemorySink, MemorySource};
@@ -44,7 +45,7 @@ fn ran(
     source: &mut MemorySource,
     sink: &mut MemorySink,
 ) -> io::Result<String> {
-    let (mut signer, key) = own_signer(alloc)?;
+    let (mut signer, key) = signer_of(alloc, PublicKeyFormat::Rsa, &[])?;
     let status = status_of(alloc, words, source, sink, &mut signer, key);
     let Ok(written) = hex::encode(alloc, sink.written()) else {
         return Err(out_of_memory(OutOfMemory));

@@ -14,8 +14,9 @@ mod parts;
 mod signers;
 mod words;
 
-use crate::signers::{own_signer, status_of};
+use crate::signers::{signer_of, status_of};
 use crate::words::words_of;
+use rpki_base::PublicKeyFormat;
 use rpki_ca::Words;
 use rpki_common::OutOfMemory;
 use rpki_text::{MemorySink, MemorySource};
@@ -77,7 +78,7 @@ fn is_answered(alloc: Global, case: &Case, piece: usize) -> io::Result<bool> {
     ) else {
         return Err(out_of_memory(OutOfMemory));
     };
-    let (mut signer, key) = own_signer(alloc)?;
+    let (mut signer, key) = signer_of(alloc, PublicKeyFormat::Rsa, &[])?;
     let status = status_of(alloc, &case.words, &mut source, &mut sink, &mut signer, key);
     Ok(status == case.status && sink.written() == case.line.as_slice())
 }

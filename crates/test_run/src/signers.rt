@@ -2,7 +2,6 @@
 
 use crate::words::words_of;
 use crate::{out_of_memory, text_of};
-use command_line::program_signer;
 use rpki_base::PublicKeyFormat;
 use rpki_ca::{Status, Words};
 use rpki_common::OutOfMemory;
@@ -12,16 +11,8 @@ use std::alloc::Global;
 use std::io;
 use test_stored::{invalid, octets_of};
 
-/// The programs' own signer, and the identifier of its key.
-pub fn own_signer(alloc: Global) -> io::Result<(ToySigner, u64)> {
-    match program_signer(alloc) {
-        Ok(made) => Ok(made),
-        Err(_) => Err(out_of_memory(OutOfMemory)),
-    }
-}
-
-// Another signer of seed 1, whose first call makes a key of this format, and the key's identifier. `failing` are the calls that fail.
-fn signer_of(
+/// A signer of seed 1, whose first call makes a key of this format, and the key's identifier. `failing` are the calls that fail.
+pub fn signer_of(
     alloc: Global,
     format: PublicKeyFormat,
     failing: &[u64],
@@ -54,10 +45,11 @@ pub fn status_of(
     status
 }
 
-// The programs' own signer, which gives its key for one use too, and the key's identifier.
+// A signer of seed 1 whose first call makes an RSA key, which it gives for one use too, and the key's identifier.
 fn reusing_signer(alloc: Global) -> io::Result<(ToySigner, u64)> {
-    match program_signer(alloc) {
-        Ok((mut signer, key)) => {
+    let mut signer = ToySigner::new(alloc, 1, &[]).map_err(out_of_memory)?;
+    match Signer::<ToyScheme>::create_key(&mut signer, alloc, PublicKeyFormat::Rsa) {
+        Ok(key) => {
             signer.reuse(key);
             Ok((signer, key))
         }
@@ -68,11 +60,11 @@ fn reusing_signer(alloc: Global) -> io::Result<(ToySigner, u64)> {
 // `rsa`, `ec`, `reused`, `missing` with an identifier that no key has, or the number of the call that fails.
 fn named_signer(alloc: Global, name: &str) -> io::Result<(ToySigner, u64)> {
     match name {
-        "rsa" => own_signer(alloc),
+        "rsa" => signer_of(alloc, PublicKeyFormat::Rsa, &[]),
         "ec" => signer_of(alloc, PublicKeyFormat::EcdsaP256, &[]),
         "reused" => reusing_signer(alloc),
         "missing" => {
-            let (signer, _) = own_signer(alloc)?;
+            let (signer, _) = signer_of(alloc, PublicKeyFormat::Rsa, &[])?;
             Ok((signer, 5))
         }
         call => match call.parse::<u64>() {
@@ -84,7 +76,7 @@ fn named_signer(alloc: Global, name: &str) -> io::Result<(ToySigner, u64)> {
 
 // The status and what is written, in hexadecimal, of `receive` of what was written, under the words.
 fn received(alloc: Global, words: &Words, written: &[u8]) -> io::Result<String> {
-    let (mut signer, key) = own_signer(alloc)?;
+    let (mut signer, key) = signer_of(alloc, PublicKeyFormat::Rsa, &[])?;
     let (Ok(mut source), Ok(mut sink)) = (
         MemorySource::new(alloc, written, 1 << 20, &[]),
         MemorySink::new(alloc, 1 << 20, 1 << 20, &[]),

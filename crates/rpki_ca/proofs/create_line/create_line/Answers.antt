@@ -3,7 +3,6 @@ use Rattle.std.proofs.lemmas.Result.{err_from_is_err_and}
 use Rattle.hex.specs.Hex.{encode_lower}
 use Rattle.rpki_ca.specs.Acceptance.{refusal_of}
 use Rattle.rpki_ca.proofs.Unasked.{create_unasked}
-use Rattle.rpki_ca.proofs.Reasons.{refused_input}
 use Rattle.rpki_ca.proofs.Sending.{not_memory}
 use Rattle.rpki_ca.proofs.Creating.{input_refused, refused, line_created, fits_ok}
 use Rattle.rpki_ca.proofs.create_line.create_line.Goals as goal
@@ -11,7 +10,7 @@ use Rattle.rpki_ca.proofs.create_line.create_line.Goals as goal
 pub returns-in_err-message-clause-err : goal.returns-in_err-message-clause-err
 returns-in_err-message-clause-err g c =
     let p = err_from_is_err_and c.from_residual.result c.from_residual.ensures.1 in
-    rw (p.1, p.2) (λ other. input_refused g.P.Scheme.checks c.args.kind c.args.input.items c.args.when _ (refusal_of c.in_err-message.field-0.0) (refused_input c.args.kind c.args.input.items c.in_err-message.field-0.0 c.in_err-message.ensures.err other))
+    rw (p.1, p.2) (λ other. input_refused g.P.Scheme.checks c.args.kind c.args.input.items c.args.when _ (refusal_of c.in_err-message.field-0.0) (c.in_err-message.ensures.err other))
 
 pub returns-in_err-octets-clause-err : goal.returns-in_err-octets-clause-err
 returns-in_err-octets-clause-err g c =

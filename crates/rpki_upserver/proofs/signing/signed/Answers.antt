@@ -7,7 +7,7 @@ use Rattle.rpki_upserver.proofs.signing.signed.Goals as goal
 pub returns-clause-ok : goal.returns-clause-ok
 returns-clause-ok g c =
     holds_so g.P.Scheme.checks c.args.when _ c.args.message c.create.result c.create.ensures.message
-    (signed_so g.P.Scheme.checks c.args.when _ (received.Provisioning c.args.message) (λ (c : CmsFields). c.signed) c.create.result c.requires c.create.ensures.created c.create.ensures.believed c.create.ensures.again c.create.ensures.too_long c.create.ensures.kept)
+    (signed_so g.P.Scheme.checks c.args.when _ (received.Provisioning c.args.message) (λ (c : CmsFields). c.signed) c.create.result c.requires c.create.ensures.created c.create.ensures.believed c.create.ensures.again c.create.ensures.too_long)
 
 pub returns-clause-err : goal.returns-clause-err
 returns-clause-err g c =

@@ -6,7 +6,7 @@ use Rattle.rpki_ca.specs.Seen.{seen, seen_signer}
 use Rattle.rpki_upserver.specs.ProgramIssuer.{IsProgramIssuer}
 use Rattle.rpki_upserver.specs.Running.{EndsParentRun, run_of}
 use Rattle.rpki_upserver.specs.ToyIssuer.{issuer_state}
-use Rattle.rpkiup.proofs.run_parent.Goals as goal
+use Rattle.rpkiup.proofs.run.Goals as goal
 
 pub returns-clause-ran : goal.returns-clause-ran
 returns-clause-ran g c = λ when child are. record {
