@@ -87,8 +87,9 @@ class Channel(HTTPChannel):  # type: ignore[misc]
         """Takes some octets of a request."""
         if self.request is None:
             self.begun = time.monotonic()
-        taken = bool(super().received(data))
-        if not self.server.room.take(self, len(data)) or self._is_slow():
+        has_room = self.server.room.take(self, len(data))  # before a thread can answer them, and give them back
+        taken = has_room and bool(super().received(data))
+        if not has_room or self._is_slow():
             self.will_close = True
             return False
         return taken
