@@ -55,8 +55,9 @@ class Sender:
 
     def signed(self, query: Message, seconds: Optional[int] = None) -> bytes:
         """A signed query."""
-        self.last = max(int(time.time()), self.last + 1) if seconds is None else seconds
-        return calmizsed.create(Kind.PUBLICATION, query.to_xml(), self.key, moment_of(self.last), one_off_key=self._one_off)
+        moment = max(int(time.time()), self.last + 1) if seconds is None else seconds
+        self.last = max(self.last, moment)
+        return calmizsed.create(Kind.PUBLICATION, query.to_xml(), self.key, moment_of(moment), one_off_key=self._one_off)
 
     def post(self, octets: bytes, kind: str = TYPE) -> tuple[int, bytes]:
         """The code of HTTP, and the body."""
